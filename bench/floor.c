@@ -1,6 +1,6 @@
-/* The floor of pstops: a program that reads a document whole, looks at each of its lines, and writes it back in slices, a
- * page line of its own and the rest of the page for each page. It checks nothing, places nothing and has one thread.
- * bench/run compiles it, and measures it beside the programs.
+/* The floor of pstops: a program that reads a document whole, looks at each of its lines, and writes it back in slices: a
+ * new page line and the rest of the page for each page. It checks nothing, places nothing and has one thread.
+ * bench/run compiles it, and measures it together with the programs.
  *
  * It ends with status 1 if memory is missing, or if reading or writing fails.
  */
@@ -21,7 +21,7 @@ struct document {
     size_t len;
 };
 
-/* Slices that wait to be written: two for each page, and one for what stands before the first. */
+/* Slices to be written: two for each page, and one for what comes before the first. */
 static struct iovec slices[2 * PAGES + 1];
 static int waiting;
 static char page_lines[PAGES][PAGE_LINE];
@@ -87,7 +87,7 @@ static int add_page(long page, char *bytes, size_t len)
     return 1;
 }
 
-/* The place behind the line that begins here. */
+/* The place after the line that begins here. */
 static size_t line_end(const struct document *document, size_t start)
 {
     const char *line_feed = memchr(document->bytes + start, '\n', document->len - start);
@@ -100,7 +100,7 @@ static int begins(const char *line, size_t len, const char *key)
     return len >= key_len && memcmp(line, key, key_len) == 0;
 }
 
-/* How many bytes of data follow this line, which a line feed ends: those of a block whose bytes are counted. */
+/* The number of bytes of data after this line, which ends in a line feed: those of a block whose bytes are counted. */
 static size_t data_len(const char *line, size_t len)
 {
     if (begins(line, len, "%%BeginBinary:"))

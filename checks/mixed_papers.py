@@ -1,14 +1,14 @@
-"""Documents whose pages have several papers, made by real programs, and where their pages stand on the sheets that impose makes of them:
+"""Documents with pages of several papers, made by real programs, and where their pages are on the sheets that impose makes from them:
 `checks/pictures --mixed` draws these.
 
-Each page has a mark in each of its four corners, of a colour of its own. Ghostscript draws the document, which says where the marks are on the
-pages, and the sheets, on which they are looked for. Where they have to be is worked out here, from what docs/USING.md says and not from
-what impose writes: a selection keeps each page on its own paper; else each page is fitted into its cell by its own sides, and stands in the
-middle of it. So a page that is cut, scaled by another page's paper, turned, or out of its cell shows. A mark may be off by `OFF` points
-along each edge: programs tell papers in whole points, some rounded down, and a picture has 72 dots an inch.
+Each page has a mark in each of its four corners, in a colour of its own. Ghostscript draws the document, which shows where the marks are on
+the pages, and the sheets, on which they are looked for. Where they have to be is computed here from what docs/USING.md says, not from what
+impose writes. A selection keeps each page on its own paper; otherwise each page is fitted into its cell by its own sides, in the middle of
+the cell. So it is found if a page is cut off, scaled by another page's paper, turned, or out of its cell. A mark may be off by `OFF` points
+along each edge: programs give papers in whole points, some rounded down, and a picture has 72 dots an inch.
 
-For which of the document's papers the grid is chosen, and which is the paper of the sheets where none is named, isn't said here: it has to be one
-and the same for all sheets. The line of a run that is right tells which.
+It isn't said here for which of the document's papers the grid is chosen, nor what the paper of the sheets is if none is named. Both have to
+be the same for all sheets; the line of a run that is right reports them.
 """
 import re
 import subprocess
@@ -33,7 +33,7 @@ OF_LETTER = [(LETTER, 0), (LETTER, 0), (on_side(LETTER), 0), (LETTER, 90), (TABL
 ONLY_LETTER = [(LETTER, 0)] * 6
 WRITERS = ("pdftops", "cairo", "ps2write")
 
-# Runs, one behind the other: the command, and what has to come of it.
+# Runs, one after the other: the command, and the expected result.
 RUNS = {
     "copy": ["select 1-"],
     "the second alone": ["select 2"],
@@ -61,7 +61,7 @@ RUNS = {
 }
 
 
-# Where pages have to stand. A page is its paper and its marks, each a colour and a box; so is a sheet, so that sheets can be imposed again.
+# Where pages have to be. A page is its paper and its marks, each a colour and a box; so is a sheet, so that sheets can be imposed again.
 
 
 def box_of(points):
@@ -69,12 +69,12 @@ def box_of(points):
 
 
 def moved(marks, put):
-    """The marks where `put` brings their corners."""
+    """The marks where `put` puts their corners."""
     return [(colour, box_of([put(x, y) for x in (left, right) for y in (low, high)])) for colour, (left, low, right, high) in marks]
 
 
 class Room:
-    """What is kept free on a sheet, and trimmed of a page."""
+    """What is kept free on a sheet, and trimmed off a page."""
 
     def __init__(self, words):
         def length(name):
@@ -84,7 +84,7 @@ class Room:
 
 
 class Grid:
-    """Cells, as one holds the sheet for its pages to be upright: if they are turned to the left, its left edge is below."""
+    """Cells, with the sheet held so that its pages are upright: if they are turned to the left, its left edge is at the bottom."""
 
     def __init__(self, sheet, rows, columns, turned, room):
         self.sheet, self.rows, self.columns, self.turned, self.room = sheet, rows, columns, turned, room
@@ -108,7 +108,7 @@ class Grid:
 
 
 def grid_for(paper, sheet, count, room):
-    """The grid of at least so many cells in which this paper has the largest scale; then with the fewest cells, upright, with the fewest columns."""
+    """The grid of at least this many cells in which this paper has the largest scale; then with the fewest cells, upright, with the fewest columns."""
     best = None
     for rows in range(1, count + 1):
         for columns in range(-(-count // rows), -(-count // rows) + 2):
@@ -125,7 +125,7 @@ def halves(sheet, room):
 
 
 def chosen(words, pages):
-    """The pages that are taken, None for a blank; ranges are those of RUNS alone."""
+    """The pages that are taken, None for a blank; only ranges of RUNS are understood."""
     found = re.search(r"(?:--pages|select) (\S+)", words)
     row = []
     for part in (found[1] if found else "1-").split(","):
@@ -135,7 +135,7 @@ def chosen(words, pages):
 
 
 def folded(row, sides):
-    """The row of a booklet: of each signature the outermost leaf first, its front and then its back."""
+    """The row of a booklet: in each signature the outermost leaf first, its front and then its back."""
     row = row + [None] * (-len(row) % sides)
     return [row[first + at] for first in range(0, len(row), sides) for j in range(sides // 4)
             for at in (sides - 1 - 2 * j, 2 * j, 2 * j + 1, sides - 2 - 2 * j)]
@@ -146,7 +146,7 @@ def half_turned(marks, sheet):
 
 
 def expected(words, pages, paper):
-    """The sheets that have to come, if the grid is chosen for this paper, which is the sheets' where none is named."""
+    """The expected sheets, if the grid is chosen for this paper, which is also the sheets' if none is named."""
     row, room = chosen(words, pages), Room(words)
     if words.startswith("select"):
         return [page if page else (None, []) for page in row]
@@ -166,7 +166,7 @@ def expected(words, pages, paper):
 
 
 def sides_of(words, row, count, size, columns):
-    """What stands in the cells of each side, by the order of the cells."""
+    """The contents of the cells of each side, in the order of the cells."""
     command = words.split()[0]
     if command == "booklet":
         found = re.search(r"--signature (\d+)", words)
@@ -177,7 +177,7 @@ def sides_of(words, row, count, size, columns):
         leaves = -(-len(row) // (2 * size))
         row = row + [None] * (2 * leaves * size - len(row))
         sides = [[row[cell * 2 * leaves + side] for cell in range(size)] for side in range(2 * leaves)]
-        # What stands behind a cell is in the same row, as far from the other side.
+        # The back of a cell is in the same row, as far from the other side.
         return [side if at % 2 == 0 else [side[k - k % columns + columns - 1 - k % columns] for k in range(size)] for at, side in enumerate(sides)]
     if command == "stack":
         high = -(-len(row) // count)
@@ -238,7 +238,7 @@ DOCUMENTS = {
 
 
 def seen(text):
-    """The papers and the marks of what Ghostscript draws, page by page: the boxes of each colour, in points from the lower left."""
+    """The papers and the marks in what Ghostscript draws, page by page: the boxes of each colour, in points from the lower left."""
     with tempfile.TemporaryDirectory() as folder:
         ghostscript(["-sDEVICE=ppmraw", "-r72", f"-sOutputFile={folder}/%d.ppm", "-"], text)
         found = sorted(Path(folder).glob("*.ppm"), key=lambda path: int(path.stem))
@@ -292,7 +292,7 @@ def near(one, other):
 
 
 def faults_in(sheets, wanted):
-    """What is otherwise than it has to be, sheet by sheet."""
+    """What differs from the expected sheets, sheet by sheet."""
     if len(sheets) != len(wanted):
         return [f"{len(sheets)} sheets in place of {len(wanted)}"] * 1000
     told = []
@@ -317,7 +317,7 @@ def named(colour):
 
 
 def papers_in(pages):
-    """The papers of the pages, each once; those near to one another are one."""
+    """The papers of the pages, each once; nearly equal ones count as one."""
     found = []
     for paper, _ in pages:
         if not any(near(paper, one) for one in found):
@@ -326,7 +326,7 @@ def papers_in(pages):
 
 
 def is_refusal(fault, words, own):
-    """Whether a booklet is refused as it has to be: on a sheet that is wider than high, as one of the pages is."""
+    """Whether a booklet is refused as it has to be: on a sheet that is wider than high, like one of the pages."""
     is_wide = any(paper[0] > paper[1] for paper, _ in own)
     return is_wide and "it would fold along its longer edge" in fault and any(word.startswith("booklet") for word in words)
 

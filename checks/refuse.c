@@ -9,14 +9,14 @@
  *   read         a read fails          (EIO)        read-interrupted   (EINTR)     read-short    it moves one byte
  *   write        a write fails         (ENOSPC)     write-interrupted  (EINTR)     write-short   it moves one byte
  *   write-none   a write moves no byte and doesn't fail
- *   write-torn   a write moves half of its bytes, and those behind it fail (ENOSPC), as on a device that gets full
+ *   write-torn   a write moves half of its bytes, and later ones fail (ENOSPC), as on a device that gets full
  *   open         a file isn't opened   (EMFILE)     open-memory        (ENOMEM)
  *   thread       a thread isn't started (EAGAIN)
  *
- * With the kind "asked" the program itself says when. It asks for ASKED and N bytes more, which no machine has: from then
- * on the Nth malloc or realloc is refused (and all behind it if COUNT is 0), until it asks for ASKED bytes. These are
- * granted if anything was refused meanwhile. Both kinds of request get a small piece of memory if they are granted. A dot
- * behind the bytes in REFUSE_TOLD ends those of one such time. FIRST has no meaning.
+ * With the kind "asked" the program itself says when. It asks for ASKED + N bytes, which no machine has: from then
+ * on the Nth malloc or realloc is refused (and all after it if COUNT is 0), until it asks for ASKED bytes. These are
+ * granted if anything was refused in between. Both kinds of request get a small piece of memory if they are granted. A dot
+ * after the bytes in REFUSE_TOLD ends those of one such period. FIRST has no meaning.
  */
 #define _GNU_SOURCE
 #include <dlfcn.h>
@@ -42,7 +42,7 @@ static atomic_ulong calls;
 static int told = -1;
 static uintptr_t program_start, program_end;
 
-/* The program is the first object that is told. */
+/* The program is the first object in the list. */
 static int find_program(struct dl_phdr_info *info, size_t size, void *unused) {
     (void)size, (void)unused;
     program_start = UINTPTR_MAX;
@@ -87,7 +87,7 @@ static unsigned long refused(const char *name, const void *caller) {
 
 static atomic_ulong awaited, refusals;
 
-/* Whether the program speaks to this library. What it is answered then is the piece of memory in ANSWER. */
+/* Whether the program addresses this library. Then its answer is the piece of memory in ANSWER. */
 static int is_asked(size_t size, void **answer) {
     if (size < ASKED || strcmp(kind, "asked") != 0)
         return 0;
@@ -100,7 +100,7 @@ static int is_asked(size_t size, void **answer) {
     return 1;
 }
 
-/* Whether this growth is one that the program wants refused. */
+/* Whether the program wants this growth refused. */
 static int is_refused_as_asked(const void *caller) {
     uintptr_t from = (uintptr_t)caller;
     unsigned long wanted = atomic_load(&awaited);

@@ -149,7 +149,7 @@ byte swept;
 #ifdef SPENT
 /* Memory of groups is counted from 1. `there` has a bit for each that there is; there are never more than sheets. The
    texts of a group are what was last written to its memory, wherever the group lies. */
-chan going = [CAP] of { byte };          /* WorkerInput.spent */
+chan going = [CAP] of { byte };          /* RunInput.spent */
 byte there;
 byte text[3 * S];
 byte memory_of[CAP];                     /* that of the group that lies there */
@@ -184,7 +184,7 @@ inline go_on(turn, has)
 #define GIVE(turn) turn = false
 #endif
 
-/* WorkerInput::prepare, Shared::prepare_all, Shared::prepare_own_page, Shared::prepare_page. Each atomic has one access
+/* RunInput::prepare, Shared::prepare_all, Shared::prepare_own_page, Shared::prepare_page. Each atomic has one access
    to what threads share, and what follows from it for the thread alone. */
 proctype preparer(byte me; byte room)
 {
@@ -326,7 +326,7 @@ inline add(m)
 }
 
 #ifdef SPENT
-/* WorkerInput::impose_batch, FinishedSheets::with_room, Texts::with_room: for its first sheet, a group that was written,
+/* RunInput::impose_batch, FinishedSheets::with_room, Texts::with_room: for its first sheet, a group that was written,
    or a new one. One for which memory is refused (F_IMP) is here for a moment, till `no_memory` lets it go; in the code it
    never is. In a window there are no more groups than sheets. */
 inline take_memory()
@@ -351,7 +351,7 @@ inline take_memory()
 }
 #endif
 
-/* WorkerInput::impose_into, Shared::impose_taken, is_complete, Imposition::impose. A look at a sheet that is complete
+/* RunInput::impose_into, Shared::impose_taken, is_complete, Imposition::impose. A look at a sheet that is complete
    always shows it so, and a window never goes back, so there is no step of its own for these. F_IMP: memory is refused
    for its text, for room in its batch or, if it is the first, for the batch; it was taken, and is lost with the imposer. */
 inline impose_sheet()
@@ -400,7 +400,7 @@ inline find_held()
 	fi
 }
 
-/* WorkerInput::impose_batch, WorkerInput::impose_more: further sheets, before the same end of the window, until the
+/* RunInput::impose_batch, RunInput::impose_more: further sheets, before the same end of the window, until the
    queue is asked, there is nothing, or the batch is full (Window::batch). Then on to where that leads. */
 inline further()
 {
@@ -420,7 +420,7 @@ inline further()
 	fi
 }
 
-/* WorkerInput::impose, WorkerInput::impose_ready, WorkerInput::impose_next */
+/* RunInput::impose, RunInput::impose_ready, RunInput::impose_next */
 proctype imposer()
 {
 	byte held;                       /* a bit for each sheet */
@@ -494,7 +494,7 @@ nothing:
 	fi;
 #endif
 send:
-	/* WorkerInput::send: nothing if no sheet of the batch was made */
+	/* RunInput::send: nothing if no sheet of the batch was made */
 	atomic {
 		end = 0; finds = 0;
 #ifdef BAD_LAST_OF_BATCH_LEFT
@@ -814,8 +814,8 @@ init
 	:: else -> n = 0; break
 	od;
 	/* supplies_of, gather_at, run_workers, start, start_preparers, start_imposers; each preparer's room by
-	   WorkerInput::split_preparer, Shared::room_for, most_puts, with_page, Ready::split_with_room; an imposer has none
-	   (WorkerInput::split, Ready::split) */
+	   RunInput::split_preparer, Shared::room_for, most_puts, with_page, Ready::split_with_room; an imposer has none
+	   (RunInput::split, Ready::split) */
 #ifdef F_START
 	do
 	:: n < P ->
@@ -848,7 +848,7 @@ init
 	};
 #endif
 
-	/* CollectorInput::collect, take_all, take_turn */
+	/* RunInput::collect, take_all, take_turn */
 	hand_to_sink(0, 0);
 	do
 	:: halted -> break
@@ -900,17 +900,17 @@ init
 	od;
 	none_left = false;
 #ifndef BAD_STOP
-	LIFT;                              /* WorkerInput::stop */
+	LIFT;                              /* RunInput::stop */
 #endif
 	gathered = true;
 	goto join;
 refused:
 	n = 0;
 #ifndef BAD_STOP_REFUSED
-	LIFT;                              /* WorkerInput::stop */
+	LIFT;                              /* RunInput::stop */
 #endif
 join:
-	/* join_preparers, join_imposers, merge, WorkerInput::join; or the end of the scope (gather_by) */
+	/* join_preparers, join_imposers, merge, RunInput::join; or the end of the scope (gather_by) */
 	alive == 0;
 	if
 	:: !gathered -> assert(wrote == 0 && fault)

@@ -1,7 +1,7 @@
-"""Bounding boxes of what the machine paints. Here the matrices of a painting's list are multiplied out, in floating point.
+"""Bounding boxes of what the machine paints. Here the matrices of a painting's list are multiplied, in floating point.
 
-A painting is a number of polygons: of a filled path its subpaths, of a stroke a rectangle for each piece of line with its
-joins and caps, of a text the outlines of its characters. Curves are cut into straight pieces. The clip is a number of
+A painting is a number of polygons: for a filled path its subpaths, for a stroke a rectangle for each piece of line with its
+joins and caps, for a text the outlines of its characters. Curves are cut into straight pieces. The clip is a number of
 convex polygons, by the rule of `clip` or `eoclip`; each polygon of the painting is cut by each of these. All by the
 Reference: 4.3 (matrices), 4.4 (paths, clips), 4.5 (painting), and 5 (text).
 """
@@ -18,7 +18,7 @@ def weights(pieces):
     return [((1 - t) ** 3, 3 * (1 - t) ** 2 * t, 3 * (1 - t) * t * t, t**3) for t in (i / pieces for i in range(1, pieces + 1))]
 
 
-# What the four points of a curve count for at each of its pieces' ends. One piece is enough for who asks where it ends.
+# The weights of the four points of a curve at the end of each of its pieces. One piece is enough to find where it ends.
 WEIGHTS = {pieces: weights(pieces) for pieces in (1, PIECES)}
 
 
@@ -59,7 +59,7 @@ def matrix_of(call):
 
 
 def product(chain, known={}):
-    """What a list of matrices does: the innermost, which stands last, comes first."""
+    """The effect of a list of matrices: the innermost, which is last, comes first."""
     if not chain:
         return IDENTITY
     # By identity, and the list is kept: states share their lists.
@@ -111,7 +111,7 @@ class Path:
             self.move(shown(segment, self.point, self.fonts, outlined=False)[1])
 
     def append(self, segment):
-        """What further operators have computed: a path in default coordinates."""
+        """A path in default coordinates that further operators have computed."""
         for kind, *points in segment.call.operands:
             if kind == "m":
                 self.move(points[0])
@@ -171,7 +171,7 @@ def setting(settings, name):
 
 
 def is_white(settings):
-    """Ghostscript's bbox device doesn't see what is painted in white."""
+    """Ghostscript's bbox device ignores what is painted in white."""
     for call in reversed(settings):
         if call.name in COLOURS:
             white = COLOURS[call.name]
@@ -209,7 +209,7 @@ def stroked(subpaths, m, settings):
 
 
 def without_repeats(points):
-    """Points that are as good as the one before them have no direction from there."""
+    """A point that nearly equals the one before it has no direction from there."""
     return [p for i, p in enumerate(points) if i == 0 or math.dist(p, points[i - 1]) > 1e-7]
 
 
@@ -304,7 +304,7 @@ def is_convex(polygon):
             turns.add(turn > 0)
     if len(turns) > 1:
         return False
-    # a star turns to one side too, but more than once round
+    # a star also turns to one side, but more than once around
     xs = [p[0] for p in polygon]
     changes = [b > a for a, b in zip(xs, xs[1:] + xs[:1]) if a != b]
     return sum(a != b for a, b in zip(changes, changes[1:] + changes[:1])) <= 2
@@ -408,7 +408,7 @@ def font_of(settings):
 
 
 def point_of(path, fonts):
-    """The current point, from the last segment that says it by itself. Behind `closepath` it is where the subpath begins."""
+    """The current point, from the last segment that has one. After `closepath` it is where the subpath begins."""
     for i in range(len(path) - 1, -1, -1):
         call = path[i].call
         if call.name in (b"closepath", b"append"):
@@ -420,7 +420,7 @@ def point_of(path, fonts):
 
 
 def shown(segment, point, fonts, outlined=True):
-    """The outlines of a text that begins here, and the point behind it (`show`, `ashow`, `widthshow`, `awidthshow`)."""
+    """The outlines of a text that begins here, and the point after it (`show`, `ashow`, `widthshow`, `awidthshow`)."""
     name, m = segment.call.name, product(segment.chain)
     font, scale = font_of(segment.settings)
     text = bytes(segment.call.operands[0].data)
@@ -451,7 +451,7 @@ ASK = rb"""
 
 
 class Glyph:
-    """A character: what its outlines are taken by, the outlines, and their convex hull, which has the same box however it is turned."""
+    """A character: the key of its outlines, the outlines, and their convex hull, which has the same box in every rotation."""
 
     def __init__(self, matrix, polygons, hull):
         self.matrix, self.polygons, self.hull = matrix, polygons, [at(matrix, *p) for p in hull]
@@ -477,7 +477,7 @@ def hull_of(points):
 
 
 class Fonts:
-    """Outlines of characters, of fonts by their names, as Ghostscript has them. Fonts that the document brings aren't here."""
+    """Outlines of characters, for fonts by name, as Ghostscript has them. Fonts of the document aren't here."""
 
     def __init__(self):
         self.known, self.hulls = {}, {}
@@ -541,7 +541,7 @@ class Reader:
         return self.clips[id(clip)][1]
 
     def groups(self, painting):
-        """The polygons of a painting, those together that make one shape, and whether each of them is convex."""
+        """The polygons of a painting, grouped by shape, and whether each of them is convex."""
         name, g = painting.call.name, painting.graphics
         m = product(g.chain)
         if name in (b"fill", b"eofill"):
@@ -562,11 +562,11 @@ class Reader:
         return shown(Segment(painting.call, g.chain, g.settings), point, self.fonts)[0], False
 
     def boxes(self, painting):
-        """What is seen of a painting: the box that it has to fill, and the box that it has to stay in; None is nothing.
+        """The visible part of a painting: the box that it has to fill, and the box that it has to stay in; None if there is none.
 
-        Of most paintings they are the same. Of a text the first one is that of its outlines, and the second one that of its
-        characters' boxes, turned with them: Ghostscript's bbox device tells the second one of characters that it keeps as
-        bitmaps. So it is with strokes whose caps are squares: there it tells a box round the path, with its dashes and gaps."""
+        For most paintings they are the same. For a text the first one is that of its outlines, and the second one that of its
+        characters' boxes, turned with them: Ghostscript's bbox device reports the second one for characters that it keeps as
+        bitmaps. The same holds for strokes with square caps: there it reports a box around the path, with its dashes and gaps."""
         if is_white(painting.graphics.settings) and painting.call.name not in (b"image", b"colorimage"):
             return None, None
         groups, convex = self.groups(painting)
@@ -608,7 +608,7 @@ class Reader:
 
 
 def image_corners(call):
-    """An image of so many samples, its matrix from user space to them (4.10.3). Without operands it fills the unit square."""
+    """An image with this many samples, and its matrix from user space to them (4.10.3). Without operands it fills the unit square."""
     x, y, back = 1, 1, IDENTITY
     if call.operands:
         _, by, _, height, width = call.operands
@@ -627,7 +627,7 @@ def rectangles(m, v):
 
 
 def holds(piece, box):
-    """The box lies within the convex piece."""
+    """Whether the box is within the convex piece."""
     corners = [(box[0], box[1]), (box[2], box[1]), (box[2], box[3]), (box[0], box[3])]
     if area(piece) < 0:
         piece = piece[::-1]
@@ -644,13 +644,13 @@ def union(boxes):
 
 # Ghostscript's.
 
-# Each painting is put out by itself, and the page is then empty again: so its own box is told.
+# Each painting is put out alone, and the page is then empty again, so its own box is reported.
 PAINTS = "fill eofill stroke rectfill rectstroke show ashow widthshow awidthshow image imagemask colorimage".split()
 PREFACE = "".join(f"/{name} {{ //{name} //copypage //erasepage }} def\n" for name in PAINTS).encode()
 
 
 def by_ghostscript(text, paper, each=False):
-    """The boxes that Ghostscript's bbox device tells, one a page that is put out, and whether it ended without an error."""
+    """The boxes that Ghostscript's bbox device reports, one for each page that is put out, and whether it ended without an error."""
     words = ["gs", "-q", "-dSAFER", "-dBATCH", "-dNOPAUSE", "-dFIXEDMEDIA", "-sDEVICE=bbox", f"-dDEVICEWIDTHPOINTS={paper[0]}",
              f"-dDEVICEHEIGHTPOINTS={paper[1]}", "-"]
     ran = subprocess.run(words, input=(PREFACE if each else b"") + text, capture_output=True, timeout=SECONDS)

@@ -1,8 +1,8 @@
 """Operators of the Reference (8.2) that the machine of crates/pictures lacks. They compute with values: numbers are numbers
-here, arrays and strings are shared and changed in place, and a matrix is that from user space to default user space.
+here, arrays and strings are shared and changed in place, and a matrix maps user space to default user space.
 
-What is looked up by `where` or `known` and is an operator of the Reference that is neither here nor there stops the
-machine, since it can't be said that there is none. An error of PostScript stops it too: `stopped` catches `stop` alone.
+If `where` or `known` looks up an operator of the Reference that is neither here nor there, that stops the
+machine, as the answer can't be that there is none. An error of PostScript stops it too: `stopped` catches only `stop`.
 """
 import math
 from boxes import IDENTITY, Path, at, inverse, point_of, product, times
@@ -25,7 +25,7 @@ FURTHER = {}
 
 
 def operator(name, *kinds):
-    """The operands by their kinds, the topmost first; what is returned is pushed."""
+    """The operands by kind, the topmost first; the results are pushed."""
 
     def put_in(function):
         def perform(m):
@@ -204,7 +204,7 @@ def atan(m, b, a):
 
 
 def kept_kind(f):
-    """A real number stays one."""
+    """A real number stays real."""
     return lambda m, a: float(f(a.value)) if isinstance(a.value, float) else f(a.value)
 
 
@@ -589,7 +589,7 @@ def read_only(m, o):
 for _name in ("noaccess", "executeonly"):
     operator(_name, anything)(lambda m, o: o)
 
-# What has no effect on pictures: memory, packing, telling.
+# Operators without effect on pictures: memory, packing, printing.
 
 
 @operator("currentpacking")
@@ -752,7 +752,7 @@ def restore_graphics(m):
 
 @operator("setpagedevice", Dictionary)
 def set_page_device(m, d):
-    """6.1.1: the graphics state is reset and the page erased. The paper stays what it is, as with Ghostscript's FIXEDMEDIA."""
+    """6.1.1: the graphics state is reset and the page erased. The paper stays as it is, as with Ghostscript's FIXEDMEDIA."""
     if m.held:
         raise Stopped("setpagedevice in a page that is held")
     m.reset()
@@ -815,7 +815,7 @@ def rect_clip(m, h, w, y, x):
     m.set_to(path=())
 
 
-# Fonts: those that Ghostscript has, by their names, as dictionaries that a document may copy and encode anew.
+# Fonts: those that Ghostscript has, by name, as dictionaries that a document may copy and re-encode.
 
 
 class Encoded:
@@ -844,7 +844,7 @@ def find_font(m):
     if name in m.entries[FONTDIRECTORY]:
         m.operands.append(m.entries[FONTDIRECTORY][name])
         return
-    # Fonts that are found don't go with a restore, so their numbers are none of those that come again.
+    # Fonts that are found survive a restore, so their numbers are not used again.
     d = Dictionary(min(m.entries) - 100)
     m.entries[d.number] = {}
     m.entries[d.number].update({
@@ -896,7 +896,7 @@ def select_font(m):
 
 
 OVER.update({b"findfont": find_font, b"scalefont": scale_font, b"makefont": make_font, b"setfont": set_font, b"selectfont": select_font})
-# Here systemdict is a dictionary, an array may be changed while it is run through, and a loop be left.
+# Here systemdict is a dictionary, an array may be changed while a loop runs over it, and a loop may be left.
 OVER.update({name: FURTHER[name] for name in (b"where", b"known", b"get", b"put", b"for", b"forall", b"exec", b"cvx")})
 # A matrix is an array of numbers.
 OVER.update({name: FURTHER[name] for name in (b"matrix", b"currentmatrix", b"setmatrix", b"defaultmatrix")})
@@ -920,7 +920,7 @@ def string_width(m, s):
     return [float(v) for v in at((*scale[:4], 0.0, 0.0), x, 0.0)]
 
 
-# Images: their data are passed over, and their square is what they paint.
+# Images: their data are skipped, and they paint their square.
 
 
 @operator("currentfile")
@@ -960,7 +960,7 @@ def image(name, parts):
         depth = 1 if isinstance(bits, Truth) else bits.value
         size = (width.value * depth * parts + 7) // 8 * height.value
         call = Call(name, ())
-        # The unit square is what its matrix takes to its width and height, if that is how it is mostly: stop at others.
+        # Usually the matrix takes the unit square to the width and height: stop at others.
         a = of(by)
         if a not in ((width.value, 0, 0, height.value, 0, 0), (width.value, 0, 0, -height.value, 0, height.value)):
             raise Stopped("an image whose matrix isn't that of its sides")
@@ -974,7 +974,7 @@ image(b"imagemask", 1)
 
 
 class _Asked:
-    """Fonts are asked for when a text's width is."""
+    """Fonts are looked up when a text's width is needed."""
 
     fonts = None
 

@@ -1,12 +1,12 @@
-"""The premises of `sheets_show_the_document` of crates/pictures, by running the second machine; and what the law says, looked
-at in a run of an output. specs/Sheets, Documents, Kept, Unaware and DocumentRun of the crate have the definitions.
+"""The premises of `sheets_show_the_document` of crates/pictures, by running the second machine; and what the law says, checked
+in a run of an output. specs/Sheets, Documents, Kept, Unaware and DocumentRun of the crate have the definitions.
 
-A premise has its words, and what is wrong, None if it is met. They are those of docs/PICTURES.md."""
+A premise has its words, which are those of docs/PICTURES.md, and what is wrong, or None if it is met."""
 from dataclasses import replace
 from machine import ALWAYS, FONTS, PROVED, USERDICT, Graphics, Literal, Machine, Name, Saved, Scanner, Snapshot, Stopped, is_complete
 from parts import Document, comments_apart, drops_in_header, drops_in_page, first_is_complete
 
-# `sheet_names` of specs/Sheets; `restore` is asked of each page, behind it.
+# `sheet_names` of specs/Sheets; `restore` is checked after each page.
 SHEET_NAMES = b"showpage userdict save put [ ] concat newpath moveto lineto closepath clip gsave setlinewidth stroke grestore".split()
 PUT_NAMES = {b"showpage", b"ImposeSave"}
 LOOKING = set(b"""initgraphics currentmatrix setmatrix defaultmatrix initmatrix initclip clippath pathforall setpagedevice erasepage
@@ -26,7 +26,7 @@ PAGE_PREMISES = (USES, CALLS, BEHIND, RESETS, TAKES_BACK, LEAVES, ASKS, ENDS, AP
 
 
 def behind_preamble(document, further=False):
-    """The machine behind the preamble, which has to run to its end."""
+    """The machine after the preamble, which has to run to its end."""
     return Machine(document.preamble, further=further).run()
 
 
@@ -91,7 +91,7 @@ def newer(m):
 
 
 def stopped_at(m, stopped, where=""):
-    """Which premise of a page isn't met, if it stops so."""
+    """Which premise of a page isn't met, if it stops like this."""
     why = f"{where}it stops at {stopped}"
     if m.called in LOOKING:
         return RESETS, why
@@ -107,7 +107,7 @@ def asked(m, where):
 
 
 def up_to_showpage(m):
-    """Runs a held page up to its showpage: what is wrong, None if it comes there (`PrintsItself`)."""
+    """Runs a held page up to its showpage: what is wrong, None if it gets there (`PrintsItself`)."""
     try:
         while m.step():
             if m.asked & PUT_NAMES:
@@ -138,7 +138,7 @@ def behind_showpage(m, operands, dictionaries):
 
 
 def prints_one(document, page, picture, further):
-    """The page behind the preamble, printed: what is wrong (`printed` of `EndsThePage`)."""
+    """The page after the preamble, printed: what is wrong (`printed` of `EndsThePage`)."""
     m = behind_preamble(document, further)
     m.scanner, before = Scanner(document.pages[page], further), len(m.sheets)
     try:
@@ -149,10 +149,10 @@ def prints_one(document, page, picture, further):
 
 
 def own_picture(document, page, further=False):
-    """What a page prints of itself behind the preamble, None if it doesn't; and the premise that isn't met, and why (`PrintsItself`)."""
+    """What a page prints by itself after the preamble, None if it prints nothing; and the premise that isn't met, and why (`PrintsItself`)."""
     m = behind_preamble(document, further)
     operands, dictionaries = list(m.operands), list(m.dictionaries)
-    # Nothing of before can be got back to, as in `alone`; and this isn't the preamble's own run any more.
+    # There is no way back to anything earlier, as in `alone`; and this is not the preamble's own run.
     m.held, m.scanner = True, Scanner(document.pages[page], further)
     wrong = up_to_showpage(m)
     picture = list(m.painted)
@@ -174,9 +174,9 @@ def pages(document, further=False):
 
 
 def together(document, pictures, further=False):
-    """Each page in the state in which the document has come to it prints its own picture: what is wrong (`PagesAreIndependent`).
+    """Each page, in the state that the document has reached, prints its own picture: what is wrong (`PagesAreIndependent`).
 
-    A picture has all settings, those too that a later one of their kind covers: as in the definition."""
+    A picture has all settings, as in the definition, also those that a later one of their kind replaces."""
     m = behind_preamble(document, further)
     for number, (page, picture) in enumerate(zip(document.pages, pictures), 1):
         before = len(m.sheets)
@@ -196,7 +196,7 @@ COLOURS = (b"setgray", b"setrgbcolor", b"setcmykcolor")
 
 
 def counting(settings, without=()):
-    """Of each kind of settings the latest: it is the one that counts."""
+    """The latest setting of each kind, which is the one that counts."""
     kinds = {}
     for call in settings:
         kind = "font" if call.name in FONTS else "colour" if call.name in COLOURS else call.name
@@ -206,14 +206,14 @@ def counting(settings, without=()):
 
 
 def seen(painting):
-    """A painting with the settings that count: a font that page 1 set says nothing of a line on page 2."""
+    """A painting with the settings that count: a font that page 1 set doesn't matter for a line on page 2."""
     g = painting.graphics
     path = tuple((s.call, s.chain, tuple(counting(s.settings).items())) for s in g.path)
     shows = painting.call.name.endswith(b"show")
     return painting.call, g.chain, path, g.clip, counting(g.settings, () if shows else ("font",))
 
 
-# What the law says, looked at.
+# What the law says, checked.
 
 
 def taken_out(segments):
@@ -227,7 +227,7 @@ def taken_out_of_place(painting):
 
 
 def places(sheet):
-    """The paintings of a sheet, by the place that they are in; None if one is in no place."""
+    """The paintings of a sheet, by their place; None if one is in no place."""
     found = []
     for painting in sheet:
         g = painting.graphics
@@ -241,7 +241,7 @@ def places(sheet):
 
 
 def shows_the_pages(sheets, pictures, slots, border):
-    """Each sheet has, placed, the pictures of these pages in order, each behind its border. A slot is a page, None if blank."""
+    """Each sheet has, placed, the pictures of these pages in order, each after its border. A slot is a page, None if blank."""
     if len(sheets) != len(slots):
         return False
     for sheet, row in zip(sheets, slots):

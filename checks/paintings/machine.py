@@ -1,11 +1,11 @@
 """A second implementation of the machine of crates/pictures, from its definitions and the PostScript Language Reference,
 third edition (PLRM). It shares nothing with the crate: no code and no proof.
 
-As there, transformations are lists of matrices that nobody multiplies, a point is its operands with the list of its
-time, and a painting is its operator with its operands and the graphics state. All lists here have the latest last.
+As there, transformations are lists of matrices that are not multiplied, a point is its operands with the list at that
+time, and a painting is its operator with its operands and the graphics state. In all lists here the latest is last.
 
 PROVED are the names that the machine of the crate has, each by its definition. FURTHER are operators of the Reference
-that it lacks, and freer forms of those that it has: `Machine(.., further=True)` has them too. A name that is in neither
+that it lacks, and more general forms of those that it has: `Machine(.., further=True)` has them too. A name in neither
 stops the machine.
 """
 from dataclasses import dataclass, field, replace
@@ -18,8 +18,8 @@ class Stopped(Exception):
 
 
 class Number:
-    """A number is its text. Of one that was calculated and isn't whole the text is a term: the texts of its operands and
-    the operator's name behind them, `0.1 0.2 add`. Its value is asked for by readers of pictures and by further operators
+    """A number is its text. If it was calculated and isn't whole, the text is a term: the texts of its operands and
+    the operator's name after them, `0.1 0.2 add`. Its value is used by readers of pictures and by further operators
     alone."""
 
     def __init__(self, text, value=None, parts=()):
@@ -67,7 +67,7 @@ def value_of(text):
 
 
 def whole_of(text):
-    """The value of a whole number: a sign or none, and digits. None of any other."""
+    """The value of a whole number: a sign or none, and digits. None for any other."""
     return int(text) if is_whole(text) else None
 
 
@@ -79,7 +79,7 @@ def number(value):
     return Number(repr(value).encode(), value)
 
 
-# What `add`, `sub`, `mul`, `div` and `neg` make of values: specs/Calculations.
+# The results of `add`, `sub`, `mul`, `div` and `neg`: specs/Calculations.
 VALUES = {
     b"add": lambda a, b: a + b,
     b"sub": lambda a, b: a - b,
@@ -98,7 +98,7 @@ def term(name, *operands):
 
 
 def calculated(name, *operands):
-    """Whole numbers are calculated with as they are. `div` makes none, and of other numbers nothing is calculated."""
+    """Only whole numbers are calculated with. `div` gives none, and with other numbers nothing is calculated."""
     values = [o.whole for o in operands]
     return term(name, *operands) if name == b"div" or None in values else whole(VALUES[name](*values))
 
@@ -145,7 +145,7 @@ class SystemDictionary:
 
 @dataclass(frozen=True)
 class Matrix:
-    """What `matrix` makes. It is known by its number, as a dictionary is, and holds the transformation that fills it in."""
+    """The result of `matrix`. It is identified by number, like a dictionary, and holds the transformation with which it is filled."""
 
     number: int
 
@@ -171,7 +171,7 @@ class File:
 
 
 class Composite:
-    """What is shared: further operators change it in place (PLRM 3.3.1). The machine that is proved has only values."""
+    """A shared object: further operators change it in place (PLRM 3.3.1). The proved machine has only values."""
 
     level = 0
     literal = True
@@ -184,7 +184,7 @@ class Composite:
 
 
 class String(Composite):
-    """A string, as it is written between its parentheses or angle brackets, and the bytes that it stands for."""
+    """A string, as it is written between its parentheses or angle brackets, and its bytes."""
 
     def __init__(self, raw, data, hexadecimal=False):
         self.raw, self.data, self.hexadecimal = raw, bytearray(data), hexadecimal
@@ -245,7 +245,7 @@ def has_radix(text):
 
 
 def unescaped(raw):
-    """The bytes that a string stands for (PLRM 3.2, Strings)."""
+    """The bytes of a string (PLRM 3.2, Strings)."""
     out, at = bytearray(), 0
     while at < len(raw):
         byte = raw[at]
@@ -303,7 +303,7 @@ class Scanner:
     def comment(self):
         while self.at < len(self.text) and self.text[self.at] not in b"\n\r\f":
             self.at += 1
-        # A comment that the text ends in is still open: IsComplete.
+        # If the text ends within a comment, that is still open: IsComplete.
         self.complete = self.at < len(self.text)
 
     def begun(self, byte):
@@ -437,7 +437,7 @@ MISSING = object()
 # Steps after which a run is given up. The longest one, of a page whose fonts are procedures, takes 2 500 000.
 MOST = 5_000_000
 ALWAYS = {b"userdict": Dictionary(USERDICT), b"systemdict": SystemDictionary(), b"true": Truth(True), b"false": Truth(False)}
-# What graphics operators want, the topmost first, and their effect: systemdict of specs/Dictionaries.
+# The operands of graphics operators, the topmost first, and their effect: systemdict of specs/Dictionaries.
 N, TEXT, ARRAY, MATRIX, FONT, NAME, TRUTH = "number", "text", "array", "matrix", "font", "name", "truth"
 DRAWS = {
     b"newpath": ("", "forgets"), b"moveto": (2, "segments"), b"rmoveto": (2, "segments"), b"lineto": (2, "segments"),
@@ -471,12 +471,12 @@ def is_six_numbers(o):
     return is_numbers(o) and len(o.items) == 6
 
 
-# What an operand has to be: `fits` of specs/Operators.
+# What an operand must be: `fits` of specs/Operators.
 FITS = {N: Number, TEXT: String, ARRAY: is_numbers, MATRIX: is_six_numbers, FONT: Font, NAME: Literal, TRUTH: Truth}
 
 
 def frozen(o):
-    """An operand as it is now: what is shared may be changed later."""
+    """The present value of an operand, as shared ones may be changed later."""
     if type(o) is Array:
         return Array(tuple(frozen(item) for item in o.items))
     return String(o.raw, o.data, o.hexadecimal) if isinstance(o, String) else o
@@ -487,13 +487,13 @@ def is_whole_number(o):
 
 
 def is_count(o):
-    """It is written with digits alone."""
+    """Whether it is written with digits only."""
     return is_whole_number(o) and o.text.isdigit()
 
 
 @dataclass
 class Frame:
-    """A procedure that is being run, and what is done behind it: further operators loop so."""
+    """A procedure that is being run, and what is done after it: further operators use this for loops."""
 
     items: list
     at: int = 0
@@ -525,7 +525,7 @@ class Machine:
     steps: int = 0
     now: object = None
     called: bytes = b""
-    # the names that the step has asked the meaning of, and further names that have been used
+    # the names that the step has looked up, and further names that have been used
     asked: set = field(default_factory=set)
     used: set = field(default_factory=set)
 
@@ -608,7 +608,7 @@ class Machine:
             self.operands.append(self.own(item) if not isinstance(item, Procedure) else item)
 
     def found(self, key):
-        """What a name means, None if nothing: the topmost dictionary that has it, systemdict below them all."""
+        """The meaning of a name, None if it has none: from the topmost dictionary that has it, with systemdict below them all."""
         self.asked.add(key)
         for d in reversed(self.dictionaries):
             value = self.entries[d].get(key)
@@ -741,7 +741,7 @@ class Machine:
 
 
 class Operands(Exception):
-    """The operands aren't those of the definition."""
+    """The operands differ from those of the definition."""
 
 
 def anything(o):
@@ -749,7 +749,7 @@ def anything(o):
 
 
 def refused(m, *operands):
-    """Operands, the topmost first, that are of the right kinds, and aren't taken: they are put back."""
+    """Operands of the right kinds, the topmost first, which stay on the stack."""
     m.operands += reversed(operands)
     raise Operands
 
@@ -865,8 +865,8 @@ currentcacheparams setucacheparams ucachestatus
 
 
 def where(m):
-    """The topmost dictionary on the stack that has the name, systemdict below them all. It stops at a name that an interpreter's
-    systemdict alone has."""
+    """The topmost dictionary on the stack that has the name, with systemdict below them all. It stops at a name that only an
+    interpreter's systemdict has."""
     (key,) = m.taken(Literal)
     m.asked.add(key.name)
     for d in reversed(m.dictionaries):
@@ -882,7 +882,7 @@ def where(m):
 
 
 def is_token(o):
-    """What an array may have: a number, a name, a string."""
+    """What an array may hold: a number, a name, a string."""
     return isinstance(o, (Number, Literal, Name, String))
 
 
@@ -980,7 +980,7 @@ COMPARED = {
 
 
 def sort_of(o):
-    """What `eq` tells apart whatever the value."""
+    """What `eq` distinguishes whatever the value."""
     if isinstance(o, (Name, Literal, String)):
         return "name or string"
     if isinstance(o, (Array, Matrix)):
@@ -1065,7 +1065,7 @@ def is_writable(m):
     m.operands.append(Truth(isinstance(o, Dictionary) and READ_ONLY not in m.entries.get(o.number, {})))
 
 
-# No name, since it isn't bytes.
+# Not a name, as it isn't bytes.
 READ_ONLY = object()
 
 
@@ -1092,7 +1092,7 @@ def if_else(m):
 
 
 def run_all(m, turns, procedure):
-    """Before each turn of the procedure these items."""
+    """These items before each turn of the procedure."""
     if len(turns) * (1 + len(procedure.items)) > 2 * MOST:
         raise Stopped("it runs too long")
     m.frames.append(Frame([item for items in turns for item in (*items, *procedure.items)], kind="loop"))
@@ -1104,7 +1104,7 @@ def repeat(m):
 
 
 def for_each_number(m):
-    """Up to the limit and with it, or down to it. A step of 0 stops the machine."""
+    """Up or down to the limit, inclusive. A step of 0 stops the machine."""
     procedure, limit, step, first = m.taken(Procedure, is_whole_number, is_whole_number, is_whole_number)
     if not step.whole:
         refused(m, procedure, limit, step, first)
@@ -1177,7 +1177,7 @@ def initgraphics(m):
 
 
 def looks(perform):
-    """Operators that look at where the machine is, or put it back to where it began."""
+    """Operators that look at where the machine is, or return it to where it began."""
 
     def if_free(m):
         if m.held:
@@ -1231,7 +1231,7 @@ ELEMENTS = (b"closepath", b"curveto", b"lineto", b"moveto")
 
 @looks
 def path_elements(m):
-    """Of a path of `moveto`, `lineto`, `curveto` and `closepath` under the current transformation."""
+    """For a path of `moveto`, `lineto`, `curveto` and `closepath` under the current transformation."""
     procedures = dict(zip(ELEMENTS, m.taken(Procedure, Procedure, Procedure, Procedure)))
     path, items = m.graphics.path, []
     for segment, following in zip(path, [*(s.call.name for s in path[1:]), b""]):

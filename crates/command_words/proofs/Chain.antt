@@ -1,4 +1,4 @@
--- A command that is a chain of arguments, read off their rules.
+-- A command that is a chain of arguments, by their rules.
 use Rattle.std.proofs.Common.{◌≡◌, ◌∙◌, ◌<◌, ap, refl, sym, true, false, Bool, map, List, [], ◌∷◌, ℕ, zero, suc, length, arith, not, ◌&&◌, get_or, inl, inr, Option, Some, None, is_some}
 use Rattle.std.specs.Prelude.{codes}
 use Rattle.std.specs.List.{All, fold, list_all}
@@ -28,7 +28,7 @@ is_none (Some x) e = cc
 unlike : (x y : Text) → not (bytes_eq x y) ≡ true → x ≡ y → ⊥
 unlike x y e same = let yes = (bytes_eq-Decides x y).1 same in let no : bytes_eq x y ≡ false = is_false _ e in cc
 
--- what the test of a simple argument says
+-- what the test of a simple argument means
 simple_facts : (a : Arg) → is_simple_arg a ≡ true
     → (a.overrides.items ≡ []) × (a.groups.items ≡ []) × (a.val_delim ≡ None) × (a.global ≡ false)
 simple_facts a e =

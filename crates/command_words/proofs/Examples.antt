@@ -8,7 +8,7 @@ use Rattle.command_words.specs.Borders.{border_named, border_of}
 no_border_asked_for : border_named (points 1 1) None ≡ Some None
 no_border_asked_for = refl
 
--- a border of the width 0 is none, and one grain is the thinnest there is
+-- a border of width 0 is no border; one grain is the thinnest
 border_of_zero : border_of (pos 0) ≡ Some None
 border_of_zero = refl
 

@@ -39,7 +39,7 @@ reads_number t = go (is_number (without_leading_plus t)) refl
               cc,
         )
 
--- what `u32` reads of a text
+-- what `u32` reads from a text
 pub number_read : (E : Type 0) (G : List ℕ → Result ℕ E → Type 0) (t : List ℕ) (r : Option ℕ) → ((r : Result ℕ E) → G t r → ParsesUnsigned 32 10 t r) → ReadsOne G t r → r ≡ number_of t
 number_read E G t (Some v) parse h =
     let p = parse (Ok v) h in

@@ -1,4 +1,4 @@
--- Read in this order: arguments that stand for themselves alone; values out of what clap finds; borders.
+-- Read in this order: arguments that count for themselves alone; values out of what clap finds; borders.
 pub mod Arguments
 pub mod Matches
 pub mod Borders

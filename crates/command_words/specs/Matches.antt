@@ -1,4 +1,4 @@
--- What the texts of arguments stand for, as clap finds them among the words.
+-- What the texts of arguments mean, as clap finds them among the words.
 use Rattle.std.specs.Prelude.{◌^◌, ◌&&◌, ℕ, Bool, false, nat_lt, option_and_then, if◌then◌else◌, List, Option, Some, None}
 use Rattle.std.specs.Prelude.{codes}
 use Rattle.std.specs.Str.{bytes_eq}
@@ -6,7 +6,7 @@ use Rattle.std.specs.Str.Parse.{digits_value, without_leading_plus}
 use Rattle.clap.specs.ValueTests.{is_numeral}
 use Rattle.clap.specs.Words.{Text}
 
--- a flag stands among the words
+-- a flag is among the words
 abbrev pub has_true : Option Text → Bool
 has_true None = false
 has_true (Some text) = bytes_eq text (codes "true")

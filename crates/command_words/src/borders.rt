@@ -1,10 +1,11 @@
-//! What the width of a border stands for.
+//! What the width of a border means.
 ghost use Rattle.std.specs.Prelude.{◌≡◌, option_map};
 ghost use Rattle.command_words.specs.Borders as meaning;
 
 use lengths::{Grains, Paper, length_named};
 
-/// The width of a border, if there is to be one: a width of 0 asks for none. None if the text is no length, or below 0.
+/// The width of a border, or no border if the width is 0 or isn't given. None if the text is not a length, or is
+/// below 0.
 pub fn border_named(paper: &Paper, width: Option<&str>) -> Option<Option<Grains>>
     ensures { result ≡ meaning.border_named paper.now (option_map (λ s. s.now) width.entry) }
 {

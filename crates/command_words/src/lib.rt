@@ -1,5 +1,5 @@
 //! What both commands have in common: how a value is taken out of what clap finds among the words, and what the width of a
-//! border stands for.
+//! border means.
 #![tactic(auto)]
 
 mod borders;

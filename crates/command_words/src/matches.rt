@@ -1,4 +1,4 @@
-//! Values out of what clap finds among the words.
+//! Values from what clap finds among the words.
 ghost use Rattle.std.specs.Prelude.{◌≡◌, IfOk, is_some, option_map, string_bytes};
 ghost use Rattle.clap.specs.Words.{first_of, first_value, found_of, one_of, rows_of};
 ghost use Rattle.command_words.specs.Matches.{has_true, number_named};
@@ -21,7 +21,7 @@ pub fn number_of(matches: &ArgMatches<'_>, id: &str) -> Option<u32>
     matches.get_one::<u32>(id)
 }
 
-/// Whether a flag stands among the words: its text is then `true`.
+/// Whether a flag is among the words: its text is then `true`.
 pub fn is_set(matches: &ArgMatches<'_>, id: &str) -> bool
     ensures { result ≡ has_true (first_of id.now (rows_of (found_of matches.now))) }
 {
@@ -37,7 +37,7 @@ fn is_true(text: Option<&str>) -> bool
     }
 }
 
-/// The text as one of the request's own.
+/// A copy of the text, which the request owns.
 pub fn owned(alloc: Global, text: Option<&str>) -> Result<Option<String>, AllocError>
     ensures { IfOk result (λ own. option_map string_bytes own ≡ option_map (λ s. s.now) text.entry) }
 {

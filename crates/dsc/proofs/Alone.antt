@@ -1,4 +1,4 @@
--- A page, cut anew, has the document's units.
+-- A page, cut as a text of its own, has the units that it has in the document.
 use Rattle.std.specs.Prelude.{Ok, map, All, not}
 use Rattle.std.specs.List.{prefix_len}
 use Rattle.std.proofs.Common.{Bool, true, false, ◌&&◌, ◌==◌, ◌≡◌, ℕ, zero, suc, List, [], ◌∷◌, ◌++◌, length, take, drop, refl, ap, arith, sym, ◌∙◌, subst}
@@ -12,7 +12,7 @@ use Rattle.dsc.specs.Laws.{StandAlone, PagesStandAlone, HasBody}
 use Rattle.dsc.proofs.Cases.{by_test}
 use Rattle.dsc.proofs.Rows.{joined, units-alone, units-cut, cut-begins}
 
--- the depth behind units
+-- the depth after units
 abbrev pub depth_behind : ℕ → List TextUnit → ℕ
 depth_behind d [] = d
 depth_behind d (p ∷ ps) = depth_behind (depth_after d p) ps
@@ -37,7 +37,7 @@ pub nested-bytes : (d : ℕ) (ps : List TextUnit) → bytes_of (nested_from d ps
 nested-bytes d [] = refl
 nested-bytes d (p ∷ ps) = ap (λ bs. p.bytes ++ bs) (nested-bytes (depth_after d p) ps)
 
--- the first units of a text, and those behind them
+-- the first units of a text, and those after them
 pub begins-take : (n : ℕ) (ps : List TextUnit) (text rest : List ℕ) → BeginsWith ps text rest → (mid : List ℕ) × BeginsWith (take n ps) text mid
 begins-take zero [] text rest h = (text, refl)
 begins-take zero (p ∷ ps) text rest h = (text, refl)

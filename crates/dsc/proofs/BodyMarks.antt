@@ -55,16 +55,16 @@ plain_noted found current was in_pages true line at after bytes = refl
 plain_noted found current was true false line at after bytes = refl
 plain_noted found current was false false line at after bytes = refl
 
--- seen in two parts
+-- bytes that are read in two parts
 pub line_further : (was : Bool) (a b : List ℕ) → ends_line (ends_line was a) b ≡ ends_line was (a ++ b)
 line_further was [] b = refl
 line_further was (x ∷ a) b = line_further (is_end x) a b
 
--- a byte further from the end
+-- one byte further from the end
 one_back : (b c : ℕ) (bs : List ℕ) (d : ℕ) → get_or (b ∷ c ∷ bs) (length (b ∷ c ∷ bs) - 1) d ≡ get_or (c ∷ bs) (length (c ∷ bs) - 1) d
 one_back b c bs d = let e : length (b ∷ c ∷ bs) - 1 ≡ suc (length (c ∷ bs) - 1) = omega arith in ap (λ k. get_or (b ∷ c ∷ bs) k d) e
 
--- told by the last byte
+-- the last byte decides
 pub line_of_last : (xs : List ℕ) (byte d : ℕ) (was line : Bool) → 0 < length xs → byte ≡ get_or xs (length xs - 1) d → line ≡ is_end byte → line ≡ ends_line was xs
 line_of_last [] byte d was line some e l = absurd (omega (arith, some))
 line_of_last (b ∷ []) byte d was line some e l = l ∙ ap is_end e
@@ -95,7 +95,7 @@ follows = record {
       ∙ ap (λ k. record { sought = kept_on s.sought (a ++ b); at = k }) (let l = length-append a b in let e : s.at + length a + length b ≡ s.at + length (a ++ b) = omega (arith, l) in e);
 }
 
--- as a loop has it: one more unit is noted
+-- in terms of a loop: one more unit is noted
 pub sought_more : (s new : Sought) (p q : Place) (u : TextUnit) (at : ℕ) (page ends dropped : Bool) (whole : Result Sought FaultyBlock)
     → 0 < length p.rest → IsPieceOf u p.rest → q ≡ behind u p → at ≡ p.at
     → page ≡ begins_page (at_depth p.depth u) → ends ≡ begins_trailer (at_depth p.depth u) → dropped ≡ is_dropped PageSetup s.was (at_depth p.depth u)

@@ -13,7 +13,7 @@ one_of_two : (a : Bool) → (a || false) ≡ true → a ≡ true
 one_of_two true e = refl
 one_of_two false e = cc
 
--- they stand behind the key and the colon
+-- they follow the key and the colon
 pub fields_are : (name content : List ℕ) → is_comment name content ≡ true → fields content ≡ fields_in (drop (length name + 1) content)
 fields_are name content is =
     let has = left_of (has_key (name ∷ []) content) _ is in

@@ -37,11 +37,11 @@ follows = record {
   both = λ count a b. refl;
 }
 
--- what is counted in all, if so many were counted up to here
+-- the final count, if this many were counted up to here
 abbrev pub count_on : ℕ → (depth at : ℕ) → List ℕ → Result ℕ FaultyBlock
 count_on count depth at rest = on_rest (makes count) depth at rest
 
--- as the loop has it: one more unit is looked at
+-- in terms of the loop: one more unit is looked at
 pub count_more : (count new : ℕ) (p q : Place) (u : TextUnit) (page : Bool) (whole : Result ℕ FaultyBlock)
     → 0 < length p.rest → IsPieceOf u p.rest → q ≡ behind u p
     → page ≡ begins_page (at_depth p.depth u) → new ≡ counted count page
@@ -67,7 +67,7 @@ faulty : (fault : FaultyBlock) (r : Result (List TextUnit) FaultyBlock) → Err 
 faulty fault (Ok us) e = cc
 faulty fault (Err other) e = refl
 
--- a faulty block is met
+-- the walk meets a faulty block
 pub fault_counted : (text rest : List ℕ) (count depth at : ℕ) (bad : BlockFault) → 0 < length rest → first_unit rest ≡ Err bad
     → count_on count depth at rest ≡ count_on 0 0 0 text → 0 ≡ page_lines (units_of text)
 fault_counted text [] count depth at bad some w i = absurd (omega (arith, some))

@@ -37,7 +37,7 @@ cut_step at b bs p w =
 pub cut_fault : (at b : ℕ) (bs : List ℕ) (bad : BlockFault) → first_unit (b ∷ bs) ≡ Err bad → cut_at at (b ∷ bs) ≡ Err (faulty_block at bad)
 cut_fault at b bs bad w = ap (λ r. at_byte at r >>= λ q. cut_from (length bs) (at + length q.bytes) (drop (length q.bytes) (b ∷ bs)) >>= λ ps. Ok (q ∷ ps)) w
 
--- one more unit in front of what a function is given
+-- one more unit before those that a function gets
 pub of_units-more : {A : Type 0} (f g : List TextUnit → A) (u : TextUnit) (r : Result (List TextUnit) FaultyBlock) → ((us : List TextUnit) → g us ≡ f (u ∷ us))
     → of_units g r ≡ of_units f (r >>= λ us. Ok (u ∷ us))
 of_units-more f g u (Ok us) h = ap Ok (h us)

@@ -12,7 +12,7 @@ pub data_short : (may : Bool) (rest count : List ℕ) (more fs : List (List ℕ)
     → length rest < n → data_in may rest fs ≡ Err ShortData
 data_short may rest count more fs n most e w h = rw e (rw w.0 (short_counted (may && third_is (codes "Lines") more) (number_of count) rest (omega (arith, w.1, h))))
 
--- as the whole line has it
+-- in terms of the whole line
 lines_third : (content : List ℕ) (may : Bool) (f : List ℕ) (fs : List (List ℕ)) → is_comment (codes "%%BeginData") content ≡ may → counts_lines content (f ∷ fs) ≡ (may && third_is (codes "Lines") fs)
 lines_third content may f [] e = false_and may
   where

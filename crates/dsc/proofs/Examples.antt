@@ -1,11 +1,11 @@
--- Which lines belong to the header comments, and which tell a box, worked out.
+-- Which lines belong to the header comments, and which have a box, worked out.
 use Rattle.std.proofs.Common.{◌≡◌, ℕ, true, false, List, [], ◌∷◌, refl}
 use Rattle.std.specs.Prelude.{codes, None, Some}
 use Rattle.rules.specs.Parts.{NestedUnit}
 use Rattle.dsc.specs.Header.{stays, is_last}
 use Rattle.dsc.specs.TrailerBoxes.{box_in, box_among}
 
--- Which lines go on with the header comments.
+-- Which lines continue the header comments.
 
 comment : stays (codes "%%Title: a") ≡ true
 comment = refl
@@ -16,7 +16,7 @@ continued = refl
 adobe : stays (codes "%!PS-Adobe-3.0") ≡ true
 adobe = refl
 
--- a comment that isn't DSC's: the second byte doesn't print, or there is none
+-- a comment that isn't DSC's: the second byte isn't printable, or there is none
 blank_behind : stays (codes "% a") ≡ false
 blank_behind = refl
 
@@ -45,14 +45,14 @@ trailer = refl
 end_of_file : stays (codes "%%EOF") ≡ false
 end_of_file = refl
 
--- a key that is longer than these is another one
+-- a key that is longer than these is a different key
 longer_key : stays (codes "%%EOFs") ≡ true
 longer_key = refl
 
 longer_trailer_key : stays (codes "%%TrailerX") ≡ true
 longer_trailer_key = refl
 
--- each key that begins so ends them, whatever it goes on with
+-- each key that begins so ends them, whatever follows
 data_block : stays (codes "%%BeginData: 1") ≡ false
 data_block = refl
 
@@ -62,7 +62,7 @@ begin_alone = refl
 shorter_than_begin : stays (codes "%%Begi") ≡ true
 shorter_than_begin = refl
 
--- the bytes that print, on both sides
+-- the printable characters, at both ends
 first_that_prints : stays (37 ∷ 33 ∷ []) ≡ true
 first_that_prints = refl
 
@@ -89,13 +89,13 @@ longer_end_comments = refl
 shorter_end_comments : is_last (codes "%%EndComment") ≡ false
 shorter_end_comments = refl
 
--- the prolog may end behind them, not with them
+-- the prolog may end after them, not with them
 end_of_prolog : is_last (codes "%%EndProlog") ≡ false
 end_of_prolog = refl
 
--- Which box a line tells.
+-- Which box a line has.
 
--- a line with this content, so deep in embedded documents
+-- a line with this content, at this depth of embedded documents
 abbrev a_line : (depth : ℕ) (content : List ℕ) → NestedUnit
 a_line depth content = record { depth = depth; unit = record { content = content; bytes = []; is_block = false } }
 
@@ -108,6 +108,6 @@ finer_box = refl
 box_of_an_embedded_document : box_in (a_line 1 (codes "%%BoundingBox: 0 0 612 792")) ≡ None
 box_of_an_embedded_document = refl
 
--- of two the first one counts
+-- of two boxes the first one counts
 first_box : box_among (a_line 0 (codes "showpage") ∷ a_line 0 (codes "%%BoundingBox: 1") ∷ a_line 0 (codes "%%BoundingBox: 2") ∷ []) ≡ Some (codes "1" ∷ [])
 first_box = refl

@@ -12,7 +12,7 @@ use Rattle.dsc.proofs.Cases.{by_test}
 abbrev kept_in : List (List ℕ) → List (List ℕ)
 kept_in fs = filter (λ f. nat_lt 0 (length f)) fs
 
--- how long the field is that stands first
+-- the length of the first field
 abbrev pub field_len : List ℕ → ℕ
 field_len text = prefix_len (λ b. not (is_blank b)) text
 
@@ -43,7 +43,7 @@ skip_blanks (b ∷ bs) = by_test (is_blank b)
     (λ is. skip_blank b bs is ∙ skip_blanks bs ∙ ap fields_in (sym (drop_one (prefix_len is_blank bs) b bs)) ∙ ap (λ k. fields_in (drop k (b ∷ bs))) (sym (blanks_one b bs is)))
     (λ no. ap (λ k. fields_in (drop k (b ∷ bs))) (sym (blanks_none b bs no)))
 
--- the first part, and the fields of what stands behind it
+-- the first part, and the fields of what follows it
 abbrev Front : List ℕ → ℕ → Type 0
 Front text n = (parts : List (List ℕ)) × (slice_split is_blank text ≡ take n text ∷ parts) × (kept_in parts ≡ fields_in (drop n text))
 
@@ -69,7 +69,7 @@ field_first text h =
     let some : 0 < length (take (field_len text) text) = rw length-take (omega (arith, h, fits)) in
     ap kept_in w.1 ∙ kept_first (take (field_len text) text) w.0 some ∙ ap (λ fs. take (field_len text) text ∷ fs) w.2
 
--- behind the blanks stands a field, or nothing
+-- after the blanks comes a field, or nothing
 none_left : (text : List ℕ) → field_len (drop (prefix_len is_blank text) text) ≡ 0 → drop (prefix_len is_blank text) text ≡ []
 none_left [] h = refl
 none_left (b ∷ bs) h = by_test (is_blank b)

@@ -17,7 +17,7 @@ use Rattle.dsc.proofs.Walking.{Follows, piece_on, piece_front}
 pub run_grows : (kept run : List ℕ) (n m : ℕ) → kept ++ take (n + m) run ≡ (kept ++ take n run) ++ take m (drop n run)
 run_grows kept run n m = ap (λ t. kept ++ t) (take-add n m run) ∙ sym (append_assoc kept (take n run) (take m (drop n run)))
 
--- one unit more
+-- one more unit
 keeps_step : (t : Bool) (front bytes rest rest2 : List ℕ) → (t ≡ true → rest ≡ rest2) → (t ≡ false → rest ≡ bytes ++ rest2) → front ++ rest ≡ (front ++ (if t then [] else bytes)) ++ rest2
 keeps_step true front bytes rest rest2 a b = ap (λ t. front ++ t) (a refl) ∙ ap (λ t. t ++ rest2) (sym (append-nil front))
 keeps_step false front bytes rest rest2 a b = ap (λ t. front ++ t) (b refl) ∙ sym (append_assoc front bytes rest2)
@@ -55,7 +55,7 @@ follows drops = record {
   both = λ s a b. ap (λ t. record { front = t; was = false }) (append_assoc s.front a b);
 }
 
--- as a loop has it: one more unit is kept or dropped
+-- in terms of a loop: one more unit is kept or dropped
 pub filter_more : (drops : Drops) (was dropped : Bool) (front new : List ℕ) (p q : Place) (u : TextUnit) (whole : Result (List ℕ) FaultyBlock)
     → 0 < length p.rest → IsPieceOf u p.rest → q ≡ behind u p → dropped ≡ is_dropped drops was (at_depth p.depth u)
     → new ≡ front ++ (if dropped then [] else take (length u.bytes) p.rest)

@@ -13,11 +13,11 @@ use Rattle.dsc.specs.Documents.{HasItsParts}
 use Rattle.dsc.proofs.Alone.{pages-alone}
 use Rattle.dsc.proofs.Slices.{page_found}
 
--- the prepared body of units that are cut anew alike
+-- units that are cut the same way alone have the same prepared body
 pub alone_prepared : (us : List NestedUnit) → StandAlone us → prepared (bytes_of us) ≡ Ok (ended (bytes_of (kept drops_in_page us)))
 alone_prepared us h = ap (λ r. r >>= λ vs. Ok (ended (bytes_of (kept drops_in_page (nested vs))))) h.0 ∙ ap (λ vs. Ok (ended (bytes_of (kept drops_in_page vs)))) h.1
 
--- bytes that end with a line end, and a rest of them, want none
+-- neither bytes that end with a line end nor the last part of them need one
 ends_stay : (xs : List ℕ) (was : Bool) → ends_line was xs ≡ true → ended xs ≡ xs
 ends_stay [] was e = refl
 ends_stay (b ∷ []) was e = ap (λ t. if t then b ∷ [] else b ∷ 10 ∷ []) e
@@ -37,7 +37,7 @@ pub not_0 : (n : ℕ) → (n ≡ 0 → ⊥) → 0 < n
 not_0 zero h = absurd (h refl)
 not_0 (suc n) h = omega arith
 
--- as the code finds it
+-- in terms of the code
 pub body_start_at : (text starts bodies row others : List ℕ) (stop p start first : ℕ) (us : List NestedUnit) → HasItsParts text starts bodies stop → units_of text ≡ us → p < length (pages us)
     → row ≡ bodies → others ≡ starts → start ≡ get_or row p 0 → first ≡ get_or others p 0
     → (p < length row) × (p < length others) × (0 < start → (first ≤ start) × (start - first ≤ length (get_or (pages us) p [])) × (prepared (get_or (pages us) p []) ≡ Ok (drop (start - first) (get_or (pages us) p []))))

@@ -1,4 +1,4 @@
--- What a unit is doesn't hang on what stands behind it.
+-- What a unit is doesn't depend on what follows it.
 use Rattle.std.specs.Prelude.{Result, Ok, Err, Option, Some, None}
 use Rattle.std.specs.List.{list_all}
 use Rattle.std.specs.Char.{is_ascii_digit}
@@ -63,7 +63,7 @@ block-ok : (text content : List ℕ) (n : ℕ) (r : Result ℕ BlockFault) (p : 
 block-ok text content n (Err e) p w = cc
 block-ok text content n (Ok m) p w = (m, refl, cc)
 
--- a block is the same where the text ends behind it
+-- a block stays the same if the text ends after it
 block-take : (text content : List ℕ) (n m k : ℕ) (fs : List (List ℕ)) (p : TextUnit) → n ≤ length text → data_len content (drop n text) fs ≡ Ok m
     → p ≡ record { content = content; bytes = take (n + m) text; is_block = true } → length p.bytes ≤ k → (n ≤ k) × (block_with (take k text) content n (data_len content (drop n (take k text)) fs) ≡ Ok p)
 block-take text content n m k fs p fits d e h =
@@ -74,7 +74,7 @@ block-take text content n m k fs p fits d e h =
     ap (λ rest. data_len content rest fs) (behind n k text (omega (arith, sum))) ∙ data_len-take content (drop n text) fs m (k - n) d (omega (arith, sum)) in
     (omega (arith, sum), ap (block_with (take k text) content n) found ∙ ap (λ bs. Ok (record { content = content; bytes = bs; is_block = true })) (take-take (n + m) k text sum) ∙ ap Ok (sym e))
 
--- what is chosen by a test is too
+-- so does what a test chooses
 chosen-take : (t : Bool) (text content : List ℕ) (n : ℕ) (fs : List (List ℕ)) (p : TextUnit) (k : ℕ) → n ≤ length text
     → (if t then block_with text content n (data_len content (drop n text) fs) else Ok (record { content = content; bytes = take n text; is_block = false })) ≡ Ok p → length p.bytes ≤ k
     → (n ≤ k) × ((if t then block_with (take k text) content n (data_len content (drop n (take k text)) fs) else Ok (record { content = content; bytes = take n (take k text); is_block = false })) ≡ Ok p)
@@ -96,7 +96,7 @@ unit-at text =
     ap (λ b. if begins_block content then b else Ok (record { content = content; bytes = take n text; is_block = false }))
     (block-same text n (data_len content (drop n text) (fields content)))
 
--- a unit is the same where the text ends behind it
+-- a unit stays the same if the text ends after it
 pub first_unit-take : (text : List ℕ) (p : TextUnit) (k : ℕ) → first_unit text ≡ Ok p → length p.bytes ≤ k → first_unit (take k text) ≡ Ok p
 first_unit-take text p k e h =
     let w = unit_at-take text (content_of text) (line_len text) p k (line_len-within text) (sym (unit-at text) ∙ e) h in

@@ -1,4 +1,4 @@
--- The run of header comments, a line at a time.
+-- The run of header comments, line by line.
 use Rattle.std.specs.Prelude.{if◌then◌else◌}
 use Rattle.std.proofs.Common.{true, false, ◌≡◌, ℕ, zero, suc, ◌+◌, ◌<◌, List, [], ◌∷◌, length, drop, refl, ap, arith, ◌∙◌}
 use Rattle.rules.specs.Units.{content_of, line_len}

@@ -24,7 +24,7 @@ flipped xs ys false e = by_test (bytes_eq ys xs)
 abbrev pub in_key : ℕ → Bool
 in_key b = not (is_blank b || (b == 58))
 
--- a name with a colon behind it is the key
+-- a name followed by a colon is the key
 pub key_before : (name rest : List ℕ) → list_all in_key name ≡ true → key (name ++ 58 ∷ rest) ≡ name
 key_before [] rest h = refl
 key_before (b ∷ bs) rest h = by_test (in_key b)
@@ -58,7 +58,7 @@ BINARY = codes "%%BeginBinary"
 stripped : (content name : List ℕ) (t : Bool) → list_all in_key name ≡ true → bytes_eq (take (length (name ++ 58 ∷ [])) content) (name ++ 58 ∷ []) ≡ t → is_comment name content ≡ t
 stripped content name t free h = comment_is content name t free (flipped (take (length (name ++ 58 ∷ [])) content) (name ++ 58 ∷ []) t h)
 
--- what doesn't begin with some bytes doesn't begin with these and more
+-- what doesn't begin with some bytes doesn't begin with these and more either
 pub unbegun : (content start more : List ℕ) → starts_with nat_eq content start ≡ false → starts_with nat_eq content (start ++ more) ≡ false
 unbegun content start more h = by_test (starts_with nat_eq content (start ++ more))
     (λ is.
@@ -76,7 +76,7 @@ unheaded content h =
     let also : is_comment BINARY content ≡ false = comment_is content BINARY false refl (unbegun content (codes "%%Begin") (codes "Binary:") h) in
     ap (λ t. t || is_comment BINARY content) isnt ∙ also
 
--- as a search for the two headings finds them
+-- in terms of a search for the two headings
 pub data_found : (content behind : List ℕ) → bytes_eq (take 12 content) (DATA ++ 58 ∷ []) ≡ true → behind ≡ drop 12 content
     → (begins_block content ≡ true) × (fields content ≡ fields_in behind) × (is_comment DATA content ≡ true)
 data_found content behind h e =

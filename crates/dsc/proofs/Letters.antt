@@ -1,4 +1,4 @@
--- What the letter of a comment tells of its key.
+-- What the letter of a comment says about its key.
 use Rattle.std.specs.Prelude.{Some, None, codes, not}
 use Rattle.std.specs.List.{starts_with, prefix_len, list_all}
 use Rattle.std.specs.Str.{bytes_eq}
@@ -40,14 +40,14 @@ letter_start : (content name : List ℕ) (c : ℕ) → starts_with nat_eq conten
 letter_start content name c is =
     letter_front (length (37 ∷ 37 ∷ c ∷ name)) content name c ((bytes_eq-Decides (37 ∷ 37 ∷ c ∷ name) (take (length (37 ∷ 37 ∷ c ∷ name)) content)).0 is)
 
--- with another letter the key is another
+-- with another letter the key is a different one
 pub other_key : (content name : List ℕ) (c : ℕ) → (letter_of content ≡ Some c → ⊥) → bytes_eq (key content) (37 ∷ 37 ∷ c ∷ name) ≡ false
 other_key content name c h = by_test (bytes_eq (key content) (37 ∷ 37 ∷ c ∷ name)) (λ is. absurd (h (letter_key content name c is))) (λ isnt. isnt)
 
 pub other_start : (content name : List ℕ) (c : ℕ) → (letter_of content ≡ Some c → ⊥) → starts_with nat_eq content (37 ∷ 37 ∷ c ∷ name) ≡ false
 other_start content name c h = by_test (starts_with nat_eq content (37 ∷ 37 ∷ c ∷ name)) (λ is. absurd (h (letter_start content name c is))) (λ isnt. isnt)
 
--- a key begins with bytes that end none, if its line does
+-- the key of a line begins with bytes that the line begins with, if none of them ends a key
 pub key_starts : (name content : List ℕ) → list_all in_key name ≡ true → starts_with nat_eq (key content) name ≡ starts_with nat_eq content name
 key_starts name [] h = refl
 key_starts [] (c ∷ cs) h = ap (λ k. starts_with nat_eq k []) (take_while-cons in_key c cs) ∙ nothing (in_key c)

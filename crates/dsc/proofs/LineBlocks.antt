@@ -23,7 +23,7 @@ feed_next rest k = refl
 some_content : (b : ℕ) (rest : List ℕ) → is_end b ≡ false → 1 ≤ content_len (b ∷ rest)
 some_content b rest h = rw h (omega arith)
 
--- a byte of a line's content, which bytes follow
+-- a byte of a line's content, followed by bytes
 content_next : (b : ℕ) (rest : List ℕ) (k : ℕ) → is_end b ≡ false → 0 < length rest → lines_len (suc k) (b ∷ rest) ≡ option_map (λ m. 1 + m) (lines_len (suc k) rest)
 content_next b [] k h some = absurd (omega (arith, some))
 content_next b (c ∷ cs) k h some =
@@ -48,12 +48,12 @@ counted_no p b bs h = sum_by-cons (λ x. cond (p x) 1 0) b bs ∙ ap (λ t. cond
 no_end : (b : ℕ) → (b == 13) ≡ false → (b == 10) ≡ false → is_end b ≡ false
 no_end b r f = ap (λ t. t || (b == 10)) r ∙ f
 
--- a byte is passed, and then the rest
+-- one byte is passed, and then the rest
 and_then : (n b m k : ℕ) (others : List ℕ) → n ≡ 1 + b → m ≡ k → option_map (λ j. 1 + j) (option_map (λ j. b + j) (lines_len m others)) ≡ option_map (λ j. n + j) (lines_len k others)
 and_then n b m k others e h =
     sym (added_on 1 b (lines_len m others)) ∙ ap (λ i. option_map (λ j. i + j) (lines_len m others)) (sym e) ∙ ap (λ i. option_map (λ j. n + j) (lines_len i others)) h
 
--- bytes without CR, in which fewer lines end than are wanted, and behind which bytes stand
+-- bytes without CR, in which fewer lines end than are wanted, and which bytes follow
 pub block_passed : (block others : List ℕ) (n : ℕ) → 0 < length others → count_by is_return block ≡ 0 → count_by is_feed block < n
     → lines_len n (block ++ others) ≡ option_map (λ m. length block + m) (lines_len (n - count_by is_feed block) others)
 block_passed [] others n some none few =
@@ -84,7 +84,7 @@ block_passed (b ∷ bs) others (suc k) some none few = by_test (b == 13)
     ∙ ap (option_map (λ m. 1 + m)) (block_passed bs others (suc k) some none_on (omega (arith, few, even)))
     ∙ and_then (length (b ∷ bs)) (length bs) (suc k - f) (suc k - count_by is_feed (b ∷ bs)) others long same))
 
--- as a loop has it: one more block is passed
+-- in terms of a loop: one more block is passed
 pub blocks_more : (size count lines feeds passed : ℕ) (rest block others : List ℕ) (whole : Option ℕ) → size < length rest → block ≡ take size rest → others ≡ drop size rest
     → feeds ≡ count_by is_feed block → count_by is_return block ≡ 0 → feeds < count - lines
     → option_map (λ n. passed + n) (lines_len (count - lines) rest) ≡ whole

@@ -1,4 +1,5 @@
--- A function that takes a text line by line, of so many lines at most: each line has a byte, so the text's length is enough of them.
+-- A function that takes a text line by line, with a bound on their number: each line has at least one byte, so the
+-- text's length is enough.
 use Rattle.std.proofs.Common.{◌≡◌, ℕ, zero, suc, ◌≤◌, List, [], ◌∷◌, length, drop, ap, sym, arith, length-drop, ◌∙◌}
 use Rattle.rules.specs.Units.{line_len}
 use Rattle.dsc.proofs.LineLengths.{line_len-pos}
@@ -16,7 +17,7 @@ module _ {X : Type 0} (f : ℕ → List ℕ → X) (with_line : ℕ → List ℕ
       let less : length (drop n text) ≤ length bs = omega (arith, moves, length-drop n text) in
       step k b bs ∙ ap (with_line b bs) (enough k m (drop n text) (omega (arith, h, less)) (omega (arith, g, less))) ∙ sym (step m b bs)
 
-  -- the line at the front, and what is found behind it
+  -- the line at the front, and what is found after it
   pub by_line : (b : ℕ) (bs : List ℕ)
       → f (length (b ∷ bs)) (b ∷ bs)
       ≡ with_line b bs (f (length (drop (line_len (b ∷ bs)) (b ∷ bs))) (drop (line_len (b ∷ bs)) (b ∷ bs)))

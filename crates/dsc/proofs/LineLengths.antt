@@ -10,7 +10,7 @@ use Rattle.memchr.specs.Find.{IsFirstByte, is_byte2}
 use Rattle.rules.specs.Units.{is_end, content_of, end_len, line_len, lines_len}
 use Rattle.dsc.proofs.Cases.{by_test}
 
--- how long the content is
+-- the length of the content
 abbrev pub content_len : List ℕ → ℕ
 content_len text = prefix_len (λ b. not (is_end b)) text
 
@@ -38,7 +38,7 @@ two_or_one false = lit< tt
 pub end_len-pos : (b : ℕ) (bs : List ℕ) → 0 < end_len (b ∷ bs)
 end_len-pos b bs = two_or_one ((b == 13) && starts_with nat_eq bs (10 ∷ []))
 
--- a line of a text that isn't empty has a byte: where its content is empty, its end stands first
+-- a line of a text that isn't empty has a byte: if its content is empty, its end comes first
 pub line_len-pos : (b : ℕ) (bs : List ℕ) → 0 < line_len (b ∷ bs)
 line_len-pos b bs = grind (arith, common_steps, end_len-pos b bs)
 
@@ -63,7 +63,7 @@ line_len-within text =
     let more : end_len (drop (content_len text) text) ≤ length (drop (content_len text) text) = end_len-within _ in
     rw line_len_is (omega (arith, first, more, length-drop (content_len text) text))
 
--- What a line is doesn't hang on what stands behind it.
+-- What a line is doesn't depend on what follows it.
 
 pub content_len-take : (k : ℕ) (text : List ℕ) → content_len text ≤ k → content_len (take k text) ≡ content_len text
 content_len-take zero [] h = refl
@@ -99,7 +99,7 @@ line_len-take k text h =
     line_len_is (take k text) ∙ ap (λ j. j + end_len (drop j (take k text))) (content_len-take k text less)
     ∙ ap (λ t. n + end_len t) rest ∙ ap (λ e. n + e) (end_len-take (k - n) (drop n text) (omega (arith, h2))) ∙ sym (line_len_is text)
 
--- where a text is cut behind its first line, what stands behind it is cut too
+-- if a text is cut after its first line, so is what follows that line
 pub behind : (n k : ℕ) (text : List ℕ) → n ≤ k → drop n (take k text) ≡ take (k - n) (drop n text)
 behind n k text less =
     let split : k ≡ n + (k - n) = omega (arith, less) in
@@ -109,7 +109,7 @@ more_than : (n : ℕ) (o : Option ℕ) (m : ℕ) → option_map (λ k. n + k) o 
 more_than n None m e = cc
 more_than n (Some k) m e = (k, refl, cc)
 
--- each line has a byte
+-- each line has at least one byte
 pub lines_len-least : (count : ℕ) (text : List ℕ) (m : ℕ) → lines_len count text ≡ Some m → (count ≤ m) × (m ≤ length text)
 lines_len-least zero text m e = let z : m ≡ 0 = cc in (omega arith, omega (arith, z))
 lines_len-least (suc c) [] m e = cc
@@ -147,7 +147,7 @@ pub added_on : (a b : ℕ) (o : Option ℕ) → option_map (λ k. a + b + k) o �
 added_on a b None = refl
 added_on a b (Some k) = ap Some (omega arith)
 
--- as a loop has it: one more line is passed
+-- in terms of a loop: one more line is passed
 pub lines_more : (count i end next : ℕ) (rest after : List ℕ) (n : ℕ) (whole : Option ℕ) → i < count → 0 < length rest → n ≡ line_len rest → after ≡ drop n rest
     → next ≡ end + n → option_map (λ k. end + k) (lines_len (count - i) rest) ≡ whole → option_map (λ k. next + k) (lines_len (count - (i + 1)) after) ≡ whole
 lines_more count i end next [] after n whole w some e a s h = absurd (omega (arith, some))

@@ -19,7 +19,7 @@ use Rattle.dsc.proofs.Filtering.{kept_step}
 use Rattle.dsc.proofs.PartMarks.{before-cons, head_len, body_from, head-more, body-more, head-none, body-all, page_key}
 use Rattle.dsc.proofs.BodyMarks.{sought_with, sought_on, line_further}
 
--- where a body begins behind these units, the first of which begins at the byte `at`
+-- where a body begins after these units, the first of which begins at the byte `at`
 abbrev pub start_with : (start : ℕ) (was : Bool) (at : ℕ) → List NestedUnit → ℕ
 start_with start was at [] = start
 start_with start was at (u ∷ us) = let behind = at + length u.unit.bytes
@@ -35,7 +35,7 @@ same_byte at = eq-eqb at at refl
 none_at : (at : ℕ) → 0 < at → (0 == at) ≡ false
 none_at at h = ne_eqb 0 at (λ e. omega (arith, e, h))
 
--- a body that was spoiled stays so
+-- a body without a start stays so
 stays_none : (dropped : Bool) (at behind : ℕ) → 0 < at → moved dropped 0 at behind ≡ 0
 stays_none false at behind h = refl
 stays_none true at behind h = ap (λ t. if t then behind else 0) (none_at at h)
@@ -47,7 +47,7 @@ spoiled was at (u ∷ us) h =
     ap (λ k. start_with k (is_dropped PageSetup was u) behind us) (stays_none (is_dropped PageSetup was u) at behind h)
     ∙ spoiled (is_dropped PageSetup was u) behind us (omega (arith, h))
 
--- these bytes were kept, and stand before the units
+-- these bytes were kept, and come before the units
 abbrev Goes : (front : List ℕ) (start : ℕ) (was : Bool) (at : ℕ) → List NestedUnit → ℕ → Type 0
 Goes front start was at us n = 0 < n → (start ≤ n) × (n ≤ at + length (bytes_of us))
     × (front ++ bytes_of (kept_after was drops_in_page us) ≡ drop (n - start) (front ++ bytes_of us))
@@ -173,11 +173,11 @@ over : (found : List ℕ) (current : ℕ) (line was : Bool) (at : ℕ) (us : Lis
 over found current line was at [] = refl
 over found current line was at (u ∷ us) = over found current line (is_dropped PageSetup was u) (at + length u.unit.bytes) us
 
--- where the body of a page begins that goes on with these units
+-- where the body of a page begins that continues with these units
 abbrev rest_with : (current : ℕ) (line was : Bool) (at : ℕ) → List NestedUnit → ℕ
 rest_with current line was at us = closed (ends_line line (bytes_of us)) (start_with current was at us)
 
--- what is noted from a unit on, behind which this is noted
+-- what is noted from a unit on, after this was noted
 abbrev Inside : List ℕ → ℕ → (line was : Bool) → ℕ → List NestedUnit → Type 0
 Inside found current line was at us = starts_in (sought_with (in_page found current line was) at us)
     ≡ found ++ rest_with current line was at (up_to begins_page (up_to begins_trailer us)) ∷ body_starts at (up_to begins_trailer us)

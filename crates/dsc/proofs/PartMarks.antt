@@ -1,4 +1,4 @@
--- What one pass notes are the parts.
+-- What one pass notes is where the parts are.
 use Rattle.std.specs.Prelude.{Result, Ok, Err, None, not, codes}
 use Rattle.std.specs.List.{prefix_len, list_any}
 use Rattle.std.specs.Str.{bytes_eq}
@@ -43,7 +43,7 @@ and-false : (a b : Bool) → b ≡ false → (a && b) ≡ false
 and-false true b e = e
 and-false false b e = refl
 
--- a page's line is outermost, and this is its key
+-- a page's line is outermost and has this key
 pub page_key : (u : NestedUnit) → begins_page u ≡ true → (is_outermost_line u ≡ true) × (key u.unit.content ≡ codes "%%Page")
 page_key u h =
     let comment : is_comment (codes "%%Page") u.unit.content ≡ true = and-second (is_outermost_line u) (is_comment (codes "%%Page") u.unit.content) h in

@@ -50,7 +50,7 @@ occurs_behind l text i h o =
       reads = λ j lt. (let same : l + i + j ≡ l + (i + j) = omega arith in ap (slice_index text) same ∙ sym (get_or-drop l text (i + j) 0) ∙ o.reads j lt);
     }
 
--- the first line that begins at this byte or behind it
+-- the first line that begins at this byte or after it
 abbrev to_line : (most : ℕ) → ℕ → List ℕ → ℕ
 to_line most zero text = 0
 to_line zero (suc k) text = 0
@@ -140,11 +140,11 @@ end_len-some : (rest : List ℕ) → 0 < length rest → 0 < end_len rest
 end_len-some [] h = absurd (omega (arith, h))
 end_len-some (b ∷ rest) h = end_len-pos b rest
 
--- the byte behind the first one of an end of two bytes
+-- the byte after the first one of an end of two bytes
 feed_at : (text : List ℕ) (k : ℕ) → end_len (drop (content_len text) text) ≡ 2 → k ≡ content_len text + 1 → slice_index text k ≡ 10
 feed_at text k e h = ap (slice_index text) h ∙ sym (get_or-drop (content_len text) text 1 0) ∙ feed_second (drop (content_len text) text) e
 
--- what stands last in a line that has an end
+-- the last byte of a line that has an end
 last_is_end : (text : List ℕ) (k : ℕ) → content_len text ≤ k → k < length text → line_len text ≡ suc k → is_end (slice_index text k) ≡ true
 last_is_end text k h w e =
     let c : ℕ = content_len text in

@@ -1,4 +1,4 @@
--- Lines that begin with no two percent signs mean nothing.
+-- Lines that don't begin with two percent signs mean nothing.
 use Rattle.std.specs.Prelude.{Ok, Some, None, codes, map}
 use Rattle.std.specs.List.{starts_with, prefix_len}
 use Rattle.std.specs.Str.{bytes_eq}
@@ -17,7 +17,7 @@ use Rattle.dsc.proofs.Headings.{unbegun, unheaded}
 use Rattle.dsc.proofs.LineLengths.{line_len-within}
 use Rattle.dsc.proofs.PlainLines.{PAIR, content_begins}
 
--- the content of a line that begins with no two percent signs
+-- the content of a line that doesn't begin with two percent signs
 abbrev pub IsPlain : List ℕ → Type 0
 IsPlain content = starts_with nat_eq content (codes "%%") ≡ false
 
@@ -30,7 +30,7 @@ line_bytes text = let fits = line_len-within text in let size = length-take (lin
 pub plain_unit : (text : List ℕ) → IsPlain (content_of text) → first_unit text ≡ Ok (line_unit text)
 plain_unit text h = rw (unheaded (content_of text) (unbegun (content_of text) (codes "%%") (codes "Begin") h)) refl
 
--- what such a line can't have as its key
+-- keys that such a line can't have
 key_plain : (content : List ℕ) → IsPlain content → starts_with nat_eq (key content) (codes "%%") ≡ false
 key_plain content h = by_test (starts_with nat_eq (key content) (codes "%%"))
     (λ is.

@@ -1,4 +1,4 @@
--- The preamble: its first line, and what stands between it and the first page.
+-- The preamble: its first line, and what is between it and the first page.
 use Rattle.std.specs.Prelude.{Result, Ok, Err, not, codes, decimal}
 use Rattle.std.specs.List.{prefix_len, starts_with, take_while, list_any}
 use Rattle.std.specs.Str.{bytes_eq}
@@ -24,7 +24,7 @@ use Rattle.dsc.proofs.Reading.{accepted_opening}
 use Rattle.dsc.proofs.PartMarks.{before-cons}
 use Rattle.dsc.proofs.Slices.{preamble_start}
 
--- what begins with %! has a key that does, and no line of DSC has such a key
+-- a line that begins with %! has a key that does, and no line of DSC has such a key
 abbrev Opening : List ℕ → Type 0
 Opening content = (more : List ℕ) × (key content ≡ 37 ∷ 33 ∷ more)
 
@@ -71,7 +71,7 @@ abbrev unit_or : TextUnit → Result TextUnit BlockFault → TextUnit
 unit_or u (Ok v) = v
 unit_or u (Err e) = u
 
--- the first line of a document, and the units behind it
+-- the first line of a document, and the units after it
 abbrev Opened : List ℕ → List TextUnit → Type 0
 Opened text ps =
     (qs : List TextUnit) × (nested ps ≡ record { depth = 0; unit = opening_line (content_of text) (take (line_len text) text) } ∷ nested qs)
@@ -140,7 +140,7 @@ preamble_found text start sheets s c e =
           ∙ ap (λ vs. ended (with_lines sheets rows (kept drops_in_header vs))) (sym head)),
     )
 
--- the same from what a document keeps true
+-- the same, from what always holds of a document's fields
 pub preamble_at : {bodies : List ℕ} (text starts items : List ℕ) (stop n start sheets : ℕ) → HasItsParts text starts bodies stop → n ≡ line_len text → items ≡ starts → start ≡ get_or items 0 0 → PreambleFound text n start sheets
 preamble_at text starts items stop n start sheets i e r s =
     let us : List NestedUnit = units_of text in
@@ -152,7 +152,7 @@ preamble_at text starts items stop n start sheets i e r s =
     any_default [] a b h = absurd (omega (arith, h))
     any_default (x ∷ xs) a b h = refl
 
--- no lines change nothing
+-- without lines nothing changes
 counted : (n : ℕ) (us : List NestedUnit) → with_lines n [] us ≡ with_count n us
 counted n [] = refl
 counted n (u ∷ us) = ap (λ t. t ++ bytes_of us) (append-nil (u.unit.bytes ++ line (codes "%%Pages: " ++ decimal n)))

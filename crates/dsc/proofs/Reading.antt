@@ -1,4 +1,4 @@
--- What is read of a document.
+-- What is read from a document.
 use Rattle.std.specs.Prelude.{All, IfSome, Result, Ok, Err, Option, Some, None, nat_lt, not, codes}
 use Rattle.std.specs.List.{starts_with}
 use Rattle.std.proofs.Common.{append-nil, Bool, true, false, nat_eq, ◌==◌, ◌≡◌, ℕ, zero, suc, ◌<◌, ◌≤◌, List, [], length, take, refl, ap, arith, length-take, sym, ◌∙◌, min, subst}
@@ -32,12 +32,12 @@ opened text h =
 pub faulty_read : (most : ℕ) (text : List ℕ) (at : ℕ) (bad : BlockFault) → Opens text → scan_on most [] None 0 0 text ≡ Err (faulty_block at bad) → document_of text ≡ Err (BadBlock (faulty_block at bad))
 faulty_read most text at bad h e = opened text h ∙ ap (λ r. of_block r >>= λ ps. with_pages (nested_from 0 ps)) (fault_found most text (faulty_block at bad) e)
 
--- what the end of a pass has
+-- what holds at the end of a pass
 ends_as : (most : ℕ) (starts : List ℕ) (stop : Option ℕ) (len : ℕ) → ((marks_on most starts stop len []).starts ≡ take most starts) × ((marks_on most starts stop len []).stop ≡ stop_at stop len)
 ends_as most starts (Some e) len = (refl, refl)
 ends_as most starts None len = (ap (take most) (append-nil starts), refl)
 
--- how many are kept of a list tells how many there are
+-- the number of elements kept of a list shows how many there are
 abbrev Read : ℕ → List ℕ → List ℕ → Option ℕ → Type 0
 Read most text starts stop = (cut text ≡ Ok (or_none (cut text))) × (take most starts ≡ take most (starts_of (units_of text))) × (stop_at stop (length text) ≡ end_of (units_of text))
 
@@ -117,7 +117,7 @@ checks_passed text (cut_fault.Faulty b) h = of_refusal b.at b.fault
     of_refusal at unit_fault.ShortData = tt
 checks_passed text cut_fault.NoMemory h = h
 
--- What is known of a document that was accepted.
+-- What is known of an accepted document.
 
 refused : {A E : Type 0} (t : Bool) (fault : E) (next : Result A E) (x : A) → refuse_if t fault next ≡ Ok x → next ≡ Ok x
 refused true fault next x e = cc

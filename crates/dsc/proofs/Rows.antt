@@ -1,4 +1,4 @@
--- The cut and the relation of units, and units that are cut anew.
+-- The cut and the relation of units, and units that are cut again.
 use Rattle.std.specs.Prelude.{Result, Ok, Err, flat_map, drop}
 use Rattle.std.proofs.Common.{append_assoc, Bool, true, false, cond, ◌≡◌, ℕ, zero, suc, ◌+◌, ◌<◌, ◌≤◌, List, [], ◌∷◌, ◌++◌, length, take, refl, ap, arith, length-append, sym, ◌∙◌, subst}
 use Rattle.std.proofs.lemmas.List.{take-append-drop}
@@ -39,7 +39,7 @@ units-whole (p ∷ ps) text rest h =
     sym (take-append-drop (length p.bytes) text) ∙ ap (λ t. t ++ drop (length p.bytes) text) (sym (unit-front text p h.1))
     ∙ ap (λ t. p.bytes ++ t) (units-whole ps (drop (length p.bytes) text) rest h.2) ∙ sym (append_assoc p.bytes (joined ps) rest)
 
--- a row of units, put together, is cut into the same units again
+-- a row of units, taken together, is cut into the same units again
 pub units-alone : (ps : List TextUnit) (text rest : List ℕ) → BeginsWith ps text rest → BeginsWith ps (joined ps) []
 units-alone [] text rest h = refl
 units-alone (p ∷ ps) text rest h =

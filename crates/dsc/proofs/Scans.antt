@@ -95,7 +95,7 @@ follows most z = record {
   both = λ s a b. ap (λ k. record { starts = s.starts; stop = s.stop; at = k }) (let l = length-append a b in let e : s.at + length a + length b ≡ s.at + length (a ++ b) = omega (arith, l) in e);
 }
 
--- as a loop has it: one more unit is noted
+-- in terms of a loop: one more unit is noted
 pub scan_more : (most : ℕ) → 0 < most → (starts new : List ℕ) (stop new_stop : Option ℕ) (p q : Place) (u : TextUnit) (at : ℕ) (page ends : Bool) (whole : Result Marks FaultyBlock)
     → 0 < length p.rest → IsPieceOf u p.rest → q ≡ behind u p → at ≡ p.at
     → page ≡ begins_page (at_depth p.depth u) → ends ≡ begins_trailer (at_depth p.depth u)

@@ -8,8 +8,8 @@ use Rattle.dsc.specs.Views.{at_depth}
 use Rattle.dsc.specs.Filters.{of_units}
 use Rattle.dsc.specs.Units.{faulty_block, or_none, units_of}
 use Rattle.dsc.specs.Walks.{Place, behind, IsPieceOf}
-use Rattle.dsc.specs.declared.boxes.Part.{Part}
-use Rattle.dsc.specs.declared.boxes.Part.TheVariants.{Preamble, Pages, Trailer}
+use Rattle.dsc.specs.declared.boxes.Section.{Section}
+use Rattle.dsc.specs.declared.boxes.Section.TheVariants.{Preamble, Pages, Trailer}
 use Rattle.dsc.specs.TrailerBoxes.{box_among, box_in, first_of, found_after, part_after, trailer_box}
 use Rattle.dsc.proofs.Cut.{cut_fault}
 use Rattle.dsc.proofs.PartMarks.{exclusive, from-cons}
@@ -18,14 +18,14 @@ use Rattle.dsc.proofs.Walking.{Follows, on_rest, piece_on}
 
 -- what was found up to a unit of this part
 pub record Sought : Type 0 where
-  pub part : Part
+  pub part : Section
   pub found : Option (List (List ℕ))
 
-abbrev sought : Part → Option (List (List ℕ)) → Sought
+abbrev sought : Section → Option (List (List ℕ)) → Sought
 sought part found = record { part = part; found = found }
 
 -- what is found from there on
-abbrev pub found_from : Part → List NestedUnit → Option (List (List ℕ))
+abbrev pub found_from : Section → List NestedUnit → Option (List (List ℕ))
 found_from Preamble us = box_among (trailer us)
 found_from Pages us = box_among (starting_at begins_trailer us)
 found_from Trailer us = box_among us
@@ -43,7 +43,7 @@ first_of_three : {A : Type 0} (a b c : Option A) → first_of (first_of a b) c �
 first_of_three (Some x) b c = refl
 first_of_three None b c = refl
 
-abbrev made : Option (List (List ℕ)) → NestedUnit → List NestedUnit → Part → Option (List (List ℕ))
+abbrev made : Option (List (List ℕ)) → NestedUnit → List NestedUnit → Section → Option (List (List ℕ))
 made found u us part = first_of (found_after part found u) (found_from part us)
 
 trailer_step : (found : Option (List (List ℕ))) (u : NestedUnit) (us : List NestedUnit) → made found u us Trailer ≡ first_of found (box_among (u ∷ us))
@@ -65,7 +65,7 @@ preamble_step found u us true ends e =
 preamble_step found u us false ends e =
     ap (λ vs. first_of found (box_among (starting_at begins_trailer vs))) (sym (from-cons begins_page u us ∙ ap (λ t. cond t (u ∷ us) (starting_at begins_page us)) e))
 
-one_step : (part : Part) (found : Option (List (List ℕ))) (u : NestedUnit) (us : List NestedUnit)
+one_step : (part : Section) (found : Option (List (List ℕ))) (u : NestedUnit) (us : List NestedUnit)
     → made found u us (part_after part (begins_page u) (begins_trailer u)) ≡ first_of found (found_from part (u ∷ us))
 one_step Preamble found u us = preamble_step found u us (begins_page u) (begins_trailer u) refl
 one_step Pages found u us = pages_step found u us (begins_page u) (begins_trailer u) refl
@@ -76,7 +76,7 @@ none_added (Some x) = refl
 none_added None = refl
 
 -- a unit that means nothing
-plain_step : (part : Part) (found : Option (List (List ℕ))) (u : NestedUnit) → box_in u ≡ None
+plain_step : (part : Section) (found : Option (List (List ℕ))) (u : NestedUnit) → box_in u ≡ None
     → sought (part_after part false false) (found_after (part_after part false false) found u) ≡ sought part found
 plain_step Preamble found u e = refl
 plain_step Pages found u e = refl
@@ -92,11 +92,11 @@ follows = record {
   both = λ s a b. refl;
 }
 
-abbrev pub sought_on : Part → Option (List (List ℕ)) → (depth at : ℕ) → List ℕ → Result (Option (List (List ℕ))) FaultyBlock
+abbrev pub sought_on : Section → Option (List (List ℕ)) → (depth at : ℕ) → List ℕ → Result (Option (List (List ℕ))) FaultyBlock
 sought_on part found depth at rest = on_rest (makes (sought part found)) depth at rest
 
--- as the loop has it: one more unit is looked at
-pub sought_more : (part new_part : Part) (found new : Option (List (List ℕ))) (p q : Place) (u : TextUnit) (page ends : Bool) (whole : Result (Option (List (List ℕ))) FaultyBlock)
+-- in terms of the loop: one more unit is looked at
+pub sought_more : (part new_part : Section) (found new : Option (List (List ℕ))) (p q : Place) (u : TextUnit) (page ends : Bool) (whole : Result (Option (List (List ℕ))) FaultyBlock)
     → 0 < length p.rest → IsPieceOf u p.rest → q ≡ behind u p
     → page ≡ begins_page (at_depth p.depth u) → ends ≡ begins_trailer (at_depth p.depth u)
     → new_part ≡ part_after part page ends → new ≡ found_after new_part found (at_depth p.depth u)
@@ -111,17 +111,17 @@ sought_more part new_part found new p q u page ends whole some piece b pg tr np 
     ∙ piece_on follows (sought part found) p.depth p.at p.rest u some piece.is ∙ i
 
 -- nothing is left
-pub all_sought : (text rest : List ℕ) (part : Part) (found : Option (List (List ℕ))) (depth at : ℕ) → length rest ≡ 0
+pub all_sought : (text rest : List ℕ) (part : Section) (found : Option (List (List ℕ))) (depth at : ℕ) → length rest ≡ 0
     → sought_on part found depth at rest ≡ sought_on Preamble None 0 0 text → found ≡ trailer_box (units_of text)
 all_sought text (b ∷ bs) part found depth at none i = absurd (omega (arith, none))
 all_sought text [] part found depth at none i = ended part found (cut text) i
   where
-    kept : (part : Part) (found : Option (List (List ℕ))) → makes (sought part found) [] ≡ found
+    kept : (part : Section) (found : Option (List (List ℕ))) → makes (sought part found) [] ≡ found
     kept Preamble found = none_added found
     kept Pages found = none_added found
     kept Trailer found = none_added found
 
-    ended : (part : Part) (found : Option (List (List ℕ))) (r : Result (List TextUnit) FaultyBlock)
+    ended : (part : Section) (found : Option (List (List ℕ))) (r : Result (List TextUnit) FaultyBlock)
         → Ok (makes (sought part found) []) ≡ of_units (λ us. makes (sought Preamble None) (nested us)) r → found ≡ trailer_box (nested (or_none r))
     ended part found (Ok us) e = sym (kept part found) ∙ same_ok _ _ e
     ended part found (Err fault) e = cc
@@ -130,8 +130,8 @@ faulty : (fault : FaultyBlock) (r : Result (List TextUnit) FaultyBlock) → Err 
 faulty fault (Ok us) e = cc
 faulty fault (Err other) e = refl
 
--- a faulty block is met
-pub fault_met : (text rest : List ℕ) (part : Part) (found : Option (List (List ℕ))) (depth at : ℕ) (bad : BlockFault) → 0 < length rest → first_unit rest ≡ Err bad
+-- the walk meets a faulty block
+pub fault_met : (text rest : List ℕ) (part : Section) (found : Option (List (List ℕ))) (depth at : ℕ) (bad : BlockFault) → 0 < length rest → first_unit rest ≡ Err bad
     → sought_on part found depth at rest ≡ sought_on Preamble None 0 0 text → None ≡ trailer_box (units_of text)
 fault_met text [] part found depth at bad some w i = absurd (omega (arith, some))
 fault_met text (b ∷ bs) part found depth at bad some w i =

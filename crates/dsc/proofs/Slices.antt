@@ -15,7 +15,7 @@ use Rattle.dsc.specs.Documents.{HasItsParts}
 use Rattle.dsc.proofs.Alone.{nested-bytes}
 use Rattle.dsc.proofs.PartMarks.{before-cons, from-cons, page_count}
 
--- where the next page begins, or all end
+-- where the next page begins, or everything ends
 first_start : (at : ℕ) (us : List NestedUnit) → get_or (page_starts at us) 0 (at + length (bytes_of us)) ≡ at + length (bytes_of (up_to begins_page us))
 first_start at [] = refl
 first_start at (u ∷ us) = by_test (begins_page u)
@@ -34,7 +34,7 @@ first_start at (u ∷ us) = by_test (begins_page u)
     ∙ i ∙ (let z : length (bytes_of (up_to begins_page (u ∷ us))) ≡ length (u.unit.bytes ++ bytes_of (up_to begins_page us)) = ap length some in
     let e : next + length (bytes_of (up_to begins_page us)) ≡ at + length (bytes_of (up_to begins_page (u ∷ us))) = omega (arith, z, m) in e))
 
--- the p-th slice, from where it begins to where the next one does, or all end
+-- the p-th slice, from where it begins to where the next one does, or everything ends
 abbrev pub slice_at : List ℕ → List ℕ → ℕ → ℕ → List ℕ
 slice_at text starts stop p = take (get_or starts (suc p) stop - get_or starts p 0) (drop (get_or starts p 0) text)
 
@@ -157,14 +157,14 @@ from_page p q (u ∷ us) = by_test (p u)
     front true is = refl
     front false is = before-cons p u (up_to q us) ∙ ap (λ t. cond t [] (u ∷ up_to p (up_to q us))) is
 
--- the first page begins behind the preamble
+-- the first page begins after the preamble
 pub preamble_start : (us : List NestedUnit) → get_or (starts_of us) 0 (end_of us) ≡ length (bytes_of (preamble us))
 preamble_start us =
     let none : length (bytes_of (up_to begins_page (page_run us))) ≡ 0 = ap (λ vs. length (bytes_of vs)) (from_page begins_page begins_trailer us) in
     let start = first_start (length (bytes_of (preamble us))) (page_run us) in
     omega (arith, start, none)
 
--- a page of a document, as the code finds it
+-- a page of a document, in terms of the code
 pub page_found : (text starts : List ℕ) (stop p : ℕ) → cut text ≡ Ok (or_none (cut text)) → starts ≡ starts_of (units_of text) → stop ≡ end_of (units_of text) → p < length (pages (units_of text))
     → (p < length starts) × (get_or starts p 0 ≤ get_or starts (p + 1) stop) × (get_or starts (p + 1) stop ≤ length text)
     × (take (get_or starts (p + 1) stop - get_or starts p 0) (drop (get_or starts p 0) text) ≡ get_or (pages (units_of text)) p [])
@@ -195,7 +195,7 @@ page_found text starts stop p c s t h =
     get_or-map f (x ∷ xs) zero = refl
     get_or-map f (x ∷ xs) (suc p) = get_or-map f xs p
 
--- the same from what a document keeps true: the page stands between its start and its end
+-- the same from what always holds of a document's fields: the page is between its start and its end
 pub page_at : {bodies : List ℕ} (text starts row : List ℕ) (stop p start end : ℕ) (us : List NestedUnit) → HasItsParts text starts bodies stop → units_of text ≡ us → p < length (pages us)
     → row ≡ starts → start ≡ get_or row p 0 → end ≡ get_or row (p + 1) stop
     → (p < length row) × (start ≤ end) × (end ≤ length text) × (take (end - start) (drop start text) ≡ get_or (pages us) p [])

@@ -1,4 +1,4 @@
--- The trailer, cut anew, has the document's units.
+-- The trailer, cut as a text of its own, has the units that it has in the document.
 use Rattle.std.specs.Prelude.{Ok, not}
 use Rattle.std.specs.List.{prefix_len}
 use Rattle.std.proofs.Common.{Bool, true, cond, ◌==◌, ◌≡◌, ℕ, ◌≤◌, List, [], ◌∷◌, ◌++◌, length, take, drop, refl, ap, arith, length-append, sym, ◌∙◌, subst}
@@ -16,7 +16,7 @@ use Rattle.dsc.proofs.Slices.{text_whole, parts_whole}
 use Rattle.dsc.proofs.Rows.{cut-begins}
 use Rattle.dsc.proofs.Alone.{and-first, depth_behind, nested-drop, begins-drop, stands}
 
--- the rest from a unit on at which the test passes: it stands alone, if that unit stands at depth 0
+-- the rest from the first unit on that passes the test: it can be cut alone, if that unit is at depth 0
 from-stands : (d : ℕ) (ps : List TextUnit) (text rest : List ℕ) (q : NestedUnit → Bool) → ((u : NestedUnit) → q u ≡ true → u.depth ≡ 0) → BeginsWith ps text rest → StandAlone (starting_at q (nested_from d ps))
 from-stands d [] text rest q z h = stands [] [] [] refl
 from-stands d (p ∷ ps) text rest q z h = by_test (q (record { depth = d; unit = p }))
@@ -37,7 +37,7 @@ trailer-stands ps text rest h =
     let w = begins-drop n ps text rest h in
     subst (λ us. StandAlone (starting_at begins_trailer us)) (sym (nested-drop n 0 ps)) (from-stands d (drop n ps) w.0 rest begins_trailer trailer-depth w.1)
 
--- a text that is cut into units which stand alone has these units
+-- a text that is cut into units which can be cut alone has these units
 pub alone_units : (us : List NestedUnit) → StandAlone us → (cut (bytes_of us) ≡ Ok (or_none (cut (bytes_of us)))) × (units_of (bytes_of us) ≡ us)
 alone_units us h = (h.0 ∙ ap (λ r. Ok (or_none r)) (sym h.0), ap (λ r. nested (or_none r)) h.0 ∙ h.1)
 

@@ -1,4 +1,4 @@
--- One step of a walk over the units of a text, for whatever is made of them.
+-- One step of a walk over the units of a text, whatever they are used for.
 use Rattle.std.specs.Prelude.{Result, Ok}
 use Rattle.std.proofs.Common.{inl, inr, append_assoc, append-nil, ◌≡◌, ℕ, zero, suc, ◌+◌, ◌-◌, ◌<◌, ◌≤◌, List, [], ◌∷◌, ◌++◌, length, take, drop, refl, ap, arith, length-drop, length-take, sym, ◌∙◌}
 use Rattle.std.proofs.lemmas.List.{drop-drop}
@@ -17,8 +17,8 @@ use Rattle.dsc.proofs.PlainUnits.{IsPlain, line_unit, line_bytes, plain_unit, pl
 abbrev pub on_rest : {A : Type 0} → (List NestedUnit → A) → (depth at : ℕ) → List ℕ → Result A FaultyBlock
 on_rest f depth at text = of_units (λ us. f (nested_from depth us)) (cut_at at text)
 
--- what a loop over units makes of those that are left, from a state on: a unit further the state is `next`, and bytes
--- further that mean nothing, `pass`
+-- what a loop over units makes of the rest, from a state on: one unit later the state is `next`, and after bytes
+-- that mean nothing it is `pass`
 pub record Follows {S A : Type 0} (makes : S → List NestedUnit → A) (next : S → NestedUnit → S) (pass : S → List ℕ → S) : Type 0 where
   pub one : (s : S) (u : NestedUnit) (us : List NestedUnit) → makes (next s u) us ≡ makes s (u ∷ us)
   pub plain : (s : S) (u : NestedUnit) → IsPlain u.unit.content → next s u ≡ pass s u.unit.bytes
@@ -44,7 +44,7 @@ module _ {S A : Type 0} {makes : S → List NestedUnit → A} {next : S → Nest
       ∙ ap (λ d. on_rest (makes (next s (at_depth depth u))) d (at + length u.bytes) (drop (length u.bytes) rest)) (sym (plain_depth depth rest p))
       ∙ unit_on s depth at rest u some (plain_unit rest p)
 
-  -- behind the first l of n bytes
+  -- after the first l of n bytes
   further : (s : S) (depth at l n : ℕ) (rest front : List ℕ) → l ≤ n
       → on_rest (makes (pass s (front ++ take n rest))) depth (at + n) (drop n rest)
       ≡ on_rest (makes (pass s ((front ++ take l rest) ++ take (n - l) (drop l rest)))) depth (at + l + (n - l)) (drop (n - l) (drop l rest))
@@ -71,7 +71,7 @@ module _ {S A : Type 0} {makes : S → List NestedUnit → A} {next : S → Nest
       ∙ ap (λ t. on_rest (makes t) depth (at + l) (drop l rest)) (sym (w.both s front (take l rest)))
       ∙ line_on (pass s front) depth at rest p.0 p.1
 
-  -- lines that mean nothing, one at least
+  -- at least one line, all of which mean nothing
   plain_on : (lines : ℕ) (s : S) (depth at n : ℕ) (rest : List ℕ) → 0 < n → ArePlain lines n rest
       → on_rest (makes (pass s (take n rest))) depth (at + n) (drop n rest) ≡ on_rest (makes s) depth at rest
   plain_on zero s depth at n rest some p = absurd (omega (arith, some, p))
@@ -98,7 +98,7 @@ module _ {S A : Type 0} {makes : S → List NestedUnit → A} {next : S → Nest
 pub still_placed : (p q : Place) (u : TextUnit) (len : ℕ) → q ≡ behind u p → length u.bytes ≤ length p.rest → p.at + length p.rest ≡ len → q.at + length q.rest ≡ len
 still_placed p q u len b fits e = ap (λ r. r.at + length r.rest) b ∙ (let l = length-drop (length u.bytes) p.rest in omega (arith, l, fits, e))
 
--- what a walk comes to stands first in what is left
+-- the unit of a step is at the start of what is left
 pub piece_front : (u : TextUnit) (rest : List ℕ) → IsPiece u rest → u.bytes ≡ take (length u.bytes) rest
 piece_front u rest (inl e) = unit-front rest u e
 piece_front u rest (inr p) = ap (λ t. t.bytes) p.1 ∙ sym (taken p.0 rest) ∙ ap (λ t. take (length t.bytes) rest) (sym p.1)

@@ -6,13 +6,13 @@ use Rattle.rules.specs.Parts.{NestedUnit, page_run, split_pages, bytes_of}
 use Rattle.rules.specs.Filters.{kept, drops_in_page}
 use Rattle.dsc.specs.Marks.{starts_of}
 
--- whether bytes end with a line end; of none this is as it was before
+-- whether bytes end with a line end; without bytes the answer stays what it was
 abbrev pub ends_line : (was : Bool) → List ℕ → Bool
 ends_line was [] = was
 ends_line was (b ∷ bs) = ends_line (is_end b) bs
 
--- what is kept of a page that begins at the byte `at` is what stands in it from the byte n on, and the page ends with a
--- line end; at 0 nothing is said
+-- what is kept of a page that begins at the byte `at` is everything in it from the byte n on, and the page ends
+-- with a line end. For n = 0 this says nothing
 abbrev pub IsBodyStart : (at n : ℕ) → List NestedUnit → Type 0
 IsBodyStart at n us = 0 < n → (at ≤ n) × (n ≤ at + length (bytes_of us))
     × (bytes_of (kept drops_in_page us) ≡ drop (n - at) (bytes_of us))
@@ -24,9 +24,9 @@ pub record AreBodyStarts (us : List NestedUnit) (starts : List ℕ) : Type 0 whe
   pub each : (p : ℕ) → p < length starts → IsBodyStart (slice_index_or (starts_of us) p 0) (slice_index_or starts p 0)
       (slice_index_or (split_pages (page_run us)) p [])
 
--- What a pass over the units has found: where the bodies begin of the pages before the current one, and where that of
--- the current one does; whether the unit before was dropped, whether a page has begun, whether the pages have ended,
--- and whether the current page ends with a line end as far as it goes.
+-- What a pass over the units has found: where the bodies of the pages before the current one begin, and where that
+-- of the current one does; whether the unit before was dropped, whether a page has begun, whether the pages have
+-- ended, and whether the current page ends with a line end as far as it has been read.
 pub record Sought : Type 0 where
   pub found : List ℕ
   pub current : ℕ
@@ -38,7 +38,8 @@ pub record Sought : Type 0 where
 abbrev pub none_sought : Sought
 none_sought = record { found = []; current = 0; was = false; in_pages = false; ended = false; line = false }
 
--- where a body begins, behind a unit more: a dropped one puts it off if nothing was kept before, and else spoils it
+-- where a body begins after one more unit: a dropped unit moves it past itself if nothing was kept before, and
+-- otherwise leaves it without a start
 abbrev pub moved : (dropped : Bool) → (start at behind : ℕ) → ℕ
 moved dropped start at behind = if dropped then (if start == at then behind else 0) else start
 
@@ -49,7 +50,7 @@ closed line start = if line then start else 0
 abbrev pub starts_in : Sought → List ℕ
 starts_in s = if s.in_pages then s.found ++ closed s.line s.current ∷ [] else s.found
 
--- a page more has begun, by these bytes, which end before this one
+-- one more page has begun, by these bytes, which end before this one
 abbrev pub with_page : Sought → (behind : ℕ) → List ℕ → Sought
 with_page s behind bytes = record {
   found = starts_in s;
@@ -60,7 +61,7 @@ with_page s behind bytes = record {
   line = ends_line false bytes;
 }
 
--- what is found with a unit more, which has these bytes and begins at the byte `at`
+-- what is found with one more unit, which has these bytes and begins at the byte `at`
 abbrev pub noted : Sought → (at behind : ℕ) → (page ends dropped : Bool) → List ℕ → Sought
 noted s at behind page ends dropped bytes =
     if s.ended || (s.in_pages && ends)

@@ -1,4 +1,4 @@
--- What a document keeps true of its fields.
+-- What holds of a document's fields at all times.
 use Rattle.std.specs.Prelude.{◌≡◌, ℕ, ◌<◌, ◌≤◌, List, length, Ok}
 use Rattle.rules.specs.Units.{cut}
 use Rattle.rules.specs.Run.{document_of, most_pages}

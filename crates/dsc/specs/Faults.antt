@@ -1,4 +1,4 @@
--- The faults of a document, as the code names them.
+-- The faults of a document, in terms of the code.
 use Rattle.std.specs.Prelude.{◌≡◌, ℕ, ◌≤◌, true, List, length, codes, nat_eq, Option, Some, None}
 use Rattle.std.specs.List.{starts_with}
 use Rattle.rules.specs.Units.{FaultyBlock}
@@ -18,7 +18,7 @@ abbrev pub block_fault_told : CutError → Option FaultyBlock
 block_fault_told (cut_fault.Faulty b) = Some (faulty_block b.at (fault_of b.fault))
 block_fault_told cut_fault.NoMemory = None
 
--- out of memory tells no fault
+-- out of memory reports no fault
 abbrev pub fault_told : DscError → Option DocumentFault
 fault_told fault.TooLong = Some InputTooLong
 fault_told fault.NotPostScript = Some NotPostScript

@@ -11,16 +11,16 @@ use Rattle.rules.specs.Units.{is_blank, BlockFault, BadCount, or_short, lines_le
 abbrev pub fields_in : List ℕ → List (List ℕ)
 fields_in text = filter (λ f. nat_lt 0 (length f)) (slice_split is_blank text)
 
--- the second of these fields is this one (the first of the line's is read already)
+-- the second of these fields is this one (the first of the line's fields has been read)
 abbrev pub third_is : List ℕ → List (List ℕ) → Bool
 third_is name (b ∷ c ∷ more) = bytes_eq c name
 third_is name other = false
 
--- how long n lines or n bytes are, if there are that many
+-- the length of n lines or n bytes, if there are that many
 abbrev pub counted : Bool → ℕ → List ℕ → Result ℕ BlockFault
 counted in_lines n rest = or_short (if in_lines then lines_len n rest else bytes_len n rest)
 
--- how long the data are of a block with these fields
+-- the length of the data of a block with these fields
 abbrev pub data_in : Bool → List ℕ → List (List ℕ) → Result ℕ BlockFault
 data_in may_count_lines rest [] = Err BadCount
 data_in may_count_lines rest (count ∷ more) =

@@ -1,4 +1,4 @@
--- What is kept of a text, as a loop over it has it.
+-- What is kept of a text, in terms of a loop over it.
 use Rattle.std.specs.Prelude.{ℕ, Bool, ◌&&◌, ◌||◌, List, ◌++◌, length, Result, Ok}
 use Rattle.rules.specs.Units.{TextUnit, FaultyBlock, cut_from, ◌>>=◌}
 use Rattle.rules.specs.Parts.{NestedUnit, nested_from, bytes_of, is_outermost_line}
@@ -11,14 +11,14 @@ abbrev pub drops_of : Drops → List ℕ → Bool
 drops_of PageSetup content = drops_in_page content
 drops_of DocumentSetup content = drops_in_header content
 
--- whether a filter drops a unit, by whether it dropped the one before
+-- whether a filter drops a unit, given whether it dropped the one before
 abbrev pub is_dropped : Drops → (was_dropped : Bool) → NestedUnit → Bool
 is_dropped drops was u = (is_outermost_line u && drops_of drops u.unit.content) || (was && continues u)
 
 abbrev pub of_units : {A : Type 0} → (List TextUnit → A) → Result (List TextUnit) FaultyBlock → Result A FaultyBlock
 of_units f r = r >>= λ us. Ok (f us)
 
--- what is kept of the rest of a text, behind what was kept before
+-- what is kept of the rest of a text, after what was kept before
 abbrev pub filter_on : Drops → (front : List ℕ) → (was_dropped : Bool) → (depth at : ℕ) → List ℕ
     → Result (List ℕ) FaultyBlock
 filter_on drops front was depth at text =

@@ -1,11 +1,11 @@
--- The header comments of a document: its first line and the comments behind it. The rule is this project's own; what
--- comments of the header look like, and that %%EndComments ends them, is of DSC, General Header Comments.
+-- The header comments of a document: its first line and the comments after it. The rule is one of this project; the
+-- form of header comments, and that %%EndComments ends them, is of DSC, General Header Comments.
 use Rattle.std.specs.Prelude.{ℕ, zero, suc, ◌+◌, Bool, false, not, ◌&&◌, ◌||◌, ◌==◌, nat_eq, nat_le, if◌then◌else◌}
 use Rattle.std.specs.Prelude.{List, [], ◌∷◌, length, drop, codes}
 use Rattle.std.specs.List.{starts_with}
 use Rattle.rules.specs.Units.{content_of, line_len, key, has_key, is_comment}
 
--- a percent sign and a byte that prints
+-- a percent sign and a printable character
 abbrev pub is_header : List ℕ → Bool
 is_header [] = false
 is_header (a ∷ []) = false
@@ -17,7 +17,7 @@ ends_header content =
     starts_with nat_eq (key content) (codes "%%Begin")
     || (is_comment (codes "%%Page") content || has_key (codes "%%Trailer" ∷ codes "%%EOF" ∷ []) content)
 
--- such a line goes on with the header comments
+-- such a line continues the header comments
 abbrev pub stays : List ℕ → Bool
 stays content = is_header content && not (ends_header content)
 
@@ -25,7 +25,7 @@ stays content = is_header content && not (ends_header content)
 abbrev pub is_last : List ℕ → Bool
 is_last content = has_key (codes "%%EndComments" ∷ []) content
 
--- how long the run of header comments is that these bytes begin with, of at most so many lines
+-- the length of the run of header comments at the start of these bytes, with at most this many lines
 abbrev pub run_len : ℕ → List ℕ → ℕ
 run_len zero text = 0
 run_len (suc most) text =
@@ -33,10 +33,10 @@ run_len (suc most) text =
     let n = line_len text in
     if stays content then (if is_last content then n else n + run_len most (drop n text)) else 0
 
--- how long that run is; a line has a byte, so there are no more lines than bytes
+-- the length of that run; a line has at least one byte, so there are no more lines than bytes
 abbrev pub header_run : List ℕ → ℕ
 header_run text = run_len (length text) text
 
--- how long the header comments are: the first line, and the run behind it
+-- the length of the header comments: the first line, and the run after it
 abbrev pub header_len : List ℕ → ℕ
 header_len text = let n = line_len text in n + header_run (drop n text)

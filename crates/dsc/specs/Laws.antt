@@ -6,11 +6,11 @@ use Rattle.rules.specs.Filters.{prepared}
 use Rattle.rules.specs.Output.{body_text}
 use Rattle.rules.specs.Run.{document_of}
 
--- cut as a text of their own, these units are the same again, and so are the depths before them
+-- cut as a text of their own, these units stay the same, and so do the depths before them
 abbrev pub StandAlone : List NestedUnit → Type 0
 StandAlone us = (cut (bytes_of us) ≡ Ok (map (λ u. u.unit) us)) × (nested (map (λ u. u.unit) us) ≡ us)
 
--- each page of a text that is cut, cut as a text of its own, has the units it had
+-- each page of a text that is cut has, cut as a text of its own, the same units
 abbrev pub PagesStandAlone : Type 0
 PagesStandAlone = (text : List ℕ) (us : List TextUnit) → cut text ≡ Ok us
     → All StandAlone (split_pages (page_run (nested us)))

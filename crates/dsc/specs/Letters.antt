@@ -1,7 +1,7 @@
--- The letter that tells most comments apart.
+-- The letter that distinguishes most comments.
 use Rattle.std.specs.Prelude.{ℕ, ◌&&◌, ◌==◌, if◌then◌else◌, List, [], ◌∷◌, Option, Some, None}
 
--- the byte behind the two percent signs that a line begins with
+-- the byte after the two percent signs at the start of a line
 abbrev pub letter_of : List ℕ → Option ℕ
 letter_of [] = None
 letter_of (a ∷ []) = None

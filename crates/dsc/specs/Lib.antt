@@ -1,5 +1,5 @@
--- Who asks what the calls promise reads `Units`, `Views`, `Faults`, `Bodies`, `TrailerBoxes`, `PagesBehind` and `Laws`, in this order;
--- the others are of parts of the code.
+-- For what the calls promise, read `Units`, `Views`, `Faults`, `Bodies`, `TrailerBoxes`, `PagesBehind` and `Laws`,
+-- in this order; the others are about parts of the code.
 pub mod Bodies
 pub mod Plain
 pub mod Walks

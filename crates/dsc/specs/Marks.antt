@@ -5,7 +5,7 @@ use Rattle.rules.specs.Units.{FaultyBlock, cut_from}
 use Rattle.dsc.specs.Filters.{of_units}
 use Rattle.rules.specs.Parts.{NestedUnit, nested_from, begins_page, begins_trailer, bytes_of, preamble, page_run}
 
--- where the page lines stand in these units, the first of which begins at this byte
+-- where the page lines are in these units, the first of which begins at this byte
 abbrev pub page_starts : ℕ → List NestedUnit → List ℕ
 page_starts at [] = []
 page_starts at (u ∷ us) = let next = at + length u.unit.bytes
@@ -17,7 +17,7 @@ starts_of us = page_starts (length (bytes_of (preamble us))) (page_run us)
 abbrev pub end_of : List NestedUnit → ℕ
 end_of us = length (bytes_of (preamble us)) + length (bytes_of (page_run us))
 
--- One pass over the units: inside the pages a trailer line ends them.
+-- One pass over the units: a trailer line within the pages ends them.
 
 abbrev pub starts_from : Bool → ℕ → List NestedUnit → List ℕ
 starts_from inside at [] = []

@@ -4,7 +4,7 @@ use Rattle.std.specs.Prelude.{drop, slice_index}
 use Rattle.std.specs.List.{starts_with}
 use Rattle.rules.specs.Units.{is_end, content_of, line_len}
 
--- so many first lines of the text, none of which begins with two percent signs, have n bytes
+-- this many first lines of the text, none of which begins with two percent signs, have n bytes
 abbrev pub ArePlain : (lines : ℕ) → (n : ℕ) → List ℕ → Type 0
 ArePlain zero n text = n ≡ 0
 ArePlain (suc lines) n text =
@@ -15,7 +15,7 @@ ArePlain (suc lines) n text =
 abbrev pub BeginsPlain : ℕ → List ℕ → Type 0
 BeginsPlain n text = (lines : ℕ) × ArePlain lines n text
 
--- where the next line begins, from a byte on that is no line feed: at that byte, if a line end stands before it
+-- where the next line begins, from a byte on that is no line feed: at that byte, if it follows a line end
 abbrev pub next_line : ℕ → List ℕ → ℕ
 next_line zero text = 0
 next_line (suc k) text = if is_end (slice_index text k) then suc k else suc k + line_len (drop (suc k) text)

@@ -1,16 +1,16 @@
--- The box that a document tells in its trailer (DSC 3.0, General Header Comments: a value may stand there).
+-- The box that a document has in its trailer (DSC 3.0, General Header Comments: a value may be there).
 use Rattle.std.specs.Prelude.{ℕ, Bool, true, false, ◌&&◌, if◌then◌else◌, List, [], ◌∷◌, codes, Option, Some, None}
 use Rattle.rules.specs.Units.{fields, is_comment}
 use Rattle.rules.specs.Parts.{NestedUnit, is_outermost_line, trailer}
-use Rattle.dsc.specs.declared.boxes.Part.{Part}
-use Rattle.dsc.specs.declared.boxes.Part.TheVariants.{Preamble, Pages, Trailer}
+use Rattle.dsc.specs.declared.boxes.Section.{Section}
+use Rattle.dsc.specs.declared.boxes.Section.TheVariants.{Preamble, Pages, Trailer}
 
--- the first of two, if there is one, and else the second
+-- the first of two, if there is one, or else the second
 abbrev pub first_of : {A : Type 0} → Option A → Option A → Option A
 first_of (Some x) other = Some x
 first_of None other = other
 
--- the fields of a box that an outermost line tells
+-- the fields of a box that an outermost line has
 abbrev pub box_in : NestedUnit → Option (List (List ℕ))
 box_in u =
     if is_outermost_line u && is_comment (codes "%%BoundingBox") u.unit.content then Some (fields u.unit.content) else None
@@ -25,8 +25,8 @@ trailer_box us = box_among (trailer us)
 
 -- One pass over the units.
 
--- the part in which a unit stands, if the one before it stands in this one
-abbrev pub part_after : Part → (page ends : Bool) → Part
+-- the part that a unit is in, if the one before it is in this one
+abbrev pub part_after : Section → (page ends : Bool) → Section
 part_after Preamble true ends = Pages
 part_after Preamble false ends = Preamble
 part_after Pages page true = Trailer
@@ -34,7 +34,7 @@ part_after Pages page false = Pages
 part_after Trailer page ends = Trailer
 
 -- what is found up to a unit of this part
-abbrev pub found_after : Part → Option (List (List ℕ)) → NestedUnit → Option (List (List ℕ))
+abbrev pub found_after : Section → Option (List (List ℕ)) → NestedUnit → Option (List (List ℕ))
 found_after Trailer found u = first_of found (box_in u)
 found_after Pages found u = found
 found_after Preamble found u = found

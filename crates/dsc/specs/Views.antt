@@ -1,4 +1,4 @@
--- What the values of the code stand for.
+-- The meaning of the code's values.
 use Rattle.std.specs.Prelude.{◌≡◌, ℕ, List, [], false, Option, Result, Ok, Err, IfSome}
 use Rattle.rules.specs.Units.{TextUnit, BlockFault}
 use Rattle.rules.specs.Units as block
@@ -21,12 +21,12 @@ abbrev pub fault_of : UnitError → BlockFault
 fault_of fault.BadCount = block.BadCount
 fault_of fault.ShortData = block.ShortData
 
--- a reader that needs no memory answers what reading gives
+-- a reader that needs no memory returns the result of reading
 abbrev pub Reads : {X Y E F : Type 0} → (X → Y) → (E → F) → Result X E → Result Y F → Type 0
 Reads view told (Ok x) read = read ≡ Ok (view x)
 Reads view told (Err e) read = read ≡ Err (told e)
 
--- the same, if memory may run out: an error that tells no fault says nothing of the text
+-- the same, if memory may run out: an error that reports no fault says nothing of the text
 abbrev pub Gives : {X Y E F : Type 0} → (X → Y) → (E → Option F) → Result X E → Result Y F → Type 0
 Gives view told (Ok x) read = read ≡ Ok (view x)
 Gives view told (Err e) read = IfSome (told e) (λ f. read ≡ Err f)

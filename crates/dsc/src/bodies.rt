@@ -1,4 +1,4 @@
-//! The prepared body of a page, which is a part of the page if that serves.
+//! The prepared body of a page: a part of the page, where that is enough.
 ghost use Rattle.std.specs.Prelude.{◌≡◌, ◌++◌, IfOk, IfErr, IfSome};
 ghost use Rattle.rules.specs.Filters.{ended, prepared};
 ghost use Rattle.dsc.specs.Views.{Gives};
@@ -11,14 +11,14 @@ use crate::filters::{Drops, Kept, end_line, filter, wants_end};
 use std::alloc::{AllocError, Global};
 use std::marker::Model;
 
-/// The prepared body of a page. If it is one run of the page's bytes, it is a part of the page, and nothing is copied.
-/// A body takes 24 bytes, and its copy, if it has one, the memory of the copy.
+/// The prepared body of a page. If it is one run of the page's bytes, it is a part of the page, and nothing is
+/// copied. A body takes 24 bytes, and a copy, if there is one, takes its own memory.
 #[derive(Drop)]
 pub struct Body<'d> {
     bytes: Bytes<'d>,
 }
 
-/// A copy lies behind a box: most bodies have none, and a list takes a word more than a reference to a part.
+/// A copy is in a box: most bodies have none, and a list takes a word more than a reference to a part.
 #[derive(Drop)]
 enum Bytes<'d> {
     Part(&'d [u8]),
@@ -35,10 +35,10 @@ impl<'d> Model for Body<'d> {
 }
 
 impl<'d> Body<'d> {
-    /// The same body as `prepare` makes, without a copy if it is one run of the page's bytes: if outermost lines are
-    /// dropped at the page's start and end alone, and what is kept ends with a line end.
-    /// Refused with BadCount or ShortData, for the page's first faulty data block, or with NoMemory. A page of a
-    /// document has no faulty block.
+    /// The same body as `prepare` makes. It isn't copied if it is one run of the page's bytes. This is so if
+    /// outermost lines are dropped only at the page's start and end, and what is kept ends with a line end. Refused
+    /// with BadCount or ShortData, for the page's first faulty data block, or with NoMemory. A page of a document
+    /// has no faulty block.
     pub fn prepare(alloc: Global, page: &'d [u8]) -> Result<Body<'d>, DscError>
         ensures answer { Gives (λ b. b) page_fault_told result (prepared page.now) }
         ensures refusals { IfErr result IsPageError }
@@ -101,7 +101,7 @@ fn body_of<'d>(alloc: Global, kept: Kept<'d>) -> Result<Body<'d>, AllocError>
     })
 }
 
-/// The one run that was kept, if no line end is wanted behind it.
+/// The one run that was kept, if no line end is to be added.
 fn one_run<'d>(kept: &Kept<'d>) -> Option<&'d [u8]>
     ensures { IfSome result (λ part.
         part.now ≡ ended ((kept.now.copied.items ++ kept.now.held.now) ++ kept.now.run.now)) }

@@ -1,4 +1,4 @@
-//! Where the bodies of pages begin, as far as the pass that cuts the text can tell.
+//! Where the bodies of pages begin, as far as the pass that cuts the text can see.
 ghost use Rattle.std.specs.Prelude.{◌≡◌, ◌+◌, ◌≤◌, length, OnOk, IfOk};
 ghost use Rattle.rules.specs.Run.{most_input_bytes};
 ghost use Rattle.dsc.specs.Views.{unit_of, at_depth};
@@ -8,22 +8,22 @@ ghost use Rattle.dsc.specs.declared.filters.Drops.TheVariants.{PageSetup};
 
 use crate::filters::{Drops, drops_unit};
 use crate::lines::is_line_end;
-use crate::walk::Step;
+use crate::walk::WalkStep;
 use std::alloc::{AllocError, Global};
 use std::marker::Model;
 
-/// For each page the byte at which its body begins, if what is kept of the page is all that stands from there on, so if
-/// lines are dropped at its start alone, and the page ends with a line end; else 0, where no body begins. A text has at
-/// most 2^30 bytes, so a `u32` counts them.
+/// For each page the byte at which its body begins, or 0 (no body begins there). A body has a start if lines are
+/// dropped only at the page's start and the page ends with a line end; then everything from there on is kept. A
+/// text has at most 2^30 bytes, so a `u32` counts them.
 #[derive(Drop)]
 pub struct BodyStarts {
     found: Vec<u32>,
-    // That of the page that was begun last.
+    // The start for the page that was begun last.
     current: u32,
     was_dropped: bool,
     in_pages: bool,
     ended: bool,
-    // Whether that page ends with a line end, as far as it was seen.
+    // Whether that page ends with a line end, as far as it has been read.
     line_ended: bool,
 }
 
@@ -58,7 +58,7 @@ impl BodyStarts {
     }
 
     /// Notes a unit.
-    pub fn note(&mut self, step: &Step<'_>) -> Result<(), AllocError>
+    pub fn note(&mut self, step: &WalkStep<'_>) -> Result<(), AllocError>
         requires { step.now.at + length step.now.unit.bytes.now ≤ most_input_bytes }
         ensures { OnOk result (self.new ≡ noted self.old step.now.at (step.now.at + length step.now.unit.bytes.now)
             step.now.meaning.is_page step.now.meaning.is_trailer
@@ -112,7 +112,8 @@ impl BodyStarts {
     }
 }
 
-/// Where the body begins behind a unit: it goes on, or begins behind it if nothing was kept before; else there is none.
+/// Where the body begins after a unit. A kept unit doesn't change it. A dropped one moves it past the unit if
+/// nothing was kept before; otherwise there is no start.
 fn moved(dropped: bool, current: u32, at: u32, behind: u32) -> u32
     ensures { result ≡ moved dropped current at behind }
 {
@@ -125,14 +126,14 @@ fn moved(dropped: bool, current: u32, at: u32, behind: u32) -> u32
     }
 }
 
-/// A start, if its page ends with a line end; else there is none.
+/// A start, if its page ends with a line end, or else none.
 fn closed(line_ended: bool, start: u32) -> u32
     ensures { result ≡ closed line_ended start }
 {
     if line_ended { start } else { 0 }
 }
 
-/// Whether bytes end with a line end; of none this is as it was before.
+/// Whether bytes end with a line end; without bytes the answer stays what it was.
 fn ends_line(was: bool, bytes: &[u8]) -> bool
     ensures { result ≡ ends_line was bytes.now }
 {

@@ -1,4 +1,4 @@
-//! The box that a trailer tells.
+//! The box that a trailer has.
 ghost use Rattle.std.specs.Prelude.{◌≡◌, option_map};
 ghost use Rattle.dsc.specs.Fields.{fields_in};
 ghost use Rattle.dsc.specs.Units.{units_of};
@@ -12,18 +12,18 @@ use crate::walk::Walk;
 
 /// A part of a document.
 #[derive(Clone, Copy)]
-pub(crate) enum Part {
+pub(crate) enum Section {
     Preamble,
     Pages,
     Trailer,
 }
 
-/// What stands behind the colon of the first `%%BoundingBox:` of the trailer, outside embedded documents and data. None
+/// What follows the colon of the first `%%BoundingBox:` of the trailer, outside embedded documents and data. None
 /// if the text has a faulty data block.
 pub fn trailer_box(text: &[u8]) -> Option<&[u8]>
     ensures { option_map (λ value. fields_in value.now) result ≡ box_of_trailer (units_of text.now) }
 {
-    let mut part = Part::Preamble;
+    let mut part = Section::Preamble;
     let mut found = None;
     let mut walk = Walk::new(text);
     while !walk.is_done() {
@@ -37,32 +37,32 @@ pub fn trailer_box(text: &[u8]) -> Option<&[u8]>
     found
 }
 
-/// The part in which a unit stands, if the one before it stands in this one.
-fn next_part(part: Part, meaning: Meaning) -> Part
+/// The part that a unit is in, if the one before it is in this one.
+fn next_part(part: Section, meaning: Meaning) -> Section
     ensures { result ≡ part_after part meaning.is_page meaning.is_trailer }
 {
     match part {
-        Part::Preamble => {
+        Section::Preamble => {
             if meaning.is_page {
-                Part::Pages
+                Section::Pages
             } else {
-                Part::Preamble
+                Section::Preamble
             }
         }
-        Part::Pages => {
+        Section::Pages => {
             if meaning.is_trailer {
-                Part::Trailer
+                Section::Trailer
             } else {
-                Part::Pages
+                Section::Pages
             }
         }
-        Part::Trailer => Part::Trailer,
+        Section::Trailer => Section::Trailer,
     }
 }
 
-/// The box that was found before, and else that of this unit, if it stands in the trailer.
+/// The box that was found before, or else that of this unit, if it is in the trailer.
 fn found_by<'d>(
-    part: Part,
+    part: Section,
     found: Option<&'d [u8]>,
     unit: &Unit<'d>,
     depth: usize,
@@ -74,12 +74,12 @@ fn found_by<'d>(
         return Some(value);
     }
     match part {
-        Part::Trailer => box_in(unit, depth),
+        Section::Trailer => box_in(unit, depth),
         _ => None,
     }
 }
 
-/// What stands behind the colon of a `%%BoundingBox:` outside embedded documents.
+/// What follows the colon of a `%%BoundingBox:` outside embedded documents.
 fn box_in<'d>(unit: &Unit<'d>, depth: usize) -> Option<&'d [u8]>
     ensures { option_map (λ value. fields_in value.now) result ≡ told_box (at_depth depth (unit_of unit.now)) }
 {

@@ -6,7 +6,7 @@ ghost use Rattle.dsc.specs.Fields.{fields_in};
 
 use crate::keys::key_of;
 
-/// What stands behind the colon, if a line with this content is a comment with this key.
+/// What follows the colon, if a line with this content is a comment with this key.
 pub fn comment_value<'t>(content: &'t [u8], key: &[u8], with_colon: &[u8]) -> Option<&'t [u8]>
     requires { with_colon.now ≡ key.now ++ colon ∷ [] }
     ensures { MatchOption result (is_comment key.now content.now ≡ false) (λ value.
@@ -19,7 +19,7 @@ pub fn comment_value<'t>(content: &'t [u8], key: &[u8], with_colon: &[u8]) -> Op
     Some(value)
 }
 
-/// Whether it is a comment with this key and a colon behind it.
+/// Whether it is a comment with this key, followed by a colon.
 fn is_comment_of(content: &[u8], key: &[u8], with_colon: &[u8]) -> bool
     requires { with_colon.now ≡ key.now ++ colon ∷ [] }
     ensures { result ≡ is_comment key.now content.now }

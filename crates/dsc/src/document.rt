@@ -52,10 +52,10 @@ impl<'d> Model for Document<'d> {
 }
 
 impl<'d> Document<'d> {
-    /// Cuts a text into the units of a document (DSC 3.0: a page begins at each `%%Page:` line outside embedded
-    /// documents and data blocks; the trailer at the first `%%Trailer` or `%%EOF` line behind a page).
-    /// Refused with the first of: TooLong, NotPostScript, BadCount or ShortData (whichever data block of the text is
-    /// the first faulty one), TooManyPages, NoPages. NoMemory may come in place of any but the first two.
+    /// Cuts a text into the units of a document (DSC 3.0). A page begins at each `%%Page:` line outside embedded
+    /// documents and data blocks, and the trailer at the first `%%Trailer` or `%%EOF` line after a page. Refused
+    /// with the first of: TooLong, NotPostScript, BadCount or ShortData (for the first faulty data block of the
+    /// text), TooManyPages, NoPages. NoMemory may come instead of any but the first two.
     pub fn read(alloc: Global, text: &'d [u8]) -> Result<Document<'d>, DscError>
         ensures answer { Gives (λ d. d) fault_told result (document_of text.now) }
         ensures first_checks { IfErr result (λ e. PassedFirstChecks e text.now) }
@@ -93,7 +93,7 @@ impl<'d> Document<'d> {
         self.text
     }
 
-    /// How many pages there are, from 1 to 1,000,000.
+    /// The number of pages, from 1 to 1,000,000.
     pub fn pages(&self) -> u32
         ensures count { result ≡ length (pages self.now) }
         ensures few { result ≤ most_pages }
@@ -112,8 +112,9 @@ impl<'d> Document<'d> {
         part(self.text, entry(starts, p), next_or(starts, p, self.stop))
     }
 
-    /// The prepared body of a page, counted from 0, as `Body::prepare` makes it of the page. If lines are dropped at
-    /// the page's start alone and what is kept ends with a line end, nothing is looked at: `body_start` tells it.
+    /// The prepared body of a page, counted from 0, as `Body::prepare` makes it from the page. If lines are dropped
+    /// only at the page's start and what is kept ends with a line end, `body_start` has the answer and nothing is
+    /// read.
     pub fn body(&self, alloc: Global, p: u32) -> Result<Body<'d>, AllocError>
         requires { p < length (pages self.now) }
         ensures body { IfOk result (λ b. prepared (slice_index_or (pages self.now) p []) ≡ Ok b) }
@@ -129,8 +130,9 @@ impl<'d> Document<'d> {
         }
     }
 
-    /// From which of its bytes on a page, counted from 0, is its prepared body, if that was found as the document was
-    /// read: if lines are dropped at the page's start alone and what is kept ends with a line end.
+    /// The byte of a page, counted from 0, from which on it is its prepared body. This is known if the document
+    /// found it as it was read: if lines are dropped only at the page's start and what is kept ends with a line
+    /// end.
     pub fn body_start(&self, p: u32) -> Option<u32>
         requires { p < length (pages self.now) }
         ensures within { IfSome result (λ start. start ≤ length (slice_index_or (pages self.now) p [])) }
@@ -146,9 +148,9 @@ impl<'d> Document<'d> {
         Some(start - starts[p as usize])
     }
 
-    /// What is kept of the preamble, with `%%Pages: ` and the number of sheets on a line of its own behind the first
-    /// line, and a line end at its end. Outermost lines with the keys `%%Pages`, `%%PageOrder`, `%%BoundingBox`,
-    /// `%%HiResBoundingBox`, `%%DocumentMedia` and `%%Orientation` are dropped, and the `%%+` lines behind them.
+    /// What is kept of the preamble, ending with a line end. A line with `%%Pages: ` and the number of sheets is
+    /// added after the first line. Outermost lines with the keys `%%Pages`, `%%PageOrder`, `%%BoundingBox`,
+    /// `%%HiResBoundingBox`, `%%DocumentMedia` and `%%Orientation` are dropped, and the `%%+` lines after them.
     pub fn preamble_text(&self, sheets: u32) -> Result<Vec<u8>, AllocError>
         ensures text { IfOk result (λ v. v.items ≡ preamble_text sheets self.now) }
     {
@@ -156,7 +158,7 @@ impl<'d> Document<'d> {
         Ok(text)
     }
 
-    /// The same, with lines behind the number of sheets, each with its line end.
+    /// The same, with lines after the number of sheets, each with its line end.
     pub fn dressed_preamble(&self, sheets: u32, lines: &[u8]) -> Result<Vec<u8>, AllocError>
         ensures text { IfOk result (λ v. (rows : List (List ℕ)) → lines.now ≡ lines_text rows →
             v.items ≡ dressed_preamble sheets rows self.now) }
@@ -171,7 +173,7 @@ impl<'d> Document<'d> {
         Ok(text)
     }
 
-    /// What is kept of the trailer: the lines that are dropped from a preamble are dropped from it too.
+    /// What is kept of the trailer: the same lines are dropped as from a preamble.
     pub fn trailer_text(&self) -> Result<Vec<u8>, AllocError>
         ensures text { IfOk result (λ v. v.items ≡ trailer_text self.now) }
     {
@@ -179,8 +181,8 @@ impl<'d> Document<'d> {
         filter_header(Vec::new(*self.starts.allocator()), rest)
     }
 
-    /// How many pages stand behind the trailer's first line, outside embedded documents and data. They are none of the
-    /// document's pages: another document was put behind it.
+    /// The number of pages after the trailer's first line, outside embedded documents and data. They don't belong
+    /// to the document: another document was appended to it.
     pub fn pages_behind_trailer(&self) -> usize
         ensures { result ≡ pages_behind self.now }
     {
@@ -189,7 +191,7 @@ impl<'d> Document<'d> {
     }
 }
 
-/// This entry. A call, so that a proof has its value by name; so it is with the next two.
+/// This entry. A function of its own, which gives a proof a name for the value, like the next two.
 fn entry(starts: &[u32], p: usize) -> usize
     requires { p < length starts.now }
     ensures { result ≡ slice_index_or starts.now p 0 }
@@ -206,7 +208,7 @@ fn part(text: &[u8], start: usize, end: usize) -> &[u8]
     &text[start..end]
 }
 
-/// The entry behind this one, or the end.
+/// The entry after this one, or the end.
 fn next_or(starts: &[u32], p: usize, stop: usize) -> usize
     requires { p < length starts.now }
     ensures { result ≡ slice_index_or starts.now (p + 1) stop }

@@ -5,7 +5,7 @@ ghost use Rattle.dsc.specs.Faults.{widened};
 use crate::units::UnitError;
 use thiserror::Error;
 
-/// Why a document or a page is refused. A byte index is that of the first byte of a faulty data block's begin line.
+/// Why a document or a page is refused. A byte index is that of the first byte of a faulty data block's first line.
 #[derive(Clone, Copy, Debug, PartialEq, Eq, Error)]
 pub enum DscError {
     /// The input has over 1,073,741,824 bytes.
@@ -17,16 +17,16 @@ pub enum DscError {
     /// The count of a data block is missing, or isn't a number.
     #[error("input: bad count at byte {0}")]
     BadCount(usize),
-    /// Fewer bytes or lines are left than a data block counts.
+    /// Fewer bytes or lines are left than the data block's count.
     #[error("input: data cut short at byte {0}")]
     ShortData(usize),
     /// The document has over 1,000,000 pages.
     #[error("input: too many pages")]
     TooManyPages,
-    /// No outermost line begins a page.
+    /// No page begins outside embedded documents.
     #[error("input: no pages")]
     NoPages,
-    /// A growth was refused.
+    /// Memory for growth was refused.
     #[error("out of memory")]
     NoMemory,
 }
@@ -45,7 +45,7 @@ pub enum CutError {
     NoMemory,
 }
 
-/// The same, as callers are told.
+/// The same, in the type that callers get.
 pub fn widen(error: CutError) -> DscError
     ensures { result ≡ widened error }
 {

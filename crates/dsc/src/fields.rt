@@ -6,7 +6,7 @@ ghost use Rattle.rules.specs.Units.{is_blank};
 ghost use Rattle.rules.specs.Numbers.{number_of};
 ghost use Rattle.dsc.specs.Fields.{fields_in};
 
-/// How many blanks the bytes begin with.
+/// The number of blanks at the start of the bytes.
 fn blanks_at(text: &[u8]) -> usize
     ensures value { result ≡ prefix_len is_blank text.now }
     ensures within { result ≤ length text.now }
@@ -16,7 +16,7 @@ fn blanks_at(text: &[u8]) -> usize
         .count()
 }
 
-/// How long the field is that the bytes begin with.
+/// The length of the field at the start of the bytes.
 fn field_at(text: &[u8]) -> usize
     ensures value { result ≡ prefix_len (λ b. not (is_blank b)) text.now }
     ensures within { result ≤ length text.now }
@@ -26,7 +26,7 @@ fn field_at(text: &[u8]) -> usize
         .count()
 }
 
-/// The first field of the bytes, and what stands behind it.
+/// The first field of the bytes, and what follows it.
 pub fn next_field(text: &[u8]) -> Option<(&[u8], &[u8])>
     ensures { MatchOption result (fields_in text.now ≡ []) (λ p. fields_in text.now ≡ p.0.now ∷ fields_in p.1.now) }
 {
@@ -38,7 +38,7 @@ pub fn next_field(text: &[u8]) -> Option<(&[u8], &[u8])>
     Some(from.split_at(len))
 }
 
-/// The number that the digits stand for, or the greatest one; None if a byte is no digit.
+/// The value of the digits, or the greatest number; None if a byte is not a digit.
 pub fn count_in(field: &[u8]) -> Option<usize>
     ensures { MatchOption result (list_all is_ascii_digit field.now ≡ false) (λ n.
         (list_all is_ascii_digit field.now ≡ true) × (n ≡ min (number_of field.now) usize.MAX)) }

@@ -37,7 +37,7 @@ fn drops_line(drops: Drops, content: &[u8]) -> bool
     }
 }
 
-/// Whether such a line is dropped from a page. Its letter says whether its key matters.
+/// Whether such a line is dropped from a page. Its letter shows whether its key has to be compared.
 fn drops_in_page(content: &[u8]) -> bool
     ensures { result ≡ drops_in_page content.now }
 {
@@ -64,7 +64,7 @@ fn drops_in_header(content: &[u8]) -> bool
                         || key == b"%%Orientation".as_slice()))))
 }
 
-/// Whether the filter drops this unit; `was`: it dropped the one before.
+/// Whether the filter drops this unit; `was` is whether it dropped the one before.
 pub fn drops_unit(drops: Drops, was: bool, unit: &Unit<'_>, depth: usize) -> bool
     ensures { result ≡ is_dropped drops was (at_depth depth (unit_of unit.now)) }
 {
@@ -74,8 +74,8 @@ pub fn drops_unit(drops: Drops, was: bool, unit: &Unit<'_>, depth: usize) -> boo
     (depth == 0 && drops_line(drops, unit.content)) || (was && unit.content.starts_with(b"%%+"))
 }
 
-/// What is kept of a text: what was copied of it, and behind that two runs of it that weren't. The second one may still
-/// grow: it has `run_len` bytes, and behind these stands what wasn't walked over yet.
+/// What is kept of a text: bytes that were copied, followed by two runs of the text that weren't. The second one
+/// may still grow: it has `run_len` bytes, and after these comes what hasn't been read yet.
 #[derive(Drop)]
 pub struct Kept<'d> {
     pub copied: Vec<u8>,
@@ -101,8 +101,9 @@ impl<'d> Kept<'d> {
         Ok(copied)
     }
 
-    /// Goes on by a unit of this length: the run grows, or it is held and the next one begins behind the unit. A run
-    /// that was held before is copied then. So what is one run of the text is never copied.
+    /// Takes a unit of this length. A kept unit extends the run. A dropped one ends it: the run is held, and the
+    /// next one begins after the unit; a run that was held before is copied. So a text that is kept in one run is
+    /// never copied.
     fn go_on(&mut self, len: usize, dropped: bool) -> Result<(), AllocError>
         requires { self.old.run_len + len ≤ length self.old.run.now }
         ensures kept { OnOk result (
@@ -133,7 +134,7 @@ impl<'d> Kept<'d> {
     }
 }
 
-/// Copies a part, if it has bytes. There will be room for `room` bytes.
+/// Copies a part, if it has bytes. Afterwards there is room for `room` bytes.
 fn copy(copied: &mut Vec<u8>, part: &[u8], room: usize) -> Result<(), AllocError>
     ensures { OnOk result (copied.new.items ≡ copied.old.items ++ part.now) }
 {
@@ -144,7 +145,7 @@ fn copy(copied: &mut Vec<u8>, part: &[u8], room: usize) -> Result<(), AllocError
     copied.extend_from_slice(part)
 }
 
-/// What is kept of the text, behind what was copied before.
+/// What is kept of the text, after what was copied before.
 pub fn filter<'d>(copied: Vec<u8>, drops: Drops, text: &'d [u8]) -> Result<Kept<'d>, CutError>
     ensures { Gives (λ k. (k.copied.items ++ k.held.now) ++ k.run.now) block_fault_told result
         (filter_on drops copied.items false 0 0 text.now) }
@@ -171,7 +172,7 @@ pub fn filter<'d>(copied: Vec<u8>, drops: Drops, text: &'d [u8]) -> Result<Kept<
     Ok(kept)
 }
 
-/// Adds to `front` what is kept of a part of a preamble or of a trailer, which has no faulty block.
+/// Appends to `front` what is kept of a part of a preamble or of a trailer, which has no faulty block.
 pub fn filter_header(front: Vec<u8>, text: &[u8]) -> Result<Vec<u8>, AllocError>
     requires { cut text.now ≡ Ok (or_none (cut text.now)) }
     ensures { IfOk result (λ v. v.items ≡ front.items ++ bytes_of (kept drops_in_header (units_of text.now))) }
@@ -183,7 +184,7 @@ pub fn filter_header(front: Vec<u8>, text: &[u8]) -> Result<Vec<u8>, AllocError>
     }
 }
 
-/// A document's first line, the count of its sheets on a line behind it, and more lines behind that.
+/// A document's first line, the number of its sheets in a line after it, and then more lines.
 pub fn with_count(
     alloc: Global,
     first: &[u8],
@@ -202,7 +203,7 @@ pub fn with_count(
     Ok(text)
 }
 
-/// Whether the bytes want a line end.
+/// Whether the bytes need a line end.
 pub fn wants_end(bytes: &[u8]) -> bool
     ensures { ended bytes.now ≡ (if result then line bytes.now else bytes.now) }
 {
@@ -212,7 +213,7 @@ pub fn wants_end(bytes: &[u8]) -> bool
     }
 }
 
-/// Adds a line end if the last byte is none.
+/// Adds a line end unless the last byte ends a line.
 pub fn end_line(kept: &mut Vec<u8>) -> Result<(), AllocError>
     ensures { OnOk result (kept.new.items ≡ ended kept.old.items) }
 {
@@ -222,11 +223,11 @@ pub fn end_line(kept: &mut Vec<u8>) -> Result<(), AllocError>
     Ok(())
 }
 
-/// The prepared body of a page: its bytes without the lines that set up the page (each outermost line whose key begins
-/// with `%%Page`, `%%BeginPageSetup`, `%%EndPageSetup`, and what `%%+` lines add to them), with a line end at its end.
-/// The page is cut as a text of its own, and needn't begin with a page line.
-/// Refused with BadCount or ShortData, for its first faulty data block, or with NoMemory. A page of a document has no
-/// faulty block.
+/// The prepared body of a page: its bytes without the lines that set up the page, ending with a line end. These
+/// lines are each outermost line whose key begins with `%%Page`, `%%BeginPageSetup`, `%%EndPageSetup`, and what
+/// `%%+` lines add to them. The page is cut as a text of its own, and need not begin with a page line. Refused with
+/// BadCount or ShortData, for its first faulty data block, or with NoMemory. A page of a document has no faulty
+/// block.
 pub fn prepare(alloc: Global, page: &[u8]) -> Result<Vec<u8>, DscError>
     ensures answer { Gives (λ v. v.items) page_fault_told result (prepared page.now) }
     ensures refusals { IfErr result IsPageError }

@@ -6,7 +6,7 @@ ghost use Rattle.dsc.specs.Header.{is_header, ends_header, stays, is_last, heade
 use crate::keys::key_of;
 use crate::lines::{content_end, line_end_after};
 
-/// How long the header comments are: the first line, and the run of comments behind it.
+/// The length of the header comments: the first line, and the run of comments after it.
 pub fn header_len(text: &[u8]) -> usize
     ensures value { result ≡ header_len text.now }
     ensures within { result ≤ length text.now }
@@ -16,7 +16,7 @@ pub fn header_len(text: &[u8]) -> usize
     first + header_run(rest)
 }
 
-/// How long the run of header comments is that the bytes begin with.
+/// The length of the run of header comments at the start of the bytes.
 fn header_run(text: &[u8]) -> usize
     ensures value { result ≡ header_run text.now }
     ensures within { result ≤ length text.now }
@@ -39,14 +39,14 @@ fn header_run(text: &[u8]) -> usize
     end
 }
 
-/// Whether a line with this content goes on with the header comments.
+/// Whether a line with this content continues the header comments.
 fn stays(content: &[u8]) -> bool
     ensures { result ≡ stays content.now }
 {
     is_header(content) && !ends_header(content)
 }
 
-/// Whether a line with this content begins with a percent sign and a byte that prints.
+/// Whether a line with this content begins with a percent sign and a printable character.
 pub fn is_header(content: &[u8]) -> bool
     ensures { result ≡ is_header content.now }
 {
@@ -84,7 +84,7 @@ pub fn first_content(text: &[u8]) -> &[u8]
     content
 }
 
-/// How long the first line is.
+/// The length of the first line.
 fn first_len(text: &[u8]) -> usize
     ensures value { result ≡ line_len text.now }
     ensures within { result ≤ length text.now }

@@ -1,4 +1,4 @@
-//! The keys of lines, and what a line's key means for the parts of a document.
+//! The keys of lines, and what the key of a line means for the parts of a document.
 ghost use Rattle.std.specs.Prelude.{◌≡◌, ◌<◌, length, nat_eq, codes, false};
 ghost use Rattle.std.specs.List.{starts_with};
 ghost use Rattle.rules.specs.Units.{key};
@@ -8,7 +8,7 @@ ghost use Rattle.dsc.specs.Views.{unit_of, at_depth, comment_line};
 
 use crate::units::Unit;
 
-/// How long the key of a line is.
+/// The length of the key of a line.
 fn key_len(content: &[u8]) -> usize
     ensures { result ≡ length (key content.now) }
 {
@@ -26,7 +26,7 @@ pub fn key_of(content: &[u8]) -> &[u8]
     key
 }
 
-/// The letter that tells most comments apart: the byte behind the two percent signs that a line begins with.
+/// The letter that distinguishes most comments: the byte after the two percent signs at the start of a line.
 pub fn comment_letter(content: &[u8]) -> Option<u8>
     ensures { result ≡ letter_of content.now }
 {
@@ -44,7 +44,7 @@ pub struct Meaning {
     pub depth: usize,
 }
 
-/// What a line means. Its letter says whether its key matters.
+/// What a line means. Its letter shows whether its key has to be compared.
 fn meaning_of_line(content: &[u8], depth: usize) -> Meaning
     requires { depth < usize.MAX }
     ensures page { result.is_page ≡ begins_page (at_depth depth (comment_line content.now)) }
@@ -66,7 +66,7 @@ fn meaning_of_line(content: &[u8], depth: usize) -> Meaning
     }
 }
 
-/// What a line means that begins no page.
+/// The meaning of a line that begins no page.
 fn meaning_of_key(content: &[u8], depth: usize) -> Meaning
     requires countable { depth < usize.MAX }
     requires no_page { starts_with nat_eq content.now (codes "%%Page:") ≡ false }
@@ -97,7 +97,7 @@ fn meaning_of_key(content: &[u8], depth: usize) -> Meaning
     }
 }
 
-/// What a unit means, if the depth before it is this.
+/// What a unit means, if this is the depth before it.
 pub fn meaning_of(unit: &Unit<'_>, depth: usize) -> Meaning
     requires { depth < usize.MAX }
     ensures page { result.is_page ≡ begins_page (at_depth depth (unit_of unit.now)) }

@@ -1,5 +1,5 @@
-//! The cut of a PostScript document that follows the Document Structuring Conventions (DSC 3.0) into preamble, pages
-//! and trailer, and what is kept of each of them when its pages are placed on sheets.
+//! Cuts a PostScript document that follows the Document Structuring Conventions (DSC 3.0) into preamble, pages and
+//! trailer, and filters each of them for pages that are placed on sheets.
 #![tactic(auto)]
 
 mod bodies;

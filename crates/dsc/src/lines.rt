@@ -5,7 +5,8 @@ ghost use Rattle.rules.specs.Units.{is_end, line_len, lines_len, end_len, conten
 
 use memchr::memchr2_iter;
 
-/// Lines without CR are counted by so many bytes: a count of them fits a byte, and the compiler counts many at once.
+/// Lines without CR are counted in blocks of this many bytes, so that a count fits a byte and the compiler counts
+/// many at once.
 const BLOCK: usize = 240;
 
 /// Whether the byte ends a line.
@@ -15,7 +16,7 @@ pub fn is_line_end(byte: u8) -> bool
     byte == b'\r' || byte == b'\n'
 }
 
-/// How long the line end is that the bytes begin with.
+/// The length of the line end at the start of the bytes.
 fn end_at(text: &[u8]) -> usize
     ensures { result ≡ end_len text.now }
 {
@@ -31,18 +32,18 @@ fn end_at(text: &[u8]) -> usize
     }
 }
 
-/// How long the content of the first line is.
+/// The length of the content of the first line.
 pub fn content_end(text: &[u8]) -> usize
     ensures { result ≡ length (content_of text.now) }
 {
-    // The iterator looks at the next few bytes first, and most lines are short.
+    // The iterator looks at the next few bytes first; most lines are short.
     match memchr2_iter(b'\r', b'\n', text).next() {
         Some(at) => at,
         None => text.len(),
     }
 }
 
-/// How long the first line is with its end, if its content has this length.
+/// The length of the first line with its end, if its content has this length.
 pub fn line_end_after(text: &[u8], content: usize) -> usize
     requires { content ≡ length (content_of text.now) }
     ensures value { result ≡ line_len text.now }
@@ -53,7 +54,7 @@ pub fn line_end_after(text: &[u8], content: usize) -> usize
     content + end_at(&text[content..])
 }
 
-/// How long the first lines are, if there are that many.
+/// The length of this many lines, if there are that many.
 pub fn lines_end(count: usize, text: &[u8]) -> Option<usize>
     ensures value { result ≡ lines_len count text.now }
     ensures within { IfSome result (λ n. n ≤ length text.now) }
@@ -73,8 +74,8 @@ pub fn lines_end(count: usize, text: &[u8]) -> Option<usize>
     Some(end)
 }
 
-/// The blocks without CR at the start of the text, in which fewer lines end than these, and behind which bytes stand:
-/// how many lines end in them, and how many bytes they have.
+/// The blocks without CR at the start of the text, as long as fewer than `count` lines end in them and bytes
+/// follow. Gives the number of lines that end in them, and the number of their bytes.
 fn first_blocks(count: usize, text: &[u8]) -> (usize, usize)
     ensures fewer { result.0 ≤ count }
     ensures within { result.1 ≤ length text.now }
@@ -98,7 +99,7 @@ fn first_blocks(count: usize, text: &[u8]) -> (usize, usize)
     (lines, passed)
 }
 
-/// How many LF and how many CR a block has.
+/// The numbers of LF and of CR in a block.
 fn ends_in(block: &[u8]) -> (u8, u8)
     requires { length block.now ≤ BLOCK }
     ensures feeds { result.0 ≡ count_by (λ b. b == 10) block.now }

@@ -1,13 +1,13 @@
-//! Lines that begin with no two percent signs. They mean nothing for the parts of a document, and no filter drops them,
-//! so they are passed many at a time.
+//! Lines that don't begin with two percent signs. They mean nothing for the parts of a document, and no filter
+//! drops them, so many are passed at a time.
 ghost use Rattle.std.specs.Prelude.{◌≡◌, ◌<◌, ◌≤◌, length, codes};
 ghost use Rattle.dsc.specs.Plain.{BeginsPlain, next_line};
 
 use crate::lines::{content_end, is_line_end, line_end_after};
 use memchr::memmem::Finder;
 
-/// How many bytes at the start of the text can be passed, by a search for two percent signs: up to the first two, or,
-/// if these begin no line, behind the line that has them.
+/// The number of bytes at the start of the text that can be passed, found by a search for two percent signs. It
+/// reaches up to the first two, or, if these are not at the start of a line, up to the end of their line.
 pub fn plain_len(percent_signs: &Finder<'_>, text: &[u8]) -> usize
     requires { percent_signs.now ≡ codes "%%" }
     ensures plain { BeginsPlain result text.now }
@@ -22,7 +22,7 @@ pub fn plain_len(percent_signs: &Finder<'_>, text: &[u8]) -> usize
     }
 }
 
-/// Where the next line begins, from a byte on that is no line end itself.
+/// Where the next line begins, from a byte on that is not a line end.
 fn next_line(text: &[u8], at: usize) -> usize
     requires { at < length text.now }
     ensures value { result ≡ next_line at text.now }

@@ -12,14 +12,14 @@ ghost use Rattle.dsc.specs.Marks.{marks_on, scan_on, noted_starts, noted_end, st
 use crate::body_starts::BodyStarts;
 use crate::errors::CutError;
 use crate::keys::Meaning;
-use crate::walk::{Step, Walk};
+use crate::walk::{Walk, WalkStep};
 use std::alloc::{AllocError, Global};
 
-/// How many starts of pages are kept: one more than a document may have pages, so a fault that stands behind too many
-/// pages is still found.
+/// The number of page starts that are kept: one more than a document may have, so that a fault after too many pages
+/// is still found.
 const MOST_STARTS: usize = 1_000_001;
 
-/// Where the pages begin, and where the trailer does once it was seen. Later pages than the first `MOST_STARTS` are
+/// Where the pages begin, and where the trailer begins once it is found. Pages after the first `MOST_STARTS` are
 /// left out.
 #[derive(Drop)]
 pub struct Seen {
@@ -57,7 +57,7 @@ impl Seen {
     }
 }
 
-/// One pass over the text. Where bodies begin is noted as long as there aren't too many pages.
+/// One pass over the text. Where bodies begin is noted only while there aren't too many pages.
 pub fn scan(alloc: Global, text: &[u8]) -> Result<(Seen, Vec<u32>), CutError>
     requires { length text.now ≤ most_input_bytes }
     ensures marks { Gives (λ s. marks_on MOST_STARTS s.0.starts.items s.0.stop (length text.now) []) block_fault_told
@@ -87,8 +87,8 @@ pub fn scan(alloc: Global, text: &[u8]) -> Result<(Seen, Vec<u32>), CutError>
     }
 }
 
-/// Notes a unit. Where bodies begin is wanted only as long as there aren't too many pages.
-fn note(seen: &mut Seen, bodies: &mut BodyStarts, step: &Step<'_>) -> Result<(), AllocError>
+/// Notes a unit. Where bodies begin is noted only while there aren't too many pages.
+fn note(seen: &mut Seen, bodies: &mut BodyStarts, step: &WalkStep<'_>) -> Result<(), AllocError>
     requires { step.now.at + length step.now.unit.bytes.now ≤ most_input_bytes }
     ensures starts { OnOk result (seen.new.starts.items ≡ noted_starts MOST_STARTS seen.old.starts.items seen.old.stop
         step.now.meaning.is_page step.now.meaning.is_trailer step.now.at) }

@@ -8,7 +8,7 @@ use crate::fields::{count_in, next_field};
 use crate::keys::comment_letter;
 use crate::lines::{content_end, line_end_after, lines_end};
 
-/// A line with its end, or a data block: a line and the data behind it. The content is the line's, without its end.
+/// A line with its end, or a data block: a line and the data after it. The content is the line's, without its end.
 #[derive(Clone, Copy)]
 pub struct Unit<'d> {
     pub content: &'d [u8],
@@ -23,7 +23,7 @@ pub enum UnitError {
     ShortData,
 }
 
-/// What stands behind the colon of a line that begins data, and whether lines may be counted.
+/// What follows the colon of a line that begins data, and whether lines may be counted.
 fn data_heading(content: &[u8]) -> Option<(&[u8], bool)>
     ensures { MatchOption result (begins_block content.now ≡ false) (λ h.
         (begins_block content.now ≡ true) × (fields content.now ≡ fields_in h.0.now)
@@ -41,7 +41,7 @@ fn data_heading(content: &[u8]) -> Option<(&[u8], bool)>
     }
 }
 
-/// Whether the third field is `Lines`, if the first is read already.
+/// Whether the third field is `Lines`, if the first has been read.
 fn third_is_lines(behind: &[u8]) -> bool
     ensures { result ≡ third_is (codes "Lines") (fields_in behind.now) }
 {
@@ -54,7 +54,7 @@ fn third_is_lines(behind: &[u8]) -> bool
     }
 }
 
-/// How long the data are that such a line begins.
+/// The length of the data that such a line begins.
 fn data_len(behind: &[u8], may_count_lines: bool, rest: &[u8]) -> Result<usize, UnitError>
     ensures length { Reads (λ n. n) fault_of result (data_in may_count_lines rest.now (fields_in behind.now)) }
     ensures within { IfOk result (λ n. n ≤ length rest.now) }

@@ -12,7 +12,7 @@ use crate::units::{Unit, UnitError, first_unit};
 use memchr::memmem::Finder;
 use std::marker::Model;
 
-/// A walk over the units of a text. Contracts see where it stands: what is left of the text, the byte at which that
+/// A walk over the units of a text. Contracts see its place: what is left of the text, the byte at which that
 /// begins, and the depth there.
 #[derive(Drop)]
 pub struct Walk<'d> {
@@ -33,10 +33,10 @@ impl<'d> Model for Walk<'d> {
     ghost invariant = { λ w. (w.percent_signs ≡ codes "%%") × IsShallow w.rest.now w.at w.depth };
 }
 
-/// What a walk comes to: a unit, the byte at which it begins, the depth before it, and what it means there. Lines in a
-/// row that begin with no two percent signs come as one unit without content.
+/// A step of a walk: a unit, the byte at which it begins, the depth before it, and its meaning there. Successive
+/// lines that don't begin with two percent signs are one unit without content.
 #[derive(Clone, Copy)]
-pub struct Step<'d> {
+pub struct WalkStep<'d> {
     pub unit: Unit<'d>,
     pub at: usize,
     pub depth: usize,
@@ -64,8 +64,8 @@ impl<'d> Walk<'d> {
         self.rest.is_empty()
     }
 
-    /// The next unit, and behind it; or the faulty block that stands next.
-    pub fn step(&mut self) -> Result<Step<'d>, FaultyBlock>
+    /// The next unit, which the walk passes; or the faulty block that comes next.
+    pub fn step(&mut self) -> Result<WalkStep<'d>, FaultyBlock>
         requires { 0 < length self.old.rest }
         ensures piece { IfOk result (λ s. IsPieceOf (unit_of s.unit) self.old.rest) }
         ensures place { IfOk result (λ s. self.new ≡ behind (unit_of s.unit) self.old) }
@@ -88,7 +88,7 @@ impl<'d> Walk<'d> {
         self.rest = others;
         self.at = at + unit.bytes.len();
         self.depth = meaning.depth;
-        Ok(Step {
+        Ok(WalkStep {
             unit,
             at,
             depth,
@@ -97,7 +97,7 @@ impl<'d> Walk<'d> {
     }
 }
 
-/// The first unit of a text that isn't empty, or the lines at its start that begin with no two percent signs.
+/// The first unit of a text that isn't empty, or the lines at its start that don't begin with two percent signs.
 fn first_piece<'d>(percent_signs: &Finder<'_>, text: &'d [u8]) -> Result<Unit<'d>, UnitError>
     requires needle { percent_signs.now ≡ codes "%%" }
     requires some { 0 < length text.now }

@@ -133,7 +133,7 @@ lacks f (suc n) e = two (all_below f n) (f n) refl refl (λ none. lacks f n none
     two false true x y ih lt t = let h = ih x in rw y (omega arith)
     two false false x y ih lt t = rw y (omega arith)
 
--- the word of a set is that of all numbers just where all are in the set
+-- the word of a set is that of all numbers exactly if all are in the set
 pub full_bits : (f : ℕ → Bool) (n : ℕ) → (bits f n == 2 ^ n - 1) ≡ all_below f n
 full_bits f n = two (all_below f n) refl
   where
@@ -171,7 +171,7 @@ top_same true false x y p lx ly e = absurd (omega arith)
 top_same false true x y p lx ly e = absurd (omega arith)
 top_same false false x y p lx ly e = (refl, omega arith)
 
--- two sets with one word are the same
+-- two sets with the same word are the same
 pub bits_tell : (f g : ℕ → Bool) (n : ℕ) → bits f n ≡ bits g n → (k : ℕ) → k < n → f k ≡ g k
 bits_tell f g zero e k lt = absurd (omega arith)
 bits_tell f g (suc n) e k lt =

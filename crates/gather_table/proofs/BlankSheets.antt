@@ -1,4 +1,4 @@
--- The sheets whose slots are all blank are those that are complete after no call.
+-- The sheets whose slots are all blank are those that are complete before any call.
 use Rattle.std.proofs.Common.{◌≡◌, ℕ, zero, suc, ◌<◌, true, true≢false, List, [], ◌∷◌, length, refl, sym, arith, Option, Some, None}
 use Rattle.std.specs.Prelude.{is_none}
 use Rattle.std.specs.List.{list_all}

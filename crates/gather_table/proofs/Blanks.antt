@@ -27,7 +27,7 @@ sound_of plan ok =
       paged = λ s k p lt at. ok.paged s k p (omega arith) at;
     }
 
--- a slot is blank where it is there and has no page
+-- a slot is blank if it exists and has no page
 needed_or_blank : (xs : List (Option ℕ)) (k : ℕ) → k < length xs → not (plans.is_page (slice_get xs k)) ≡ is_blank xs k
 needed_or_blank [] k lt = absurd (omega arith)
 needed_or_blank (None ∷ xs) zero lt = refl
@@ -52,7 +52,7 @@ bit_told : (b : Bool) → ((if b then 1 else 0) == 1) ≡ b
 bit_told true = refl
 bit_told false = refl
 
--- behind the group's last slot there is none of the group, unless it has 64
+-- after the group's last slot there is none of the group, unless it has 64
 past_size : (layout : Layout) (s g j : ℕ) → group_size layout s g ≤ j → j < 64 → slot_count layout s ≤ 64 * g + j
 past_size layout s g j le lt = two (ltb (64 * g + 64) (slot_count layout s)) refl
   where

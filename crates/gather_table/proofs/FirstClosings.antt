@@ -1,4 +1,4 @@
--- The closing words at the start: where the blank slots are marked, the groups of blank slots alone are closed.
+-- The closing words at the start: once the blank slots are marked, the groups with only blank slots are closed.
 use Rattle.std.proofs.Common.{◌≡◌, ◌≢◌, ℕ, suc, ◌+◌, ◌-◌, ◌/◌, ◌<◌, ◌≤◌, ◌^◌, Bool, true, false, ◌&&◌, ◌==◌, ltb, List, length, set, refl, sym, ap, ◌∙◌, subst, arith, eq-eqb, ne_eqb}
 use Rattle.std.specs.Prelude.{slice_index, bit_and, bit_or, if◌then◌else◌}
 use Rattle.std.proofs.lemmas.Bool.{lt-ltb}
@@ -12,11 +12,11 @@ use Rattle.gather_table.proofs.Bits.{full_bits}
 use Rattle.gather_table.proofs.FirstWords.{holds_same, before_none, before_next, before_all, one_more, none_more}
 use Rattle.gather_table.proofs.Sheets.{closing_written, group_shown, low_bits, wide_room, few_groups}
 
--- a group of a wide sheet is closed from the start where its slots are all blank
+-- a group of a wide sheet is closed from the start if its slots are all blank
 blank_where_full : (layout : Layout) (s g : ℕ) → HasGroup layout s g → blank_group layout s g ≡ is_full layout s g (is_blank (slots layout s))
 blank_where_full layout s g has = λ i. (has.wide i && lt-ltb g (group_count layout s) has.group i) && is_full layout s g (is_blank (slots layout s))
 
--- the groups that the code counts are there
+-- the groups that the code counts exist
 pub has_group : (layout : Layout) (s g n : ℕ) (home : Home) → IsHome layout s home → s < length layout.sheets → n ≡ (if ltb 64 home.slots then (home.slots + 63) / 64 else 0) → g < n → HasGroup layout s g
 has_group layout s g n home at lt is_n low = two (ltb 64 home.slots) refl
   where
@@ -36,7 +36,7 @@ counted layout s g n home at is_n has =
     let lt = has.group in
     omega arith
 
--- one group more
+-- one more group
 pub group_more : (layout : Layout) (words : List ℕ) (s g : ℕ) → HasGroup layout s g
     → WordsHold layout (if is_full layout s g ((closed_to layout s g).marked s) then with_closed (closed_to layout s g) s g else closed_to layout s g) words → WordsHold layout (closed_to layout s (suc g)) words
 group_more layout words s g has held = two (is_full layout s g (is_blank (slots layout s))) refl held
@@ -47,7 +47,7 @@ group_more layout words s g has held = two (is_full layout s g (is_blank (slots 
     two false e h = holds_same layout (closed_to layout s g) (closed_to layout s (suc g)) words h (λ p lt. refl) (λ r j lt inn. refl)
         (λ r i _. none_more (blank_group layout) s g r i (blank_where_full layout s g has ∙ e))
 
--- no group yet, one sheet more, and all sheets
+-- no group yet, one more sheet, and all sheets
 pub none_closed : (layout : Layout) (words : List ℕ) → WordsHold layout (blanks_to layout (length layout.sheets) 0) words → WordsHold layout (closed_to layout 0 0) words
 none_closed layout words h = holds_same layout (blanks_to layout (length layout.sheets) 0) (closed_to layout 0 0) words h (λ p lt. refl)
     (λ r j lt inn. ap (λ (b : Bool). b && is_blank (slots layout r) j) (before_all (length layout.sheets) r j lt))
@@ -61,7 +61,7 @@ pub all_closed : (layout : Layout) (words : List ℕ) (n : ℕ) → length layou
 all_closed layout words n le h = holds_same layout (closed_to layout n 0) (start layout) words h (λ p lt. refl) (λ r j lt inn. refl)
     (λ r g has. let lt = has.sheet in ap (λ (b : Bool). b && blank_group layout r g) (before_all n r g (omega arith)))
 
--- the words of a wide sheet's groups are there
+-- the words of a wide sheet's groups exist
 pub groups_in : (layout : Layout) (words : List ℕ) (s g : ℕ) (home : Home) → IsHome layout s home → HasGroup layout s g → wide_at layout (length layout.sheets) ≤ length words → (home.word ≡ wide_at layout s) × (home.word + 1 + g < length words)
 groups_in layout words s g home at has room =
     let here = at.wide has.wide in
@@ -76,7 +76,7 @@ full_shown layout t words s g full word has is_full_word is_word h =
     (λ i. (ap (λ (z : ℕ). bit_and (slice_index words z) full) is_word ∙ low_bits (slice_index words (group_word layout s g)) (group_size layout s g) full is_full_word ∙ group_shown layout t words s g h has) i == is_full_word i)
     ∙ full_bits (in_group (t.marked s) g) (group_size layout s g)
 
--- so its closing bit is set where none is missing
+-- so its closing bit is set if none is missing
 pub full_closed : (layout : Layout) (words : List ℕ) (s g full n bit x : ℕ) (home : Home) → IsSound layout → IsHome layout s home → HasGroup layout s g → wide_at layout (length layout.sheets) ≤ length words → full ≡ 2 ^ group_size layout s g - 1
     → bit_and (slice_index words (home.word + 1 + g)) full ≡ full → n ≡ slice_index words home.word → n < 2 ^ 64 → bit ≡ 2 ^ g → x ≡ bit_or n bit
     → (t : TableState) → WordsHold layout t words → WordsHold layout (if is_full layout s g (t.marked s) then with_closed t s g else t) (set words home.word x)

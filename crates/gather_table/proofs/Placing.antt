@@ -1,4 +1,4 @@
--- Where the bits of each sheet stand, sheet by sheet, and that a new table keeps to its rule.
+-- Where the bits of each sheet are, sheet by sheet, and that a new table keeps its rule.
 use Rattle.std.proofs.Common.{◌≡◌, ℕ, zero, suc, ◌+◌, ◌*◌, ◌/◌, ◌<◌, ◌≤◌, Bool, true, false, true≢false, ltb, List, [], ◌∷◌, ◌++◌, length, refl, sym, ap, ◌∙◌, subst, arith, length-append, get_or}
 use Rattle.std.specs.Prelude.{slice_index_or, if◌then◌else◌}
 use mathlib.Core.Logic.{dite}
@@ -16,7 +16,8 @@ use Rattle.gather_table.proofs.Lanes.{width_le, free_inside, facts}
 use Rattle.gather_table.proofs.Sheets.{few_groups}
 use Rattle.histories.specs.Seats.{opening_sight}
 
--- the first n sheets have their places: the next lane stands behind theirs, and the next wide sheet behind the wide ones of them
+-- the first n sheets have their places: the next lane follows theirs, and the next wide sheet follows the wide ones
+-- among them
 pub record Placed (layout : Layout) (n : ℕ) (homes : List Home) (next : Lane) (wide : ℕ) : Type 0 where
   pub count : length homes ≡ n
   pub homes_are : (s : ℕ) (d : Home) → s < n → IsHome layout s (slice_index_or homes s d)
@@ -44,7 +45,7 @@ home_placed layout n slots wide at is_count is_lane is_wide_at = two (ltb 64 slo
           wide = λ is. absurd (true≢false (sym is ∙ w));
         })
 
--- the lane of the next sheet, and the next free bit behind it
+-- the lane of the next sheet, and the next free bit after it
 pub lane_next : (layout : Layout) (n slots bits : ℕ) (next at : Lane) → next ≡ free layout n → slots ≡ slot_count layout n → bits ≡ (if ltb 64 slots then 0 else slots) → at ≡ fitted next bits
     → (bits ≡ width layout n) × (at ≡ lane layout n) × (behind at bits ≡ free layout (n + 1))
 lane_next layout n slots bits next at is_next is_count is_bits is_at =
@@ -86,7 +87,7 @@ wide_below layout ok (suc n) le = let h = wide_below layout ok n (omega arith) i
     two true e h g = subst (λ (b : Bool). wide_at layout n + (if b then 1 + group_count layout n else 0) ≤ 2_000_001 + 65 * suc n) (sym e) (omega arith)
     two false e h g = subst (λ (b : Bool). wide_at layout n + (if b then 1 + group_count layout n else 0) ≤ 2_000_001 + 65 * suc n) (sym e) (omega arith)
 
--- so the numbers of the code are small
+-- so the numbers in the code are small
 pub may_fit : (layout : Layout) → IsSound layout → (n slots bits : ℕ) (next : Lane) → n < length layout.sheets → next ≡ free layout n → slots ≡ slot_count layout n → bits ≡ (if ltb 64 slots then 0 else slots) → (next.first ≤ 64) × (bits ≤ 64) × (next.word < 1_000_000)
 may_fit layout ok n slots bits next lt is_next is_count is_bits =
     let few = ok.few_sheets in
@@ -113,7 +114,7 @@ wide_fits layout ok n slots own wide lt is_wide_at is_count is_own =
     let h = wide_below layout ok (suc n) (omega arith) in
     omega arith
 
--- the rule holds of the words at the start
+-- the rule holds for the words at the start
 pub opens : (layout : Layout) (words : List ℕ) → WordsHold layout (start layout) words → Kept layout (opening words [] (opening_sight layout))
 opens layout words h = (
   [],

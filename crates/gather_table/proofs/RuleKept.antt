@@ -26,7 +26,7 @@ pub joins : (layout : Layout) (id : ℕ) (v : Sight) (other : ℕ) (w : Sight) �
 joins layout id v other w pos s kept at apart there =
     (kept.0, reseated layout s kept.0 _ kept.1 (Rattle.histories.proofs.Shares.absorbs layout spent.key kept.0 s.views id other v w pos kept.1.seats at apart there))
 
--- two seats that were joined are two again, each with its own places and its share
+-- two seats that were joined are split again, each with its own places and its share
 pub parts : (layout : Layout) (id : ℕ) (v w x : Sight) (places theirs : List ℕ) (g : ℕ) → x ≡ absorbed v w → places ≡ v.own → theirs ≡ w.own → g ≡ w.share → 0 < v.share → 0 < w.share
     → Splits (Kept layout) id x (keeps_back places g x) (given theirs g x)
 parts layout id v w x places theirs g is mine others gives pos some =

@@ -6,7 +6,7 @@ use Rattle.gather_table.specs.Table.{IsSound}
 use Rattle.gather_table.specs.Lanes.{wide_at}
 use Rattle.gather_table.specs.Homes.{IsHome}
 
--- the number of words and of pages, and of each sheet how many slots it has and where its bits stand
+-- the number of words and of pages, and for each sheet the number of its slots and where its bits are
 pub record KeepsCounts (layout : Layout) (words page_count : ℕ) (homes : List Home) : Type 0 where
   pub sound : IsSound layout
   pub pages : page_count ≡ layout.pages

@@ -1,4 +1,4 @@
--- What clauses see of the shared table and of its seats. What is said of seats of any history stands in the crate
+-- What clauses see of the shared table and of its seats. What holds of the seats of any history is in the crate
 -- histories.
 use Rattle.std.specs.Prelude.{ℕ, List}
 use Rattle.atomic_table.specs.Seated.{TableId}
@@ -19,12 +19,12 @@ SeatView = Rattle.histories.specs.Calls.SeatView Layout Entry
 abbrev pub IsSeatOf : TableView → SeatView → Type 0
 IsSeatOf t seat = IsOf t.table t.layout seat
 
--- the seat that a table is made with: it has all shares, and has seen nothing yet
+-- the seat with which a table is made: it has all shares, and has seen nothing
 abbrev pub opening_seat : TableView → SeatView
 opening_seat t = opening t.table t.layout
 
--- what every seat keeps to: its front is legal, its own places lie in it, each once, and if it has all shares they are
--- all places of it
+-- what every seat keeps to: its front is legal, and its own places are places of the front, each once. If it has
+-- all shares, they are all places of it
 abbrev pub IsSeat : SeatView → Type 0
 IsSeat = Rattle.histories.specs.Calls.IsSeat IsLegal
 
@@ -32,8 +32,8 @@ IsSeat = Rattle.histories.specs.Calls.IsSeat IsLegal
 abbrev pub own_calls : SeatView → List Entry
 own_calls seat = own_entries seat
 
--- the call was made: the new front begins with the old one, goes on with what others did meanwhile, and ends with this
--- call, whose place is one more own place. If the seat has all shares there are no others
+-- the call was made: the new front is the old one, then what others did in the meantime, then this call, whose
+-- place is one more own place. If the seat has all shares, there are no others
 abbrev pub Made : SeatView → Entry → SeatView → Type 0
 Made = Rattle.histories.specs.Calls.Made IsLegal
 
@@ -41,7 +41,7 @@ Made = Rattle.histories.specs.Calls.Made IsLegal
 abbrev pub Makes : SeatView → List Entry → SeatView → Type 0
 Makes = Rattle.histories.specs.Calls.Makes IsLegal
 
--- two seats: the front of each begins the longer one, and no place is an own place of both
+-- two seats: the front of each is a beginning of the longer one, and no place is an own place of both
 abbrev pub Agree : SeatView → SeatView → Type 0
 Agree = Rattle.histories.specs.Calls.Agree
 
@@ -49,6 +49,6 @@ Agree = Rattle.histories.specs.Calls.Agree
 abbrev pub Met : SeatView → SeatView → SeatView → SeatView → Type 0
 Met = Rattle.histories.specs.Calls.Met IsLegal
 
--- one seat with the longer front, the own places of both, of which none is shared, and both shares
+-- one seat with the longer front, the own places of both, none of which is shared, and both shares
 abbrev pub Joined : SeatView → SeatView → SeatView → Type 0
 Joined = Rattle.histories.specs.Calls.Joined IsLegal

@@ -1,4 +1,4 @@
--- What each step tells.
+-- What each step reveals.
 use Rattle.std.specs.Prelude.{◌≡◌, ℕ, ◌-◌, ◌/◌, ◌%◌, ◌^◌, ◌≤◌}
 use Rattle.atomic_table.specs.Table.{Me, Step}
 use Rattle.rules.specs.Sheets.{Layout}
@@ -13,12 +13,12 @@ use Rattle.histories.specs.Seats.{Learned}
 abbrev pub Adds : Sight → Entry → Sight → Type 0
 Adds = Rattle.histories.specs.Seats.Adds IsLegal
 
--- a publish was made, and the word that it found tells its reply
+-- a publish was made, and the word that it found gives its reply
 abbrev pub publishes : Step Unit → Me Unit Sight → ℕ → Me Unit Sight → Type 0
 publishes st me found new = (new.1 ≡ me.1) × (found ≤ 2 ^ 32)
     × Adds me.0 (Publish st.word (st.second - 1) (publish_reply (index_in found))) new.0
 
--- and so was a look-up
+-- the same for a look-up
 abbrev pub finds : Step Unit → Me Unit Sight → ℕ → Me Unit Sight → Type 0
 finds st me found new = (new.1 ≡ me.1) × (found ≤ 2 ^ 32) × Adds me.0 (PageAt st.word (index_in found)) new.0
 
@@ -26,14 +26,14 @@ finds st me found new = (new.1 ≡ me.1) × (found ≤ 2 ^ 32) × Adds me.0 (Pag
 abbrev pub lane_found : Layout → ℕ → ℕ → ℕ
 lane_found layout s found = in_lane found (lane layout s).first (slot_count layout s)
 
--- the call that a mark was, and the one that a look was, by the word that was found
+-- the call that a mark was, and the one that a look was, given the word that was found
 abbrev pub mark_of : Layout → ℕ → ℕ → ℕ → Entry
 mark_of layout s k found = Mark s k (reply_in (lane_found layout s found) (2 ^ k) (2 ^ slot_count layout s - 1))
 
 abbrev pub look_of : Layout → ℕ → ℕ → Entry
 look_of layout s found = Look s (2 ^ slot_count layout s - 1 - lane_found layout s found)
 
--- the same of a wide sheet, by the word of the group, and by the closing word
+-- the same for a wide sheet, given the word of the group, and the closing word
 abbrev pub wide_mark_of : Layout → ℕ → ℕ → ℕ → Entry
 wide_mark_of layout s k found =
     Mark s k (group_reply (k / 64)
@@ -50,10 +50,10 @@ close_of layout s g found =
 abbrev pub look_group_of : Layout → ℕ → ℕ → ℕ → Entry
 look_group_of layout s g found = LookGroup s g (2 ^ group_size layout s g - 1 - in_lane found 0 (group_size layout s g))
 
--- a call was made, and this one by the word that it found
+-- a call was made: this one, given the word that it found
 abbrev pub calls : (ℕ → Entry) → Step Unit → Me Unit Sight → ℕ → Me Unit Sight → Type 0
 calls entry st me found new = (new.1 ≡ me.1) × Adds me.0 (entry found) new.0
 
--- a look that tells a seat what the rule says of it
+-- a look from which a seat learns what the rule says about it
 abbrev pub learns : Step Unit → Me Unit Sight → ℕ → Me Unit Sight → Type 0
 learns st me found new = (new ≡ me) × Learned me.0

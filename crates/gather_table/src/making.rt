@@ -18,11 +18,12 @@ use std::alloc::{AllocError, Global};
 
 impl<'s> GatherTable<'s> {
     /// A table for a plan, and the seat that has all its shares. Blank slots count as marked from the start, and
-    /// groups of blank slots alone as closed.
+    /// groups with only blank slots as closed.
     ///
-    /// One word a page holds its index. The bits of a sheet of up to 64 slots stand in a lane of neighbouring bits
-    /// of one word: a sheet takes the next free bits of the current word if they suffice, else the first bits of
-    /// the next word. A wide sheet has words of its own behind the lanes, a closing word and then one word a group.
+    /// One word for each page has its index. The bits of a sheet of up to 64 slots are a lane of neighbouring bits
+    /// of one word. A sheet takes the next free bits of the current word if there are enough, otherwise the first
+    /// bits of the next word. A wide sheet has words of its own after the lanes, a closing word and then one word
+    /// for each group.
     pub fn new(alloc: Global, plan: &Plan<'s>) -> Result<(GatherTable<'s>, Seat), AllocError>
         ensures layout { IfOk result (λ made. made.0.layout ≡ layout plan.now) }
         ensures seat { IfOk result (λ made. made.1 ≡ opening_seat made.0) }
@@ -45,7 +46,7 @@ impl<'s> GatherTable<'s> {
     }
 }
 
-/// Where the bits of each sheet stand, and how many words that takes.
+/// Where the bits of each sheet are, and the number of words for them.
 fn homes_of(alloc: Global, plan: &Plan) -> Result<(Vec<Home>, u32), AllocError>
     ensures homes { IfOk result (λ made. AreHomes (layout plan.now) made.0.items) }
     ensures words { IfOk result (λ made. made.1 ≡ wide_at (layout plan.now) (length (layout plan.now).sheets)) }
@@ -65,7 +66,7 @@ fn homes_of(alloc: Global, plan: &Plan) -> Result<(Vec<Home>, u32), AllocError>
     Ok((homes, wide))
 }
 
-/// How many words hold the lanes.
+/// The number of words with lanes.
 fn lane_words(plan: &Plan) -> u32
     ensures { result ≡ (free (layout plan.now) (length (layout plan.now).sheets)).word + 1 }
 {
@@ -78,7 +79,7 @@ fn lane_words(plan: &Plan) -> u32
     next.word + 1
 }
 
-/// The lane of this many bits that comes next.
+/// The next lane of this many bits.
 fn fit(next: Lane, count: u8) -> Lane
     requires { (next.first ≤ 64) × (count ≤ 64) × (next.word < most_sheets) }
     ensures { result ≡ fitted next count }
@@ -92,7 +93,7 @@ fn fit(next: Lane, count: u8) -> Lane
     next
 }
 
-/// How many bits a sheet has among the lanes: a wide one has none.
+/// The number of a sheet's bits in the lanes: a wide sheet has none there.
 fn lane_width(slots: u16) -> u8
     ensures { result ≡ (if nat_lt 64 slots then 0 else slots) }
 {
@@ -102,7 +103,8 @@ fn lane_width(slots: u16) -> u8
     slots as u8
 }
 
-/// How many words a wide sheet has for itself, a closing word and one a group. Another has none.
+/// The number of words that only this sheet uses: of a wide one a closing word and one for each group, otherwise
+/// none.
 fn own_words(slots: u16) -> u32
     requires { slots ≤ most_slots }
     ensures { result ≡ (if nat_lt 64 slots then 1 + (slots + 63) / 64 else 0) }
@@ -113,7 +115,7 @@ fn own_words(slots: u16) -> u32
     0
 }
 
-/// Where a sheet's bits stand, by its lane and by the next word behind those of the wide sheets before it.
+/// Where a sheet's bits are, given its lane and the next word after those of the wide sheets before it.
 fn home_at(slots: u16, pages: u32, lane: Lane, wide: u32) -> Home
     requires { (pages ≤ most_pages) × (lane.word ≤ most_sheets) }
     ensures { result ≡ (if nat_lt 64 slots then record { slots = slots; word = wide; first = 0 }

@@ -3,7 +3,8 @@ use atomic_table::TableRule;
 use sheet_plan::Plan;
 use std::marker::Model;
 
-/// What a seat knows: a history that its caller has seen, and the caller's own calls in it. No value of it is made.
+/// What a seat knows: a history that its caller has seen, and the caller's own calls in it. No value of this type
+/// is ever made.
 pub struct View {
     nothing: (),
 }
@@ -16,8 +17,8 @@ impl Model for View {
     ghost view = { λ v. spent };
 }
 
-/// Between any two steps there is one legal history, whose state the words hold and which every seat has seen a
-/// beginning of.
+/// Between any two steps there is one legal history. The words hold its state, and every seat has seen a beginning
+/// of it.
 pub struct OneHistory;
 
 impl<'s> TableRule<(), View, Plan<'s>> for OneHistory {

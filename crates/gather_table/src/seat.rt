@@ -6,7 +6,7 @@ use crate::rule::View;
 use std::fmt;
 use std::marker::Model;
 
-/// A caller's token for one table. It stands for a legal history that the caller has seen, its front, and for the
+/// A caller's token for one table. It represents a legal history that the caller has seen, its front, and the
 /// caller's own calls in it. Neither is stored: a seat is eight bytes, its share.
 #[derive(Drop)]
 pub struct Seat {
@@ -28,7 +28,7 @@ impl Model for Seat {
 }
 
 impl Seat {
-    /// How much of the table's 2^32 shares the seat has. With all of them it is the table's only seat.
+    /// How many of the table's 2^32 shares the seat has. With all of them it is the table's only seat.
     pub fn share(&self) -> u64
         ensures value { result ≡ self.now.share }
         ensures seat { IsSeat self.now }

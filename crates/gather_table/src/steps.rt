@@ -1,4 +1,4 @@
-//! What each step tells, and how seats are split and joined.
+//! What each step reveals, and how seats are split and joined.
 use crate::rule::View;
 use atomic_table::{Join, Play, Split};
 use std::marker::{Brand, PhantomData};
@@ -21,7 +21,7 @@ impl Play<(), View> for Finds {
     ghost then = { finds };
 }
 
-/// Ghost parameter, chosen in the proof of each call; no code: which call a step is, by the word that it finds.
+/// Ghost parameter, chosen in the proof of each call; no code: which call a step is, given the word that it finds.
 pub trait Tells {
     ghost use Rattle.std.specs.Prelude.{ℕ};
     ghost use Rattle.gather_table.specs.History.{Entry};
@@ -35,7 +35,7 @@ impl Tells for Brand {
     ghost entry = { λ found. Look 0 0 };
 }
 
-/// A call on slots or groups, of which a word may hold those of several sheets.
+/// A call on slots or groups. A word may hold those of several sheets.
 pub(crate) struct Calls<E: Tells> {
     of: PhantomData<E>,
 }
@@ -58,7 +58,7 @@ impl Join<View> for Both {
     ghost spent = { spent };
 }
 
-/// A look behind a join, by which the seat learns what the rule says of it.
+/// A look after a join, from which the seat learns what the rule says about it.
 pub(crate) struct Learns;
 
 impl Play<(), View> for Learns {
@@ -67,8 +67,8 @@ impl Play<(), View> for Learns {
     ghost then = { learns };
 }
 
-/// Ghost parameter, chosen in the proof of each call; no code: the own places of the two seats that one becomes, and the
-/// share of the second.
+/// Ghost parameter, chosen in the proof of each call; no code: the own places of the two seats that one seat
+/// becomes, and the share of the second.
 pub trait Parts {
     ghost use Rattle.std.specs.Prelude.{ℕ, List};
 

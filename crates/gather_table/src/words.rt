@@ -1,4 +1,4 @@
-//! What words stand for: the slots of a group, bit k for slot k of it, the groups of a wide sheet, and the index of a
+//! The meaning of words: the slots of a group, bit k for its slot k; the groups of a wide sheet; and the index of a
 //! page.
 ghost use Rattle.std.specs.Prelude.{◌≡◌, ◌+◌, ◌-◌, ◌*◌, ◌/◌, ◌<◌, ◌≤◌, ◌^◌, nat_lt, if◌then◌else◌, length};
 ghost use Rattle.rules.specs.Admissible.{most_slots};
@@ -20,7 +20,7 @@ pub(crate) fn blank_bits(plan: &Plan, sheet: u32, group: u8) -> u64
     full_bits(group_size(plan.slots(sheet), group)) - plan.missing_at_start(sheet, group)
 }
 
-/// How many groups a sheet of this many slots has.
+/// The number of groups of a sheet with this many slots.
 pub(crate) fn group_count(slots: u16) -> u8
     requires { slots ≤ most_slots }
     ensures { result ≡ (slots + 63) / 64 }
@@ -28,7 +28,7 @@ pub(crate) fn group_count(slots: u16) -> u8
     ((slots + 63) / 64) as u8
 }
 
-/// How many slots a group of such a sheet has.
+/// The number of slots in a group of such a sheet.
 pub(crate) fn group_size(slots: u16, group: u8) -> u16
     requires { 64 * group ≤ slots }
     ensures { result ≡ (if nat_lt (64 * group + 64) slots then 64 else slots - 64 * group) }
@@ -41,7 +41,7 @@ pub(crate) fn group_size(slots: u16, group: u8) -> u16
     }
 }
 
-/// The bits of that many slots or groups, all set.
+/// The bits of this many slots or groups, all set.
 pub(crate) fn full_bits(count: u16) -> u64
     requires { (0 < count) × (count ≤ 64) }
     ensures { result ≡ 2 ^ count - 1 }
@@ -49,7 +49,7 @@ pub(crate) fn full_bits(count: u16) -> u64
     u64::MAX >> (64 - count)
 }
 
-/// The index of a page, by its word: the index and one more, or 0 if there is none.
+/// The index of a page, given its word, which is the index plus one, or 0 if there is none.
 pub(crate) fn index_by(word: u64) -> Option<u32>
     requires { word ≤ 2 ^ 32 }
     ensures { result ≡ index_in word }
@@ -60,7 +60,7 @@ pub(crate) fn index_by(word: u64) -> Option<u32>
     Some((word - 1) as u32)
 }
 
-/// The answer of a publish, by the word that it found.
+/// The reply to a publish, given the word that it found.
 pub(crate) fn published_by(found: u64) -> Published
     requires { found ≤ 2 ^ 32 }
     ensures { result ≡ publish_reply (index_in found) }
@@ -71,7 +71,8 @@ pub(crate) fn published_by(found: u64) -> Published
     }
 }
 
-/// What a bit is to those that it found, if all are `full`: it was there, it is the last one, or another.
+/// The reply for a bit, given the bits that it found, where all of them are `full`: it was there, it is the last
+/// one, or another.
 pub(crate) fn reply_by(found: u64, bit: u64, full: u64) -> Reply
     ensures { result ≡ reply_in found bit full }
 {
@@ -84,7 +85,7 @@ pub(crate) fn reply_by(found: u64, bit: u64, full: u64) -> Reply
     }
 }
 
-/// The answer of a mark in a group of a wide sheet, by what the slot is to the group.
+/// The reply to a mark in a group of a wide sheet, given the reply of the slot in the group.
 pub(crate) fn group_reply(group: u8, reply: Reply) -> Reply
     ensures { result ≡ group_reply group reply }
 {
@@ -94,7 +95,7 @@ pub(crate) fn group_reply(group: u8, reply: Reply) -> Reply
     }
 }
 
-/// The answer of the closing of a group, by what the group is to those of its sheet.
+/// The reply to closing a group, given the reply of the group in its sheet.
 pub(crate) fn closing_by(reply: Reply) -> Closing
     ensures { result ≡ closing_by reply }
 {

@@ -1,4 +1,4 @@
--- Where lines are put in, worked out.
+-- Where lines are inserted, worked out.
 use Rattle.std.proofs.Common.{◌≡◌, ℕ, List, [], ◌∷◌, length, refl}
 use Rattle.std.specs.Prelude.{codes, None, Some}
 use Rattle.std.specs.Fmt.{digits}
@@ -9,7 +9,7 @@ use Rattle.guard.specs.Guard.{page_size_line, guard_lines}
 abbrev one : List (List ℕ)
 one = codes "x" ∷ []
 
--- Where lines are put in.
+-- Where lines are inserted.
 
 behind_end_comments : put_in one (codes "%!\n%%A\n%%EndComments\n%%B\n%%Page: 1 1\n") ≡ codes "%!\n%%A\n%%EndComments\nx\n%%B\n%%Page: 1 1\n"
 behind_end_comments = refl
@@ -30,11 +30,11 @@ behind_first_line = refl
 before_end_of_file : put_in one (codes "%!\n%%A\n%%EOF\n%%B\n") ≡ codes "%!\n%%A\nx\n%%EOF\n%%B\n"
 before_end_of_file = refl
 
--- the first line is passed whatever it is
+-- they never come before the first line
 behind_first_line_that_ends : put_in one (codes "%%EndComments\n%%A\n1\n") ≡ codes "%%EndComments\n%%A\nx\n1\n"
 behind_first_line_that_ends = refl
 
--- a text without a line end gets one, and an empty text gets the lines alone
+-- a text without a line end gets one, and an empty text gets only the lines
 no_end : put_in one (codes "%!") ≡ codes "%!\nx\n"
 no_end = refl
 
@@ -47,7 +47,7 @@ a4 : page_size_line (points 595 842) ≡ codes "/setpagedevice where {pop 1 dict
 unfolding digits
 a4 = refl
 
--- with a paper it has one line more, the third
+-- with a paper it has one more line, the third
 without_a_paper : length (guard_lines None) ≡ 38
 without_a_paper = refl
 

@@ -1,4 +1,4 @@
--- The texts that the code puts together.
+-- The texts that the code joins.
 use Rattle.std.specs.Prelude.{flat_map, codes, Option}
 use Rattle.std.proofs.Common.{append_assoc, length-append, Bool, true, false, if◌then◌else◌, ◌+◌, ◌≡◌, ℕ, zero, suc, ◌-◌, ◌<◌, ◌≤◌, List, [], ◌∷◌, ◌++◌, length, take, drop, refl, ap, ◌∙◌, sym, subst, arith}
 use Rattle.std.proofs.lemmas.Grind.{flat_map-append}
@@ -44,7 +44,7 @@ guard_glued sheet_paper start a b c f g h =
     ∙ ap (λ x. start ++ (one ++ x)) (sym (flat_map-append line (page_size_lines sheet_paper) other_lines))
     ∙ ap (λ x. start ++ x) (sym (flat_map-append line first_lines (page_size_lines sheet_paper ++ other_lines)))
 
--- a text with lines put in, part by part
+-- a text with lines inserted, part by part
 pub glued : (lines : List (List ℕ)) (text : List ℕ) (n : ℕ) (h r none a b c d : List ℕ) → n ≡ header_len text → h ≡ take n text → r ≡ drop n text → none ≡ [] → a ≡ none ++ h → b ≡ ended a
     → c ≡ b ++ flat_map line lines → d ≡ c ++ r → d ≡ put_in lines text
 glued lines text n h r none a b c d e f g z p q s t =
@@ -52,7 +52,7 @@ glued lines text n h r none a b c d e f g z p q s t =
     t ∙ ap (λ x. x ++ r) (s ∙ ap (λ x. x ++ flat_map line lines) whole) ∙ append_assoc (ended (take n text)) (flat_map line lines) r
     ∙ ap (λ x. ended (take n text) ++ (flat_map line lines ++ x)) g ∙ ap (λ k. ended (take k text) ++ (flat_map line lines ++ drop k text)) e
 
--- a line end is wanted by the last byte alone
+-- the last byte alone shows whether a line end is needed
 ended_last : (xs : List ℕ) (b : ℕ) → ended (xs ++ b ∷ []) ≡ xs ++ ended (b ∷ [])
 ended_last [] b = refl
 ended_last (x ∷ []) b = refl
@@ -64,7 +64,7 @@ last_taken m [] within = absurd (omega (arith, within))
 last_taken zero (x ∷ text) within = (x, refl, refl)
 last_taken (suc m) (x ∷ text) within = let r = last_taken m text (omega (arith, within)) in (r.0, ap (λ t. x ∷ t) r.1, r.2)
 
--- the bytes before the last one, and the last one with a line end behind it if it is none
+-- the bytes before the last one, and the last one, followed by a line end if it isn't one
 ended_apart : (text : List ℕ) (n m k : ℕ) → n ≤ length text → m ≡ n - 1 → k ≡ n - m → take m text ++ ended (take k (drop m text)) ≡ ended (take n text)
 ended_apart text zero m k within before size =
     let none : m ≡ 0 = omega (arith, before) in
@@ -79,7 +79,7 @@ ended_apart text (suc n) m k within before size =
     (subst (λ j. take n text ++ ended (take j (drop n text)) ≡ ended (take (suc n) text)) (sym one)
     (ap (λ t. take n text ++ ended t) last.2 ∙ sym (ended_last (take n text) last.0) ∙ ap ended (sym last.1)))
 
--- a text into which lines are put in its place, part by part
+-- a text into which lines are inserted in place, part by part
 pub put_between : (lines : List (List ℕ)) (text : List ℕ) (n m : ℕ) (none a b c put new : List ℕ) → n ≡ header_len text → n ≤ length text → m ≡ n - 1
     → none ≡ [] → a ≡ none ++ take (n - m) (drop m text) → b ≡ ended a → c ≡ b ++ flat_map line lines → put ≡ c → new ≡ take m text ++ (put ++ drop n text) → new ≡ put_in lines text
 put_between lines text n m none a b c put new is within before e f g h i j =
@@ -91,13 +91,13 @@ put_between lines text n m none a b c put new is within before e f g h i j =
     ∙ ap (λ x. x ++ rest) (ended_apart text n m (n - m) within before refl)
     ∙ ap (λ k. ended (take k text) ++ (flat_map line lines ++ drop k text)) is
 
--- what stands behind as many bytes as were taken
+-- what follows as many bytes as were taken
 drop_taken : (n : ℕ) (xs ys : List ℕ) → n ≤ length xs → drop n (take n xs ++ ys) ≡ ys
 drop_taken zero xs ys h = refl
 drop_taken (suc n) [] ys h = absurd (omega (arith, h))
 drop_taken (suc n) (x ∷ xs) ys h = drop_taken n xs ys (omega (arith, h))
 
--- a text that stands behind other bytes, with its header comments and the lines in the place of bytes before it
+-- a text that follows other bytes, with its header comments and the lines in the place of bytes before it
 pub put_before : (lines : List (List ℕ)) (bytes : List ℕ) (start n begin end : ℕ) (front new : List ℕ) → n ≡ header_len (drop start bytes)
     → front ≡ ended (take n (drop start bytes)) ++ flat_map line lines → begin ≤ length bytes → end ≡ start + n → new ≡ take begin bytes ++ (front ++ drop end bytes)
     → drop begin new ≡ put_in lines (drop start bytes)
@@ -108,7 +108,7 @@ put_before lines bytes start n begin end front new is f within e h =
     ∙ ap (λ x. ended (take n (drop start bytes)) ++ (flat_map line lines ++ x)) (ap (λ k. drop k bytes) e ∙ sym (drop-drop n start bytes))
     ∙ ap (λ k. ended (take k (drop start bytes)) ++ (flat_map line lines ++ drop k (drop start bytes))) is
 
--- no byte is lost as a line end is put behind
+-- adding a line end loses no byte
 ended_grows : (xs : List ℕ) → length xs ≤ length (ended xs)
 ended_grows [] = omega arith
 ended_grows (b ∷ []) = by (is_end b)
@@ -118,7 +118,7 @@ ended_grows (b ∷ []) = by (is_end b)
     by false = omega arith
 ended_grows (b ∷ c ∷ bs) = let h = ended_grows (c ∷ bs) in omega (arith, h)
 
--- so lines behind them make them no shorter
+-- so adding lines after them makes them no shorter
 pub front_grows : (header more front : List ℕ) → front ≡ ended header ++ more → length header ≤ length front
 front_grows header more front e =
     let h = ended_grows header in

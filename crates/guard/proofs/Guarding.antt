@@ -1,4 +1,4 @@
--- Lines put in behind the header comments.
+-- Lines inserted after the header comments.
 use Rattle.std.specs.Prelude.{Some, None, Ok, codes, map, flat_map, not, if◌then◌else◌}
 use Rattle.std.specs.List.{starts_with, list_any}
 use Rattle.std.specs.Str.{bytes_eq}
@@ -125,7 +125,7 @@ ended_same [] e = cc
 ended_same (b ∷ []) e = ap (λ t. if t then b ∷ [] else b ∷ 10 ∷ []) e
 ended_same (b ∷ c ∷ bs) e = ap (λ t. b ∷ t) (ended_same (c ∷ bs) e)
 
--- the line and what stands behind it end, where more follows
+-- the line and what follows it end, where more follows
 closed_by : (text : List ℕ) (front back us : List TextUnit) → us ≡ front ++ back → AreUnits (drop (line_len text) text) us → (0 < length front → 0 < length back → ends (joined front) ≡ true)
     → 0 < length back → ends (take (line_len text) text ++ joined front) ≡ true
 closed_by text [] back us e m c l = ap ends (append-nil (take (line_len text) text)) ∙ take_ends text (left back (subst (AreUnits (drop (line_len text) text)) e m) l)
@@ -135,7 +135,7 @@ closed_by text [] back us e m c l = ap ends (append-nil (take (line_len text) te
     left (v ∷ back) m l = let some = m.0 in omega (arith, some, length-drop (line_len text) text)
 closed_by text (v ∷ front) back us e m c l = ends_behind (take (line_len text) text) (joined (v ∷ front)) (c (omega arith) l)
 
--- one line, and the walk behind it
+-- one line, and the walk after it
 one_line : (k : ℕ) (text : List ℕ) (u : TextUnit) (us : List TextUnit) → u.bytes ≡ take (line_len text) text → begins_page (at_depth 0 u) ≡ false → depth_after 0 u ≡ 0 → AreUnits (drop (line_len text) text) us
     → Walk k (drop (line_len text) text) us → Walk (line_len text + k) text (u ∷ us)
 one_line k text u us b p d m w =

@@ -44,7 +44,7 @@ sign g = turn (is_negative g)
     turn true = omega arith
     turn false = omega arith
 
--- so many digits, a sign, a dot and decimals
+-- this many digits, a sign, a dot and decimals
 printed_size : (e k : ℕ) (v : ℤ) → 0 < k → nat_abs v / 10 ^ e < 10 ^ k → nat_abs v / 10 ^ e < 10 ^ 64 → 10 ^ e + nat_abs v % 10 ^ e < 10 ^ k → 10 ^ e + nat_abs v % 10 ^ e < 10 ^ 64
     → length (printed e v) ≤ k + k + 2
 printed_size e k v some whole wide part part_wide =

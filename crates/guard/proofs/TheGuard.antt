@@ -1,4 +1,4 @@
--- The guard's lines can be put in, for every paper.
+-- The guard's lines can be inserted, for every paper.
 use Rattle.std.specs.Prelude.{codes, map, not, ◌&&◌, Option, Some, None}
 use Rattle.std.proofs.Common.{Bool, true, false, ◌≡◌, ℕ, List, [], ◌∷◌, ◌++◌, refl, arith}
 use Rattle.rules.specs.Numbers.{points_text}

@@ -1,5 +1,5 @@
--- The guard: lines of PostScript that are put into a document before it is imposed. docs/GUARD.md says what each is
--- for.
+-- The guard: lines of PostScript that are inserted into a document before it is imposed. docs/GUARD.md says what
+-- each is for.
 use Rattle.std.specs.Prelude.{ℕ, List, [], ◌∷◌, ◌++◌, codes, Option, Some, None}
 use Rattle.rules.specs.Numbers.{points_text}
 use Rattle.rules.specs.Papers.{Paper}
@@ -23,7 +23,7 @@ first_lines =
     ∷ codes "userdict /ImposeGuard known not {userdict begin"
     ∷ []
 
--- and behind it
+-- and after it
 abbrev pub other_lines : List (List ℕ)
 other_lines =
     codes "/ImposeShow /showpage load def"
@@ -67,6 +67,6 @@ other_lines =
 abbrev pub guard_lines : Option Paper → List (List ℕ)
 guard_lines sheet_paper = first_lines ++ (page_size_lines sheet_paper ++ other_lines)
 
--- a document with the guard put in
+-- a document with the guard inserted
 abbrev pub guarded : Option Paper → List ℕ → List ℕ
 guarded sheet_paper text = put_in (guard_lines sheet_paper) text

@@ -1,4 +1,4 @@
--- What stays as it is if lines are put into a document.
+-- What stays as it is if lines are inserted into a document.
 use Rattle.std.specs.Prelude.{◌≡◌, ℕ, ◌<◌, ◌≤◌, List, [], ◌∷◌, ◌++◌, length, take, map, Option, Some, Ok, IfSome}
 use Rattle.std.specs.Prelude.{IsTrue}
 use Rattle.rules.specs.Units.{TextUnit}
@@ -11,14 +11,14 @@ use Rattle.dsc.specs.Header.{header_len}
 use Rattle.guard.specs.PutIn.{put_in}
 use Rattle.guard.specs.Guard.{guard_lines, guarded}
 
--- lines that can be put in: the first isn't empty, none begins a page or data, and the depth is 0 behind them
+-- lines that can be inserted: the first isn't empty, none begins a page or data, and the depth is 0 after them
 abbrev pub CanBePutIn : List (List ℕ) → Type 0
 CanBePutIn [] = ⊥
 CanBePutIn (first ∷ more) =
     (0 < length first) × AreLines (first ∷ more) × (passes begins_page 0 (map line_unit (first ∷ more)) ≡ Some 0)
 
--- The text has the units `us`, and with the lines put in it has the units `changed`: to the others the lines' own are
--- added, behind those of the header comments. Pages and trailer stay.
+-- The text has the units `us`, and with the lines inserted the units `changed`, which have the lines' own units
+-- after those of the header comments. Pages and trailer stay.
 pub record ChangesPreambleAlone (lines : List (List ℕ)) (text : List ℕ) (us changed : List NestedUnit) : Type 0 where
   pub front : List TextUnit
   pub back : List TextUnit
@@ -28,7 +28,7 @@ pub record ChangesPreambleAlone (lines : List (List ℕ)) (text : List ℕ) (us 
   pub same_pages : pages changed ≡ pages us
   pub same_trailer : trailer changed ≡ trailer us
 
--- a document is accepted with lines put in too, unless it is too long then; and they change the preamble alone
+-- a document with lines inserted is still accepted unless it becomes too long, and only its preamble is changed
 abbrev pub LinesStay : Type 0
 LinesStay =
     (lines : List (List ℕ)) (text : List ℕ) (us : List NestedUnit)
@@ -36,7 +36,7 @@ LinesStay =
     → (document_of (put_in lines text) ≡ Ok (units_of (put_in lines text)))
     × ChangesPreambleAlone lines text us (units_of (put_in lines text))
 
--- so it is with the guard, for every paper of the sheet
+-- the same holds for the guard, for every paper of the sheet
 abbrev pub GuardStays : Type 0
 GuardStays =
     (sheet_paper : Option Paper) (text : List ℕ) (us : List NestedUnit)
@@ -44,7 +44,7 @@ GuardStays =
     → (document_of (guarded sheet_paper text) ≡ Ok (units_of (guarded sheet_paper text)))
     × ChangesPreambleAlone (guard_lines sheet_paper) text us (units_of (guarded sheet_paper text))
 
--- each line has at most so many bytes
+-- each line has at most this many bytes
 abbrev pub AreShort : ℕ → List (List ℕ) → Type 0
 AreShort most [] = Unit {0}
 AreShort most (l ∷ ls) = (length l ≤ most) × AreShort most ls

@@ -1,4 +1,4 @@
--- Read in this order: what is put in, and where; what stays.
+-- Read in this order: what is inserted, and where; what stays.
 pub mod PutIn
 pub mod Guard
 pub mod Laws

@@ -1,5 +1,5 @@
-//! The guard: lines of PostScript that are put into a document before it is imposed, so that a document which shows its
-//! pages, sets its page device or its matrix by itself stays in its place on the sheet.
+//! The guard: lines of PostScript that are inserted into a document before it is imposed. They keep a document in
+//! its place on the sheet that shows its pages or sets its page device or its matrix by itself.
 #![tactic(auto)]
 
 pub mod laws;

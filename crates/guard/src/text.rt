@@ -1,4 +1,4 @@
-//! The guard's text, and where it is put in.
+//! The guard's text, and where it is inserted.
 ghost use Rattle.std.specs.Prelude.{◌≡◌, ◌+◌, ◌≤◌, ◌++◌, flat_map, length, option_map, take, drop, vec_len, IfOk, OnErr, OnOk};
 ghost use Rattle.rules.specs.Bytes.{line};
 ghost use Rattle.rules.specs.Filters.{ended};
@@ -8,7 +8,7 @@ use dsc::{end_line, header_len};
 use lengths::{Paper, print_points};
 use std::alloc::{AllocError, Global};
 
-/// The guard's first lines; behind them the page size is set.
+/// The guard's first lines; the page size is set after them.
 const FIRST_LINES: &[u8] = b"\
     %%BeginResource: procset ImposeGuard 1.0 0\n\
     userdict /ImposeGuard known not {userdict begin\n";
@@ -55,10 +55,9 @@ const OTHER_LINES: &[u8] = b"\
 /// More bytes than the guard has, with any paper.
 const ROOM: usize = 2_560;
 
-/// The text with the guard put in behind its header comments: the first line, and the comments behind it up to and with
-/// `%%EndComments`. With a sheet's paper the guard first sets the device's page size to it, if the interpreter has
-/// `setpagedevice`. Any text is taken; whether it is a document is for whoever reads it to say.
-/// Refused for memory alone.
+/// The text with the guard inserted after its header comments: the first line, and the comments after it up to and
+/// including `%%EndComments`. With a sheet's paper the guard first sets the device's page size to it, if the
+/// interpreter has `setpagedevice`. Any text is taken, document or not. Refused only for lack of memory.
 pub fn guarded(
     alloc: Global,
     text: &[u8],
@@ -75,14 +74,14 @@ pub fn guarded(
     Ok(out)
 }
 
-/// Puts the guard into a text in its place, as `guarded` does into a copy of it. Refused for memory alone; the text is
-/// as it was then.
+/// Inserts the guard into a text in place, as `guarded` does in a copy. Refused only for lack of memory; then the
+/// text is unchanged.
 pub fn put_guard(text: &mut Vec<u8>, sheet_paper: Option<&Paper>) -> Result<(), AllocError>
     ensures put_in { OnOk result (text.new.items ≡ guarded (option_map (λ p. p.now) sheet_paper.entry) text.old.items) }
     ensures unchanged { OnErr result (text.new.items ≡ text.old.items) }
 {
     let end = header_len(text.as_slice());
-    // The header's last byte is put anew, with a line end behind it if it is none.
+    // The header's last byte is written again, followed by a line end if it isn't one.
     let start = end.saturating_sub(1);
     let mut lines = Vec::with_capacity(*text.allocator(), ROOM)?;
     lines.extend_from_slice(&text[start..end])?;
@@ -92,9 +91,9 @@ pub fn put_guard(text: &mut Vec<u8>, sheet_paper: Option<&Paper>) -> Result<(), 
     Ok(())
 }
 
-/// Puts the guard into a text that stands in `bytes` behind the first `start` of them, and answers at which byte the text
-/// begins then. If there is room for the guard before the text, its header comments alone are moved, towards the front;
-/// else what stands behind them. Refused for memory alone; the bytes are as they were then.
+/// Inserts the guard into the text that follows the first `start` of `bytes`, and returns the byte at which the
+/// text then begins. If there is room for the guard before the text, only its header comments are moved, towards
+/// the front; otherwise what follows them is moved. Refused only for lack of memory; then the bytes are unchanged.
 pub fn put_guard_before(
     bytes: &mut Vec<u8>,
     start: usize,
@@ -121,7 +120,7 @@ pub fn put_guard_before(
     Ok(start)
 }
 
-/// These header comments with the guard behind them.
+/// These header comments followed by the guard.
 fn guarded_header(
     alloc: Global,
     header: &[u8],
@@ -137,7 +136,7 @@ fn guarded_header(
     Ok(front)
 }
 
-/// Puts these in the place of as many bytes from `begin` on.
+/// Overwrites as many bytes from `begin` on with these.
 fn overwrite(bytes: &mut Vec<u8>, begin: usize, front: &[u8])
     requires { begin + length front.now ≤ vec_len bytes.old }
     ensures put { bytes.new.items ≡ take begin bytes.old.items

@@ -18,7 +18,7 @@ use Rattle.guarded_pictures.proofs.Lines.{really, really_saves, asked_name}
 abbrev asked_names : List (List ℕ)
 asked_names = codes "userdict" ∷ codes "systemdict" ∷ []
 
--- behind the dictionary that has a showpage, and what is put into it
+-- after the dictionary that has a showpage, and what is put into it
 abbrev finding : List Token → List Token
 finding l = Name (codes "ImposeGuard") ∷ Bound (codes "begin") ∷ Name (codes "systemdict") ∷ really l
 

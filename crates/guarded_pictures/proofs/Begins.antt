@@ -26,7 +26,7 @@ use Rattle.guarded_pictures.proofs.Steps.{some, by_name}
 use Rattle.guarded_pictures.proofs.Redrawn.{traced_one, element, traces}
 use Rattle.guarded_pictures.proofs.Lines.{really, really_saves, asked_name}
 
--- What is asked behind the sheet's save: some dictionary on the stack has a showpage.
+-- What is asked after the sheet's save: some dictionary on the stack has a showpage.
 pub record Bears (outers : List Outer) (s : State) : Type 0 where
   pub number : ℕ
   pub clip_is : entry_of number (codes "clip") s.work.entries ≡ Some (Procedure clip_tokens)
@@ -76,11 +76,11 @@ before s os = record s { work = with_operands s.work os }
 
 -- The test for an empty showpage.
 
--- behind the flag
+-- after the flag
 abbrev pub looking : List Token → List Token
 looking l = Opens ∷ (looking_tokens ++ (Closes ∷ Bound (codes "if") ∷ l))
 
--- and behind what it finds
+-- and after what it finds
 abbrev pub filling : List Token → List Token
 filling l = Opens ∷ (putting_back_tokens ++ (Closes ∷ Bound (codes "if") ∷ l))
 
@@ -138,7 +138,7 @@ still_shown (o ∷ os) s operands l e shows =
 
 -- The sheet's save.
 
--- behind that test
+-- after that test
 abbrev pub finding : List Token → List Token
 finding l = Name (codes "ImposeGuard") ∷ Bound (codes "begin") ∷ Name (codes "systemdict") ∷ really l
 
@@ -176,7 +176,7 @@ up_to_test s u l user first_is few r =
     (by_name (codes "userdict") asking s4 (run_of asking (push (Dictionary 0) s4)) u (system (codes "userdict")) user refl
     (some 9 (run_of asking (push (Dictionary 0) s4)) (run_of here (before s os)) u refl r))))))
 
--- and behind it: the dictionary that marks a page is put on the stack, and the state saved
+-- and after it: the dictionary that marks a page is put on the stack, and the state saved
 pub marks_page : (s : State) (os : List Object) (number : ℕ) (l : List Token) → means s (codes "ImposeGuard") ≡ Some (Dictionary number)
     → meaning (number ∷ s.work.dictionaries) s.work.entries (codes "systemdict") ≡ system (codes "systemdict")
     → Runs false (run_of (finding l) (before s os)) (run_of l (within s (Saved s.level ∷ os) (number ∷ s.work.dictionaries) s.work.entries s.work.made s.graphics))
@@ -287,7 +287,7 @@ all_put made n = entry (codes "PStoPSenablepage") (Truth false) ∷ outline_put 
 still : (ds : List ℕ) (more es : List Entry) (name : List ℕ) → keys_differ more name ≡ true → meaning ds es name ≡ system name → meaning ds (more ++ es) name ≡ system name
 still ds more es name h e = through ds more es name h ∙ e
 
--- these names are known still behind entries for others
+-- these names are known still after entries for others
 known_through : (names : List (List ℕ)) (ds : List ℕ) (more es : List Entry) → ((name : List ℕ) → among name names ≡ true → keys_differ more name ≡ true)
     → ((name : List ℕ) → among name names ≡ true → meaning ds es name ≡ system name)
     → (name : List ℕ) → among name names ≡ true → meaning ds (more ++ es) name ≡ system name
@@ -346,7 +346,7 @@ round_entries outers s = outer_entries outers ++ put_entries s
 abbrev begun : List Outer → State → Numbers → State
 begun outers s n = begun_over s n (round_entries outers s) (outer_made outers s.work.made)
 
--- behind the clip
+-- after the clip
 abbrev noting : List Token → List Token
 noting l =
     Name (codes "userdict") ∷ Bound (codes "begin") ∷ Literal (codes "PStoPSmatrix") ∷ Bound (codes "matrix") ∷ Bound (codes "currentmatrix") ∷ Bound (codes "def")
@@ -421,7 +421,7 @@ nothing_there d name (x ∷ es) e =
 new_means : (d : ℕ) (ds : List ℕ) (es : List Entry) (name : List ℕ) (o : Object) → has_nothing d es ≡ true → meaning ds es name ≡ Some o → meaning (d ∷ ds) es name ≡ Some o
 new_means d ds es name o e f = ap (λ x. or x (meaning ds es name)) (nothing_there d name es e) ∙ f
 
--- behind the flag
+-- after the flag
 abbrev if_within : List Token → List Token
 if_within l = Bound (codes "not") ∷ Opens ∷ (outer_tokens ++ (Closes ∷ Bound (codes "if") ∷ noting l))
 
@@ -539,7 +539,7 @@ page_clips outers s n l h =
 
 -- From the sheet's text to the page's own tokens.
 
--- behind the sheet's save
+-- after the sheet's save
 abbrev pub saved_state : State → (number : ℕ) → State
 saved_state s number = within s (Saved s.level ∷ for_save s) (number ∷ s.work.dictionaries) s.work.entries s.work.made s.graphics
 
@@ -605,7 +605,7 @@ all_put_apart : (outers : List Outer) (made : ℕ) (n : Numbers) → all_apart (
 all_put_apart [] made n = refl
 all_put_apart (o ∷ os) made n = refl
 
--- behind the sheet's save, in any such state
+-- after the sheet's save, in any such state
 behind_save : (outers : List Outer) (s : State) (n : Numbers) (more : List Token) (h : Bears outers s)
     → Runs false (run_of (placing_tokens n ++ more) (within s s.work.operands (h.number ∷ s.work.dictionaries) (put_entries s) s.work.made s.graphics)) (run_of more (bordered outers s n n.border))
 behind_save outers s n more h =
@@ -637,7 +637,7 @@ page_begins outers s n body l h =
     (saving outers s (placing_tokens n ++ more) h)
     (behind_save outers s n more (bears outers s h))
 
--- where a dictionary has a showpage of its own: behind the sheet's save that asks userdict
+-- where a dictionary has a showpage of its own: after the sheet's save that asks userdict
 pub begins_within : (outers : List Outer) (s t : State) (n : Numbers) (body l : List Token) (h : Bears outers t) → meaning s.work.dictionaries s.work.entries (codes "userdict") ≡ system (codes "userdict")
     → means s (codes "save") ≡ Some (Procedure save_tokens)
     → ((rest : List Token) → Runs false (run_of (save_tokens ++ rest) (before s (for_save s))) (run_of rest (saved_state t h.number)))

@@ -1,4 +1,4 @@
--- Guarded states: behind the guard, and behind definitions of other names.
+-- Guarded states: after the guard, and after definitions of other names.
 use Rattle.std.specs.Prelude.{Some, None, codes, bytes_eq, if◌then◌else◌}
 use Rattle.std.proofs.lemmas.Slice.Eq.{bytes_eq-Decides}
 use Rattle.std.proofs.Common.{◌≡◌, ℕ, refl, ap, ap₂, ◌∙◌, sym, subst, Bool, true, false, not, ◌&&◌, ◌||◌, ◌==◌, List, [], ◌∷◌, true≢false, arith}

@@ -1,5 +1,5 @@
 -- What a machine prints of made sheets of a guarded document.
-use Rattle.std.specs.Prelude.{Option, Ok, codes, slice_index_or, flat_map, if◌then◌else◌, nat_lt, ℤ}
+use Rattle.std.specs.Prelude.{Option, Ok, codes, slice_index_or, flat_map, if◌then◌else◌, ℤ}
 use Rattle.std.specs.List.{list_any}
 use Rattle.std.specs.Ordering.{int_eq}
 use Rattle.std.proofs.lemmas.Bool.Decides.{Decides-int_eq}
@@ -15,8 +15,7 @@ use Rattle.made_sheets.specs.MadeOutput.{dressed_preamble}
 use Rattle.dsc.specs.Units.{units_of}
 use Rattle.guard.specs.Guard.{guarded}
 use Rattle.guard.proofs.TheGuard.{guard_stays}
-use Rattle.page_papers.specs.Own.{covering_all}
-use Rattle.page_papers.specs.Told.{telling, telling_of, papers_told, different_from, most_told, is_told_alike, in_print, size_text, box_line, medium_line}
+use Rattle.papers.specs.Told.{telling, telling_of, papers_told, different_from, is_told_alike, in_print, size_text, box_line, medium_line}
 use Rattle.pictures.specs.Objects.{Token}
 use Rattle.pictures.specs.Machine.{State, Painting, Runs}
 use Rattle.pictures.specs.Scanner.{tokens, IsComplete}
@@ -36,7 +35,7 @@ use Rattle.guarded_pictures.specs.Imposed.{AreOn, OnePaperIsToldAsOne, TellingIs
 use Rattle.guarded_pictures.proofs.Sheets.{AllPlace, AllSheetsPlace, sheets_run}
 use Rattle.guarded_pictures.proofs.Documents.{BodyPlaces, body_places}
 
--- The lines that tell one paper are comments.
+-- The lines that report one paper are comments.
 
 size_stays : (p : Paper) → ends_nowhere (size_text p) ≡ true
 size_stays p =
@@ -56,7 +55,7 @@ one_is_quiet p = record {
   finish = λ s paper. refl;
 }
 
--- Sheets of one paper tell one.
+-- Sheets of one paper report one.
 
 abbrev papers : List MadeSheet → List Paper
 papers all = map (λ sheet. sheet.paper) all
@@ -76,8 +75,7 @@ none_else p (sheet ∷ all) h =
 
 one_told : (p : Paper) (sheet : MadeSheet) (all : List MadeSheet) → AreOn p (sheet ∷ all) → papers_told (papers (sheet ∷ all)) ≡ p ∷ []
 one_told p sheet all h =
-    ap (λ q. papers_told (q ∷ papers all)) h.0
-    ∙ ap (λ told. if nat_lt most_told (length told) then covering_all (p ∷ papers all) ∷ [] else told) (none_else p all h.1)
+    ap (λ q. papers_told (q ∷ papers all)) h.0 ∙ none_else p all h.1
 
 pub one_paper_is_told_as_one : OnePaperIsToldAsOne
 one_paper_is_told_as_one p [] h = omega arith

@@ -11,7 +11,7 @@ use Rattle.made_sheets.specs.MadeOutput.{dressed_preamble, made_output}
 use Rattle.dsc.specs.Units.{units_of}
 use Rattle.guard.specs.Guard.{guarded}
 use Rattle.guard.proofs.TheGuard.{guard_stays}
-use Rattle.page_papers.specs.Told.{telling}
+use Rattle.papers.specs.Told.{telling}
 use Rattle.pictures.specs.Objects.{Token}
 use Rattle.pictures.specs.Machine.{State, Painting, Runs}
 use Rattle.pictures.specs.Scanner.{tokens, IsComplete}

@@ -26,7 +26,7 @@ use Rattle.guarded_pictures.proofs.Steps.{some, by_name}
 pub page_is_left : PageIsLeft
 page_is_left s name rest e = by_name name rest s (run_of rest s) (run_of rest s) (Some (Procedure [])) e refl (runs_none false (run_of rest s))
 
--- `setpagedevice`, behind its test.
+-- `setpagedevice`, after its test.
 
 abbrev handing : List Token → List Token
 handing rest =
@@ -46,7 +46,7 @@ abbrev turns_of : List (List ℕ) → List Token → List Token
 turns_of [] l = l
 turns_of (key ∷ keys) l = Literal key ∷ (handing_tokens ++ turns_of keys l)
 
--- behind its test for a key
+-- after its test for a key
 abbrev deciding : List Token → List Token
 deciding l =
     Opens ∷ Number (codes "1") ∷ Bound (codes "dict") ∷ Bound (codes "dup")
@@ -125,7 +125,7 @@ device_is_handed s d rest e flag is =
 pub showpage_stays_a_name : ShowpageStaysAName
 showpage_stays_a_name w e = ap (λ x. bound_to x (Name (codes "showpage"))) e
 
--- behind the flag
+-- after the flag
 abbrev asked : List Token → List Token
 asked rest = Opens ∷ Name (codes "ImposeShow") ∷ Closes ∷ Bound (codes "if") ∷ rest
 
@@ -208,7 +208,7 @@ own_clip s matrix n chain rest h =
     (runs_join false (run_of (outline_tokens n ++ l3) s2) (run_of l3 s3) end (straight_runs outline_names (outline_tokens n) l3 s2 s3 names refl)
     (some 2 (run_of l3 s3) end end refl (runs_none false end))))))
 
--- behind the name ImposeOuter
+-- after the name ImposeOuter
 abbrev any_outer : List Token → List Token
 any_outer rest =
     Number (codes "0") ∷ Bound (codes "ne")
@@ -350,7 +350,7 @@ really_saves s rest e =
     by_name (codes "systemdict") (really rest) s (run_of (really rest) (push SystemDictionary s)) (saved (run_of rest s)) (system (codes "systemdict")) e refl
     (some 4 (run_of (really rest) (push SystemDictionary s)) (saved (run_of rest s)) (saved (run_of rest s)) refl (runs_none false (saved (run_of rest s))))
 
--- behind the count of operands
+-- after the count of operands
 abbrev pub asked_name : List Token → List Token
 asked_name rest =
     Opens ∷ Bound (codes "dup") ∷ Literal (codes "ImposeSave") ∷ Bound (codes "eq")

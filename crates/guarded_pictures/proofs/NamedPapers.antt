@@ -29,7 +29,7 @@ abbrev all_free : List (List ℕ) → Bool
 all_free [] = true
 all_free (name ∷ names) = is_free name && all_free names
 
--- behind `where`
+-- after `where`
 abbrev deciding : List Token → List Token
 deciding l =
     Opens ∷ Bound (codes "pop") ∷ Opens ∷ Closes ∷ Bound (codes "def") ∷ Closes
@@ -76,7 +76,7 @@ all_papers (name ∷ names) s ds es l free =
     (one_paper (holder (0 ∷ ds) es name) s ds es name (more ++ l) refl (first (is_free name) (all_free names) free))
     (all_papers names s ds now l (second (is_free name) (all_free names) free)))
 
--- What the names mean behind it.
+-- What the names mean after it.
 
 put_nothing : (b : Bool) (x : Option Object) → x ≡ Some (Procedure []) → (if b && true then Some (Procedure []) else x) ≡ Some (Procedure [])
 put_nothing true x e = refl

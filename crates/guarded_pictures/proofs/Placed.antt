@@ -17,7 +17,7 @@ use Rattle.guarded_pictures.specs.Pages.{IsGuarded, TakesPages, Around, around, 
 use Rattle.guarded_pictures.proofs.Sheltering.{shelter_commutes}
 use Rattle.guarded_pictures.proofs.Begins.{page_begins, same_place}
 
--- the state behind a placed page, before what is left
+-- the state after a placed page, before what is left
 abbrev pub behind : List Token → Numbers → State → List Painting → State
 behind l n s picture = record s { left = l; painted = picture_at (place_in s.graphics n) picture ++ (border_in s.graphics n n.border ++ s.painted) }
 

@@ -1,4 +1,4 @@
--- A path, told by its elements and drawn anew.
+-- A path, listed by its elements and drawn anew.
 use Rattle.std.specs.Prelude.{Option, Some, codes, bytes_eq, if◌then◌else◌}
 use Rattle.std.proofs.lemmas.Slice.Eq.{bytes_eq-Decides}
 use Rattle.std.proofs.Common.{◌≡◌, ℕ, suc, refl, ap, ap₂, ◌∙◌, sym, subst, Bool, true, false, ◌&&◌, List, [], ◌∷◌, ◌++◌, map, append_assoc, append-nil, true≢false}
@@ -69,7 +69,7 @@ by_element P m l c z name os e =
     (λ t. subst (λ k. P k os) (sym ((bytes_eq-Decides name (codes "closepath")).0 t)) (no_numbers (P (codes "closepath")) z os (then_is (bytes_eq name (codes "closepath")) (are_so_many 0 os) false t e3)))
     (λ f3. absurd (true≢false (sym (else_is (bytes_eq name (codes "closepath")) (are_so_many 0 os) false f3 e3)))))))
 
--- Told by its elements.
+-- Listed by its elements.
 
 pub traced_one : (chain : List Call) (moves lines curves closes : List Token) (x : Segment) (xs : List Segment) (next : List ℕ) (ts later : List Token)
     → is_same_chain x.chain chain ≡ true → may_precede x.call.name next ≡ true → procedure_for x.call.name moves lines curves closes ≡ Some ts

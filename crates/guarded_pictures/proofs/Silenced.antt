@@ -33,7 +33,7 @@ use Rattle.pictures.proofs.Tests.{by_test}
 use Rattle.pictures.proofs.Opening.{apart}
 use Rattle.guarded_pictures.specs.Behind.{save_tokens, showpage_tokens}
 use Rattle.guarded_pictures.specs.Shelter.{means, outline_tokens, sheltered, PaintsSheltered}
-use Rattle.guarded_pictures.specs.Pages.{looked_up, looked_up_first, IsGuarded, Around, around, placed_at, AllSheltered, AllSheetsSheltered, GuardedPagePaints, outline_of}
+use Rattle.guarded_pictures.specs.Pages.{looked_up, looked_up_first, Around, around, placed_at, AllSheltered, AllSheetsSheltered, GuardedPagePaints, outline_of}
 use Rattle.guarded_pictures.specs.OwnShowpage.{BeginsWithAPage, FirstHasAPage}
 use Rattle.guarded_pictures.specs.Silenced.{IsSilenced, with_showpage, behind_sheets, ShowpageIsPutBack, SilencedPageIsPlaced, SilencedSheetsArePrinted, SilencedPreambleRuns, SilencedDocumentIsShown}
 use Rattle.guarded_pictures.proofs.Absent.{known, known_below}

@@ -1,4 +1,4 @@
--- Where sheets of sheets can be placed: behind the guard, and behind definitions of other names.
+-- Where sheets of sheets can be placed: after the guard, and after definitions of other names.
 use Rattle.std.specs.Prelude.{Some, None, codes, bytes_eq, nat_lt}
 use Rattle.std.proofs.lemmas.Bool.{lt-ltb}
 use Rattle.std.proofs.Common.{◌≡◌, ℕ, ◌+◌, refl, ap, ap₂, ◌∙◌, true, false, not, ◌&&◌, ◌||◌, List, [], ◌∷◌}

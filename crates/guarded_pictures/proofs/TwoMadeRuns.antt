@@ -37,7 +37,7 @@ use Rattle.guarded_pictures.proofs.Documents.{BodyPlaces}
 use Rattle.guarded_pictures.proofs.TwoRuns.{BodyPaintsWithin, body_paints, slot_within, read_is, empty_places}
 use Rattle.guarded_pictures.proofs.Imposed.{Bodies, made_bodies_are_shown}
 
--- A sheet that stands on another one.
+-- A sheet that is on another one.
 
 abbrev Within : Option ℤ → List NestedUnit → (ℕ → List Painting) → Frame → State → Paper → ℕ → Type 0
 Within border us picture outer s own p = BodyPaintsWithin (frame_of border own) us outer s p (picture p)

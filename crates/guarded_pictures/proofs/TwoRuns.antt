@@ -32,7 +32,7 @@ use Rattle.guarded_pictures.proofs.Sheets.{Places, page_places}
 use Rattle.guarded_pictures.proofs.SheetsOfSheets.{sheet_places, sheet_leaves}
 use Rattle.guarded_pictures.proofs.Documents.{BodyPlaces, bodies_are_shown}
 
--- A sheet that stands on another one.
+-- A sheet that is on another one.
 
 -- what is so of the pages on all sheets is so of those on one
 on_sheet : (P : ℕ → Type 0) (all : List (List Slot)) (p : ℕ) → OnSheets P all → OnSlots P (slice_index_or all p [])
@@ -93,7 +93,7 @@ read_is text ts e = (ap (λ x. x.0 ++ ended x.1) e ∙ append-nil ts, ap (λ x. 
 
 -- Each page of the second document is placed.
 
--- a number that no page has stands for an empty text
+-- a number that no page has means an empty text
 pub empty_places : (s : State) (n : Numbers) → TakesSheets [] s → Places s (record { placed = record { numbers = n; body = [] }; picture = [] })
 empty_places s n t =
     page_places [] s (record { placed = record { numbers = n; body = [] }; picture = [] }) t.takes

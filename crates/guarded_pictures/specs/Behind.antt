@@ -1,4 +1,4 @@
--- The guard's procedures, and the state of a machine behind the guard's text: what each of its names means.
+-- The guard's procedures, and the state of a machine after the guard's text: what each of its names means.
 use Rattle.std.specs.Prelude.{ℕ, ◌+◌, List, [], ◌∷◌, ◌++◌, map, flat_map, codes, true, false, Option, Some, None}
 use Rattle.rules.specs.Bytes.{line}
 use Rattle.rules.specs.Numbers.{points_text}
@@ -162,7 +162,7 @@ save_tokens =
     ∷ Opens ∷ (page_begins_tokens
     ++ (Closes ∷ Bound (codes "if") ∷ Closes ∷ Bound (codes "if") ∷ real (codes "save")))
 
--- What stands in userdict behind it.
+-- What is in userdict after it.
 
 -- a dictionary with the sheet's size is made if there is a sheet's paper
 abbrev pub for_paper : Option Paper → ℕ

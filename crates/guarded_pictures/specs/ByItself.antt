@@ -1,4 +1,4 @@
--- What the guard's names do to a page by itself is what the operators do that they stand for, where no matrix and no clip are
+-- What the guard's names do to a page by itself is what the operators do that they replace, where no matrix and no clip are
 -- round the page.
 use Rattle.std.specs.Prelude.{◌≡◌, ℕ, List, [], ◌++◌, true, false, Some, codes}
 use Rattle.pictures.specs.Objects.{Token, Procedure, Matrix, Resets, Looks, InitialMatrix, DefaultMatrix, InitialClip}

@@ -1,4 +1,4 @@
--- What impose makes, on sheets that are told as one paper, of a document that has a showpage of its own.
+-- What impose makes, on sheets that are reported as one paper, of a document that has a showpage of its own.
 use Rattle.std.specs.Prelude.{◌≡◌, ℕ, ◌≤◌, Bool, true, false, ◌||◌, List, [], ◌∷◌, length, Option, Ok, ℤ}
 use Rattle.rules.specs.Papers.{Paper}
 use Rattle.rules.specs.Parts.{NestedUnit, preamble, bytes_of}
@@ -8,7 +8,7 @@ use Rattle.made_sheets.specs.Made.{MadeSlot, Blank, Placed, MadeSheet}
 use Rattle.made_sheets.specs.MadeOutput.{made_output}
 use Rattle.dsc.specs.Units.{units_of}
 use Rattle.guard.specs.Guard.{guarded}
-use Rattle.page_papers.specs.Told.{telling}
+use Rattle.papers.specs.Told.{telling}
 use Rattle.pictures.specs.Machine.{State, Painting, Runs}
 use Rattle.pictures.specs.Scanner.{tokens}
 use Rattle.pictures.specs.Documents.{started}
@@ -19,7 +19,7 @@ use Rattle.guarded_pictures.specs.Pages.{GuardedPagePaints}
 use Rattle.guarded_pictures.specs.OwnShowpage.{OwnPreambleRuns}
 use Rattle.guarded_pictures.specs.Imposed.{AreToldAsOne}
 
--- the state behind the pages of these slots, and of these sheets
+-- the state after the pages of these slots, and of these sheets
 abbrev pub made_slot_after : ℕ → MadeSlot → State → State
 made_slot_after d Blank s = s
 made_slot_after d (Placed p item paper) s = with_asking d s
@@ -32,7 +32,7 @@ abbrev pub made_sheets_after : ℕ → List MadeSheet → State → State
 made_sheets_after d [] s = s
 made_sheets_after d (sheet ∷ all) s = made_sheets_after d all (made_slots_after d sheet.slots s)
 
--- this is so of each page that stands on a sheet, in the state in which it begins there
+-- this is so of each page that is on a sheet, in the state in which it begins there
 abbrev pub OnMadeSlotsFrom : (State → Paper → ℕ → Type 0) → ℕ → State → List MadeSlot → Type 0
 OnMadeSlotsFrom P d s [] = Unit {0}
 OnMadeSlotsFrom P d s (slot ∷ slots) =

@@ -50,7 +50,7 @@ behind_papers s rest = record s {
   work = record s.work { entries = papers_left paper_names s.work.dictionaries s.work.entries };
 }
 
--- The line does this, wherever userdict is on top of the stack, whatever names are there: a law. Behind it a paper's name
+-- The line does this, wherever userdict is on top of the stack, whatever names are there: a law. After it a paper's name
 -- that was there means a procedure that does nothing, and one that wasn't isn't there
 abbrev pub PapersAreLeft : Type 0
 PapersAreLeft =

@@ -1,4 +1,4 @@
--- Documents that have a dictionary with a showpage of their own on the stack behind the preamble, as Graphviz writes them.
+-- Documents that have a dictionary with a showpage of their own on the stack after the preamble, as Graphviz writes them.
 use Rattle.std.specs.Prelude.{◌≡◌, ℕ, ◌+◌, ◌^◌, ◌<◌, ◌≤◌, List, [], ◌∷◌, ◌++◌, Bool, true, false, ◌||◌, ◌==◌}
 use Rattle.std.specs.Prelude.{Option, Some, None, Ok, codes, length}
 use Rattle.rules.specs.Specification.{Spec}
@@ -24,7 +24,7 @@ use Rattle.guarded_pictures.specs.Shelter.{means, all_absent, outline_tokens, Pa
 use Rattle.guarded_pictures.specs.Lines.{with_asking}
 use Rattle.guarded_pictures.specs.Pages.{looked_up, looked_up_first, GuardedPagePaints}
 
--- The state behind such a preamble: as a guarded one, but that this dictionary is the first one with a showpage. It can be
+-- The state after such a preamble: as a guarded one, but that this dictionary is the first one with a showpage. It can be
 -- written, and isn't userdict, whose showpage is the guard's
 pub record HasItsOwn (d : ℕ) (s : State) : Type 0 where
   pub number : ℕ
@@ -45,10 +45,10 @@ pub record HasItsOwn (d : ℕ) (s : State) : Type 0 where
   pub dictionaries : all_old s.work.made s.work.dictionaries ≡ true
   pub graphics : initial s.graphics ≡ s.graphics
 
--- Where a page begins, that dictionary's showpage is made one that asks userdict, and stays so: behind each page there is
+-- Where a page begins, that dictionary's showpage is made one that asks userdict, and stays so: after each page there is
 -- one such entry more.
 
--- a placed page paints what it paints by itself behind that, placed: a law
+-- a placed page paints what it paints by itself after that, placed: a law
 abbrev pub OwnPageIsPlaced : Type 0
 OwnPageIsPlaced =
     (d : ℕ) (s : State) (x : Shown) (rest : List Token) → HasItsOwn d s
@@ -56,7 +56,7 @@ OwnPageIsPlaced =
     → Runs false (run_of (placed_tokens x.placed ++ rest) s)
     (record (with_asking d s) { left = rest; painted = page_picture s.graphics x ++ s.painted })
 
--- the state behind these pages, and behind these sheets
+-- the state after these pages, and after these sheets
 abbrev pub after : ℕ → List Shown → State → State
 after d [] s = s
 after d (x ∷ xs) s = after d xs (with_asking d s)
@@ -65,7 +65,7 @@ abbrev pub after_all : ℕ → List (List Shown) → State → State
 after_all d [] s = s
 after_all d (x ∷ xs) s = after_all d xs (after d x s)
 
--- each page paints its picture by itself, behind those before it
+-- each page paints its picture by itself, after those before it
 abbrev pub AllPaintOwn : ℕ → State → List Shown → Type 0
 AllPaintOwn d s [] = Unit {0}
 AllPaintOwn d s (x ∷ xs) =
@@ -97,7 +97,7 @@ OwnPreambleRuns d text s =
     IsComplete text × Runs false (started (tokens text)) s × (s.left ≡ []) × (s.painted ≡ []) × (s.sheets ≡ [])
     × HasItsOwn d s
 
--- the state behind the pages of these slots, and of these sheets
+-- the state after the pages of these slots, and of these sheets
 abbrev pub slot_after : ℕ → Option ℕ → State → State
 slot_after d None s = s
 slot_after d (Some p) s = with_asking d s
@@ -110,7 +110,7 @@ abbrev pub sheets_after : ℕ → List (List Slot) → State → State
 sheets_after d [] s = s
 sheets_after d (slots ∷ more) s = sheets_after d more (slots_after d slots s)
 
--- this is so of each page that stands on a sheet, in the state in which it begins there
+-- this is so of each page that is on a sheet, in the state in which it begins there
 abbrev pub OnSlotsFrom : (State → ℕ → Type 0) → ℕ → State → List Slot → Type 0
 OnSlotsFrom P d s [] = Unit {0}
 OnSlotsFrom P d s (slot ∷ slots) =

@@ -26,7 +26,7 @@ use Rattle.guarded_pictures.specs.Shelter.{Outer, outer_is, means, all_absent, o
 use Rattle.guarded_pictures.specs.Shelter.{RunsSheltered, PaintsSheltered}
 use Rattle.guarded_pictures.specs.Lines.{clip_to, clips_to}
 
--- The state behind a guarded preamble.
+-- The state after a guarded preamble.
 
 -- names that a sheet's text and the guard look up where a page begins
 abbrev pub looked_up : List (List ℕ)
@@ -65,7 +65,7 @@ pub record IsGuarded (s : State) : Type 0 where
 
 -- What a guarded state is come to by.
 
--- behind the guard's text the state is guarded: a law
+-- after the guard's text the state is guarded: a law
 abbrev pub GuardIsEnough : Type 0
 GuardIsEnough = (sheet : Option Paper) (rest : List Token) → IsGuarded (behind_guard sheet rest)
 
@@ -87,7 +87,7 @@ StaysGuarded = (s : State) (e : Entry) → IsGuarded s → among e.key guarded_n
 abbrev pub kept_at : Place → Kept → Kept
 kept_at p x = record x { chain = x.chain ++ p.chain }
 
--- what is round a page that is placed: the place, what is left to run behind it, what matrices held before it, the
+-- what is round a page that is placed: the place, what is left to run after it, what matrices held before it, the
 -- saves before it, what was painted before it, and the sheets
 pub record Around : Type 0 where
   pub place : Place
@@ -138,7 +138,7 @@ ShelterCommutes =
     → IsOnPaper n outers a → RunsSheltered outers (outline_tokens n) s t
     → Runs false (placed_at a s) (placed_at a t)
 
--- A state in which pages can be placed: behind a guarded preamble, or within a placed page, where a sheet of another
+-- A state in which pages can be placed: after a guarded preamble, or within a placed page, where a sheet of another
 -- document is run.
 
 -- this dictionary has nothing
@@ -212,7 +212,7 @@ PageBegins =
     → Runs false (run_of (saving_tokens ++ (placing_tokens n ++ (body ++ rest))) s)
     (placed_at (around rest n s) (sheltered outers s (outline_tokens n) body))
 
--- a placed page of a guarded document paints on the sheet what it paints by itself, placed, behind its border, whatever
+-- a placed page of a guarded document paints on the sheet what it paints by itself, placed, after its border, whatever
 -- pages are round it; and all else is as it was: a law
 abbrev pub GuardedPageIsPlaced : Type 0
 GuardedPageIsPlaced =
@@ -249,7 +249,7 @@ GuardedPreambleRuns text s =
 abbrev pub outline_of : Frame → List Token
 outline_of frame = outline_by (points_text frame.paper.width) (points_text frame.paper.height)
 
--- the page, as the document has it, paints this by itself; its text ends between tokens, and so does what stands before
+-- the page, as the document has it, paints this by itself; its text ends between tokens, and so does what comes before
 -- each of its lines that is dropped
 abbrev pub GuardedPagePaints : Frame → List NestedUnit → State → ℕ → List Painting → Type 0
 GuardedPagePaints frame us s p picture =

@@ -1,5 +1,5 @@
 -- Sheets of sheets: the sheets of one document are the pages of another one, which is imposed with the guard too. Each
--- page stands in its inner place, and with that in the outer one.
+-- page is in its inner place, and with that in the outer one.
 use Rattle.std.specs.Prelude.{◌≡◌, ℕ, ◌+◌, ◌<◌, ◌≤◌, List, [], ◌∷◌, ◌++◌, map, length, Bool, true, false, not, ◌&&◌, ◌||◌, ◌==◌}
 use Rattle.std.specs.Prelude.{zero, suc, Option, Some, Ok, codes, slice_index_or, nat_lt}
 use Rattle.rules.specs.Specification.{Item, Spec}
@@ -92,7 +92,7 @@ pub record TakesSheets (outers : List Outer) (s : State) : Type 0 where
 
 -- What such a state is come to by.
 
--- behind the guard's text sheets of sheets can be placed: a law
+-- after the guard's text sheets of sheets can be placed: a law
 abbrev pub GuardTakesSheets : Type 0
 GuardTakesSheets = (sheet : Option Paper) (rest : List Token) → TakesSheets [] (behind_guard sheet rest)
 
@@ -196,7 +196,7 @@ run_picture frame us picture s all p =
     sheet_picture (beginning s) (shown_sheet frame us picture (slice_index_or all p [])) []
 
 -- the page, as the first document has it, paints this by itself within whatever place on the outer paper; its text ends
--- between tokens, and so does what stands before each of its lines that is dropped
+-- between tokens, and so does what comes before each of its lines that is dropped
 abbrev pub PagePaintsWithin : (inner : Frame) → List NestedUnit → (outer : Frame) → State → ℕ → List Painting → Type 0
 PagePaintsWithin inner us outer s p picture =
     IsComplete (page_of us p) × (page_comments_apart (page_of us p) ≡ true)
@@ -209,7 +209,7 @@ abbrev pub units_again : Option Paper → Frame → Option ℕ → Spec → List
 units_again sheet frame sides spec us = units_of (guarded sheet (output frame sides spec us))
 
 -- Of an accepted document whose last page leaves no embedded document open: what is written of its output, with the guard
--- put in, shows the sheets of the first run, each as the picture of its pages, placed, if each page that stands on one
+-- put in, shows the sheets of the first run, each as the picture of its pages, placed, if each page that is on one
 -- paints its picture by itself there. A law
 abbrev pub TwoRunsAreShown : Type 0
 TwoRunsAreShown =

@@ -15,7 +15,7 @@ use Rattle.pictures.specs.Sheets.{Numbers, zero_text, in_userdict, LeavesAsItWas
 use Rattle.pictures.specs.Unaware.{absent}
 use Rattle.guarded_pictures.specs.Behind.{path_tokens, clips_tokens, initclip_tokens, initgraphics_tokens}
 
--- What stands there.
+-- What is there.
 
 -- round the paper, as the guard keeps it: a path that is drawn anew
 abbrev pub outline_by : (width height : List ℕ) → List Token
@@ -91,7 +91,7 @@ page_save outers s outline = record {
   stacked = [];
 }
 
--- a page by itself, behind the state s, on a paper with this outline, and in a document in which these pages are round
+-- a page by itself, after the state s, on a paper with this outline, and in a document in which these pages are round
 -- it, or none: nothing is known of the matrices that were filled before it
 abbrev pub sheltered : List Outer → State → (outline body : List Token) → State
 sheltered outers s outline body = record {
@@ -207,7 +207,7 @@ are_so_many zero [] = true
 are_so_many (suc n) (Plain (Number text) ∷ os) = are_so_many n os
 are_so_many n os = false
 
--- an element of a path that `pathforall` tells, with its numbers
+-- an element of a path that `pathforall` lists, with its numbers
 abbrev pub is_element : List ℕ → List Object → Bool
 is_element name os =
     if bytes_eq name (codes "moveto") then are_so_many 2 os
@@ -216,7 +216,7 @@ is_element name os =
     else if bytes_eq name (codes "closepath") then are_so_many 0 os
     else false
 
--- the path is drawn anew by its elements: each was made under this transformation, and `pathforall` tells it
+-- the path is drawn anew by its elements: each was made under this transformation, and `pathforall` lists it
 -- (`path_tokens` in Machine)
 abbrev pub is_drawn_anew : List Call → List Segment → (next : List ℕ) → Bool
 is_drawn_anew chain [] next = true
@@ -278,7 +278,7 @@ steps outers outline (suc count) s = and_then (steps outers outline count) (step
 abbrev pub RunsSheltered : List Outer → List Token → State → State → Type 0
 RunsSheltered outers outline s t = (count : ℕ) × (steps outers outline count s ≡ Some t)
 
--- from a state behind the preamble, or where a page of the sheet begins within these, the page paints this by itself
+-- from a state after the preamble, or where a page of the sheet begins within these, the page paints this by itself
 pub record PaintsSheltered (outers : List Outer) (s : State) (outline body : List Token) (picture : List Painting) : Type 0 where
   pub end : State
   pub run : RunsSheltered outers outline (sheltered outers s outline body) end

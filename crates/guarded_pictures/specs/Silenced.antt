@@ -27,7 +27,7 @@ use Rattle.guarded_pictures.specs.OwnShowpage.{BeginsWithAPage, FirstHasAPage}
 abbrev pub with_showpage : State → State
 with_showpage s = defined (in_userdict (codes "showpage") (Procedure showpage_tokens)) s
 
--- The state behind such a preamble: userdict's showpage is empty, and with the guard's in its place the state is guarded
+-- The state after such a preamble: userdict's showpage is empty, and with the guard's in its place the state is guarded
 pub record IsSilenced (s : State) : Type 0 where
   pub empty : entry_of userdict (codes "showpage") s.work.entries ≡ Some (Procedure [])
   pub guarded : IsGuarded (with_showpage s)
@@ -39,7 +39,7 @@ ShowpageIsPutBack =
     → Runs false (run_of (save_tokens ++ rest) (at_sheet_save s))
     (saved (run_of rest (marked h.guarded.number (with_showpage (at_sheet_save s)))))
 
--- a placed page paints what it paints by itself behind that, placed, and the guard's showpage stays: a law
+-- a placed page paints what it paints by itself after that, placed, and the guard's showpage stays: a law
 abbrev pub SilencedPageIsPlaced : Type 0
 SilencedPageIsPlaced =
     (s : State) (x : Shown) (rest : List Token) → IsSilenced s
@@ -47,7 +47,7 @@ SilencedPageIsPlaced =
     → Runs false (run_of (placed_tokens x.placed ++ rest) s)
     (record (with_showpage s) { left = rest; painted = page_picture s.graphics x ++ s.painted })
 
--- the state behind these sheets
+-- the state after these sheets
 abbrev pub behind_sheets : {A : Type 0} → List A → State → State
 behind_sheets [] s = s
 behind_sheets (x ∷ xs) s = with_showpage s

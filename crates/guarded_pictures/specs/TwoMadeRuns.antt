@@ -23,7 +23,7 @@ use Rattle.guarded_pictures.specs.SheetsOfSheets.{TakesSheets, PagePaintsWithin}
 abbrev pub written_again : Option Paper → Option ℤ → Dress → List MadeSheet → List NestedUnit → List NestedUnit
 written_again sheet border dress all us = units_of (guarded sheet (made_output border dress all us))
 
--- sheet p; a number that no sheet has stands for one with nothing on it
+-- sheet p; a number that no sheet has means one with nothing on it
 abbrev pub empty_sheet : MadeSheet
 empty_sheet = record { paper = record { width = pos 0; height = pos 0 }; slots = [] }
 
@@ -43,7 +43,7 @@ SheetPaintsWithin border all us picture outer_border s paper q =
 
 -- Of an accepted document whose last page leaves no embedded document open, and of runs that add no lines but comments,
 -- and begin nothing by them: what is written of what a run wrote, with the guard put in, shows the sheets of the first
--- run, each as the picture of its pages, placed, if each page of those that stand on a sheet of the second run paints its
+-- run, each as the picture of its pages, placed, if each page of those that are on a sheet of the second run paints its
 -- picture by itself there. A law
 abbrev pub TwoMadeRunsAreShown : Type 0
 TwoMadeRunsAreShown =

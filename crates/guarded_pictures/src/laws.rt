@@ -18,7 +18,7 @@ ghost use Rattle.guarded_pictures.specs.Lines.{AskingShows, AsksUserdict, ClipIs
 ghost use Rattle.guarded_pictures.specs.Lines.{DeviceIsHanded, DeviceIsLeft, GraphicsAreThePages, GuardedTwice, LoadedShowpage};
 ghost use Rattle.guarded_pictures.specs.Lines.{MatrixIsThePages, OuterIsKept, PageIsLeft, SaveSaves, ShowpageStaysAName};
 
-/// Behind the guard's text each of its names means what is said of it, and all else is as it was.
+/// After the guard's text each of its names means what is said of it, and all else is as it was.
 pub fn guard_defines()
     ensures { GuardDefines }
 {}
@@ -68,7 +68,7 @@ pub fn matrix_is_the_pages()
     ensures { MatrixIsThePages }
 {}
 
-/// `defaultmatrix` tells the page's own transformation.
+/// `defaultmatrix` gives the page's own transformation.
 pub fn default_is_the_pages()
     ensures { DefaultIsThePages }
 {}
@@ -133,7 +133,7 @@ pub fn guarded_sheets_show_the_pages()
     ensures { GuardedSheetsShowThePages }
 {}
 
-/// Behind the guard's text the state is one in which pages are placed.
+/// After the guard's text the state is one in which pages are placed.
 pub fn guard_is_enough()
     ensures { GuardIsEnough }
 {}
@@ -149,17 +149,17 @@ pub fn guarded_document_is_shown()
     ensures { GuardedDocumentIsShown }
 {}
 
-/// Sheets of one paper are told as one, in the header alone.
+/// Sheets of one paper are reported as one, in the header alone.
 pub fn one_paper_is_told_as_one()
     ensures { OnePaperIsToldAsOne }
 {}
 
-/// The lines by which such sheets tell their paper are comments.
+/// The lines by which such sheets report their paper are comments.
 pub fn telling_is_quiet()
     ensures { TellingIsQuiet }
 {}
 
-/// A machine prints of what impose makes of a document on sheets that are told as one paper, by whatever layout, what the
+/// A machine prints of what impose makes of a document on sheets that are reported as one paper, by whatever layout, what the
 /// document's pages paint by themselves, placed.
 pub fn made_document_is_shown()
     ensures { MadeDocumentIsShown }
@@ -180,7 +180,7 @@ pub fn own_showpage_is_shown()
     ensures { OwnShowpageIsShown }
 {}
 
-/// And so it prints what impose makes of such a document on sheets that are told as one paper, by whatever layout.
+/// And so it prints what impose makes of such a document on sheets that are reported as one paper, by whatever layout.
 pub fn own_made_document_is_shown()
     ensures { OwnMadeDocumentIsShown }
 {}
@@ -205,7 +205,7 @@ pub fn silenced_document_is_shown()
     ensures { SilencedDocumentIsShown }
 {}
 
-/// Behind the guard's text the state is one in which sheets of sheets can be placed.
+/// After the guard's text the state is one in which sheets of sheets can be placed.
 pub fn guard_takes_sheets()
     ensures { GuardTakesSheets }
 {}

@@ -21,7 +21,7 @@ in_order capacity (x ∷ xs) (Take s ∷ log) h = let rest = in_order capacity x
 pub first_put_is_first_taken : FirstPutIsFirstTaken
 first_put_is_first_taken capacity log h = in_order capacity [] log h
 
--- a queue that has no more than it has room for goes on so
+-- a queue that is within its capacity stays so
 within : (capacity : ℕ) (sheets : List ℕ) (log : List Move) → length sheets ≤ capacity → AllFit capacity sheets log → length (after_all sheets log) ≤ capacity
 within capacity sheets [] le h = le
 within capacity sheets (Put s ∷ log) le h = let room = h.0 in within capacity (sheets ++ s ∷ []) log (omega (arith, length-append sheets (s ∷ []))) h.1

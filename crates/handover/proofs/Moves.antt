@@ -27,7 +27,7 @@ seats_make old new (m ∷ moves) made = (seat_of made.0, made.1.0, seats_make ma
 pub whole_pass_made_all : WholePassMadeAll
 whole_pass_made_all = whole_seat_made_all IsQueueHistory
 
--- how often a sheet is put, and taken, is a weight of moves
+-- the number of times that a sheet is put, or taken, is a weight of moves
 pub put_weight : (s : ℕ) (log : List Move) → total (λ m. times s (sheets_put (m ∷ []))) log ≡ times s (sheets_put log)
 put_weight s [] = refl
 put_weight s (Put x ∷ log) = let r = put_weight s log in omega arith

@@ -96,7 +96,7 @@ pub each_one : (P : Sight → Type 0) (w : Sight) → P w → Each P (w ∷ [])
 each_one P w mine zero u at = subst P (some-injective w u at) mine
 each_one P w mine (suc j) u at = absurd (some-ne-none u (sym at))
 
--- if one pass has all shares, or puts aren't made by right, nobody else has room
+-- if one pass has all shares, or puts aren't made by right, no other has room
 pub none_else : (b : Bool) (cap held : ℕ) (views : List Sight) (id : ℕ) (v : Sight) → AreRooms b cap held views → get_elem? views id ≡ some v
     → total its_share views ≤ v.seat.share → total room_of views ≤ room_of v
 none_else b cap held views id v k at all =

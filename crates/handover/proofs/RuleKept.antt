@@ -55,14 +55,14 @@ moves items views port v m h at pos fits enough = (w, (capacity, log ++ m ∷ []
       };
     }
 
--- a put may be tried by right; or if there is no room that belongs to others
+-- a pass may try to put by right, or if no room belongs to others
 abbrev pub MayTry : Sight → Type 0
 MayTry v = (0 < room_of v) ⊎ (v.room ≡ None) ⊎ ((v.seat.share ≡ whole_share) × (room_of v ≡ 0))
 
 all_of_it : (items : List ℕ) (views : List Sight) (v : Sight) → Kept items views → v.seat.share ≡ whole_share → total its_share views ≤ v.seat.share
 all_of_it items views v h whole = let s = h.2.seats.shares in let e = shares_of_seats views in omega (arith, s, e, whole)
 
--- nobody has room
+-- no pass has room
 nobody : (items : List ℕ) (views : List Sight) (port : ℕ) (v : Sight) (h : Kept items views) → get_elem? views port ≡ some v → 0 < v.seat.share
     → (v.room ≡ None) ⊎ ((v.seat.share ≡ whole_share) × (room_of v ≡ 0)) → total room_of views ≡ 0
 nobody items views port v h at pos why = ⊎_elim
@@ -198,7 +198,7 @@ begins = (
   },
 )
 
--- the capacity is told to the opening pass, and its room
+-- the opening pass learns the capacity, and gets its room
 pub tells : (port : ℕ) (v : Sight) (capacity : ℕ) (room : Option ℕ) → v ≡ opening → capacity ≤ 4_294_967_295 → puts_in room ≤ capacity
     → Forks Kept port v (opened capacity room) (spent_of capacity)
 tells port v capacity room is small few items views h at = (

@@ -1,4 +1,4 @@
--- What each step tells, as clauses see it, and that a pass between two calls stays one.
+-- What each step reveals, as clauses see it; and a pass between two calls stays one.
 use Rattle.std.proofs.Common.{◌≡◌, inl, inr, ℕ, zero, suc, ◌+◌, ◌-◌, ◌<◌, Option, Some, None, refl, sym, ap, ◌∙◌, subst, arith}
 use Rattle.std.specs.Prelude.{Result, Ok, Err, IfSome, MatchOption, MatchResult}
 use Rattle.atomic_table.specs.Seated.{TableId}
@@ -25,12 +25,12 @@ made t t' v w m old is h same is_old = (
   is.room ∙ ap (λ (p : PassView). room_after m p.room) is_old,
 )
 
--- after a take the pass stands alone, whether it gave a sheet or not
+-- after a take the pass is as between two calls, whether it got a sheet or not
 pub take_stands : (r : Option ℕ) (v w : Sight) (share : ℕ) (room : Option ℕ) (P : Type 0) → MatchOption r ((w ≡ v) × P) (λ x. Adds v (Take x) w) → StandsAlone v share room → StandsAlone w share room
 take_stands None v w share room P is s = subst (λ (u : Sight). StandsAlone u share room) (sym is.0) s
 take_stands (Some x) v w share room P is s = stands_after v w share room room (Take x) is refl s
 
--- a sheet that was taken is a move
+-- a take that returned a sheet is a move
 pub take_made : (r : Option ℕ) (t t' : TableId) (v w : Sight) (old : PassView) (P : Type 0) → MatchOption r ((w ≡ v) × P) (λ x. Adds v (Take x) w) → Held v → t' ≡ t → pass_view t v ≡ old → IfSome r (λ x. Made old (Take x) (pass_view t' w))
 take_made None t t' v w old P is h same is_old = tt
 take_made (Some x) t t' v w old P is h same is_old = made t t' v w (Take x) old is h same is_old
@@ -42,7 +42,7 @@ put_accepted r a v w m P is ok = subst (λ x. MatchResult x (λ _. Adds v m w) P
 pub put_refused : {A B : Type 0} (r : Result A B) (b : B) (Q : A → Type 0) (P : B → Type 0) → MatchResult r Q P → r ≡ Err b → P b
 put_refused r b Q P is err = subst (λ x. MatchResult x Q P) err is
 
--- a put may be tried
+-- a pass may try to put
 pub may_try : (v : Sight) (share : ℕ) (room : Option ℕ) → StandsAlone v share room → (room ≡ Some 0 → share ≡ whole_share) → MayTry v
 may_try v share room s may = by_room v.room refl
   where
@@ -51,7 +51,7 @@ may_try v share room s may = by_room v.room refl
     by_room (Some zero) e = inr (inr (sym s.seat.share ∙ may (s.room ∙ e), ap puts_in e))
     by_room (Some (suc n)) e = inl (let some : puts_in v.room ≡ suc n = ap puts_in e in omega (arith, some))
 
--- the pass that a queue is made with
+-- the pass with which a queue is made
 pub view_opens : (t t' : TableId) (v : Sight) (key key' : ℕ) (room : Option ℕ) → t ≡ t' → v ≡ opened key room → key ≡ key'
     → pass_view t v ≡ record (opening_pass (record { queue = t'; capacity = key' })) { room = room }
 view_opens t t' v key key' room same is same_key = (λ i. pass_view (same i) (is i)) ∙ (λ i. record (opening_pass (record { queue = t'; capacity = same_key i })) { room = room })

@@ -1,21 +1,21 @@
--- What holds of every history of the queue, and of every pass by the contracts of its calls. Those that are laws of
--- histories speak of a pass as the seat that it is (`seat_of`).
+-- Laws of every history of the queue, and of every pass by the contracts of its calls. Laws of histories treat a
+-- pass as the seat that it is (`seat_of`).
 use Rattle.std.specs.Prelude.{◌≡◌, ℕ, ◌+◌, ◌-◌, ◌≤◌, List, ◌++◌, length}
 use Rattle.histories.specs.Seats.{whole_share, times}
 use Rattle.histories.specs.Laws.{CallsStandInOneHistory, CoursesStandInOneHistory, OwnEntriesAreKept, WholeSeatMadeAll}
 use Rattle.handover.specs.Queue.{Move, content, IsQueueHistory, sheets_put, sheets_taken}
 use Rattle.handover.specs.Passes.{PassView, IsPass, Joined, Makes, own_moves, puts_in}
 
--- sheets are taken in the order in which they were put: those taken, and behind them those left, are those put
+-- sheets are taken in the order in which they were put: those taken, followed by those left, are those put
 abbrev pub FirstPutIsFirstTaken : Type 0
 FirstPutIsFirstTaken = (capacity : ℕ) (log : List Move) → IsQueueHistory capacity log
     → sheets_taken log ++ content log ≡ sheets_put log
 
--- there are never more sheets in the queue than it has room for
+-- there are never more sheets in the queue than its capacity
 abbrev pub NeverOverfull : Type 0
 NeverOverfull = (capacity : ℕ) (log : List Move) → IsQueueHistory capacity log → length (content log) ≤ capacity
 
--- a pass that has all shares made all moves of its front: whatever is counted of them comes out the same
+-- a pass that has all shares made all moves of its front: a count over its own moves is the count over the front
 abbrev pub WholePassMadeAll : Type 0
 WholePassMadeAll = WholeSeatMadeAll IsQueueHistory
 
@@ -28,17 +28,17 @@ WholePassLosesNone = (pass : PassView) (s : ℕ) → IsPass pass → pass.share 
 abbrev pub OwnMovesAreKept : Type 0
 OwnMovesAreKept = OwnEntriesAreKept IsQueueHistory
 
--- the moves of a pass, made one after the other with whatever others did beside them, stand in one history of the
--- queue, which begins with all that the caller had seen: each at one place of its own, in the order in which they were
--- made
+-- the moves of a pass were made one after the other, while others may have made theirs. They are in one history of
+-- the queue, which begins with all that the caller had seen: each at a place of its own, in the order in which they
+-- were made
 abbrev pub MovesStandInOneHistory : Type 0
 MovesStandInOneHistory = CallsStandInOneHistory IsQueueHistory
 
--- and so do those of a caller that splits its pass, makes moves with both parts, and joins them again
+-- the same for the moves of a caller that splits its pass, makes moves with both parts, and joins them again
 abbrev pub SplitMovesStandInOneHistory : Type 0
 SplitMovesStandInOneHistory = CoursesStandInOneHistory IsQueueHistory
 
--- moves lower the room of a pass by one for each put, as long as there is any; a joined pass has the room of both
+-- moves lower the room of a pass by one for each put, while it has any; a joined pass has the room of both
 abbrev pub RoomIsUsedUp : Type 0
 RoomIsUsedUp = ((old new : PassView) (moves : List Move) → Makes old moves new
     → puts_in new.room ≡ puts_in old.room - length (sheets_put moves))

@@ -1,12 +1,12 @@
--- The pages of a document as one row of numbers: so a shelf's tag names the document that the shelf is of.
+-- The pages of a document as one row of numbers, by which a shelf's tag names the document of the shelf.
 use Rattle.std.specs.Prelude.{◌≡◌, ℕ, zero, suc, List, [], ◌∷◌, ◌++◌}
 
--- each byte one more, so that none is 0
+-- each byte plus one, so that none is 0
 abbrev pub one_more : List ℕ → List ℕ
 one_more [] = []
 one_more (b ∷ bs) = suc b ∷ one_more bs
 
--- the pages one behind the other, with a 0 at the end of each
+-- the pages one after the other, with a 0 at the end of each
 abbrev pub row_of : List (List ℕ) → List ℕ
 row_of [] = []
 row_of (page ∷ pages) = one_more page ++ 0 ∷ row_of pages
@@ -22,6 +22,6 @@ pages_in [] = []
 pages_in (zero ∷ ns) = [] ∷ pages_in ns
 pages_in (suc b ∷ ns) = onto_first b (pages_in ns)
 
--- a row names the pages of which it was made, so no other document's: a law
+-- a law: a row names the pages of which it was made, so it is no other document's
 abbrev pub RowsNamePages : Type 0
 RowsNamePages = (pages : List (List ℕ)) → pages_in (row_of pages) ≡ pages

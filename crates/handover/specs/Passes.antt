@@ -1,12 +1,12 @@
--- What clauses see of the ready queue and of its passes. A pass is a seat of the queue's history, with room; what is said
--- of seats of any history stands in the crate histories.
+-- What clauses see of the ready queue and of its passes. A pass is a seat of the queue's history, with room. What
+-- holds of the seats of any history is in the crate histories.
 use Rattle.std.specs.Prelude.{◌≡◌, ℕ, ◌+◌, ◌-◌, List, [], ◌∷◌, Option, Some, None}
 use Rattle.atomic_table.specs.Seated.{TableId}
 use Rattle.histories.specs.Seats.{whole_share}
 use Rattle.histories.specs.Calls.{SeatView, IsOf, IsSeat, own_entries}
 use Rattle.handover.specs.Queue.{Move, Put, Take, IsQueueHistory}
 
--- a queue and the number of sheets that it has room for
+-- a queue and its capacity in sheets
 pub record QueueView : Type 0 where
   pub queue : TableId
   pub capacity : ℕ
@@ -19,7 +19,7 @@ pub record PassView : Type 0 where
   pub front : List Move
   pub own : List ℕ
   pub share : ℕ
-  -- how many puts it may make that aren't refused, of a queue in which puts are made by right
+  -- how many puts it may make that won't be refused, for a queue in which puts are made by right
   pub room : Option ℕ
 
 -- the same without its room: a seat of the queue's history
@@ -29,17 +29,17 @@ seat_of p = record { table = p.table; key = p.key; front = p.front; own = p.own;
 abbrev pub IsPassOf : QueueView → PassView → Type 0
 IsPassOf q pass = IsOf q.queue q.capacity (seat_of pass)
 
--- the pass that a queue is made with: it has all shares, and has seen nothing yet
+-- the pass with which a queue is made: it has all shares, and has seen nothing
 abbrev pub opening_pass : QueueView → PassView
 opening_pass q =
     record { table = q.queue; key = q.capacity; front = []; own = []; share = whole_share; room = None }
 
--- the same of a queue in which puts are made by right: it has room for as many as the queue
+-- the same for a queue in which puts are made by right: it has all of the queue's room
 abbrev pub opening_pass_by_right : QueueView → PassView
 opening_pass_by_right q = record (opening_pass q) { room = Some q.capacity }
 
--- what every pass keeps to: its front is a history of the queue, its own places lie in it, each once, and if it has all
--- shares they are all places of it
+-- what every pass keeps to: its front is a history of the queue, and its own places are places of the front, each
+-- once. If it has all shares, they are all places of it
 abbrev pub IsPass : PassView → Type 0
 IsPass pass = IsSeat IsQueueHistory (seat_of pass)
 
@@ -47,7 +47,7 @@ IsPass pass = IsSeat IsQueueHistory (seat_of pass)
 abbrev pub own_moves : PassView → List Move
 own_moves pass = own_entries (seat_of pass)
 
--- how many puts may be made by right with such a room
+-- how many puts may be made by right with this room
 abbrev pub puts_in : Option ℕ → ℕ
 puts_in None = 0
 puts_in (Some n) = n
@@ -58,7 +58,7 @@ room_after (Take s) room = room
 room_after (Put s) None = None
 room_after (Put s) (Some n) = Some (n - 1)
 
--- the room that is kept if so much is given away, and the room that is given
+-- the room that is kept if this much is given away, and the room that is given
 abbrev pub room_kept : ℕ → Option ℕ → Option ℕ
 room_kept give None = None
 room_kept give (Some n) = Some (n - give)
@@ -73,8 +73,8 @@ both_rooms None room = room
 both_rooms (Some n) None = Some n
 both_rooms (Some n) (Some m) = Some (n + m)
 
--- the move was made: the new front begins with the old one, goes on with what others did meanwhile, and ends with this
--- move, whose place is one more own place. If the pass has all shares there are no others. A put by right lowers the room
+-- the move was made: the new front is the old one, then what others did in the meantime, then this move, whose
+-- place is one more own place. If the pass has all shares, there are no others. A put by right lowers the room
 abbrev pub Made : PassView → Move → PassView → Type 0
 Made old m new =
     Rattle.histories.specs.Calls.Made IsQueueHistory (seat_of old) m (seat_of new)
@@ -85,7 +85,7 @@ abbrev pub Makes : PassView → List Move → PassView → Type 0
 Makes old [] new = old ≡ new
 Makes old (m ∷ ms) new = (mid : PassView) × Made old m mid × Makes mid ms new
 
--- one pass with the longer front, the own places of both, of which none is shared, both shares and the room of both
+-- one pass with the longer front, the own places of both, none of which is shared, both shares and the room of both
 abbrev pub Joined : PassView → PassView → PassView → Type 0
 Joined a b new =
     Rattle.histories.specs.Calls.Joined IsQueueHistory (seat_of a) (seat_of b) (seat_of new)

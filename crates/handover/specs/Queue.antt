@@ -1,12 +1,12 @@
 -- Histories of a queue of sheets, and which of them are legal.
 use Rattle.std.specs.Prelude.{◌≡◌, ℕ, ◌<◌, List, [], ◌∷◌, ◌++◌, length}
 
--- an accepted put of a sheet, or a take that gave it
+-- an accepted put of a sheet, or a take that returned it
 pub data Move : Type 0 where
   Put : ℕ → Move
   Take : ℕ → Move
 
--- what is left when the oldest is gone
+-- what is left without the oldest
 abbrev pub without_oldest : List ℕ → List ℕ
 without_oldest [] = []
 without_oldest (x ∷ xs) = xs
@@ -33,7 +33,7 @@ abbrev pub Fits : (capacity : ℕ) → List ℕ → Move → Type 0
 Fits capacity sheets (Put s) = length sheets < capacity
 Fits capacity sheets (Take s) = IsOldest s sheets
 
--- each of them may be made where it stands
+-- each of them may be made at its place
 abbrev pub AllFit : (capacity : ℕ) → List ℕ → List Move → Type 0
 AllFit capacity sheets [] = Unit {0}
 AllFit capacity sheets (m ∷ ms) = Fits capacity sheets m × AllFit capacity (after sheets m) ms

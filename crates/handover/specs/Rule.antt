@@ -26,7 +26,7 @@ seats_of (v ∷ vs) = v.seat ∷ seats_of vs
 abbrev pub spent : Sight
 spent = record { seat = sights.spent 0; room = None }
 
--- the pass that a queue is made with, before it is told the capacity
+-- the pass with which a queue is made, before it learns the capacity
 abbrev pub opening : Sight
 opening = record { seat = sights.opening_sight 0; room = None }
 
@@ -34,7 +34,7 @@ opening = record { seat = sights.opening_sight 0; room = None }
 abbrev pub room_of : Sight → ℕ
 room_of v = puts_in v.room
 
--- what is seen of a pass of this queue that knows this
+-- the view of a pass of this queue that knows this
 abbrev pub pass_view : TableId → Sight → PassView
 pass_view table v = record {
   table = table;
@@ -45,12 +45,12 @@ pass_view table v = record {
   room = v.room;
 }
 
--- a pass between two calls: it has this share and this room, and keeps what every pass keeps
+-- a pass between two calls: it has this share and this room, and keeps to what every pass keeps to
 pub record StandsAlone (v : Sight) (its_share : ℕ) (its_room : Option ℕ) : Type 0 where
   pub seat : Rattle.histories.specs.Own.StandsAlone IsQueueHistory v.seat its_share
   pub room : its_room ≡ v.room
 
--- a pass has room if puts are made by right, and else none; one without a share may make none by right
+-- a pass has room if puts are made by right, and otherwise none; one without a share can make none by right
 pub record IsRoomed (by_right : Bool) (v : Sight) : Type 0 where
   pub alike : 0 < v.seat.share → is_some v.room ≡ by_right
   pub idle : v.seat.share ≡ 0 → room_of v ≡ 0
@@ -60,8 +60,8 @@ pub record AreRooms (by_right : Bool) (capacity held : ℕ) (views : List Sight)
   pub each : (id : ℕ) (v : Sight) → get_elem? views id ≡ some v → IsRoomed by_right v
   pub enough : total room_of views + held ≤ capacity
 
--- between any two steps there is one history, whose content is what the queue holds, and of which each pass has seen a
--- beginning; and there is room for all puts that may be made by right
+-- between any two steps there is one history. The queue holds its content, and each pass has seen a beginning of
+-- it. There is room for all puts that may be made by right
 pub record IsKept (items : List ℕ) (views : List Sight) (capacity : ℕ) (log : List Move) : Type 0 where
   pub legal : IsQueueHistory capacity log
   pub holds : content log ≡ items
@@ -73,13 +73,13 @@ pub record IsKept (items : List ℕ) (views : List Sight) (capacity : ℕ) (log 
 abbrev pub Kept : List ℕ → List Sight → Type 0
 Kept items views = (capacity : ℕ) × (log : List Move) × IsKept items views capacity log
 
--- this is the capacity of the queue that the passes are of, as each pass with a share knows it: its key
+-- this is the capacity of the passes' queue, as each pass with a share knows it: its key
 abbrev pub IsCapacityOf : List Sight → ℕ → Type 0
 IsCapacityOf views capacity = (id : ℕ) (v : Sight) → get_elem? views id ≡ some v → 0 < v.seat.share → v.seat.key ≡ capacity
 
--- all passes of a queue at one moment, whether they ever met or not: their moves stand in one history, whose content is
--- what the queue holds, and no move is an own move of two of them; and that content, with the puts that they may still
--- make by right, is at most the queue's capacity. So it is between any two steps of a queue with this rule
+-- all passes of a queue at one moment, whether they ever met or not. Their moves are in one history, whose content
+-- is what the queue holds, and no move is an own move of two of them. That content, with the puts that they may
+-- still make by right, is at most the queue's capacity. This holds between any two steps of a queue with this rule
 abbrev pub PassesStandTogether : (rule : List ℕ → List Sight → Type 0) → Type 0
 PassesStandTogether rule = (items : List ℕ) (views : List Sight) → rule items views
     → (capacity : ℕ) × (log : List Move) × IsCapacityOf views capacity × (content log ≡ items)

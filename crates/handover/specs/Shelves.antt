@@ -8,20 +8,20 @@ use Rattle.handover.specs.Entries.{IsNamed}
 use Rattle.handover.specs.declared.receipts.PutError.{PutError}
 use Rattle.handover.specs.declared.receipts.PutError.TheVariants.{NoMemory, ShelfFull}
 
--- the token was given for an entry of this shelf: so it is of one that a call handed out. As plain data there is one for
--- each index and page, so no clause says that there is some token
+-- the token was given for an entry of this shelf, so some call returned it. As plain data there is a token for each
+-- index and page, so no clause can say only that there is one
 abbrev pub IsOn : Shelves → Where PreparedPage → Type 0
 IsOn shelf token = Shows shelf token
 
--- what a put that gives no receipt leaves: the page comes back, or it is on the shelf at an index of more than 32 bits
+-- what a put without a receipt leaves: the page is returned, or it is on the shelf at an index of more than 32 bits
 abbrev pub GivesNoReceipt : Shelves → PreparedPage → PutError → Type 0
 GivesNoReceipt shelf page (NoMemory back) = back ≡ page
 GivesNoReceipt shelf page (ShelfFull token) = IsOn shelf token × (token.value ≡ page) × (4_294_967_295 < token.index)
 
--- the shelf is that of the document with these units
+-- the shelf belongs to the document with these units
 abbrev pub IsShelfOf : Shelves → List NestedUnit → Type 0
 IsShelfOf shelf us = pages_in shelf.tag ≡ pages us
 
--- the page is one of the document that the shelf is of
+-- the page is one of the document of the shelf
 abbrev pub IsOwn : Shelves → PreparedPage → Type 0
 IsOwn shelf page = IsNamed shelf.tag page

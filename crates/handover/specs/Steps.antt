@@ -1,4 +1,4 @@
--- What each step tells.
+-- What each step reveals.
 use Rattle.std.specs.Prelude.{◌≡◌, ℕ, ◌<◌, ◌≤◌, List, [], length, Option, None}
 use Rattle.histories.specs.Seats.{Learned, whole_share, keeps_back, given, absorbed, opening_sight}
 use Rattle.histories.specs.Seats as sights
@@ -11,13 +11,13 @@ pub record Adds (v : Sight) (m : Move) (w : Sight) : Type 0 where
   pub seat : Rattle.histories.specs.Seats.Adds IsQueueHistory v.seat m w.seat
   pub room : w.room ≡ room_after m v.room
 
--- a step that changes no pass: the front of a pass that has all shares is the whole history, and its content is what
--- the queue held; and a pass that may put by right finds room
+-- a step that changes no pass. The front of a pass that has all shares is the whole history, and its content is
+-- what the queue held. A pass that may put by right finds room
 pub record Sees (v : Sight) (items : List ℕ) : Type 0 where
   pub whole : v.seat.share ≡ whole_share → content v.seat.front ≡ items
   pub by_right : 0 < room_of v → length items < v.seat.key
 
--- a look that tells a pass what the rule says of it
+-- a look from which a pass learns what the rule says about it
 pub record Learns (v : Sight) (items : List ℕ) : Type 0 where
   pub seat : Learned v.seat
   pub few : room_of v ≤ 4_294_967_295
@@ -33,7 +33,7 @@ gets_of share room v = record { seat = given [] share v.seat; room = room_given 
 abbrev pub both_of : Sight → Sight → Sight
 both_of v w = record { seat = absorbed v.seat w.seat; room = both_rooms v.room w.room }
 
--- the first pass, once it is told the capacity, and its room
+-- the first pass, once it knows the capacity, and its room
 abbrev pub opened : ℕ → Option ℕ → Sight
 opened capacity room = record { seat = opening_sight capacity; room = room }
 

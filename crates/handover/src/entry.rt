@@ -6,14 +6,14 @@ use boxcar::Keeps;
 use boxcar::tag::Names;
 use dsc::Document;
 
-/// A page on a shelf, and whether it was put as one of the document that the shelf is of.
+/// A page on a shelf, and whether it was put there as one of the document of the shelf.
 #[derive(Drop)]
 pub struct Entry<'d> {
     pub(crate) page: Prepared<'d>,
     pub(crate) is_own: bool,
 }
 
-/// The rule of a shelf's entries: a page that was put as the document's own is so.
+/// The rule of a shelf's entries: a page that was put as one of the document's own is one.
 pub struct ToldTruly;
 
 impl<'d> Keeps<Entry<'d>> for ToldTruly {

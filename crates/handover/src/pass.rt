@@ -6,16 +6,16 @@ use crate::rule::View;
 use std::fmt;
 use std::marker::Model;
 
-/// How many shares there are of a queue.
+/// The number of shares of a queue.
 pub(crate) const WHOLE_SHARE: u64 = 4_294_967_296;
 
-/// A caller's token for one queue. It stands for a history of the queue that the caller has seen, its front, and for
+/// A caller's token for one queue. It represents a history of the queue that the caller has seen, its front, and
 /// the caller's own puts and takes in it. Neither is stored: a pass is its share and its room.
 #[derive(Drop)]
 pub struct Pass {
     pub(crate) token: crossbeam_queue::Pass<u32, View>,
     pub(crate) share: u64,
-    /// How many puts it may make that aren't refused. None if puts aren't made by right.
+    /// How many puts it may make that won't be refused. None if puts aren't made by right.
     pub(crate) room: Option<u32>,
 }
 
@@ -32,7 +32,7 @@ impl Model for Pass {
 }
 
 impl Pass {
-    /// How much of the queue's 2^32 shares the pass has. With all of them it is the queue's only pass.
+    /// How many of the queue's 2^32 shares the pass has. With all of them it is the queue's only pass.
     pub fn share(&self) -> u64
         ensures value { result ≡ self.now.share }
         ensures pass { IsPass self.now }
@@ -40,7 +40,7 @@ impl Pass {
         self.share
     }
 
-    /// How many puts it may make that aren't refused.
+    /// How many puts it may make that won't be refused.
     pub fn room(&self) -> u32
         ensures { result ≡ puts_in self.now.room }
     {

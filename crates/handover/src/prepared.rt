@@ -12,22 +12,21 @@ use std::alloc::{AllocError, Global};
 use std::fmt;
 use std::marker::Model;
 
-/// A page of a document with its prepared body: what is kept of its bytes when it is placed on a sheet (the page
-/// comments and the page setup lines of DSC 3.0 are dropped). It takes 32 bytes, and memory beside them only if the body
-/// isn't the rest of the page, or is that of a page that was prepared from its bytes.
+/// A page of a document with its prepared body, which is what is kept of its bytes when it is placed on a sheet.
+/// The page comments and the page setup lines of DSC 3.0 are dropped. It takes 32 bytes. It takes more memory only
+/// if the body isn't the rest of the page, or if the page was prepared from its bytes.
 #[derive(Drop)]
 pub struct Prepared<'d> {
-    kept: Kept<'d>,
+    kept: KeptBody<'d>,
 }
 
-/// A shelf holds every page until its run ends, so a page takes as little as it can: most bodies are the rest of their
-/// page.
+/// A shelf holds every page until its run ends, so pages are kept small: most bodies are the rest of their page.
 #[derive(Drop)]
-enum Kept<'d> {
+enum KeptBody<'d> {
     Rest {
         raw: &'d [u8],
         page: u32,
-        /// From which byte on the rest is the body.
+        /// The byte from which on the rest is the body.
         start: u32,
     },
     Boxed(Box<Whole<'d>>),
@@ -69,7 +68,7 @@ impl<'d> Prepared<'d> {
         }
     }
 
-    /// A page of a document, counted from 0, with its prepared body. Refused for memory alone.
+    /// A page of a document, counted from 0, with its prepared body. Refused only for lack of memory.
     pub fn of_page(
         alloc: Global,
         document: &Document<'d>,
@@ -83,7 +82,7 @@ impl<'d> Prepared<'d> {
         let raw = document.page(page);
         if let Some(start) = document.body_start(page) {
             return Ok(Prepared {
-                kept: Kept::Rest { raw, page, start },
+                kept: KeptBody::Rest { raw, page, start },
             });
         }
         let body = document.body(alloc, page)?;
@@ -102,7 +101,7 @@ impl<'d> Prepared<'d> {
     {
         let whole = Box::new(alloc, Whole { raw, page, body })?;
         Ok(Prepared {
-            kept: Kept::Boxed(whole),
+            kept: KeptBody::Boxed(whole),
         })
     }
 
@@ -111,18 +110,18 @@ impl<'d> Prepared<'d> {
         ensures { result ≡ self.now.page }
     {
         match &self.kept {
-            Kept::Rest { page, .. } => *page,
-            Kept::Boxed(whole) => whole.page,
+            KeptBody::Rest { page, .. } => *page,
+            KeptBody::Boxed(whole) => whole.page,
         }
     }
 
-    /// The bytes of the page, as they stand in the input.
+    /// The bytes of the page, as they are in the input.
     pub fn raw(&self) -> &'d [u8]
         ensures { result.now ≡ self.now.raw }
     {
         match &self.kept {
-            Kept::Rest { raw, .. } => raw,
-            Kept::Boxed(whole) => whole.raw,
+            KeptBody::Rest { raw, .. } => raw,
+            KeptBody::Boxed(whole) => whole.raw,
         }
     }
 
@@ -132,8 +131,8 @@ impl<'d> Prepared<'d> {
         ensures prepared { prepared self.now.raw ≡ Ok result.now }
     {
         match &self.kept {
-            Kept::Rest { raw, start, .. } => &raw[*start as usize..],
-            Kept::Boxed(whole) => whole.body.as_slice(),
+            KeptBody::Rest { raw, start, .. } => &raw[*start as usize..],
+            KeptBody::Boxed(whole) => whole.body.as_slice(),
         }
     }
 }

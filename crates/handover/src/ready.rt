@@ -11,7 +11,7 @@ ghost use Rattle.handover.specs.Steps.{opened};
 use crate::pass::{Pass, WHOLE_SHARE};
 use crate::room::{both_rooms, may_put, room_after_put, room_given, room_kept};
 use crate::rule::{OneHistory, View};
-use crate::steps::{Both, Cut, Opens, Picks, Puts, Takes};
+use crate::steps::{Both, HistoryCut, Opens, Picks, Puts, Takes};
 use crossbeam_queue::RuledArrayQueue;
 use std::alloc::{AllocError, Global};
 use std::marker::{Brand, Model};
@@ -27,8 +27,8 @@ type Line = RuledArrayQueue<u32, View, OneHistory>;
 
 /// The sheets that are ready, oldest first: a bounded queue for many threads, without a lock.
 ///
-/// Each call takes a `Pass` of the queue. In any schedule a put that is accepted and a take that gives a sheet are one
-/// step each, and stand in one history of the queue, which begins with all that the caller had seen.
+/// Each call takes a `Pass` of the queue. In any schedule an accepted put is one step, and so is a take that
+/// returns a sheet. They are in one history of the queue, which begins with all that the caller had seen.
 #[derive(Drop)]
 pub struct Ready {
     line: Line,
@@ -61,11 +61,11 @@ impl Ready {
         Ok((ready, pass))
     }
 
-    /// The same of a queue in which puts are made by right: the pass has room for as many puts as the queue has, which can
-    /// be split among others. A put of a pass with room isn't refused, and lowers it. One of a pass without room is
-    /// refused, but for a pass that has all shares: what room there is may belong to others.
+    /// The same for a queue in which puts are made by right. The pass has room for as many puts as the queue's
+    /// capacity, and the room can be split. A pass with room can always put; each put lowers its room. A pass
+    /// without room is refused, unless it has all shares: the room that there is may belong to others.
     ///
-    /// No take gives room back: the capacity is that of all puts that are ever made by right.
+    /// No take gives room back: the capacity is the number of all puts that are ever made by right.
     pub fn by_right(alloc: Global, capacity: u32) -> Result<(Ready, Pass), AllocError>
         requires { 0 < capacity }
         ensures capacity { IfOk result (λ made. made.0.capacity ≡ capacity) }
@@ -82,9 +82,9 @@ impl Ready {
         Ok((ready, pass))
     }
 
-    /// Puts a sheet behind all others. It may wait for another thread that is in the way.
-    /// Refused with Full, which hands the sheet back, only if the queue was full at some moment of the call; or, if puts
-    /// are made by right, only if the pass has no room.
+    /// Puts a sheet after all others. It may wait for another thread that is in the way. Refused with Full, which
+    /// returns the sheet, only if the queue was full at some moment of the call. If puts are made by right, it is
+    /// refused only if the pass has no room.
     pub fn put<R: Wait>(&self, rt: &R, pass: &mut Pass, sheet: u32) -> Result<(), Full>
         requires { IsPassOf self.now pass.old }
         ensures pass { IsPassOf self.now pass.new }
@@ -135,7 +135,7 @@ impl Ready {
         self.split_with_room(pass, give, 0)
     }
 
-    /// The same with so much of the room.
+    /// The same with this much of the room.
     pub fn split_with_room(&self, pass: &mut Pass, give: u64, room: u32) -> Pass
         requires pass { IsPassOf self.now pass.old }
         requires share { (0 < give) × (give < pass.old.share) }
@@ -162,7 +162,7 @@ impl Ready {
         ensures given { result ≡ record pass.old { own = []; share = give; room = room_given room pass.old.room } }
         ensures passes { IsPass pass.new × IsPass result }
     {
-        let token = self.line.another::<Cut<N>>(&mut pass.token);
+        let token = self.line.another::<HistoryCut<N>>(&mut pass.token);
         let given = room_given(room, pass.room);
         pass.room = room_kept(room, pass.room);
         pass.share -= give;
@@ -173,7 +173,7 @@ impl Ready {
         }
     }
 
-    /// One pass in place of two: it has seen what either had, and has the moves, the shares and the room of both.
+    /// One pass from two: it has seen what either had seen, and has the moves, the shares and the room of both.
     pub fn join(&self, one: Pass, two: Pass) -> Pass
         requires one { IsPassOf self.now one }
         requires two { IsPassOf self.now two }
@@ -199,7 +199,7 @@ impl Ready {
     }
 }
 
-/// Tells the pass that a queue was made with the queue's capacity, and its room.
+/// The pass with which a queue was made learns the queue's capacity, and gets its room.
 fn open<N: Picks>(line: &Line, token: &mut crossbeam_queue::Pass<u32, View>)
     requires token { Rattle.crossbeam_queue.specs.Passes.IsPassOf line.now token.old × (view token.old ≡ opening) }
     requires number { (N.number ≤ u32.MAX) × (puts_in N.room ≤ N.number) }

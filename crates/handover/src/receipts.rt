@@ -1,4 +1,4 @@
-//! What the shelf answers a put with.
+//! The answers of the shelf to a put.
 ghost use Rattle.std.specs.Prelude.{◌≡◌, ◌<◌};
 
 use crate::entry::{Entry, ToldTruly};
@@ -8,7 +8,7 @@ use std::alloc::Global;
 use std::fmt;
 use std::marker::Model;
 
-/// The token of an entry of a shelf: which page was put, and at which index.
+/// The token of an entry of a shelf: which page was put there, and at which index.
 #[derive(Drop)]
 pub struct Receipt<'d> {
     pub(crate) token: Pushed<Entry<'d>, Global, ToldTruly>,
@@ -36,7 +36,8 @@ impl<'d> Receipt<'d> {
     }
 }
 
-/// The token of an entry whose index has more than 32 bits, so that no receipt names it. The entry stays on the shelf.
+/// The token of an entry whose index has more than 32 bits, so that it has no receipt. The entry stays on the
+/// shelf.
 #[derive(Drop)]
 pub struct Overflow<'d> {
     pub(crate) token: Pushed<Entry<'d>, Global, ToldTruly>,
@@ -68,9 +69,9 @@ impl<'d> Overflow<'d> {
 /// Why a put gives no receipt.
 #[derive(Debug, Drop)]
 pub enum PutError<'d> {
-    /// A growth was refused. The shelf is as it was, and the page comes back.
+    /// Memory for growth was refused. The shelf is unchanged, and the page is returned.
     NoMemory(Prepared<'d>),
-    /// The page is on the shelf, at an index past those that a receipt can name.
+    /// The page is on the shelf, at an index beyond those that a receipt can have.
     ShelfFull(Overflow<'d>),
 }
 

@@ -1,4 +1,4 @@
-//! The room of a pass: how many puts it may make that aren't refused. None if puts aren't made by right.
+//! The room of a pass: how many puts it may make that won't be refused. None if puts aren't made by right.
 ghost use Rattle.std.specs.Prelude.{◌≡◌, ◌≢◌, ℕ, ◌+◌, ◌≤◌, Some, IsTrue, false};
 ghost use Rattle.histories.specs.Seats.{whole_share};
 ghost use Rattle.handover.specs.Queue.{Put};
@@ -6,8 +6,8 @@ ghost use Rattle.handover.specs.Passes.{puts_in, room_after, room_kept, room_giv
 
 use crate::pass::WHOLE_SHARE;
 
-/// Whether a put may be tried by a pass with this room and this share. If puts are made by right and it has no room left,
-/// all that there is may belong to others.
+/// Whether a pass with this room and this share may try to put. If puts are made by right and it has no room left,
+/// what there is may belong to others.
 pub(crate) fn may_put(room: Option<u32>, share: u64) -> bool
     ensures may { IsTrue result → room ≡ Some 0 → share ≡ whole_share }
     ensures none_left { result ≡ false → (room ≡ Some 0) × (share ≢ whole_share) }
@@ -28,7 +28,7 @@ pub(crate) fn room_after_put(room: Option<u32>) -> Option<u32>
     }
 }
 
-/// What is kept if so much is given away.
+/// The room that is kept if this much is given away.
 pub(crate) fn room_kept(give: u32, room: Option<u32>) -> Option<u32>
     requires { give ≤ puts_in room }
     ensures { result ≡ room_kept give room }
@@ -39,7 +39,7 @@ pub(crate) fn room_kept(give: u32, room: Option<u32>) -> Option<u32>
     }
 }
 
-/// What is given.
+/// The room that is given.
 pub(crate) fn room_given(give: u32, room: Option<u32>) -> Option<u32>
     ensures { result ≡ room_given give room }
 {

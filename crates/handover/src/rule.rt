@@ -2,8 +2,8 @@
 use crossbeam_queue::protocol::Protocol;
 use std::marker::Model;
 
-/// What a pass knows: a history that its caller has seen, the caller's own moves in it, and how many puts it may make by
-/// right. No value of it is made.
+/// What a pass knows: a history that its caller has seen, the caller's own moves in it, and how many puts it may
+/// make by right. No value of this type is ever made.
 pub struct View {
     nothing: (),
 }
@@ -16,8 +16,8 @@ impl Model for View {
     ghost view = { λ v. spent };
 }
 
-/// Between any two steps there is one history, whose content the queue holds and which every pass has seen a beginning
-/// of; and the queue has room for what it holds and for all puts that may be made by right.
+/// Between any two steps there is one history. The queue holds its content, and every pass has seen a beginning of
+/// it. The queue has room for its content and for all puts that may be made by right.
 pub struct OneHistory;
 
 impl Protocol<u32, View> for OneHistory {

@@ -12,8 +12,8 @@ use std::alloc::{AllocError, Global};
 use std::marker::Model;
 use std::sync::Wait;
 
-/// Prepared pages, shared by many threads without a lock: it only grows, and a page stays where it was put. It may be the
-/// shelf of a document: then it tells of each page whether it was put as one of this document.
+/// Prepared pages, shared by many threads without a lock. A shelf only grows, and a page stays where it was put. A
+/// shelf may belong to a document: then it knows of each page whether it was put as one of this document.
 #[derive(Drop)]
 pub struct Shelf<'d> {
     list: boxcar::Vec<Entry<'d>, Global, ToldTruly>,
@@ -27,7 +27,7 @@ impl<'d> Model for Shelf<'d> {
     ghost view = { λ s. s.list };
 }
 
-/// A page on a shelf, the receipt of its entry, and whether it was put as one of the document that the shelf is of.
+/// A page on a shelf, the receipt of its entry, and whether it was put there as one of the document of the shelf.
 #[derive(Drop)]
 pub struct Shelved<'a, 'd> {
     pub page: &'a Prepared<'d>,
@@ -36,13 +36,13 @@ pub struct Shelved<'a, 'd> {
 }
 
 impl<'d> Shelf<'d> {
-    /// An empty shelf, of no document.
+    /// An empty shelf, without a document.
     pub fn new(alloc: Global) -> Result<Shelf<'d>, AllocError> {
         let list = boxcar::Vec::with_rule(alloc, Tag::empty())?;
         Ok(Shelf { list })
     }
 
-    /// An empty shelf, that of this document.
+    /// An empty shelf of this document.
     pub fn of_document(alloc: Global, document: &Document<'_>) -> Result<Shelf<'d>, AllocError>
         ensures of { IfOk result (λ shelf. IsShelfOf shelf document.now) }
     {
@@ -52,7 +52,8 @@ impl<'d> Shelf<'d> {
     }
 
     /// Puts a page on the shelf. It may spin while another thread makes room.
-    /// Refused with NoMemory, which hands the page back, and with ShelfFull, if the page's index has more than 32 bits.
+    /// Refused with NoMemory, which returns the page, and with ShelfFull, if the page's index has more than 32
+    /// bits.
     pub fn put<R: Wait>(&self, rt: &R, prepared: Prepared<'d>) -> Result<Receipt<'d>, PutError<'d>>
         ensures put { IfOk result (λ receipt. IsOn self.now receipt × (receipt.value ≡ prepared.entry)) }
         ensures refused { IfErr result (GivesNoReceipt self.now prepared.entry) }
@@ -60,7 +61,7 @@ impl<'d> Shelf<'d> {
         self.put_as(rt, prepared, false)
     }
 
-    /// Puts a page as `put` does, and notes that it is one of the document that the shelf is of, if it is put as such.
+    /// Puts a page like `put`, and records whether it is put as one of the document of the shelf.
     pub fn put_as<R: Wait>(
         &self,
         rt: &R,
@@ -87,7 +88,7 @@ impl<'d> Shelf<'d> {
         }
     }
 
-    /// The page that was put for this receipt, which is one of this shelf.
+    /// The page that was put for this receipt of this shelf.
     pub fn read<'a>(&'a self, receipt: &Receipt<'d>) -> &'a Prepared<'d>
         requires { IsOn self.now receipt.now }
         ensures { result.now ≡ receipt.now.value }
@@ -95,8 +96,8 @@ impl<'d> Shelf<'d> {
         &self.list.value(&receipt.token).page
     }
 
-    /// The page that was put at an index, if the shelf shows one. `find` gives its receipt too, by which a clause tells that
-    /// it is this page.
+    /// The page at an index, if the shelf has one. `find` also returns its receipt, which allows a clause to say
+    /// that it is this page.
     pub fn at(&self, index: u32) -> Option<&Prepared<'d>>
         ensures prepared { IfSome result (λ page. IsPrepared page.now) }
     {
@@ -104,8 +105,8 @@ impl<'d> Shelf<'d> {
         Some(found.page)
     }
 
-    /// The page that was put at an index, if the shelf shows one, with the receipt of its entry, and whether it is one of
-    /// the document that the shelf is of, by what it was put as.
+    /// The page at an index, if the shelf has one, with the receipt of its entry, and whether it was put as one of
+    /// the document of the shelf.
     pub fn find(&self, index: u32) -> Option<Shelved<'_, 'd>>
         ensures shown { IfSome result (λ found. IsOn self.now found.receipt × (found.receipt.index ≡ index)
             × (found.receipt.value ≡ found.page.now)) }
@@ -115,7 +116,7 @@ impl<'d> Shelf<'d> {
         let token = self.list.witness(index as usize)?;
         let entry = self.list.get_seen(index as usize, &token)?;
         let page = &entry.page;
-        // It tells that its body is the prepared form of its bytes.
+        // Calling it shows that its body is the prepared form of its bytes.
         page.body();
         Some(Shelved {
             page,
@@ -124,8 +125,8 @@ impl<'d> Shelf<'d> {
         })
     }
 
-    /// An index has one page: two receipts of this shelf that have it are of the same page, whoever got them. It does
-    /// nothing.
+    /// An index has one page: two receipts of this shelf with the same index are of the same page, whoever got
+    /// them. It does nothing.
     pub fn agree(&self, one: &Receipt<'d>, two: &Receipt<'d>)
         requires one { IsOn self.now one.now }
         requires two { IsOn self.now two.now }

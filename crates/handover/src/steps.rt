@@ -1,4 +1,4 @@
-//! What each step tells, and how passes are split and joined.
+//! What each step reveals, and how passes are split and joined.
 use crate::rule::View;
 use crossbeam_queue::protocol::{Join, Lesson, Outcome, Split};
 use std::marker::{Brand, PhantomData};
@@ -52,12 +52,12 @@ impl Picks for Brand {
     ghost room = { None };
 }
 
-/// A split: the number is the share that is given, and the room is given with it.
-pub(crate) struct Cut<N: Picks> {
+/// A split: the number is the share that is given, together with the room.
+pub(crate) struct HistoryCut<N: Picks> {
     of: PhantomData<N>,
 }
 
-impl<N: Picks> Split<View> for Cut<N> {
+impl<N: Picks> Split<View> for HistoryCut<N> {
     ghost use Rattle.handover.specs.Passes.{puts_in};
     ghost use Rattle.handover.specs.Steps.{keeps_of, gets_of};
 
@@ -66,7 +66,7 @@ impl<N: Picks> Split<View> for Cut<N> {
     ghost right = { gets_of N.number (puts_in N.room) };
 }
 
-/// A join, and the look behind it, by which the pass learns what the rule says of it.
+/// A join, and the look after it, from which the pass learns what the rule says about it.
 pub(crate) struct Both;
 
 impl Join<View> for Both {
@@ -84,7 +84,7 @@ impl Lesson<u32, View> for Both {
     ghost fact = { Learns };
 }
 
-/// Before the first move the pass is told the capacity, which is the number, and its room.
+/// Before the first move the pass learns the capacity, which is the number, and gets its room.
 pub(crate) struct Opens<N: Picks> {
     of: PhantomData<N>,
 }

@@ -11,7 +11,7 @@ use Rattle.histories.proofs.Runs.{Runs, run_begins, run_places, run_owns, run_st
 use Rattle.histories.proofs.Totals.{total-append, times-append}
 
 module _ {K E : Type 0} (Legal : K → List E → Type 0) where
-  -- one call more, and calls after calls
+  -- one more call, and calls after calls
   pub makes_push : (old mid new : SeatView K E) (es : List E) (e : E) → Makes Legal old es mid → Made Legal mid e new → Makes Legal old (es ++ e ∷ []) new
   makes_push old mid new [] e m d = (new, subst (λ z. Made Legal z e new) (sym m) d, refl)
   makes_push old mid new (x ∷ es) e m d = (m.0, m.1, makes_push m.0 mid new es e m.2 d)
@@ -33,7 +33,7 @@ module _ {K E : Type 0} (Legal : K → List E → Type 0) where
   seat_makes old new [] k m = subst (IsSeat Legal) m k
   seat_makes old new (e ∷ es) k m = seat_makes m.0 new es m.1.after m.2
 
-  -- the table, what it is of, and the share stay
+  -- the table, the subject and the share stay
   pub same_makes : (old new : SeatView K E) (es : List E) → Makes Legal old es new → new ≡ record old { front = new.front; own = new.own }
   same_makes old new [] m = subst (λ (z : SeatView K E). z ≡ record old { front = z.front; own = z.own }) m refl
   same_makes old new (e ∷ es) m =

@@ -1,4 +1,4 @@
--- Where the calls of a course stand.
+-- Where the calls of a course are.
 use Rattle.std.proofs.Common.{◌≡◌, ⊎_elim, ◌⊎◌, ℕ, zero, suc, ◌+◌, ◌<◌, ◌≤◌, List, [], ◌∷◌, ◌++◌, length, refl, sym, ap, ◌∙◌, subst, arith, append_assoc, append-nil, length-append}
 use Rattle.std.specs.Prelude.{Some, slice_get}
 use mathlib.Core.List.{IsPrefix}
@@ -15,7 +15,7 @@ module _ {E : Type 0} where
   there_later (y ∷ log) more zero e at = at
   there_later (y ∷ log) more (suc x) e at = there_later log more x e at
 
-  -- a course stands in a history that goes on, and before any later place
+  -- a course that is in a history is also in a longer one, and before any later place
   course_later : (log later : List E) (n m m' : ℕ) (places : List ℕ) (c : Course E) → IsPrefix log later → m ≤ m' → CourseStands log n m places c → CourseStands later n m' places c
   course_later log later n m m' places Rests p le s = (omega (arith, s.0), s.1)
   course_later log later n m m' places (Calls e) p le s = (s.0, s.1, omega (arith, s.2), subst (λ (l : List E). slice_get l s.0 ≡ Some e) p.1 (there_later log p.0 s.0 e s.3), s.4)
@@ -26,7 +26,7 @@ module _ {E : Type 0} where
   course_later log later n m m' places (InTwo c d) p le s = (s.0, s.1, course_later log later n m m' s.0 c p le s.2, course_later log later n m m' s.1 d p le s.3, s.4)
 
 module _ {K E : Type 0} (Legal : K → List E → Type 0) where
-  -- what the law says of a course, but for the seat at its end
+  -- what the law says of a course, except for the seat at its end
   record Stands (old : SeatView K E) (c : Course E) (new : SeatView K E) : Type 0 where
     begins : IsPrefix old.front new.front
     places : List ℕ

@@ -9,7 +9,7 @@ use Rattle.histories.specs.Own.{entry_at, entries_at, IsHeld}
 use Rattle.histories.proofs.Totals.{total-append, times-append, times_push, times_same, times_else, not_pos, pos_or}
 use Rattle.histories.proofs.Fronts.{length_begins}
 
--- what stands before the end stays where the list grows
+-- what is before the end stays where it is if the list grows
 module _ {E : Type 0} (log more : List E) where
   entry_stays : (x : ℕ) → x < length log → entry_at (log ++ more) x ≡ entry_at log x
   entry_stays x lt = early log x lt
@@ -36,7 +36,7 @@ module _ {E : Type 0} where
   entry_last [] e = refl
   entry_last (x ∷ log) e = entry_last log e
 
-  -- one entry more
+  -- one more entry
   pub entries_added : (front between : List E) (own : List ℕ) (e : E) → ((x : ℕ) → 0 < times x own → x < length front)
       → entries_at ((front ++ between) ++ e ∷ []) (own ++ length (front ++ between) ∷ []) ≡ entries_at front own ++ e ∷ []
   entries_added front between own e inside =
@@ -55,7 +55,7 @@ module _ {E : Type 0} where
       → entries_at (longer a b) (own ++ mine) ≡ entries_at a own ++ entries_at b mine
   entries_joined a b own mine p q h k = entries_at-append (longer a b) own mine ∙ (λ i. entries_longer a (longer a b) own p h i ++ entries_longer b (longer a b) mine q k i)
 
-  -- the own places of both lie in the longer front
+  -- the own places of both are places of the longer front
   pub joined_inside : (a b : List E) (own mine : List ℕ) → IsPrefix a (longer a b) → IsPrefix b (longer a b) → ((x : ℕ) → 0 < times x own → x < length a) → ((x : ℕ) → 0 < times x mine → x < length b)
       → (x : ℕ) → 0 < times x (own ++ mine) → x < length (longer a b)
   joined_inside a b own mine p q h k x has = let t = times-append x own mine in ⊎_elim
@@ -123,7 +123,7 @@ module _ {E : Type 0} (Legal : List E → Type 0) where
     every = λ whole x lt. let t : times x (own ++ mine) ≡ times x own + times x mine = times-append x own mine in let e = every whole x lt in omega arith;
   }
 
-  -- a seat that has seen more, and isn't the only one
+  -- a seat that has seen more, and doesn't have all shares
   pub held_further : (a b : List E) (own : List ℕ) (share : ℕ) → IsHeld Legal a own share → Legal b → IsPrefix a b → share < whole_share → IsHeld Legal b own share
   held_further a b own share k legal p less = record {
     legal = legal;
@@ -142,7 +142,7 @@ module _ {E : Type 0} (Legal : List E → Type 0) where
       let legal = longer_legal a b ka.legal kb.legal in
       (held_further a (longer a b) own share ka legal p (omega arith), held_further b (longer a b) mine part kb legal q (omega arith))
 
-  -- a seat that gives some of its share, and the seat that gets it
+  -- a seat that gives a part of its share, and the seat that gets it
   pub held_keeps : (front : List E) (own : List ℕ) (share give : ℕ) → IsHeld Legal front own share → 0 < give → give < share → IsHeld Legal front own (share - give)
   held_keeps front own share give k some less = record {
     legal = k.legal;
@@ -187,7 +187,7 @@ below_zero : (n : ℕ) → below (λ x. 0) n ≡ 0
 below_zero zero = refl
 below_zero (suc n) = let h = below_zero n in omega arith
 
--- f at y alone
+-- f at y, and 0 elsewhere
 abbrev only : ℕ → (ℕ → ℕ) → ℕ → ℕ
 only y f x = if y == x then f x else 0
 
@@ -207,7 +207,7 @@ below_one y f (suc n) lt = dite (ℕ_discrete y n)
     (λ other. let h = below_one y f n (omega arith) in
     let z : only y f n ≡ 0 = ap (λ b. if b then f n else 0) (ne_eqb y n other) in omega arith)
 
--- the weight of x, as often as x stands in the list
+-- the weight of x, as many times as x is in the list
 abbrev each : (ℕ → ℕ) → List ℕ → ℕ → ℕ
 each f [] x = 0
 each f (y ∷ ys) x = only y f x + each f ys x
@@ -270,7 +270,7 @@ module _ {E : Type 0} (h : E → ℕ) where
       let all = weighed_all front in
       omega arith
 
-  -- own entries, each once, weigh no more than all
+  -- own entries, each once, weigh no more than all entries
   pub part_weight : (front : List E) (own : List ℕ) → ((x : ℕ) → 0 < times x own → x < length front) → ((x : ℕ) → times x own ≤ 1) → total h (entries_at front own) ≤ total h front
   part_weight front own inside once =
       let places = weighed_places front own in

@@ -1,4 +1,4 @@
--- Entries that a seat makes one after the other, each behind what others made meanwhile.
+-- Entries that a seat makes one after the other, each after what others made in the meantime.
 use Rattle.std.proofs.Common.{◌≡◌, ℕ, suc, ◌<◌, List, [], ◌∷◌, ◌++◌, length, refl, sym, ap, ◌∙◌, subst, arith, append_assoc, append-nil, length-append}
 use Rattle.std.specs.Prelude.{Some, slice_get}
 use mathlib.Core.List.{IsPrefix}
@@ -49,7 +49,7 @@ module _ {E : Type 0} where
         subst (λ (n : ℕ). StandAt later n places es) len (run_stands share (log ++ e ∷ []) (own ++ length log ∷ []) es later more r.3),
       )
 
-  -- a seat with all shares makes them behind its front, with no others between
+  -- a seat with all shares makes them directly after its front, without others between them
   pub run_alone : (share : ℕ) (front : List E) (own : List ℕ) (es later : List E) (more : List ℕ) → Runs share front own es later more → share ≡ whole_share → later ≡ front ++ es
   run_alone share front own [] later more r whole = sym r.0 ∙ sym (append-nil front)
   run_alone share front own (e ∷ es) later more r whole =
@@ -57,7 +57,7 @@ module _ {E : Type 0} where
       let here : log ++ e ∷ [] ≡ front ++ e ∷ [] = ap (λ (l : List E). l ++ e ∷ []) (ap (λ (b : List E). front ++ b) (r.1 whole) ∙ append-nil front) in
       run_alone share (log ++ e ∷ []) (own ++ length log ∷ []) es later more r.3 whole ∙ ap (λ (l : List E). l ++ es) here ∙ append_assoc front (e ∷ []) es
 
-  -- they are the seat's own entries, behind those that it had
+  -- they are the seat's own entries, after those that it had
   pub run_entries : (share : ℕ) (front : List E) (own : List ℕ) (es later : List E) (more : List ℕ) → Runs share front own es later more → entries_at later more ≡ entries_at front own ++ es
   run_entries share front own [] later more r = (λ i. entries_at (sym r.0 i) (sym r.1 i)) ∙ sym (append-nil (entries_at front own))
   run_entries share front own (e ∷ es) later more r =

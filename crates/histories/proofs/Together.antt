@@ -1,4 +1,4 @@
--- All seats of one moment, and their own entries together.
+-- All seats at one moment, and their own entries together.
 use Rattle.std.proofs.Common.{◌≡◌, ⊎_elim, ℕ, suc, ◌+◌, ◌<◌, ◌≤◌, List, [], ◌∷◌, ◌++◌, length, refl, ap, arith}
 use mathlib.Core.Option.{some}
 use lib.ListN.{get_elem?}

@@ -1,4 +1,4 @@
--- What a step tells, as clauses see it, and that a seat between two calls stays one.
+-- What a step reveals, as clauses see it; and a seat between two calls stays one.
 use Rattle.std.proofs.Common.{◌≡◌, ℕ, ◌+◌, ◌-◌, ◌<◌, List, [], ◌++◌, refl, sym, ap, ◌∙◌, subst, arith}
 use Rattle.atomic_table.specs.Seated.{TableId}
 use Rattle.histories.specs.Seats.{Sight, Adds, Learned, keeps_back, given, absorbed, opening_sight, longer, times, whole_share}
@@ -75,7 +75,7 @@ module _ {K E : Type 0} (Legal : K → List E → Type 0) where
       subst (λ (z : SeatView K E × SeatView K E × TableId × Sight K E). Joined Legal z.0 z.1 (seat_view z.2 z.3)) (λ i. (is_a i, is_b i, sym same i, sym is i))
       (joined_base t tw v w (subst Learned is l) key hv hw)
 
-  -- a meeting: two seats join, and are split again, each with its own places and its share
+  -- a meeting: two seats are joined, and split again, each with its own places and its share
   held_both : (v w : Sight K E) → Learned (absorbed v w) → w.key ≡ v.key → Held v → Held w
       → IsHeld (Legal v.key) (longer v.front w.front) v.own v.share × IsHeld (Legal v.key) (longer v.front w.front) w.own w.share
   held_both v w l key hv hw =

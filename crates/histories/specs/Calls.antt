@@ -1,12 +1,12 @@
--- Seats as clauses see them, and what their calls leave. K is what a history is of, E an entry, and Legal says which
--- histories are legal.
+-- Seats as clauses see them, and what their calls leave. K is the type of a history's subject and E that of an
+-- entry; Legal says which histories are legal.
 use Rattle.std.specs.Prelude.{◌≡◌, ℕ, ◌+◌, ◌-◌, ◌<◌, ◌≤◌, List, [], ◌∷◌, ◌++◌, length}
 use mathlib.Core.List.{IsPrefix}
 use Rattle.atomic_table.specs.Seated.{TableId}
 use Rattle.histories.specs.Seats.{Sight, whole_share, longer, times}
 use Rattle.histories.specs.Own.{entries_at, IsHeld}
 
--- a seat: of what it is one, what its history is of, the history that its caller has seen, the places in it of the
+-- a seat: its table, the subject of its history, the history that its caller has seen, the places in it of the
 -- caller's own entries, and its share
 pub record SeatView (K E : Type 0) : Type 0 where
   pub table : TableId
@@ -16,14 +16,14 @@ pub record SeatView (K E : Type 0) : Type 0 where
   pub share : ℕ
 
 module _ {K E : Type 0} where
-  -- what is seen of a seat of this table that knows this
+  -- the view of a seat of this table that knows this
   abbrev pub seat_view : TableId → Sight K E → SeatView K E
   seat_view table v = record { table = table; key = v.key; front = v.front; own = v.own; share = v.share }
 
   abbrev pub IsOf : TableId → K → SeatView K E → Type 0
   IsOf table key seat = (seat.table ≡ table) × (seat.key ≡ key)
 
-  -- the first seat: it has all shares, and has seen nothing yet
+  -- the first seat: it has all shares, and has seen nothing
   abbrev pub opening : TableId → K → SeatView K E
   opening table key = record { table = table; key = key; front = []; own = []; share = whole_share }
 
@@ -31,7 +31,8 @@ module _ {K E : Type 0} where
   abbrev pub own_entries : SeatView K E → List E
   own_entries seat = entries_at seat.front seat.own
 
-  -- two seats of one history: the front of each begins the longer one, and no place is an own place of both
+  -- two seats of one history: the front of each is a beginning of the longer one, and no place is an own place of
+  -- both
   pub record Agree (a b : SeatView K E) : Type 0 where
     pub one : IsPrefix a.front (longer a.front b.front)
     pub two : IsPrefix b.front (longer a.front b.front)
@@ -49,8 +50,8 @@ module _ {K E : Type 0} where
   }
 
 module _ {K E : Type 0} (Legal : K → List E → Type 0) where
-  -- what every seat keeps to: its front is legal, its own places lie in it, each once, and with all shares they are all
-  -- places of it
+  -- what every seat keeps to: its front is legal, and its own places are places of the front, each once; with all
+  -- shares they are all places of it
   abbrev pub IsSeat : SeatView K E → Type 0
   IsSeat seat = IsHeld (Legal seat.key) seat.front seat.own seat.share
 
@@ -58,14 +59,14 @@ module _ {K E : Type 0} (Legal : K → List E → Type 0) where
   pub record Made (old : SeatView K E) (e : E) (new : SeatView K E) : Type 0 where
     -- what others did meanwhile
     pub between : List E
-    -- the new front begins with the old one, goes on with that, and ends with e, whose place is one more own place
+    -- the new front is the old one, then `between`, then e, whose place is one more own place
     pub grown : new ≡ record old {
       front = (old.front ++ between) ++ e ∷ [];
       own = old.own ++ length (old.front ++ between) ∷ [];
     }
-    -- if the seat has all shares there are no others
+    -- if the seat has all shares, there are no others
     pub alone : old.share ≡ whole_share → between ≡ []
-    -- old and new seat keep what every seat keeps
+    -- the old and the new seat keep to what every seat keeps to
     pub before : IsSeat old
     pub after : IsSeat new
 
@@ -74,7 +75,7 @@ module _ {K E : Type 0} (Legal : K → List E → Type 0) where
   Makes old [] new = old ≡ new
   Makes old (e ∷ es) new = (mid : SeatView K E) × Made old e mid × Makes mid es new
 
-  -- a seat gave some of its share to a new one, which has the same front and no own places
+  -- a seat gave a part of its share to a new one, which has the same front and no own places
   pub record Split (old kept given : SeatView K E) : Type 0 where
     pub share : ℕ
     pub some_share : (0 < share) × (share < old.share)

@@ -1,5 +1,5 @@
--- What holds of seats by what their calls leave: where a caller's entries stand in the one history, and that they stay
--- its own.
+-- What the calls of seats leave implies these laws: where a caller's entries are in the one history, and that they
+-- stay its own.
 use Rattle.std.specs.Prelude.{◌≡◌, ◌⊎◌, ℕ, ◌+◌, ◌<◌, ◌≤◌, List, [], ◌∷◌, ◌++◌, length, Some, slice_get}
 use mathlib.Core.Option.{some}
 use mathlib.Core.List.{IsPrefix}
@@ -8,9 +8,9 @@ use Rattle.histories.specs.Seats.{Sight, AreSeats, whole_share, longer, owned, t
 use Rattle.histories.specs.Own.{StandAt, entries_at}
 use Rattle.histories.specs.Calls.{SeatView, IsSeat, Agree, Made, Makes, Split, Met, Joined, own_entries}
 
--- what a caller does with a seat: nothing; one call; it meets another seat; it gives a part of its share to a new seat
--- of somebody else; it takes in a seat of somebody else; one thing after the other; or it splits the seat in two, does
--- something with each part, the one beside the other, and joins them again
+-- what a caller does with a seat: nothing; one call; it meets another seat; it gives a part of its share to a new
+-- seat of another caller; it takes in another caller's seat; one thing after another; or it splits the seat in two,
+-- does something with each part, side by side, and joins them again
 pub data Course (E : Type 0) : Type 0 where
   Rests : Course E
   Calls : E → Course E
@@ -20,8 +20,8 @@ pub data Course (E : Type 0) : Type 0 where
   Then : Course E → Course E → Course E
   InTwo : Course E → Course E → Course E
 
--- the calls of a course stand in the history at these places, from place n on and before place m: each later call at a
--- later place, and the calls of two parts each in their order
+-- the calls of a course are in the history at these places, from place n on and before place m. Each later call is
+-- at a later place, and the calls of each of two parts are in order
 abbrev pub CourseStands : {E : Type 0} → List E → (n m : ℕ) → List ℕ → Course E → Type 0
 CourseStands log n m places Rests = (n ≤ m) × (places ≡ [])
 CourseStands log n m places (Calls e) = (x : ℕ) × (n ≤ x) × (x < m) × (slice_get log x ≡ Some e) × (places ≡ x ∷ [])
@@ -34,8 +34,9 @@ CourseStands log n m places (InTwo c d) = (xs : List ℕ) × (ys : List ℕ) × 
     × CourseStands log n m ys d × (places ≡ xs ++ ys)
 
 module _ {K E : Type 0} (Legal : K → List E → Type 0) where
-  -- these entries of a seat, made one after the other with whatever others did beside them, stand in one legal history,
-  -- which begins with all that the caller had seen: each at one place of its own, in the order in which they were made
+  -- these entries of a seat were made one after the other, while others may have made theirs. They are in one legal
+  -- history, which begins with all that the caller had seen: each at a place of its own, in the order in which they
+  -- were made
   pub record StandInOneHistory (old : SeatView K E) (es : List E) (new : SeatView K E) : Type 0 where
     pub legal : Legal old.key new.front
     pub begins : IsPrefix old.front new.front
@@ -49,7 +50,7 @@ module _ {K E : Type 0} (Legal : K → List E → Type 0) where
   CallsStandInOneHistory = (old new : SeatView K E) (es : List E) → IsSeat Legal old → Makes Legal old es new
       → StandInOneHistory old es new
 
-  -- the caller went this course, from one seat to another
+  -- the caller followed this course, from one seat to another
   abbrev pub Goes : SeatView K E → Course E → SeatView K E → Type 0
   Goes old Rests new = old ≡ new
   Goes old (Calls e) new = Made Legal old e new
@@ -65,8 +66,8 @@ module _ {K E : Type 0} (Legal : K → List E → Type 0) where
       × Split Legal old one two × Goes one c one' × Goes two d two'
       × (Joined Legal one' two' new ⊎ Joined Legal two' one' new)
 
-  -- the calls of a course stand in one legal history, which begins with all that the caller had seen: each at one place
-  -- of its own, which it hadn't before, and in the order of the course
+  -- the calls of a course are in one legal history, which begins with all that the caller had seen. Each is at a
+  -- place of its own, which it didn't have before, and in the order of the course
   pub record CourseStandsInOneHistory (old : SeatView K E) (course : Course E) (new : SeatView K E) : Type 0 where
     pub legal : Legal old.key new.front
     pub begins : IsPrefix old.front new.front
@@ -80,8 +81,8 @@ module _ {K E : Type 0} (Legal : K → List E → Type 0) where
   CoursesStandInOneHistory = (old new : SeatView K E) (course : Course E) → IsSeat Legal old → Goes old course new
       → CourseStandsInOneHistory old course new
 
-  -- an entry is one more own entry, a joined seat has those of both, and none is lost or given away in a meeting or a
-  -- split
+  -- an entry is one more own entry, a joined seat has those of both, and meeting or splitting neither loses entries
+  -- nor gives any away
   abbrev pub OwnEntriesAreKept : Type 0
   OwnEntriesAreKept = ((old new : SeatView K E) (es : List E) → Makes Legal old es new
       → own_entries new ≡ own_entries old ++ es)
@@ -92,30 +93,31 @@ module _ {K E : Type 0} (Legal : K → List E → Type 0) where
       × ((old kept given : SeatView K E) → Split Legal old kept given
       → (own_entries kept ≡ own_entries old) × (own_entries given ≡ []))
 
-  -- a seat that has all shares made all entries of its front: whatever is counted of them comes out the same
+  -- a seat that has all shares made all entries of its front: a count over its own entries is the count over the
+  -- front
   abbrev pub WholeSeatMadeAll : Type 0
   WholeSeatMadeAll = (seat : SeatView K E) (weight : E → ℕ) → IsSeat Legal seat → seat.share ≡ whole_share
       → total weight (own_entries seat) ≡ total weight seat.front
 
-  -- whatever is counted of the own entries of a seat, or of two seats that agree, is at most what it is of the history
-  -- that they have seen
+  -- a count over the own entries of a seat, or of two seats that agree, is at most the count over the history that
+  -- they have seen
   abbrev pub OwnEntriesAreOfTheFront : Type 0
   OwnEntriesAreOfTheFront = ((seat : SeatView K E) (weight : E → ℕ) → IsSeat Legal seat
       → total weight (own_entries seat) ≤ total weight seat.front)
       × ((a b : SeatView K E) (weight : E → ℕ) → IsSeat Legal a → IsSeat Legal b → Agree a b
       → total weight (own_entries a) + total weight (own_entries b) ≤ total weight (longer a.front b.front))
 
-  -- shares are neither made nor lost: a call and a meeting leave each seat its own, a joined seat has those of both,
-  -- and a split parts one into two
+  -- shares are neither made nor lost: a call and a meeting leave each seat its own, a joined seat has those of
+  -- both, and a split divides one into two
   abbrev pub SharesAreKept : Type 0
   SharesAreKept = ((old new : SeatView K E) (es : List E) → Makes Legal old es new → new.share ≡ old.share)
       × ((a b new : SeatView K E) → Joined Legal a b new → new.share ≡ a.share + b.share)
       × ((a b a' b' : SeatView K E) → Met Legal a b a' b' → (a'.share ≡ a.share) × (b'.share ≡ b.share))
       × ((old kept given : SeatView K E) → Split Legal old kept given → kept.share + given.share ≡ old.share)
 
-  -- all seats that there are at one moment, whether they ever met or not: there is one legal history, which begins with
-  -- what each of them has seen; no entry of it is an own entry of two of them; and whatever is counted of the own
-  -- entries of all of them is at most what it is of the history
+  -- all seats that exist at one moment, whether they ever met or not. There is one legal history, which begins with
+  -- what each of them has seen. No entry of it is an own entry of two of them. A count over the own entries of all
+  -- of them is at most the count over the history
   pub record StandTogether (key : K) (log : List E) (views : List (Sight K E)) : Type 0 where
     pub legal : Legal key log
     pub begins : (id : ℕ) (v : Sight K E) → get_elem? views id ≡ some v → IsPrefix v.front log

@@ -11,14 +11,14 @@ module _ {E : Type 0} where
   abbrev pub entries_at : List E → List ℕ → List E
   entries_at log places = flat_map (entry_at log) places
 
-  -- these entries stand in the history at these places, in this order, and none before place n
+  -- these entries are in the history at these places, in this order, and none before place n
   abbrev pub StandAt : List E → (n : ℕ) → List ℕ → List E → Type 0
   StandAt log n [] [] = Unit {0}
   StandAt log n [] (e ∷ es) = ⊥
   StandAt log n (x ∷ xs) [] = ⊥
   StandAt log n (x ∷ xs) (e ∷ es) = (n ≤ x) × (slice_get log x ≡ Some e) × StandAt log (suc x) xs es
 
-  -- the front is legal, the own places lie in it, each once, and with all shares they are all places of it
+  -- the front is legal, and the own places are places of it, each once; with all shares they are all places of it
   pub record IsHeld (Legal : List E → Type 0) (front : List E) (own : List ℕ) (share : ℕ) : Type 0 where
     pub legal : Legal front
     pub inside : (x : ℕ) → 0 < times x own → x < length front
@@ -27,7 +27,7 @@ module _ {E : Type 0} where
     pub most_share : share ≤ whole_share
     pub every : share ≡ whole_share → (x : ℕ) → x < length front → 0 < times x own
 
--- a seat between two calls: it has this share, and keeps what every seat keeps
+-- a seat between two calls: it has this share, and keeps to what every seat keeps to
 pub record StandsAlone {K E : Type 0} (Legal : K → List E → Type 0) (v : Sight K E) (its_share : ℕ) : Type 0 where
   pub share : its_share ≡ v.share
   pub held : IsHeld (Legal v.key) v.front v.own v.share

@@ -1,5 +1,5 @@
--- Seats: of one history of entries each has seen a beginning, and has made some of its entries. K is what the history
--- is of, and E an entry.
+-- Seats: each has seen a beginning of one history of entries, and has made some of these. K is the type of the
+-- history's subject, and E that of an entry.
 use Rattle.std.specs.Prelude.{◌≡◌, ℕ, ◌+◌, ◌-◌, ◌<◌, ◌≤◌, ◌==◌, List, [], ◌∷◌, ◌++◌, length, nat_lt, if◌then◌else◌}
 use mathlib.Core.Option.{some}
 use mathlib.Core.List.{IsPrefix}
@@ -16,12 +16,12 @@ abbrev pub total : {A : Type 0} → (A → ℕ) → List A → ℕ
 total f [] = 0
 total f (x ∷ xs) = f x + total f xs
 
--- how often x stands in the list
+-- how often x is in the list
 abbrev pub times : ℕ → List ℕ → ℕ
 times x ys = total (λ y. if y == x then 1 else 0) ys
 
--- what a seat knows: what its history is of, a beginning of it that was seen (the front), the places in it of the
--- entries that the seat made, and a share. The histories in `met` were seen too, by seats that were joined in
+-- what a seat knows: the subject of its history, a beginning of it that was seen (the front), the places in it of
+-- the entries that the seat made, and a share. The histories in `met` were seen too, by seats that were joined in
 pub record Sight (K E : Type 0) : Type 0 where
   pub key : K
   pub front : List E
@@ -35,7 +35,7 @@ AllBegin log [] = Unit {0}
 AllBegin log (f ∷ fs) = IsPrefix f log × AllBegin log fs
 
 module _ {K E : Type 0} where
-  -- the first seat: it has all shares, and has seen nothing yet
+  -- the first seat: it has all shares, and has seen nothing
   abbrev pub opening_sight : K → Sight K E
   opening_sight k = record { key = k; front = []; own = []; share = whole_share; met = [] }
 
@@ -43,14 +43,15 @@ module _ {K E : Type 0} where
   abbrev pub spent : K → Sight K E
   spent k = record { key = k; front = []; own = []; share = 0; met = [] }
 
-  -- a seat that keeps these places and gives g of its share away, and the seat that gets this share and these places
+  -- a seat that keeps these places and gives g of its share away, and a seat that gets these places and that share
   abbrev pub keeps_back : List ℕ → ℕ → Sight K E → Sight K E
   keeps_back places g v = record { key = v.key; front = v.front; own = places; share = v.share - g; met = v.met }
 
   abbrev pub given : List ℕ → ℕ → Sight K E → Sight K E
   given places g v = record { key = v.key; front = v.front; own = places; share = g; met = v.met }
 
-  -- two seats in one. Nothing tells yet that the shorter front begins the longer one, so both are kept in `met`
+  -- two seats in one. It isn't known yet that the shorter front is a beginning of the longer one, so both are kept
+  -- in `met`
   abbrev pub absorbed : Sight K E → Sight K E → Sight K E
   absorbed v w = record {
     key = v.key;
@@ -60,7 +61,7 @@ module _ {K E : Type 0} where
     met = v.front ∷ w.front ∷ v.met ++ w.met;
   }
 
-  -- the seat after the entry e, which comes behind the history log
+  -- the seat after the entry e, which follows the history log
   abbrev pub added : Sight K E → List E → E → Sight K E
   added v log e = record {
     key = v.key;
@@ -77,8 +78,8 @@ module _ {K E : Type 0} where
   abbrev pub share_of : Sight K E → ℕ
   share_of v = v.share
 
-  -- the front begins the history, and so does all that was met; the own places are places of the front; with no share
-  -- there are none
+  -- the front is a beginning of the history, and so are all histories in `met`; the own places are places of the
+  -- front; with no share there are none
   pub record IsSightOf (key : K) (log : List E) (v : Sight K E) : Type 0 where
     pub same_key : 0 < v.share → v.key ≡ key
     pub rest : List E
@@ -87,7 +88,7 @@ module _ {K E : Type 0} where
     pub idle : v.share ≡ 0 → v.own ≡ []
     pub met : AllBegin log v.met
 
-  -- each seat has seen a beginning of the one history. No place is an own place of two seats, and with all shares each
+  -- each seat has seen a beginning of the one history. No place is an own place of two seats; with all shares each
   -- place is some seat's own
   pub record AreSeats (key : K) (log : List E) (views : List (Sight K E)) : Type 0 where
     pub seats : (id : ℕ) (v : Sight K E) → get_elem? views id ≡ some v → IsSightOf key log v
@@ -96,15 +97,15 @@ module _ {K E : Type 0} where
     pub every : total share_of views ≡ whole_share → (x : ℕ) → x < length log → 0 < total (owned x) views
 
   -- the entry e was made: the new front is legal, begins with the old one, and ends with e, which is one more own
-  -- place. A whole seat has seen all that came before
+  -- place. A seat with all shares has seen everything before it
   pub record Adds (Legal : K → List E → Type 0) (v : Sight K E) (e : E) (w : Sight K E) : Type 0 where
     pub between : List E
     pub grown : w ≡ added v (v.front ++ between) e
     pub legal : Legal v.key w.front
     pub alone : v.share ≡ whole_share → between ≡ []
 
--- what a look at the rule tells a seat: all that was met begins one history; each own place is one once; and with all
--- shares each place of the front is an own one
+-- what a seat learns from a look at the rule: all histories in `met` are beginnings of one; each own place occurs
+-- once; and with all shares each place of the front is an own place
 pub record Learned {K E : Type 0} (v : Sight K E) : Type 0 where
   pub log : List E
   pub met : AllBegin log v.met

@@ -58,7 +58,7 @@ fn paper_size(rt: &(impl Env + AllocGlobal)) -> String {
     }
 }
 
-/// Ends with a fault before the words are read, or behind the help.
+/// Ends with a fault before the words are read, or after the help.
 fn stop(rt: &HostRuntime, fault: Fault) -> ExitCode {
     let status = fault_status(&fault);
     let text = text_said(rt.alloc(), &Err(fault), None, &[]);

@@ -10,11 +10,11 @@ use Rattle.made_sheets.specs.Made.{MadeSheet}
 use Rattle.made_sheets.specs.MadePlans.{MadeTooManyPages, MadeTooManySheets, made_plan_of}
 use Rattle.imposed_again.proofs.Again.{imposed_again, trailer_shuts}
 use Rattle.imposed_again.proofs.MadeAgain.{made_is_document}
-use Rattle.page_papers.specs.Told.{telling}
-use Rattle.page_papers.proofs.Tame.{telling_is_tame}
+use Rattle.papers.specs.Told.{telling}
+use Rattle.papers.proofs.Tame.{telling_is_tame}
 use Rattle.made_sheets.specs.Dress.{Dress}
-use Rattle.marks.specs.Drawn.{marked}
-use Rattle.marks.proofs.Tame.{marks_are_tame}
+use Rattle.dressing.specs.Drawn.{marked}
+use Rattle.dressing.proofs.Tame.{marks_are_tame}
 use Rattle.row_runs.specs.BySpec.{output_by_spec}
 use Rattle.row_runs.specs.Runs.{output_on, strokes_on}
 use Rattle.impose_cli.specs.Tasks.{FinishesSpec, frame_used, sheet_paper_found, taken_text}

@@ -10,6 +10,7 @@ use Rattle.rules.specs.Signatures.{sheets_in}
 use Rattle.rules.specs.Output.{output}
 use Rattle.imposer.specs.Runs.{Accepted, Reports, frame_of}
 use Rattle.imposer.specs.declared.outcome.Report.{Report}
+use Rattle.impose_cli.specs.ToldPages.{told_pages}
 use Rattle.impose_cli.specs.Tasks.{FinishesSpec, IsPlaced, IsSpec, IsTask, asked_by}
 use Rattle.impose_words.specs.declared.request.Spacing.{Spacing}
 use Rattle.impose_words.specs.declared.request.Layout.{Layout}
@@ -34,10 +35,10 @@ placed_as_named (layout.Notes n) s named page_paper sheet_paper pages text sides
 placed_as_named (layout.Poster columns rows) s named page_paper sheet_paper pages text sides is h = absurd is
 placed_as_named (layout.Spec specs) s named page_paper sheet_paper pages text sides is h = (h.0 ∙ sym is, h.1)
 
-pub finishes : (r : Request) (input : List ℕ) (task : Task) (old new : Option (List ℕ)) (report : Report) → ((text : List ℕ) × IsSpec r.layout text) → IsTask r input task
+pub finishes : (r : Request) (input : List ℕ) (task : Task) (told : Option ℕ) (old new : Option (List ℕ)) (report : Report) → ((text : List ℕ) × IsSpec r.layout text) → IsTask r input task → told ≡ told_pages input
     → Accepted (asked_by task) (λ spec us. Appends old new (output (frame_of task.options) task.options.sides spec us) × Reports (frame_of task.options) task.options.sides spec us report)
-    → FinishesSpec r input old new (record { report = report; page_paper = task.options.paper; origin = task.origin; cut = None; behind = task.behind })
-finishes r input task old new report named is h =
+    → FinishesSpec r input old new (record { report = report; page_paper = task.options.paper; origin = task.origin; cut = None; behind = task.behind; told = told })
+finishes r input task told old new report named is tells h =
     let spec = h.0 in
     let units = h.1 in
     let accepted = h.2 in
@@ -55,6 +56,7 @@ finishes r input task old new report named is h =
       taken = ap document_of (sym is.text) ∙ accepted.document;
       cut = refl;
       behind = is.behind;
+      told = tells;
       plan = subst (λ s. plan_in s spec n ≡ Ok (sheets_in s spec n)) p.1 accepted.plan;
       written = subst (λ s. Appends old new (output (record { paper = task.options.paper; border = r.border }) s spec units)) p.1
           (subst (λ b. Appends old new (output (record { paper = task.options.paper; border = b }) task.options.sides spec units)) is.border h.3.0);

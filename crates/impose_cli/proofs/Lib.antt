@@ -1,4 +1,5 @@
 pub mod Placing
+pub mod OnePaper
 pub mod Noted
 pub mod Counted
 pub mod Ending
@@ -9,3 +10,5 @@ pub mod Again
 pub mod Examples
 pub mod Programs
 pub mod Ranges
+pub mod TrailerLines
+pub mod TakenPages

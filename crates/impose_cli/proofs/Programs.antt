@@ -12,13 +12,14 @@ use Rattle.row_runs.specs.declared.run.RowJob.{RowJob}
 use Rattle.imposer.specs.declared.outcome.Report.{Report}
 use Rattle.impose_cli.specs.RowTasks.{FinishesRow}
 use Rattle.impose_cli.specs.SpecRows.{FinishesSpecRow}
-use Rattle.input.specs.Input.{IsFirst, most_bytes}
+use Rattle.world.specs.Input.{IsFirst, most_bytes}
 use Rattle.impose_cli.specs.Looks.{MayBeMade, TellsRow}
 use Rattle.impose_words.specs.Products.{lays_rows}
-use Rattle.impose_cli.specs.Programs.{CarriesOut, Gives, IsReading, IsSaidOf, Makes, Prints, RunsInto, Shows, Writes}
+use Rattle.impose_cli.specs.Programs.{BreaksAt, CarriesOut, Gives, IsUncreated, IsReading, IsSaidOf, Makes, Prints, RunsInto, Shows, Writes}
 use Rattle.impose_cli.specs.RowTasks.{LaysRows}
 use Rattle.rules.specs.Papers.{Paper}
 use Rattle.impose_words.specs.Words.{Entered, MakesBy, Reads}
+use Rattle.impose_cli.specs.Refusals.{HasOnePaper}
 use Rattle.impose_cli.specs.Unread.{MayBeRead, RefusesRequest}
 use Rattle.impose_cli.specs.Tasks.{FinishesSpec, IsTask}
 use Rattle.impose_said.specs.declared.fault.Fault.{Fault}
@@ -60,6 +61,7 @@ kept_spec r input start handed written finished kept h = record {
   page_count = h.page_count;
   document = h.document;
   behind = h.behind;
+  told = h.told;
   page_paper = h.page_paper;
   text = h.text;
   is_text = h.is_text;
@@ -82,6 +84,7 @@ kept_row : (r : Request) (input : List ℕ) (start handed written : Option (List
 kept_row r input start handed written finished kept h = record {
   page_paper = h.page_paper;
   behind = h.behind;
+  told = h.told;
   job = h.job;
   papers = h.papers;
   is_job = h.is_job;
@@ -93,6 +96,7 @@ kept_spec_row : (r : Request) (input : List ℕ) (start handed written : Option 
 kept_spec_row r input start handed written finished kept h = record {
   page_paper = h.page_paper;
   behind = h.behind;
+  told = h.told;
   job = h.job;
   text = h.text;
   named = h.named;
@@ -159,21 +163,33 @@ took r gives tells input name outcome has_output written named read possible tak
 
 -- a text was written
 pub wrote_text : (name : Option (List ℕ)) (text : List ℕ) (what : Done) (tells : Bool) (start written : Option (List ℕ))
-    → start ≡ told_if tells name [] → Appends start written text → Writes name text what tells (Ok what) written
+    → start ≡ told_if tells name [] → Appends start written text → Writes name text what tells (Ok what) true written
 wrote_text name text what tells start written began wrote = (refl, subst (λ s. Appends s written text) began wrote)
+
+-- a first part of it was
+pub wrote_part : (name : Option (List ℕ)) (text : List ℕ) (what : Done) (tells : Bool) (start written : Option (List ℕ)) (f : Fault)
+    → start ≡ told_if tells name [] → BreaksAt start written text f → Writes name text what tells (Err f) true written
+wrote_part name text what tells start written f began broke = inr (subst (λ s. BreaksAt s written text f) began broke)
+
+-- no output could be created
+pub uncreated : (name : Option (List ℕ)) (text : List ℕ) (what : Done) (tells : Bool) (f : Fault) (outcome : Result Done Fault)
+    (has_output : Bool) (written : Option (List ℕ)) → outcome ≡ Err f → IsUncreated f has_output
+    → Writes name text what tells outcome has_output written
+uncreated name text what tells f outcome has_output written told none =
+    subst (λ o. Writes name text what tells o has_output written) (sym told) (inl none)
 
 -- the specification was printed to standard output
 pub printed : (r : Request) (input : List ℕ) (tells : Bool) (task : Task) (lines : List ℕ) (outcome : Result Done Fault)
-    (has_output : Bool) (written : Option (List ℕ)) → IsTask r input task → Writes None lines done.Printed tells outcome written
-    → Prints r input tells outcome has_output written
-printed r input tells task lines (Ok what) has_output written is_task h =
-    subst (λ d. Prints r input tells (Ok d) has_output written) (sym h.0) (task, lines, is_task, h.1)
-printed r input tells task lines (Err f) has_output written is_task h = inr (task, is_task, h)
+    (has_output : Bool) (written : Option (List ℕ)) → IsTask r input task → HasOnePaper r input task.options.paper
+    → Writes None lines done.Printed tells outcome has_output written → Prints r input tells outcome has_output written
+printed r input tells task lines (Ok what) has_output written is_task one h =
+    subst (λ d. Prints r input tells (Ok d) has_output written) (sym h.0) (task, lines, is_task, one, h.1)
+printed r input tells task lines (Err f) has_output written is_task one h = inr (task, lines, is_task, one, h)
 
 -- the plan or the picture was written to the output of that name
 pub shown : (l : Look) (name : Option (List ℕ)) (r : Request) (input : List ℕ) (tells : Bool) (text : List ℕ)
     (outcome : Result Done Fault) (has_output : Bool) (written : Option (List ℕ)) → TellsRow r input l text
-    → Writes name text done.Shown tells outcome written → Shows l name r input tells outcome has_output written
+    → Writes name text done.Shown tells outcome has_output written → Shows l name r input tells outcome has_output written
 shown l name r input tells text (Ok what) has_output written told h =
     subst (λ d. Shows l name r input tells (Ok d) has_output written) (sym h.0) (text, told, h.1)
 shown l name r input tells text (Err f) has_output written told h = inr (text, told, h)

@@ -3,8 +3,8 @@ use Rattle.std.proofs.Common.{◌≡◌, ◌⊎◌, ◌∙◌, ap, sym, subst, r
 use Rattle.std.specs.Prelude.{length, option_map}
 use Rattle.rules.specs.Papers.{Paper}
 use Rattle.std.proofs.lemmas.List.{length-map}
-use Rattle.document_paper.specs.Media.{header, trailer_lines}
-use Rattle.page_papers.specs.Own.{own_paper, own_papers}
+use Rattle.papers.specs.Media.{header, trailer_lines}
+use Rattle.papers.specs.Own.{own_paper, own_papers}
 use Rattle.dsc.proofs.Reading.{accepted_cut}
 use Rattle.dsc.proofs.Slices.{text_whole}
 use Rattle.rules.specs.Parts.{NestedUnit, bytes_of, pages}
@@ -14,14 +14,15 @@ use Rattle.sheet_writer.specs.Sinks.{SinkView}
 use Rattle.imposer.specs.declared.outcome.Report.{Report}
 use Rattle.row_runs.specs.declared.run.RowJob.{RowJob}
 use Rattle.impose_cli.specs.Endings.{Ends, EndsBeforeRow, EndsBeforeRun, EndsBySpec, EndsInRow, EndsInRun, EndsTask, FailsAs, Finishes}
-use Rattle.own_papers.specs.AsOne.{as_one, kinds, paper_among}
-use Rattle.own_papers.specs.declared.cuts.Cut.{Cut}
-use Rattle.paper_names.specs.Names.{paper_named}
+use Rattle.papers.specs.AsOne.{as_one, kinds, paper_among}
+use Rattle.papers.specs.declared.cuts.Cut.{Cut}
+use Rattle.papers.specs.Names.{paper_named}
 use Rattle.imposer.specs.declared.outcome.RunError.TheVariants as run
 use Rattle.sheet_text.specs.Jobs.{is_border}
 use Rattle.impose_said.specs.Faults.{without_memory}
 use Rattle.dsc.specs.PagesBehind.{pages_behind}
 use Rattle.impose_said.specs.declared.finished.PaperOrigin.{PaperOrigin}
+use Rattle.impose_cli.specs.ToldPages.{told_pages}
 use Rattle.impose_cli.specs.Tasks.{HasBehind, HasPages, IsSpec}
 use Rattle.impose_said.specs.declared.fault.Fault.TheVariants as fault
 use Rattle.impose_cli.specs.Refusals.{RefusesDocument, RefusesLaying, RefusesRowTask, RefusesSides}
@@ -51,9 +52,9 @@ whole : (input : List ℕ) (us : List NestedUnit) → document_of input ≡ Ok u
 whole input us e = let read = accepted_cut input us e in ap bytes_of (sym read.1) ∙ sym (text_whole input read.0)
 
 pub are_papers : (r : Request) (input : List ℕ) (us : List NestedUnit) (papers : List Paper) (cut : Option Cut) → document_of input ≡ Ok us
-    → papers ≡ papers_in r (bytes_of us) us → cut ≡ cut_in r.page_paper (bytes_of us) us → ArePapersOf r input papers cut
+    → papers ≡ papers_in r (bytes_of us) us → cut ≡ cut_in r (bytes_of us) us → ArePapersOf r input papers cut
 are_papers r input us papers cut read own cuts = let same = whole input us read in
-    record { units = us; document = read; own = own ∙ ap (λ t. papers_in r t us) same; cut_pages = cuts ∙ ap (λ t. cut_in r.page_paper t us) same }
+    record { units = us; document = read; own = own ∙ ap (λ t. papers_in r t us) same; cut_pages = cuts ∙ ap (λ t. cut_in r t us) same }
 
 pub is_row_paper : (r : Request) (input : List ℕ) (us : List NestedUnit) (found : Paper × PaperOrigin) → document_of input ≡ Ok us
     → found ≡ row_paper r (bytes_of us) us → IsRowPaper r input found
@@ -93,11 +94,12 @@ refused_found r input f h = elim h [
   | inr spent ↦ let us = spent.1.0 in refused_after r input (row_paper r input us) f (us, spent.1.1, refl) (inr (inr (inr spent.2)))
 ]
 
-pub finishes_row : (r : Request) (input : List ℕ) (t : RowTask) (old new : Option (List ℕ)) (report : Report) → IsRowTask r input t → ImposesTask r t old new report
-    → FinishesRow r input old new (record { report = report; page_paper = t.page_paper; origin = t.origin; cut = t.cut; behind = t.behind })
-finishes_row r input t old new report is h = record {
+pub finishes_row : (r : Request) (input : List ℕ) (t : RowTask) (told : Option ℕ) (old new : Option (List ℕ)) (report : Report) → IsRowTask r input t → told ≡ told_pages input → ImposesTask r t old new report
+    → FinishesRow r input old new (record { report = report; page_paper = t.page_paper; origin = t.origin; cut = t.cut; behind = t.behind; told = told })
+finishes_row r input t told old new report is tells h = record {
   page_paper = is.page_paper;
   behind = is.behind;
+  told = tells;
   job = h.0;
   papers = subst (λ ps. ArePapersOf r input ps t.cut) (sym h.1.papers) is.papers;
   is_job = is_row_job r input t h.0 is h.1;

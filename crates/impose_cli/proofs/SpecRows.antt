@@ -1,11 +1,12 @@
 -- What comes of a task by a specification on a row.
-use Rattle.std.proofs.Common.{◌∙◌, ap, sym, subst, refl, inl, inr, List, ℕ, Option, None, Err}
+use Rattle.std.proofs.Common.{◌≡◌, ◌∙◌, ap, sym, subst, refl, inl, inr, List, ℕ, Option, None, Err}
 use Rattle.rules.specs.Admissible.{Takes, most_slots}
 use Rattle.rules.specs.Run.{document_of}
 use Rattle.sheet_writer.specs.Sinks.{SinkView}
 use Rattle.imposer.specs.declared.outcome.Report.{Report}
 use Rattle.impose_cli.specs.Endings.{Ends, FailsAs}
 use Rattle.impose_cli.specs.SpecRows.{EndsSpecRow, EndsSpecTask, FinishesSpecRow, ImposesSpecTask, IsSpecRow, IsSpecRowTask, LaysSpecRow, RefusesSpecRowTask}
+use Rattle.impose_cli.specs.ToldPages.{told_pages}
 use Rattle.impose_cli.specs.Tasks.{taken_text}
 use Rattle.impose_said.specs.declared.fault.Fault.{Fault}
 use Rattle.impose_words.specs.declared.request.Layout.{Layout}
@@ -14,13 +15,14 @@ use Rattle.impose_words.specs.declared.request.Request.{Request}
 use Rattle.impose_cli.specs.declared.spec_row.SpecRowTask.{SpecRowTask}
 use Rattle.impose_cli.proofs.Ending.{stays}
 
-pub finishes_spec_row : (r : Request) (input : List ℕ) (t : SpecRowTask) (old new : Option (List ℕ)) (report : Report) → IsSpecRowTask r input t → ImposesSpecTask r t old new report
-    → FinishesSpecRow r input old new (record { report = report; page_paper = t.page_paper; origin = t.origin; cut = None; behind = t.behind })
-finishes_spec_row r input t old new report is h =
+pub finishes_spec_row : (r : Request) (input : List ℕ) (t : SpecRowTask) (told : Option ℕ) (old new : Option (List ℕ)) (report : Report) → IsSpecRowTask r input t → told ≡ told_pages input → ImposesSpecTask r t old new report
+    → FinishesSpecRow r input old new (record { report = report; page_paper = t.page_paper; origin = t.origin; cut = None; behind = t.behind; told = told })
+finishes_spec_row r input t told old new report is tells h =
     let of = h.1 in
     record {
       page_paper = is.page_paper;
       behind = is.behind;
+      told = tells;
       job = h.0;
       text = is.text_of_spec;
       named = subst (IsSpecRow r.layout is.text_of_spec) (sym of.signing) is.named;

@@ -10,8 +10,8 @@ use Rattle.made_sheets.specs.Made.{MadeSheet}
 use Rattle.made_sheets.specs.Dress.{Dress}
 use Rattle.imposed_again.specs.Again.{IsAgain, depth_behind, sheet_texts}
 use Rattle.imposed_again.specs.MadeAgain.{IsMadeAgain, made_texts}
-use Rattle.page_papers.specs.Told.{telling}
-use Rattle.marks.specs.Drawn.{marked}
+use Rattle.papers.specs.Told.{telling}
+use Rattle.dressing.specs.Drawn.{marked}
 use Rattle.row_runs.specs.Runs.{strokes_on}
 use Rattle.impose_cli.specs.Tasks.{FinishesSpec, frame_used}
 use Rattle.impose_cli.specs.Endings.{Finishes}

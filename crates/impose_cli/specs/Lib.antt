@@ -1,6 +1,7 @@
 -- Read in this order: what a document's error makes of a request; what a request comes to with a document, and what is refused;
--- what its run leaves; what a look tells; what is checked unread; laws; the whole program.
+-- what its run leaves; what a look shows; what is checked unread; laws; the whole program.
 pub mod Texts
+pub mod ToldPages
 pub mod Faults
 pub mod Tasks
 pub mod RowTasks

@@ -1,7 +1,7 @@
--- What is told of a request in place of carrying it out: the plan of its sheets, or their picture.
+-- What is reported of a request in place of carrying it out: the plan of its sheets, or their picture.
 use Rattle.std.specs.Prelude.{⊤, ◌≡◌, ◌⊎◌, ℕ, List, Option}
 use Rattle.rules.specs.Papers.{Paper}
-use Rattle.own_papers.specs.declared.cuts.Cut.{Cut}
+use Rattle.papers.specs.declared.cuts.Cut.{Cut}
 use Rattle.row_runs.specs.Looks.{RefusesLook, TellsPicture, TellsPlan}
 use Rattle.row_runs.specs.Runs.{page_count}
 use Rattle.row_runs.specs.declared.error.AskedError.{AskedError}
@@ -31,7 +31,7 @@ MayBeMade (product.Picture file) l = LaysRows l
 abbrev pub most_told : ℕ
 most_told = 40
 
--- the text tells of the sheets that the run of this job would impose
+-- the text reports on the sheets that the run of this job would impose
 abbrev pub Tells : Look → RowJob → (text : List ℕ) → Type 0
 Tells Plan job text = TellsPlan job most_told text
 Tells Picture job text = TellsPicture job most_told text
@@ -39,7 +39,7 @@ Tells Picture job text = TellsPicture job most_told text
 abbrev pub TellsTask : Request → RowTask → Look → (text : List ℕ) → Type 0
 TellsTask r t look text = (job : RowJob) × IsJobOf r t job × Tells look job text
 
--- the text tells of the sheets on which the layout of the request lays its row of this document
+-- the text reports on the sheets on which the layout of the request lays its row of this document
 pub record TellsRow (r : Request) (input : List ℕ) (look : Look) (text : List ℕ) : Type 0 where
   pub page_paper : Paper × PaperOrigin
   pub found : IsRowPaper r input page_paper

@@ -1,18 +1,18 @@
 -- The whole program: what its words ask for, what it reads, what it creates and writes, and how it ends.
-use Rattle.std.specs.Prelude.{⊤, ◌≡◌, ◌⊎◌, ℕ, List, [], Bool, true, false, Option, Some, None, Result, Ok, Err}
+use Rattle.std.specs.Prelude.{⊤, ◌≡◌, ◌⊎◌, ◌<◌, ℕ, List, [], length, take, Bool, true, false, Option, Some, None, Result, Ok, Err}
 use Rattle.std.specs.Prelude.{codes, option_map, string_bytes}
 use Rattle.std.specs.Io.KnownBytes.{Appends}
 use Rattle.clap.specs.Words.{Text}
 use Rattle.imposer.specs.declared.outcome.RunError.TheVariants as run
 use Rattle.sheet_writer.specs.Sinks.{SinkView, fresh_sink}
 use Rattle.world.specs.Outputs.{IsFrontOf, told_if}
-use Rattle.input.specs.Input.{IsFirst, most_bytes}
+use Rattle.world.specs.Input.{IsFirst, most_bytes}
 use Rattle.rules.specs.Papers.{Paper}
-use Rattle.paper_names.specs.Home.{home_paper}
+use Rattle.papers.specs.Home.{home_paper}
 use Rattle.impose_cli.specs.Endings.{Ends, Finishes}
 use Rattle.impose_said.specs.Faults.{without_memory}
 use Rattle.impose_cli.specs.Looks.{RefusesRowLook, TellsRow}
-use Rattle.impose_cli.specs.Refusals.{RefusesTask}
+use Rattle.impose_cli.specs.Refusals.{HasOnePaper, RefusesTask}
 use Rattle.impose_said.specs.Statuses.{fault_status}
 use Rattle.impose_cli.specs.Tasks.{IsTask}
 use Rattle.impose_cli.specs.Unread.{MayBeRead, RefusesRequest}
@@ -44,10 +44,14 @@ Gives = Option (List ℕ) → Option (List ℕ)
 abbrev pub home_file : List ℕ
 home_file = codes "/etc/papersize"
 
--- the paper at home, by the value of PAPERSIZE and by what that file gives; a file that can't be read counts as empty
+-- as many of its bytes are read
+abbrev pub most_home_bytes : ℕ
+most_home_bytes = 4_096
+
+-- the paper at home, by the value of PAPERSIZE and by what that file begins with; one that can't be read counts as empty
 abbrev pub IsHome : (variable : List ℕ) → Gives → Paper → Type 0
 IsHome variable gives home =
-    (file : List ℕ) × ((file ≡ []) ⊎ IsFirst most_bytes (gives (Some home_file)) file) × (home ≡ home_paper variable file)
+    (file : List ℕ) × ((file ≡ []) ⊎ IsFirst most_home_bytes (gives (Some home_file)) file) × (home ≡ home_paper variable file)
 
 -- ---- faults
 
@@ -56,7 +60,7 @@ abbrev pub IsFailedWrite : Fault → Type 0
 IsFailedWrite (fault.Write written cause) = ⊤
 IsFailedWrite other = ⊥
 
--- memory ran out behind so many bytes
+-- memory ran out after so many bytes
 abbrev pub IsNoMemory : Fault → Type 0
 IsNoMemory f = (written : ℕ) × (f ≡ fault.Run (run.NoMemory written))
 
@@ -107,26 +111,45 @@ RunsInto r input tells (Ok done.Shown) has_output written = ⊥
 RunsInto r input tells (Err f) has_output written =
     ((f ≡ without_memory) × (has_output ≡ false)) ⊎ BreaksOff r input tells (Err f) has_output written
 
--- What comes of a text that is written to the output of this name, if all goes well: the output tells its name and exactly
--- the text; or a write failed.
-abbrev pub Writes : (name : Option (List ℕ)) → (text : List ℕ) → Done → (tells : Bool) → Result Done Fault
-    → (written : Option (List ℕ)) → Type 0
-Writes name text what tells (Ok said) written = (said ≡ what) × Appends (told_if tells name []) written text
-Writes name text what tells (Err f) written = IsFailedWrite f
+-- a write failed, and the fault says after how many bytes of the text: these were written
+abbrev pub BreaksAt : (old new : Option (List ℕ)) → (text : List ℕ) → Fault → Type 0
+BreaksAt old new text (fault.Write n cause) = (n < length text) × Appends old new (take n text)
+BreaksAt old new text other = ⊥
 
--- What comes of a request to print the specification for this input: there is a task, and standard output has what was
--- printed of it; or there is none, or no memory, and nothing was created; or there is a task, and a write failed.
+-- no output could be created
+abbrev pub IsUncreated : Fault → (has_output : Bool) → Type 0
+IsUncreated (fault.Write n cause) has_output = (n ≡ 0) × (has_output ≡ false)
+IsUncreated other has_output = ⊥
+
+-- a text wasn't written whole to the output of this name
+abbrev pub FailsToWrite : (name : Option (List ℕ)) → (text : List ℕ) → (tells : Bool) → Fault → (has_output : Bool)
+    → (written : Option (List ℕ)) → Type 0
+FailsToWrite name text tells f has_output written =
+    IsUncreated f has_output ⊎ BreaksAt (told_if tells name []) written text f
+
+-- What comes of a text that is written to the output of this name: the output tells its name and exactly the text; or a
+-- write failed.
+abbrev pub Writes : (name : Option (List ℕ)) → (text : List ℕ) → Done → (tells : Bool) → Result Done Fault
+    → (has_output : Bool) → (written : Option (List ℕ)) → Type 0
+Writes name text what tells (Ok said) has_output written = (said ≡ what) × Appends (told_if tells name []) written text
+Writes name text what tells (Err f) has_output written = FailsToWrite name text tells f has_output written
+
+-- What comes of a request to print the specification for this input: there is a task, of one paper for all pages if it lays
+-- a row, and standard output has what was printed of it; or there is none, or no memory, and nothing was created; or there is
+-- such a task, and a write failed.
 abbrev pub Prints : Request → (input : List ℕ) → (tells : Bool) → Result Done Fault → (has_output : Bool)
     → (written : Option (List ℕ)) → Type 0
 Prints r input tells (Ok (done.Imposed finished)) has_output written = ⊥
 Prints r input tells (Ok done.Printed) has_output written =
-    (task : Task) × (lines : List ℕ) × IsTask r input task × Appends (told_if tells None []) written lines
+    (task : Task) × (lines : List ℕ) × IsTask r input task × HasOnePaper r input task.options.paper
+    × Appends (told_if tells None []) written lines
 Prints r input tells (Ok done.Shown) has_output written = ⊥
 Prints r input tells (Err f) has_output written =
     ((RefusesTask r input f ⊎ (f ≡ without_memory)) × (has_output ≡ false))
-    ⊎ ((task : Task) × IsTask r input task × IsFailedWrite f)
+    ⊎ ((task : Task) × (lines : List ℕ) × IsTask r input task × HasOnePaper r input task.options.paper
+    × FailsToWrite None lines tells f has_output written)
 
--- What comes of a request to show the sheets for this input: the output of this name has exactly the text that tells of the
+-- What comes of a request to show the sheets for this input: the output of this name has exactly the text that reports on the
 -- sheets that would be imposed; or the request is refused as its run would be, and nothing was created; or there is such a
 -- text, and a write failed.
 abbrev pub Shows : Look → (name : Option (List ℕ)) → Request → (input : List ℕ) → (tells : Bool) → Result Done Fault
@@ -136,7 +159,8 @@ Shows l name r input tells (Ok done.Printed) has_output written = ⊥
 Shows l name r input tells (Ok done.Shown) has_output written =
     (text : List ℕ) × TellsRow r input l text × Appends (told_if tells name []) written text
 Shows l name r input tells (Err f) has_output written =
-    (RefusesRowLook r input f × (has_output ≡ false)) ⊎ ((text : List ℕ) × TellsRow r input l text × IsFailedWrite f)
+    (RefusesRowLook r input f × (has_output ≡ false))
+    ⊎ ((text : List ℕ) × TellsRow r input l text × FailsToWrite name text tells f has_output written)
 
 -- ---- all of it
 

@@ -1,5 +1,5 @@
 -- What a refused request says.
-use Rattle.std.specs.Prelude.{◌≡◌, ◌≢◌, ◌⊎◌, ℕ, pos, IfSome, List, Some, Err, false}
+use Rattle.std.specs.Prelude.{◌≡◌, ◌≢◌, ◌⊎◌, ℕ, pos, IfSome, List, Some, Err, true, false}
 use Rattle.rules.specs.Papers.{Paper}
 use Rattle.rules.specs.Run.{document_of}
 use Rattle.rows.specs.Sewing.{MayBeSewn}
@@ -10,7 +10,7 @@ use Rattle.impose_said.specs.Faults.{without_memory}
 use Rattle.impose_cli.specs.Faults.{of_document}
 use Rattle.impose_words.specs.Choices.{is_said}
 use Rattle.sheet_text.specs.Jobs.{is_border}
-use Rattle.impose_cli.specs.RowTasks.{IsRowPaper, sheet_paper_in, why_not_laid}
+use Rattle.impose_cli.specs.RowTasks.{IsRowPaper, TellsOnePaper, has_specification, sheet_paper_in, why_not_laid}
 use Rattle.impose_cli.specs.Tasks.{HasPages, page_paper_found, sheet_paper_found}
 use Rattle.impose_words.specs.declared.request.Spacing.{Spacing}
 use Rattle.impose_words.specs.declared.request.Layout.{Layout}
@@ -51,16 +51,25 @@ RefusesLayout l s page_paper sheet_paper f = (f ≡ without_memory) ⊎ RefusesL
 
 -- ---- the request
 
+-- a specification is made for the layout, and not all of its pages have this paper
+abbrev pub HasOtherPapers : Request → (input : List ℕ) → Paper → Type 0
+HasOtherPapers r input paper = (has_specification r.layout ≡ true) × TellsOnePaper r input paper false
+
+-- none is made, or all have it
+abbrev pub HasOnePaper : Request → (input : List ℕ) → Paper → Type 0
+HasOnePaper r input paper = (has_specification r.layout ≡ false) ⊎ TellsOnePaper r input paper true
+
 -- why there is no task: the document is refused; or it isn't, and pages are chosen or marks are asked for, which no
--- specification says, or the layout is refused, or memory ran out
+-- specification says, or pages have other papers, or the layout is refused, or memory ran out
 abbrev pub RefusesTask : Request → (input : List ℕ) → Fault → Type 0
 RefusesTask r input f =
     RefusesDocument input f
     ⊎ ((n : ℕ) × HasPages input n
     × (((f ≡ fault.NoSpecification) × (is_said r.choice r.marks ≡ false))
     ⊎ ((f ≡ without_memory)
+    ⊎ (((f ≡ fault.SeveralPapers) × HasOtherPapers r input (page_paper_found r.page_paper r.home_paper input).0)
     ⊎ (let page_paper = (page_paper_found r.page_paper r.home_paper input).0 in
-    RefusesLayout r.layout r.spacing page_paper (sheet_paper_found r.sheet_paper page_paper) f))))
+    RefusesLayout r.layout r.spacing page_paper (sheet_paper_found r.sheet_paper page_paper) f)))))
 
 -- a signature of so many sides can't be folded, or has too many
 abbrev pub RefusesSides : Layout → Fault → Type 0

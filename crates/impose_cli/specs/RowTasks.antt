@@ -1,7 +1,8 @@
 -- What is imposed of a row of pages, and how: a request for a document, if its layout lays rows on sheets.
-use Rattle.std.specs.Prelude.{◌≡◌, ⊤, ℕ, Bool, true, false, ◌&&◌, if◌then◌else◌, List, [], ◌∷◌, length, Option, Some, None, Result, Ok, Err, IfSome, option_map}
+use Rattle.std.specs.Prelude.{◌≡◌, ⊤, ℕ, ◌+◌, ◌==◌, Bool, true, false, ◌&&◌, ◌||◌, if◌then◌else◌, List, [], ◌∷◌, length, Option, Some, None, Result, Ok, Err, IfSome, option_map}
+use Rattle.std.specs.List.{list_all}
 use Rattle.rules.specs.Papers.{Paper}
-use Rattle.rules.specs.Parts.{NestedUnit}
+use Rattle.rules.specs.Parts.{NestedUnit, pages}
 use Rattle.rules.specs.Run.{document_of}
 use Rattle.made_sheets.specs.Choice.{RowFault, Signing, imposed_row}
 use Rattle.made_sheets.specs.Rows.{Row}
@@ -13,11 +14,11 @@ use Rattle.layouts.specs.Grids.{count_of, rounded_down, rounded_up}
 use Rattle.layouts.specs.Refusals.{first_of, is_length, why_not_arranged, why_not_bound}
 use Rattle.layouts.specs.declared.setting.Setting.{Setting}
 use Rattle.layouts.specs.declared.error.ArrangementError.TheVariants as why
-use Rattle.paper_names.specs.Names.{paper_named}
-use Rattle.page_papers.specs.Own.{own_papers}
-use Rattle.own_papers.specs.AsOne.{as_one, first_instead_of}
-use Rattle.own_papers.specs.Cuts.{cut_of}
-use Rattle.own_papers.specs.declared.cuts.Cut.{Cut}
+use Rattle.papers.specs.Names.{paper_named}
+use Rattle.papers.specs.Own.{own_papers}
+use Rattle.papers.specs.AsOne.{as_one, first_instead_of}
+use Rattle.papers.specs.Cuts.{cut_of}
+use Rattle.papers.specs.declared.cuts.Cut.{Cut}
 use Rattle.row_runs.specs.Runs.{Imposes}
 use Rattle.row_runs.specs.Sheets.{MayBeLaid}
 use Rattle.sheet_text.specs.Jobs.{is_border}
@@ -26,11 +27,13 @@ use Rattle.row_runs.specs.declared.asked.Laying.{Laying}
 use Rattle.row_runs.specs.declared.asked.Laying.TheVariants as laying
 use Rattle.row_runs.specs.declared.run.RowJob.{RowJob}
 use Rattle.impose_words.specs.Choices.{choice_in}
-use Rattle.arranged_sheets.specs.Posters.{why_no_poster}
-use Rattle.arranged_sheets.specs.declared.poster.Poster.{Poster}
+use Rattle.row_sheets.specs.Posters.{why_no_poster}
+use Rattle.row_sheets.specs.declared.poster.Poster.{Poster}
 use Rattle.impose_words.specs.Spacings.{arrangement_in, binding_in, notes_in}
 use Rattle.impose_words.specs.declared.request.Spacing.{Spacing}
+use Rattle.impose_cli.specs.ToldPages.{told_pages}
 use Rattle.impose_cli.specs.Tasks.{HasBehind, page_paper_found, sheet_paper_found, taken_text}
+use Rattle.impose_said.specs.Said.{is_same}
 use Rattle.impose_said.specs.declared.fault.Fault.{Fault}
 use Rattle.impose_said.specs.declared.fault.Fault.TheVariants as fault
 use Rattle.impose_words.specs.declared.request.Layout.{Layout}
@@ -134,7 +137,7 @@ text_for r papers page_paper input = taken_text r.is_guarded (guarded_paper r pa
 abbrev pub own_in : Request → (input : List ℕ) → List NestedUnit → List Paper
 own_in r input us = own_papers r.page_paper paper_named r.home_paper input us
 
--- what stands for the document's paper, if it is that of no page: the first page's
+-- what is taken for the document's paper, if it is that of no page: the first page's
 abbrev pub or_first : Paper × PaperOrigin → Option Paper → Paper × PaperOrigin
 or_first found None = found
 or_first found (Some first) = (first, FirstPage)
@@ -154,17 +157,54 @@ IsRowPaper r input found = (us : List NestedUnit) × (document_of input ≡ Ok u
 abbrev pub papers_in : Request → (input : List ℕ) → List NestedUnit → List Paper
 papers_in r input us = as_one (row_paper r input us).0 (own_in r input us)
 
--- the pages that the named paper cuts: one that tells no paper has the named one
-abbrev pub cut_in : (named : Option Paper) → (input : List ℕ) → List NestedUnit → Option Cut
-cut_in None input us = None
-cut_in (Some named) input us = cut_of named (own_papers None paper_named named input us)
+-- a specification is made for the layout
+abbrev pub has_specification : Layout → Bool
+has_specification (layout.NUp cells) = true
+has_specification (layout.Booklet signing long_edge) = true
+has_specification other = false
+
+-- all pages have this paper, and sheets and cells are made for it: then a specification says what the row is
+abbrev pub is_of_one_paper : Request → (input : List ℕ) → List NestedUnit → Paper → Bool
+is_of_one_paper r input us paper = is_same (row_paper r input us).0 paper && list_all (is_same paper) (papers_in r input us)
+
+-- the document is accepted, and this says whether all of its pages have that paper
+abbrev pub TellsOnePaper : Request → (input : List ℕ) → Paper → Bool → Type 0
+TellsOnePaper r input paper is = (us : List NestedUnit) × (document_of input ≡ Ok us) × (is ≡ is_of_one_paper r input us paper)
+
+-- an entry of a row is this page
+abbrev pub is_page : Option ℕ → (page : ℕ) → Bool
+is_page None page = false
+is_page (Some entry) page = entry == page
+
+-- a row takes this page
+abbrev pub takes : Row → (page : ℕ) → Bool
+takes [] page = false
+takes (entry ∷ row) page = is_page entry page || takes row page
+
+-- papers of pages from this number on, with another one for each page that the row doesn't take
+abbrev pub taken_from : Row → (other : Paper) → (first : ℕ) → (own : List Paper) → List Paper
+taken_from row other n [] = []
+taken_from row other n (p ∷ ps) = (if takes row n then p else other) ∷ taken_from row other (n + 1) ps
+
+-- the pages of a row that a paper cuts; without a row there are none
+abbrev pub cut_on : Result Row RowFault → (paper : Paper) → (own : List Paper) → Option Cut
+cut_on (Ok row) paper own = cut_of paper (taken_from row paper 0 own)
+cut_on (Err fault) paper own = None
+
+-- the pages that the named paper cuts, of those that are taken: one that names no paper has the named one
+abbrev pub cut_by_named : Option Paper → Result Row RowFault → (input : List ℕ) → List NestedUnit → Option Cut
+cut_by_named None row input us = None
+cut_by_named (Some named) row input us = cut_on row named (own_papers None paper_named named input us)
+
+abbrev pub cut_in : Request → (input : List ℕ) → List NestedUnit → Option Cut
+cut_in r input us = cut_by_named r.page_paper (imposed_row (length (pages us)) (choice_in r.choice) None) input us
 
 -- the document is accepted, and its pages have these papers, of which the named one cuts these
 pub record ArePapersOf (r : Request) (input : List ℕ) (papers : List Paper) (cut : Option Cut) : Type 0 where
   pub units : List NestedUnit
   pub document : document_of input ≡ Ok units
   pub own : papers ≡ papers_in r input units
-  pub cut_pages : cut ≡ cut_in r.page_paper input units
+  pub cut_pages : cut ≡ cut_in r input units
 
 -- the layout lays rows on sheets
 abbrev pub LaysRows : Layout → Type 0
@@ -212,10 +252,11 @@ pub record IsRowJob (r : Request) (input : List ℕ) (page_paper : Paper) (job :
   pub marks : job.marks ≡ r.marks
 
 -- The request was carried out for this document: exactly the output was appended of the sheets on which its layout lays
--- its row, with the lines by which they tell their papers and the marks that it asks for.
+-- its row, with the lines by which they report their papers and the marks that it asks for.
 pub record FinishesRow (r : Request) (input : List ℕ) (old new : Option (List ℕ)) (done : Finished) : Type 0 where
   pub page_paper : IsRowPaper r input (done.page_paper, done.origin)
   pub behind : HasBehind input done.behind
+  pub told : done.told ≡ told_pages input
   pub job : RowJob
   pub papers : ArePapersOf r input job.papers.now done.cut
   pub is_job : IsRowJob r input done.page_paper job

@@ -20,6 +20,7 @@ use Rattle.dsc.specs.declared.errors.DscError.{DscError}
 use Rattle.imposer.specs.Outcomes.{of_document as of_read}
 use Rattle.impose_cli.specs.Refusals.{IsRefusedFor, RefusesDocument}
 use Rattle.impose_cli.specs.Tasks.{HasBehind, HasPages, page_paper_found, sheet_paper_found, taken_text}
+use Rattle.impose_cli.specs.ToldPages.{told_pages}
 use Rattle.impose_cli.specs.Unread.{RefusesSpecification}
 use Rattle.impose_said.specs.declared.fault.Fault.{Fault}
 use Rattle.impose_said.specs.declared.fault.Fault.TheVariants as fault
@@ -67,10 +68,11 @@ abbrev pub ImposesSpecTask : Request → SpecRowTask → (old new : Option (List
 ImposesSpecTask r t old new report = (job : SpecJob) × IsSpecJobOf r t job × ImposesBySpec job old new report
 
 -- The request was carried out for this document: exactly the output was appended of the sheets that its specification names
--- on its row, with the lines by which they tell their papers.
+-- on its row, with the lines by which they report their papers.
 pub record FinishesSpecRow (r : Request) (input : List ℕ) (old new : Option (List ℕ)) (done : Finished) : Type 0 where
   pub page_paper : (done.page_paper, done.origin) ≡ page_paper_found r.page_paper r.home_paper input
   pub behind : HasBehind input done.behind
+  pub told : done.told ≡ told_pages input
   pub job : SpecJob
   pub text : List ℕ
   pub named : IsSpecRow r.layout text job.signing

@@ -8,6 +8,7 @@ use Rattle.rules.specs.Parts.{NestedUnit, pages}
 use Rattle.rules.specs.Run.{document_of, plan_in}
 use Rattle.rules.specs.Sheets.{sheets}
 use Rattle.dsc.specs.PagesBehind.{pages_behind}
+use Rattle.impose_cli.specs.ToldPages.{told_pages}
 use Rattle.made_sheets.specs.Choice.{sides_for}
 use Rattle.rows.specs.Sewing.{signing_of}
 use Rattle.guard.specs.Guard.{guarded}
@@ -17,8 +18,8 @@ use Rattle.std.specs.Io.KnownBytes.{Appends}
 use Rattle.rules.specs.Output.{Frame, output}
 use Rattle.imposer.specs.Runs.{Reports}
 use Rattle.imposer.specs.Runs as runs
-use Rattle.document_paper.specs.Media.{document_paper}
-use Rattle.document_paper.specs.declared.media.Comment.{Comment}
+use Rattle.papers.specs.Media.{document_paper}
+use Rattle.papers.specs.declared.media.Comment.{Comment}
 use Rattle.impose_said.specs.declared.finished.PaperOrigin.{PaperOrigin}
 use Rattle.impose_said.specs.declared.finished.PaperOrigin.TheVariants.{Named, ByComment, AtHome}
 use Rattle.impose_words.specs.Choices.{is_said}
@@ -122,6 +123,7 @@ pub record FinishesSpec (r : Request) (input : List ℕ) (old new : Option (List
   pub taken : document_of (taken_text r.is_guarded (sheet_paper_found r.sheet_paper done.page_paper) input) ≡ Ok units
   pub cut : done.cut ≡ None
   pub behind : HasBehind input done.behind
+  pub told : done.told ≡ told_pages input
   pub plan : plan_in None spec (length (pages units)) ≡ Ok (sheets spec (length (pages units)))
   pub written : Appends old new (output (frame_used r done) None spec units)
   pub report : Reports (frame_used r done) None spec units done.report

@@ -1,5 +1,6 @@
 -- What can be said of a request before its document is read.
-use Rattle.std.specs.Prelude.{◌≡◌, ◌≢◌, ◌⊎◌, ⊤, ℕ, List, Option, None, Some, Err, IfSome, option_map, string_bytes}
+use Rattle.std.specs.Prelude.{◌≡◌, ◌≢◌, ◌⊎◌, ⊤, ℕ, ◌==◌, pos, ◌+ℤ◌, int_lt, int_le, Bool, true, false, ◌&&◌, not, if◌then◌else◌, is_some, List, Option, None, Some, Err, IfSome, option_map, string_bytes}
+use Rattle.std.specs.Str.{bytes_eq}
 use Rattle.rules.specs.Papers.{Paper}
 use Rattle.rules.specs.Specification.{Spec}
 use Rattle.rules.specs.Admissible.{Takes, most_slots}
@@ -14,7 +15,12 @@ use Rattle.impose_words.specs.declared.request.Spacing.{Spacing}
 use Rattle.impose_words.specs.declared.request.Layout.{Layout}
 use Rattle.impose_words.specs.declared.request.Layout.TheVariants as layout
 use Rattle.impose_words.specs.declared.request.PageChoice.{PageChoice}
+use Rattle.impose_words.specs.declared.request.Product.{Product}
+use Rattle.impose_words.specs.declared.request.Product.TheVariants as product
 use Rattle.impose_words.specs.declared.request.Request.{Request}
+use Rattle.layouts.specs.Grids.{count_of}
+use Rattle.impose_said.specs.declared.fault.IdleOption.{IdleOption}
+use Rattle.impose_said.specs.declared.fault.IdleOption.TheVariants.{Sheet, CutMarks}
 use Rattle.impose_said.specs.declared.fault.Fault.{Fault}
 use Rattle.impose_said.specs.declared.fault.Fault.TheVariants as fault
 
@@ -51,12 +57,55 @@ abbrev pub RefusesRanges : PageChoice → Fault → Type 0
 RefusesRanges c f = (text : List ℕ) × (at : ℕ) × (option_map string_bytes c.ranges ≡ Some text)
     × (f ≡ fault.Row (row.NotARange at)) × ((pages : ℕ) → row_of_text pages text ≡ Err (NotARange at))
 
+-- ---- options that would do nothing
+
+-- each page is left on its own paper
+abbrev pub keeps_papers : Layout → Bool
+keeps_papers layout.Selection = true
+keeps_papers other = false
+
+-- a sheet is cut outside its cells alone: it has one cell, or is folded between them
+abbrev pub is_cut_outside : Layout → Bool
+is_cut_outside (layout.NUp cells) = count_of cells == 1
+is_cut_outside (layout.Cards cells) = count_of cells == 1
+is_cut_outside (layout.Stack cells duplex) = count_of cells == 1
+is_cut_outside (layout.Booklet signing long_edge) = true
+is_cut_outside other = false
+
+-- there is a margin, of half the gap at least
+abbrev pub has_margin : Spacing → Bool
+has_margin s = int_lt (pos 0) s.margin && int_le s.gap (s.margin +ℤ s.margin)
+
+-- the first such option: a paper for sheets that keep their own, and marks outside of pages that have no room for them
+abbrev pub idle_option : Request → Option IdleOption
+idle_option r = if keeps_papers r.layout && is_some r.sheet_paper then Some Sheet
+    else (if r.marks.cut && (is_cut_outside r.layout && not (has_margin r.spacing)) then Some CutMarks else None)
+
+-- ---- a file that is read and written
+
+-- two files have one name
+abbrev pub is_one_file : (one other : Option (List ℕ)) → Bool
+is_one_file (Some one) (Some other) = bytes_eq one other
+is_one_file one other = false
+
+-- the picture is to be written to the file that is read
+abbrev pub is_drawn_over : Product → (infile : Option (List ℕ)) → Bool
+is_drawn_over (product.Picture file) infile = is_one_file (option_map string_bytes file) infile
+is_drawn_over other infile = false
+
+-- why the options of a request are refused, if they are
+abbrev pub option_fault : Request → Option Fault
+option_fault r = if is_drawn_over r.product (option_map string_bytes r.infile) then Some fault.OverInput
+    else option_map fault.Idle (idle_option r)
+
 -- the request is none that can be refused unread
 pub record MayBeRead (r : Request) : Type 0 where
+  pub options : option_fault r ≡ None
   pub layout : IsPossible r.layout r.spacing r.page_paper r.sheet_paper
   pub ranges : AreRanges r.choice
 
--- its layout is refused; or it isn't, and its ranges are
+-- its options are refused; or they aren't, and its layout is; or it isn't, and its ranges are
 abbrev pub RefusesRequest : Request → Fault → Type 0
-RefusesRequest r f = RefusesUnread r.layout r.spacing r.page_paper r.sheet_paper f
-    ⊎ (IsPossible r.layout r.spacing r.page_paper r.sheet_paper × RefusesRanges r.choice f)
+RefusesRequest r f = (option_fault r ≡ Some f)
+    ⊎ ((option_fault r ≡ None) × (RefusesUnread r.layout r.spacing r.page_paper r.sheet_paper f
+    ⊎ (IsPossible r.layout r.spacing r.page_paper r.sheet_paper × RefusesRanges r.choice f)))

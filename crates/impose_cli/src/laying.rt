@@ -11,13 +11,13 @@ ghost use Rattle.impose_words.specs.Spacings.{arrangement_in};
 ghost use Rattle.impose_cli.specs.RowTasks.{laying_in, sheet_paper_in, signing_in, why_not_laid};
 ghost use Rattle.impose_words.specs.declared.request.Layout.TheVariants as layout;
 
-use arranged_sheets::{Poster, check_poster};
 use impose_said::Fault;
 use impose_words::{Layout, Spacing};
 use imposer::RunError;
 use layouts::{ArrangementError, Cells, Papers, Setting};
 use lengths::{Grains, Paper};
 use row_runs::Laying;
+use row_sheets::{Poster, check_poster};
 use rows::Signing;
 use sheet_plan::are_sides;
 
@@ -204,7 +204,7 @@ fn poster_laying(
     }
 }
 
-/// Whether a length is from 0 to 99,999 points and five nines behind the dot.
+/// Whether a length is from 0 to 99,999 points and five nines after the dot.
 fn is_length(length: Grains) -> bool
     ensures { result ≡ may_be_length length }
 {

@@ -10,12 +10,14 @@ mod program;
 mod roomy_text;
 mod row_task;
 mod spec_row;
+mod taken;
 mod task;
+mod told_pages;
 mod unread;
 
 pub use impose_said::{
-    Done, Fault, Finished, PaperOrigin, behind_text, command_text, cut_text, fault_status,
-    fault_text, note_text, report_text, text_said, words_text,
+    Done, Fault, Finished, IdleOption, Packing, PaperOrigin, behind_text, command_text, cut_text,
+    fault_status, fault_text, note_text, report_text, text_said, told_text, words_text,
 };
 pub use impose_words::{
     CellOption, CommandFault, GridCommand, Layout, LengthOption, PageChoice, PaperOption, Product,

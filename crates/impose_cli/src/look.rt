@@ -19,10 +19,10 @@ use std::alloc::Global;
 /// How many sheets or leaves are listed, or sheets drawn.
 const MOST_TOLD: u32 = 40;
 
-/// What is told of sheets in place of imposing them.
+/// What is reported of sheets in place of imposing them.
 #[derive(Clone, Copy, Debug, PartialEq, Eq)]
 pub enum Look {
-    /// Line by line which page stands where.
+    /// Line by line which page is where.
     Plan,
     /// A picture of the sheets, as an SVG.
     Picture,

@@ -6,7 +6,7 @@ use lengths::{Grains, Number, print_number};
 use std::alloc::{AllocError, Global};
 
 /// The specification on a line, on a second one the command line of pstops that imposes by it with these options, and
-/// if the guard is asked for a comment behind them, as pstops doesn't put it in.
+/// if the guard is asked for a comment after them, as pstops doesn't put it in.
 pub fn printed_task(alloc: Global, request: &Request, task: &Task) -> Result<Vec<u8>, AllocError> {
     let mut out = Vec::new(alloc);
     append_spec(task.spec.as_str(), &mut out)?;

@@ -1,10 +1,11 @@
 //! The whole program, over the files and standard streams around it.
 ghost use Rattle.std.specs.Prelude.{◌≡◌, false, is_some, map, option_and_then, option_map, string_bytes};
-ghost use Rattle.std.specs.Prelude.{Some, Err, IfOk, IfErr};
-ghost use Rattle.input.specs.Input.{IsFirst, most_bytes};
+ghost use Rattle.std.specs.Prelude.{Some, Err, IfOk, IfErr, OnOk};
+ghost use Rattle.std.specs.Io.KnownBytes.{Appends};
+ghost use Rattle.world.specs.Input.{IsFirst, most_bytes};
 ghost use Rattle.impose_cli.specs.Looks.{MayBeMade};
-ghost use Rattle.impose_cli.specs.Programs.{CarriesOut, EndsProgram, IsFailedWrite, IsHome, IsReading, IsSaidAs, Makes};
-ghost use Rattle.impose_cli.specs.Programs.{Prints, RunsInto, Shows, Writes, status_of};
+ghost use Rattle.impose_cli.specs.Programs.{BreaksAt, CarriesOut, EndsProgram, IsHome, IsReading, IsSaidAs, Makes};
+ghost use Rattle.impose_cli.specs.Programs.{Prints, RunsInto, Shows, Writes, most_home_bytes, status_of};
 ghost use Rattle.impose_cli.specs.RowTasks.{LaysRows};
 ghost use Rattle.impose_said.specs.declared.fault.Fault.TheVariants as faults;
 
@@ -19,15 +20,17 @@ use command_words::name_of;
 use impose_said::{Done, Fault, fault_status};
 use impose_words::{Product, Request, read_command};
 use imposer::RunError;
-use input::{ReadFault, ReadSource, read_input_behind};
 use lengths::Paper;
-use paper_names::home_paper;
+use papers::home_paper;
 use std::alloc::Global;
 use std::io;
 use std::io::{ErrorKind, Read, Write};
 use std::sync::Wait;
 use std::thread::Threads;
-use world::{Late, World, abandon, created_late, write_out};
+use world::{
+    Late, ReadFault, ReadSource, World, abandon, created_late, read_input, read_input_behind,
+    write_out,
+};
 
 /// How the program ended.
 #[derive(Drop)]
@@ -111,13 +114,34 @@ fn at_home(request: Request, home: Paper) -> Request
 /// The file that names the paper at home.
 const HOME_FILE: &str = "/etc/papersize";
 
-/// The paper at home, by the value of `PAPERSIZE` and by what the file gives. A file that can't be read counts as empty.
+/// How many of its bytes are read.
+const HOME_BYTES: u64 = 4_096;
+
+/// The paper at home, by the value of `PAPERSIZE` and by what the file begins with. What can't be read, or is no regular
+/// file, counts as empty.
 fn home_of<W: World>(alloc: Global, paper_size: &[u8], world: &W) -> Paper
     ensures { IsHome paper_size.now (W.gives world.now) result }
 {
-    match input_of(alloc, Some(HOME_FILE), world) {
-        Ok(file) => home_paper(paper_size, file.as_slice()),
+    if !world.is_file(HOME_FILE) {
+        return home_paper(paper_size, b"");
+    }
+    match world.open(Some(HOME_FILE)) {
+        Ok(file) => match read_head(alloc, file) {
+            Ok(head) => home_paper(paper_size, head.as_slice()),
+            Err(_) => home_paper(paper_size, b""),
+        },
         Err(_) => home_paper(paper_size, b""),
+    }
+}
+
+/// The first bytes of the file that names the paper at home.
+fn read_head<I: Read + Drop>(alloc: Global, file: I) -> Result<Vec<u8>, ReadFault>
+    ensures { IfOk result (λ head. IsFirst most_home_bytes (I.remaining file) head.items) }
+{
+    let mut source = ReadSource::new(file.take(HOME_BYTES));
+    match read_input(alloc, &mut source) {
+        Ok(head) => Ok(head),
+        Err(fault) => Err(fault),
     }
 }
 
@@ -245,16 +269,32 @@ fn show_input<W: World>(
 /// Writes a text to the output of that name, which is created for it.
 fn write_text<W: World>(name: Option<&str>, text: &[u8], done: Done, world: W) -> Left<W>
     ensures { Writes (option_map (λ n. n.now) name.entry) text.now done (W.tells world) result.outcome
-        (option_and_then W.Output.contents result.output) }
+        (is_some result.output) (option_and_then W.Output.contents result.output) }
 {
     let mut output = match world.create(name) {
         Ok(output) => output,
-        Err(refused) => return stopped(unwritten(refused.cause), refused.world),
+        Err(refused) => return stopped(failed_at(0, refused.cause), refused.world),
     };
-    match output.write_all(text) {
+    match write_whole(&mut output, text) {
         Ok(()) => wrote(Ok(done), output),
-        Err(cause) => wrote(Err(unwritten(cause)), output),
+        Err(fault) => wrote(Err(fault), output),
     }
+}
+
+/// Writes all of a text, or says after how many of its bytes a write failed.
+fn write_whole<O: Write>(output: &mut O, text: &[u8]) -> Result<(), Fault>
+    ensures whole { OnOk result (Appends (O.contents output.old) (O.contents output.new) text.now) }
+    ensures part { IfErr result (BreaksAt (O.contents output.old) (O.contents output.new) text.now) }
+{
+    let mut written = 0;
+    while written < text.len() {
+        match output.write(&text[written..]) {
+            Ok(count) if count > 0 => written += count,
+            Ok(_) => return Err(failed_at(written, io::Error::from(ErrorKind::WriteZero))),
+            Err(cause) => return Err(failed_at(written, cause)),
+        }
+    }
+    Ok(())
 }
 
 fn wrote<W: World>(outcome: Result<Done, Fault>, output: W::Output) -> Left<W>
@@ -268,11 +308,12 @@ fn wrote<W: World>(outcome: Result<Done, Fault>, output: W::Output) -> Left<W>
     }
 }
 
-fn unwritten(cause: io::Error) -> Fault
-    ensures { IsFailedWrite result }
+/// A write failed after so many bytes.
+fn failed_at(written: usize, cause: io::Error) -> Fault
+    ensures { result ≡ faults.Write written (Some cause) }
 {
     Fault::Write {
-        written: 0,
+        written: written as u64,
         cause: Some(cause),
     }
 }

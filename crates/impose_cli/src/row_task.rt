@@ -1,5 +1,5 @@
 //! Runs of requests: by a specification, or on a row of pages that a layout lays on sheets.
-ghost use Rattle.std.specs.Prelude.{◌≡◌, ◌≤◌, ◌⊎◌, ℕ, length, IfErr, IfOk, IfSome, IsTrue, None, Ok, OnOk};
+ghost use Rattle.std.specs.Prelude.{◌≡◌, ◌≤◌, ◌&&◌, ◌⊎◌, ℕ, length, IfErr, IfOk, IfSome, IsTrue, None, Ok, OnOk};
 ghost use Rattle.rules.specs.Parts.{bytes_of};
 ghost use Rattle.rows.specs.Sewing.{MayBeSewn};
 ghost use Rattle.row_runs.specs.Sheets.{MayBeLaid};
@@ -13,7 +13,10 @@ ghost use Rattle.made_sheets.specs.Choice.{imposed_row as row_of};
 ghost use Rattle.impose_words.specs.Choices.{choice_in};
 ghost use Rattle.impose_cli.specs.RowTasks.{guarded_in, first_paper as first_paper_of};
 ghost use Rattle.impose_cli.specs.RowTasks.{ArePapersOf, ImposesTask, IsRowPaper, IsRowTask, LaysRows};
-ghost use Rattle.impose_cli.specs.RowTasks.{cut_in, paper_for, papers_in as papers_found, row_paper};
+ghost use Rattle.std.specs.List.{list_all};
+ghost use Rattle.impose_cli.specs.RowTasks.{TellsOnePaper};
+ghost use Rattle.impose_said.specs.Said.{is_same as are_same};
+ghost use Rattle.impose_cli.specs.RowTasks.{cut_in, cut_on, paper_for, papers_in as papers_found, row_paper};
 ghost use Rattle.impose_cli.specs.Refusals.{RefusesDocument, RefusesRowTask};
 ghost use Rattle.impose_cli.specs.Tasks.{HasBehind, HasPages, page_paper_found};
 ghost use Rattle.dsc.specs.PagesBehind.{pages_behind};
@@ -21,13 +24,15 @@ ghost use Rattle.dsc.specs.PagesBehind.{pages_behind};
 use crate::laying::{laying_for, papers_for, signing_for};
 use crate::roomy_text::RoomyText;
 use crate::spec_row::run_spec_row;
+use crate::taken::papers_taken;
 use crate::task::{WORKERS, of_document, paper_of_pages, run_spec, text_to_impose};
+use crate::told_pages::told_pages;
 use dsc::Document;
 use impose_said::{Fault, Finished, PaperOrigin};
 use impose_words::{Layout, PageChoice, Request};
 use imposer::{Open, Report, RunError, Sink};
 use lengths::{Grains, Paper};
-use own_papers::{Cut, as_one, cut_by, first_instead_of, own_papers};
+use papers::{Cut, as_one, cut_by, first_instead_of, own_papers};
 use row_runs::{Asked, AskedError, Laying, RowJob, impose_row};
 use rows::{RowError, Signing, imposed_row};
 use std::alloc::{AllocError, Global};
@@ -71,6 +76,7 @@ fn run_row<R: Threads + Wait + Sync, S: Sink>(
     requires rows { LaysRows request.now.layout }
     ensures ended { Ends request.now input.items (S.seen sink.old) (S.seen sink.new) result }
 {
+    let told = told_pages(input.as_slice());
     let task = match row_task(alloc, request, input) {
         Ok(task) => task,
         Err(fault) => return Err(fault),
@@ -85,6 +91,7 @@ fn run_row<R: Threads + Wait + Sync, S: Sink>(
         origin: task.origin,
         cut: task.cut,
         behind: task.behind,
+        told,
     })
 }
 
@@ -185,6 +192,46 @@ fn papers_of(alloc: Global, request: &Request, input: &[u8]) -> Result<FoundPape
     }
 }
 
+/// Whether the document's pages all have this paper, and sheets and cells are made for it.
+pub(crate) fn has_one_paper(
+    alloc: Global,
+    request: &Request,
+    input: &[u8],
+    paper: &Paper,
+) -> Result<bool, Fault>
+    ensures told { IfOk result (TellsOnePaper request.now input.now paper.now) }
+    ensures refused { IfErr result (λ f. RefusesDocument input.now f ⊎ (f ≡ without_memory)) }
+{
+    match papers_of(alloc, request, input) {
+        Ok(found) => Ok(are_all(&found.page_paper, found.papers.as_slice(), paper)),
+        Err(fault) => Err(fault),
+    }
+}
+
+/// Whether this first paper and the others are that one.
+fn are_all(first: &Paper, others: &[Paper], paper: &Paper) -> bool
+    ensures { result ≡ (are_same first.now paper.now && list_all (are_same paper.now) others.now) }
+{
+    is_same(first, paper) && are_same_as(paper, others)
+}
+
+fn are_same_as(paper: &Paper, others: &[Paper]) -> bool
+    ensures { result ≡ list_all (are_same paper.now) others.now }
+{
+    for other in others {
+        if !is_same(paper, other) {
+            return false;
+        }
+    }
+    true
+}
+
+fn is_same(one: &Paper, other: &Paper) -> bool
+    ensures { result ≡ are_same one.now other.now }
+{
+    one.width().get() == other.width().get() && one.height().get() == other.height().get()
+}
+
 fn papers_in(
     alloc: Global,
     request: &Request,
@@ -195,7 +242,7 @@ fn papers_in(
     ensures paper { IfOk result (λ found.
         (found.page_paper, found.origin) ≡ row_paper request.now (bytes_of document.now) document.now) }
     ensures cut { IfOk result (λ found.
-        found.cut ≡ cut_in request.now.page_paper (bytes_of document.now) document.now) }
+        found.cut ≡ cut_in request.now (bytes_of document.now) document.now) }
     ensures behind { IfOk result (λ found. found.behind ≡ pages_behind document.now) }
     ensures count { IfOk result (λ found. found.pages ≡ length found.papers.items) }
     ensures few { IfOk result (λ found. found.pages ≤ most_pages) }
@@ -203,7 +250,7 @@ fn papers_in(
     let own = own_papers(alloc, document, request.page_paper, &request.home_paper)?;
     let (page_paper, origin) = paper_of_row(request, document.text(), own.as_slice());
     let papers = as_one(alloc, &page_paper, own.as_slice())?;
-    let cut = cut_pages(alloc, request.page_paper, document)?;
+    let cut = cut_pages(alloc, request, document)?;
     Ok(FoundPapers {
         pages: document.pages(),
         page_paper,
@@ -226,22 +273,37 @@ fn paper_of_row(request: &Request, input: &[u8], own: &[Paper]) -> (Paper, Paper
     }
 }
 
-/// The pages that the paper cuts which is named for them.
+/// The pages that the paper cuts which is named for them, of those that are taken.
 fn cut_pages(
     alloc: Global,
-    named: Option<Paper>,
+    request: &Request,
     document: &Document<'_>,
 ) -> Result<Option<Cut>, AllocError>
-    ensures { IfOk result (λ cut. cut ≡ cut_in named (bytes_of document.now) document.now) }
+    ensures { IfOk result (λ cut. cut ≡ cut_in request.now (bytes_of document.now) document.now) }
 {
-    match named {
-        None => Ok(None),
-        Some(named) => {
-            // A page that tells no paper has the one that is named, which doesn't cut it.
-            let own = own_papers(alloc, document, None, &named)?;
-            Ok(cut_by(&named, own.as_slice()))
-        }
+    let Some(named) = request.page_paper else {
+        return Ok(None);
+    };
+    // A page that names no paper has the one that is named, which doesn't cut it.
+    let own = own_papers(alloc, document, None, &named)?;
+    match imposed_row(alloc, document.pages(), &request.choice.as_choice(), None) {
+        Ok(row) => cut_on_row(alloc, row.as_slice(), own.as_slice(), &named),
+        Err(RowError::NoMemory) => Err(AllocError),
+        // There is no such row, which the run will say.
+        Err(_) => Ok(None),
     }
+}
+
+fn cut_on_row(
+    alloc: Global,
+    row: &[Option<u32>],
+    own: &[Paper],
+    named: &Paper,
+) -> Result<Option<Cut>, AllocError>
+    ensures { IfOk result (λ cut. cut ≡ cut_on (Ok row.now) named.now own.now) }
+{
+    let taken = papers_taken(alloc, row, own, named)?;
+    Ok(cut_by(named, taken.as_slice()))
 }
 
 /// The paper for which the guard sets the page size: that of the sheets, and of a selection that of its first sheet.
@@ -279,7 +341,7 @@ fn first_paper(
     match imposed_row(alloc, found.pages, &choice.as_choice(), None) {
         Ok(row) => Ok(paper_of_first(row.as_slice(), found.papers.as_slice(), blank)),
         Err(RowError::NoMemory) => Err(Fault::no_memory()),
-        // There is no such row, which the run will tell.
+        // There is no such row, which the run will say.
         Err(_) => Ok(*blank),
     }
 }

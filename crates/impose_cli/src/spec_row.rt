@@ -12,6 +12,7 @@ use crate::laying::may_be_sewn;
 use crate::roomy_text::RoomyText;
 use crate::row_task::{asked_fault_of, is_drawn};
 use crate::task::{WORKERS, pages_of, paper_of_pages, paper_of_sheets, text_to_impose};
+use crate::told_pages::told_pages;
 use dsc::Document;
 use impose_said::{Fault, Finished, PaperOrigin};
 use impose_words::{Layout, Request};
@@ -36,6 +37,7 @@ pub(crate) fn run_spec_row<R: Threads + Wait + Sync, S: Sink>(
     requires rows { LaysSpecRow request.now.layout }
     ensures ended { Ends request.now input.items (S.seen sink.old) (S.seen sink.new) result }
 {
+    let told = told_pages(input.as_slice());
     let task = match spec_row_task(alloc, request, input) {
         Ok(task) => task,
         Err(fault) => return Err(fault),
@@ -50,6 +52,7 @@ pub(crate) fn run_spec_row<R: Threads + Wait + Sync, S: Sink>(
         origin: task.origin,
         cut: None,
         behind: task.behind,
+        told,
     })
 }
 

@@ -12,10 +12,11 @@ ghost use Rattle.layouts.specs.declared.error.ArrangementError.{ArrangementError
 ghost use Rattle.sheet_writer.specs.Sinks.{IsCountable};
 ghost use Rattle.imposer.specs.Runs.{Accepted, FailedIn, HasWritten, IsRefusal, Reports, frame_of};
 ghost use Rattle.impose_said.specs.Faults.{without_memory};
-ghost use Rattle.impose_cli.specs.Faults.{of_document as document_fault, of_other_input};
+ghost use Rattle.impose_cli.specs.Faults.{of_document as document_fault, of_other_input, of_unpacked, packing_of as packed_by};
+ghost use Rattle.impose_cli.specs.RowTasks.{has_specification as is_made_for};
 ghost use Rattle.impose_cli.specs.Tasks.{HasBehind, HasPages, IsPlaced, IsTask, IsWritten, asked_by, page_paper_found};
 ghost use Rattle.impose_cli.specs.Tasks.{IsSpec, sheet_paper_found, taken_text};
-ghost use Rattle.impose_cli.specs.Refusals.{RefusesDocument, RefusesLayout, RefusesTask};
+ghost use Rattle.impose_cli.specs.Refusals.{HasOnePaper, HasOtherPapers, RefusesDocument, RefusesLayout, RefusesTask};
 ghost use Rattle.impose_words.specs.Choices.{is_said as says};
 ghost use Rattle.impose_cli.specs.Endings.{EndsBySpec};
 ghost use Rattle.impose_cli.specs.Unread.{IsPossible, IsSpecification, RefusesSpecification, RefusesUnread};
@@ -24,15 +25,17 @@ ghost use Rattle.impose_said.specs.declared.fault.Fault.TheVariants as faults;
 
 use crate::laying::{laying_for, papers_for};
 use crate::roomy_text::RoomyText;
-use document_paper::document_paper;
+use crate::row_task::has_one_paper;
+use crate::told_pages::told_pages;
+use dressing::Marks;
 use dsc::{Document, DscError};
-use impose_said::{Fault, Finished, PaperOrigin};
+use impose_said::{Fault, Finished, Packing, PaperOrigin};
 use impose_words::{Layout, PageChoice, Request, Spacing};
 use imposer::{Open, Options, Report, RunError, Sink, Workers, run};
 use layouts::{Binding, Cells, Papers, arrange, bind};
 use lengths::Paper;
-use marks::Marks;
 use pagespec::{Spec, read_spec, write_spec};
+use papers::document_paper;
 use rows::{Signing, auto_sides};
 use std::alloc::{AllocError, Global};
 use std::sync::Wait;
@@ -98,9 +101,12 @@ fn is_said(choice: &PageChoice, marks: Marks) -> bool
 }
 
 /// The specification that says what a request asks for, with what a run by it takes; and the fault if there is none: a
-/// document that is refused, then pages that are chosen or marks, then a layout that there isn't, or that no specification says.
+/// document that is refused, then pages that are chosen or marks, then pages of other papers than the specification would
+/// have, then a layout that there isn't, or that no specification says.
 pub fn task_for(alloc: Global, request: &Request, input: RoomyText) -> Result<Task, Fault>
     ensures is_task { IfOk result (IsTask request.now input.items) }
+    // It does what a run of the request does, in which pages are placed by their own papers.
+    ensures one_paper { IfOk result (λ task. HasOnePaper request.now input.items task.options.paper) }
     ensures refused { IfErr result (RefusesTask request.now input.items) }
 {
     // The document is read as it came, so that a fault has its place there.
@@ -113,6 +119,10 @@ pub fn task_for(alloc: Global, request: &Request, input: RoomyText) -> Result<Ta
     }
     let (page_paper, origin) = paper_of_pages(request, input.as_slice());
     let sheet_paper = *paper_of_sheets(&request.sheet_paper, &page_paper);
+    match check_one_paper(alloc, request, input.as_slice(), &page_paper) {
+        Ok(()) => {}
+        Err(fault) => return Err(fault),
+    }
     let papers = Papers {
         page: page_paper,
         sheet: sheet_paper,
@@ -138,6 +148,34 @@ pub fn task_for(alloc: Global, request: &Request, input: RoomyText) -> Result<Ta
         origin,
         behind,
     })
+}
+
+/// A layout for which a specification is made has pages of this paper alone, as the specification has.
+fn check_one_paper(
+    alloc: Global,
+    request: &Request,
+    input: &[u8],
+    paper: &Paper,
+) -> Result<(), Fault>
+    ensures one { OnOk result (HasOnePaper request.now input.now paper.now) }
+    ensures refused { IfErr result (λ f. RefusesDocument input.now f
+        ⊎ ((f ≡ without_memory) ⊎ ((f ≡ faults.SeveralPapers) × HasOtherPapers request.now input.now paper.now))) }
+{
+    if !has_specification(&request.layout) {
+        return Ok(());
+    }
+    match has_one_paper(alloc, request, input, paper) {
+        Ok(true) => Ok(()),
+        Ok(false) => Err(Fault::SeveralPapers),
+        Err(fault) => Err(fault),
+    }
+}
+
+/// Whether a specification is made for the layout.
+fn has_specification(layout: &Layout) -> bool
+    ensures { result ≡ is_made_for layout.now }
+{
+    matches!(layout, Layout::NUp(_) | Layout::Booklet { .. })
 }
 
 /// The document, with the guard in it if it is asked for.
@@ -178,7 +216,7 @@ pub(crate) fn paper_of_sheets<'p>(named: &'p Option<Paper>, page_paper: &'p Pape
     }
 }
 
-/// How many pages the document has, and how many stand behind its trailer.
+/// How many pages the document has, and how many follow its trailer.
 pub(crate) fn pages_of(alloc: Global, input: &[u8]) -> Result<(u32, usize), Fault>
     ensures counted { IfOk result (λ counts. HasPages input.now counts.0) }
     ensures behind { IfOk result (λ counts. HasBehind input.now counts.1) }
@@ -211,17 +249,48 @@ fn not_postscript(input: &[u8]) -> Fault
         Fault::NoInput
     } else if input.starts_with(b"%PDF-") {
         Fault::Pdf
-    } else if input.starts_with(b"\x1f\x8b") {
-        Fault::Compressed
-    } else if input.starts_with(b"\x1b%-12345X") {
+    } else {
+        match packing_of(input) {
+            Some(packing) => Fault::Compressed(packing),
+            None => unpacked_fault(input),
+        }
+    }
+}
+
+/// The same of one that is neither empty, a PDF nor compressed.
+fn unpacked_fault(input: &[u8]) -> Fault
+    ensures { result ≡ of_unpacked input.now }
+{
+    if input.starts_with(b"\x1b%-12345X") {
         Fault::JobLanguage
+    } else if input.starts_with(b"\xc5\xd0\xd3\xc6") {
+        Fault::DosEps
+    } else if input.starts_with(b"\xff\xfe") || input.starts_with(b"\xfe\xff") {
+        Fault::Utf16
     } else {
         Fault::Run(RunError::Document(DscError::NotPostScript))
     }
 }
 
+/// By what an input is compressed, as its first bytes show.
+fn packing_of(input: &[u8]) -> Option<Packing>
+    ensures { result ≡ packed_by input.now }
+{
+    if input.starts_with(b"\x1f\x8b") {
+        Some(Packing::Gzip)
+    } else if input.starts_with(b"BZh") {
+        Some(Packing::Bzip2)
+    } else if input.starts_with(b"\xfd7zXZ\0") {
+        Some(Packing::Xz)
+    } else if input.starts_with(b"PK\x03\x04") {
+        Some(Packing::Zip)
+    } else {
+        None
+    }
+}
+
 /// The text of the specification, and the sides of a signature if the pages go into signatures.
-type Placed = (String, Option<u32>);
+type PlacedItem = (String, Option<u32>);
 
 fn placing(
     alloc: Global,
@@ -229,7 +298,7 @@ fn placing(
     spacing: &Spacing,
     papers: &Papers,
     pages: u32,
-) -> Result<Placed, Fault>
+) -> Result<PlacedItem, Fault>
     requires some { 0 < pages }
     requires few { pages ≤ most_pages }
     ensures placed { IfOk result (λ placed.
@@ -256,7 +325,7 @@ fn placing(
 }
 
 /// The text that is named, beside these sides.
-fn named_placing(alloc: Global, specs: &str, sides: Option<u32>) -> Result<Placed, Fault>
+fn named_placing(alloc: Global, specs: &str, sides: Option<u32>) -> Result<PlacedItem, Fault>
     ensures text { IfOk result (λ placed. string_bytes placed.0 ≡ specs.now) }
     ensures sides { IfOk result (λ placed. placed.1 ≡ sides) }
     ensures refused { IfErr result (λ f. f ≡ without_memory) }
@@ -272,7 +341,7 @@ fn nup_placing(
     cells: Cells,
     spacing: &Spacing,
     papers: &Papers,
-) -> Result<Placed, Fault>
+) -> Result<PlacedItem, Fault>
     ensures placed { IfOk result (λ placed.
         IsPlaced (layout.NUp cells) spacing.now papers.now.page papers.now.sheet 0 (string_bytes placed.0) placed.1) }
     ensures refused { IfErr result (RefusesLayout (layout.NUp cells) spacing.now papers.now.page papers.now.sheet) }
@@ -288,7 +357,7 @@ fn booklet_placing(
     binding: &Binding,
     papers: &Papers,
     sides: u32,
-) -> Result<Placed, Fault>
+) -> Result<PlacedItem, Fault>
     ensures placed { IfOk result (λ placed.
         (IsWritten (bound papers.now.page papers.now.sheet binding.now) (string_bytes placed.0)
         × IsBound papers.now.page papers.now.sheet binding.now (bound papers.now.page papers.now.sheet binding.now))
@@ -303,7 +372,7 @@ fn booklet_placing(
 }
 
 /// The text of a specification, beside these sides.
-fn written(alloc: Global, spec: &Spec, sides: Option<u32>) -> Result<Placed, Fault>
+fn written(alloc: Global, spec: &Spec, sides: Option<u32>) -> Result<PlacedItem, Fault>
     ensures text { IfOk result (λ placed. IsWritten spec.now (string_bytes placed.0)) }
     ensures sides { IfOk result (λ placed. placed.1 ≡ sides) }
     ensures refused { IfErr result (λ f. f ≡ without_memory) }
@@ -351,6 +420,7 @@ pub(crate) fn run_spec<R: Threads + Wait + Sync, S: Sink>(
     requires spec { (text : List ℕ) × IsSpec request.now.layout text }
     ensures ended { EndsBySpec request.now input.items (S.seen sink.old) (S.seen sink.new) result }
 {
+    let told = told_pages(input.as_slice());
     let task = match task_for(alloc, request, input) {
         Ok(task) => task,
         Err(fault) => return Err(fault),
@@ -365,6 +435,7 @@ pub(crate) fn run_spec<R: Threads + Wait + Sync, S: Sink>(
         origin: task.origin,
         cut: None,
         behind: task.behind,
+        told,
     })
 }
 

@@ -1,23 +1,105 @@
 //! The checks of a request that don't ask for its document.
-ghost use Rattle.std.specs.Prelude.{IfErr, OnOk};
+ghost use Rattle.std.specs.Prelude.{◌≡◌, option_map, IfErr, OnOk};
+ghost use Rattle.impose_cli.specs.Unread as meaning;
 ghost use Rattle.impose_cli.specs.Unread.{AreRanges, MayBeRead, RefusesRanges, RefusesRequest};
 
 use crate::task::check_layout;
-use impose_said::Fault;
-use impose_words::{PageChoice, Request};
+use command_words::name_of;
+use impose_said::{Fault, IdleOption};
+use impose_words::{Layout, PageChoice, Product, Request, Spacing};
 use rows::{RowError, read_row};
 use std::alloc::Global;
 
-/// The checks that don't ask for the document, so that a mistake is found before a byte is read: those of the layout, then
-/// whether pages are named by ranges.
+/// The checks that don't ask for the document, so that a mistake is found before a byte is read: whether a picture would go
+/// over it, then whether all options do something, then those of the layout, then whether pages are named by ranges.
 pub fn check_request(alloc: Global, request: &Request) -> Result<(), Fault>
     ensures possible { OnOk result (MayBeRead request.now) }
     ensures refused { IfErr result (RefusesRequest request.now) }
 {
+    if let Some(fault) = option_fault(request) {
+        return Err(fault);
+    }
     match check_layout(alloc, request) {
         Ok(()) => check_ranges(alloc, &request.choice),
         Err(fault) => Err(fault),
     }
+}
+
+/// Why the options are refused, if they are.
+fn option_fault(request: &Request) -> Option<Fault>
+    ensures { result ≡ meaning.option_fault request.now }
+{
+    if is_drawn_over(&request.product, name_of(&request.infile)) {
+        return Some(Fault::OverInput);
+    }
+    match idle_option(request) {
+        Some(option) => Some(Fault::Idle(option)),
+        None => None,
+    }
+}
+
+/// Whether the picture of the sheets is to be written to the file that is read.
+fn is_drawn_over(product: &Product, infile: Option<&str>) -> bool
+    ensures { result ≡ meaning.is_drawn_over product.now (option_map (λ n. n.now) infile.entry) }
+{
+    match product {
+        Product::Picture(file) => is_one_file(name_of(file), infile),
+        Product::Sheets | Product::Specification | Product::Plan => false,
+    }
+}
+
+/// Whether two files have one name.
+fn is_one_file(one: Option<&str>, other: Option<&str>) -> bool
+    ensures { result ≡ meaning.is_one_file (option_map (λ n. n.now) one.entry) (option_map (λ n. n.now) other.entry) }
+{
+    match (one, other) {
+        (Some(one), Some(other)) => one == other,
+        _ => false,
+    }
+}
+
+/// The first option that would do nothing: a paper for sheets that keep their own, and marks outside of pages that have no
+/// room for them.
+fn idle_option(request: &Request) -> Option<IdleOption>
+    ensures { result ≡ meaning.idle_option request.now }
+{
+    if keeps_papers(&request.layout) && request.sheet_paper.is_some() {
+        Some(IdleOption::Sheet)
+    } else if request.marks.cut
+        && (is_cut_outside(&request.layout) && !has_margin(&request.spacing))
+    {
+        Some(IdleOption::CutMarks)
+    } else {
+        None
+    }
+}
+
+/// Whether each page is left on its own paper.
+fn keeps_papers(layout: &Layout) -> bool
+    ensures { result ≡ meaning.keeps_papers layout.now }
+{
+    matches!(layout, Layout::Selection)
+}
+
+/// Whether sheets are cut outside their cells alone: they have one cell, or are folded between them.
+fn is_cut_outside(layout: &Layout) -> bool
+    ensures { result ≡ meaning.is_cut_outside layout.now }
+{
+    match layout {
+        Layout::NUp(cells) | Layout::Cards(cells) => cells.count() == 1,
+        Layout::Stack { cells, .. } => cells.count() == 1,
+        Layout::Booklet { .. } => true,
+        Layout::Notes { .. } | Layout::Poster { .. } | Layout::Selection => false,
+        Layout::Spec(_) | Layout::SpecRow { .. } => false,
+    }
+}
+
+/// Whether there is a margin, of half the gap at least.
+fn has_margin(spacing: &Spacing) -> bool
+    ensures { result ≡ meaning.has_margin spacing.now }
+{
+    let margin = spacing.margin.get();
+    0 < margin && spacing.gap.get() <= margin + margin
 }
 
 /// Whether pages are named by ranges. What is no range in a document without pages is none in any other.

@@ -5,9 +5,11 @@ use Rattle.std.specs.Fmt.{digits}
 use Rattle.clap.specs.declared.error.kind.ErrorKind.TheVariants.{DisplayHelp, DisplayVersion, UnknownArgument}
 use Rattle.layouts.specs.declared.error.ArrangementError.TheVariants as layout
 use Rattle.impose_said.specs.declared.fault.Fault.TheVariants as fault
+use Rattle.impose_said.specs.declared.fault.Packing.TheVariants.{Gzip}
+use Rattle.impose_said.specs.declared.fault.IdleOption.TheVariants.{CutMarks}
 use Rattle.impose_words.specs.declared.fault.CommandFault.TheVariants as command
 use Rattle.impose_said.specs.Statuses.{words_status, command_status, layout_status, fault_status}
-use Rattle.impose_said.specs.Said.{behind_text, is_pdf_name}
+use Rattle.impose_said.specs.Said.{behind_text, is_pdf_name, told_text}
 
 -- Exit statuses.
 
@@ -20,7 +22,7 @@ commands = refl
 layouts : map layout_status (layout.CellsOutOfRange ∷ layout.NoRoom ∷ layout.FoldOnLongEdge ∷ layout.NoMemory ∷ []) ≡ 1 ∷ 1 ∷ 1 ∷ 3 ∷ []
 layouts = refl
 
-faults : map fault_status (fault.NoSuchPage 1 2 ∷ fault.NoSpecification ∷ fault.NoInput ∷ fault.Pdf ∷ fault.Compressed ∷ fault.JobLanguage ∷ fault.TooLong ∷ fault.Read None ∷ fault.Write 0 None ∷ []) ≡ 1 ∷ 1 ∷ 1 ∷ 1 ∷ 1 ∷ 1 ∷ 1 ∷ 3 ∷ 3 ∷ []
+faults : map fault_status (fault.NoSuchPage 1 2 ∷ fault.NoSpecification ∷ fault.NoInput ∷ fault.Pdf ∷ fault.Compressed Gzip ∷ fault.JobLanguage ∷ fault.DosEps ∷ fault.Utf16 ∷ fault.TooLong ∷ fault.SeveralPapers ∷ fault.Idle CutMarks ∷ fault.Read None ∷ fault.Write 0 None ∷ []) ≡ 1 ∷ 1 ∷ 1 ∷ 1 ∷ 1 ∷ 1 ∷ 1 ∷ 1 ∷ 1 ∷ 1 ∷ 2 ∷ 3 ∷ 3 ∷ []
 faults = refl
 
 -- What is said of a finished run.
@@ -34,6 +36,24 @@ one_behind = refl
 two_behind : behind_text 2 ≡ Some (codes "2 pages follow %%Trailer or %%EOF and are not imposed")
 unfolding digits
 two_behind = refl
+
+none_told : told_text None 3 ≡ None
+none_told = refl
+
+as_many_told : told_text (Some 3) 3 ≡ None
+as_many_told = refl
+
+more_told : told_text (Some 4) 3 ≡ Some (codes "the document says 4 pages, 3 were found: is it complete?")
+unfolding digits
+more_told = refl
+
+one_found : told_text (Some 4) 1 ≡ Some (codes "the document says 4 pages, 1 was found: is it complete?")
+unfolding digits
+one_found = refl
+
+one_told : told_text (Some 1) 2 ≡ Some (codes "the document says 1 page, 2 were found: is it complete?")
+unfolding digits
+one_told = refl
 
 pdf_in_small_letters : is_pdf_name (codes "a.pdf") ≡ true
 pdf_in_small_letters = refl

@@ -1,2 +1,2 @@
-pub mod FourLines
+pub mod Lines
 pub mod Examples

@@ -1,16 +1,18 @@
 -- What is said on standard error of how the program ended: which lines, in which order, and what is in those of a finished run. What
 -- a fault's message is no word here says, nor what is said of words that the command doesn't take.
 use Rattle.std.specs.Prelude.{⊤, ◌≡◌, ◌==◌, ◌⊎◌, ◌++◌, if◌then◌else◌, ℕ, List, [], Bool, true, false, Option, Some, None, Result, Ok, Err}
-use Rattle.std.specs.Prelude.{codes, decimal, nat_eq, ◌||◌, option_map, string_bytes}
+use Rattle.std.specs.Prelude.{codes, decimal, nat_eq, ◌||◌, ◌&&◌, not, option_map, string_bytes}
 use Rattle.std.specs.List.{ends_with}
 use Rattle.std.specs.IoError.{error_kind}
 use Rattle.std.specs.declared.io.ErrorKind.{ErrorKind}
 use Rattle.std.specs.declared.io.ErrorKind.TheVariants.{BrokenPipe}
 use Rattle.clap.specs.Words.{kind_of}
 use Rattle.clap.specs.declared.error.Error.{Error as WordsError}
+use Rattle.std.specs.Ordering.{int_eq}
 use Rattle.rules.specs.Bytes.{line}
-use Rattle.document_paper.specs.declared.media.Comment.TheVariants as comment
-use Rattle.own_papers.specs.declared.cuts.Cut.{Cut}
+use Rattle.rules.specs.Papers.{Paper}
+use Rattle.papers.specs.declared.media.Comment.TheVariants as comment
+use Rattle.papers.specs.declared.cuts.Cut.{Cut}
 use Rattle.imposer.specs.declared.outcome.Report.{Report}
 use Rattle.impose_said.specs.Statuses.{words_status}
 use Rattle.impose_words.specs.declared.fault.CommandFault.TheVariants as command
@@ -34,15 +36,30 @@ origin_text (origin.ByComment comment.BoundingBox) = codes "by its %%BoundingBox
 origin_text origin.AtHome = codes "the usual one here, as the document names none"
 origin_text origin.FirstPage = codes "that of page 1, as no page has the document's"
 
--- how many pages, sheets and bytes there are; behind the pages there may be blanks, and leaves behind the sheets
+-- how many pages, sheets and bytes there are; after the pages there may be blanks, and leaves after the sheets
 abbrev pub HasCounts : Report → (text : List ℕ) → Type 0
 HasCounts report text = (blanks leaves : List ℕ) × (text ≡ codes "pages " ++ (decimal report.pages ++ (blanks
     ++ (codes ", sheets " ++ (decimal report.sheets ++ (leaves ++ (codes ", bytes " ++ decimal report.bytes)))))))
 
--- the report: the counts, and the size of the pages' paper with where it was found
-abbrev pub IsReport : Finished → (message : Option (List ℕ)) → Type 0
-IsReport finished message = (counts size : List ℕ) × HasCounts finished.report counts
-    × (message ≡ Some (counts ++ (codes "; pages of " ++ (size ++ (codes " pt, " ++ origin_text finished.origin)))))
+-- two papers are one
+abbrev pub is_same : Paper → Paper → Bool
+is_same a b = int_eq a.width b.width && int_eq a.height b.height
+
+-- another paper is named for the sheets than the pages have
+abbrev pub is_other_paper : (named : Option Paper) → (page_paper : Paper) → Bool
+is_other_paper None page_paper = false
+is_other_paper (Some sheet) page_paper = not (is_same sheet page_paper)
+
+-- the size of the sheets, if they have another paper
+abbrev pub IsOfSheets : (other : Bool) → (text : List ℕ) → Type 0
+IsOfSheets false text = text ≡ []
+IsOfSheets true text = (size : List ℕ) × (text ≡ codes "; sheets of " ++ (size ++ codes " pt"))
+
+-- the report: the counts, the size of the pages' paper with where it was found, and that of the sheets if it is another one
+abbrev pub IsReport : Finished → Request → (message : Option (List ℕ)) → Type 0
+IsReport finished r message = (counts size sheets : List ℕ) × HasCounts finished.report counts
+    × IsOfSheets (is_other_paper r.sheet_paper finished.page_paper) sheets
+    × (message ≡ Some (counts ++ (codes "; pages of " ++ (size ++ (codes " pt, " ++ (origin_text finished.origin ++ sheets))))))
 
 -- of pages that the paper cuts which is named for them, if there are some: which pages, and both sizes
 abbrev pub IsOfCut : Option Cut → (message : Option (List ℕ)) → Type 0
@@ -50,11 +67,23 @@ IsOfCut None message = message ≡ None
 IsOfCut (Some cut) message = (pages own named : List ℕ)
     × (message ≡ Some (codes "--paper cuts " ++ (pages ++ (codes ": " ++ (own ++ (codes " on " ++ named))))))
 
--- of pages behind the document's trailer, if there are some
+-- of pages that follow the document's trailer, if there are some
 abbrev pub behind_text : (pages : ℕ) → Option (List ℕ)
 behind_text pages = if pages == 0 then None
     else (if pages == 1 then Some (codes "1 page follows %%Trailer or %%EOF and is not imposed")
     else Some (decimal pages ++ codes " pages follow %%Trailer or %%EOF and are not imposed"))
+
+abbrev pub pages_text : (pages : ℕ) → List ℕ
+pages_text pages = if pages == 1 then codes "1 page" else decimal pages ++ codes " pages"
+
+abbrev pub found_text : (pages : ℕ) → List ℕ
+found_text pages = if pages == 1 then codes "1 was found" else decimal pages ++ codes " were found"
+
+-- of a document that says another number of its pages than were found
+abbrev pub told_text : (told : Option ℕ) → (found : ℕ) → Option (List ℕ)
+told_text None found = None
+told_text (Some told) found = if told == found then None else Some (codes "the document says "
+    ++ (pages_text told ++ (codes ", " ++ (found_text found ++ codes ": is it complete?"))))
 
 -- a file is named as a PDF
 abbrev pub is_pdf_name : (name : List ℕ) → Bool
@@ -86,24 +115,26 @@ IsLineOf (Some message) text = (text ≡ []) ⊎ (text ≡ said message)
 abbrev pub MaySay : (Option (List ℕ) → Type 0) → (text : List ℕ) → Type 0
 MaySay Holds text = (text ≡ []) ⊎ ((message : List ℕ) × Holds (Some message) × (text ≡ said message))
 
--- the line of this message, if there is one, stands behind what was said before
+-- the line of this message, if there is one, comes after what was said before
 abbrev pub AddsLine : (message : Option (List ℕ)) → (before after : List ℕ) → Type 0
 AddsLine message before after = (text : List ℕ) × IsLineOf message text × (after ≡ before ++ text)
 
 -- ---- all of it
 
--- Of a finished run four lines are said, in this order: the report, then that pages are cut, that pages follow the
--- trailer, and that the output is no PDF.
+-- Of a finished run five lines are said, in this order: the report, then that pages are cut, that pages follow the
+-- trailer, that not as many were found as the document says, and that the output is no PDF.
 pub record SaysLines (finished : Finished) (r : Request) (text : List ℕ) : Type 0 where
   pub report : List ℕ
   pub cut : List ℕ
   pub behind : List ℕ
+  pub told : List ℕ
   pub note : List ℕ
-  pub reports : MaySay (IsReport finished) report
+  pub reports : MaySay (IsReport finished r) report
   pub cuts : MaySay (IsOfCut finished.cut) cut
   pub tells_behind : MaySay (λ message. message ≡ behind_text finished.behind) behind
+  pub tells_count : MaySay (λ message. message ≡ told_text finished.told finished.report.pages) told
   pub notes : MaySay (IsNote (option_map string_bytes r.outfile)) note
-  pub in_order : text ≡ report ++ (cut ++ (behind ++ note))
+  pub in_order : text ≡ report ++ (cut ++ (behind ++ (told ++ note)))
 
 -- a quiet request says nothing
 abbrev pub SaysUnless : (quiet : Bool) → Finished → Request → (text : List ℕ) → Type 0

@@ -6,8 +6,8 @@ use Rattle.clap.specs.declared.error.kind.ErrorKind.{ErrorKind}
 use Rattle.clap.specs.declared.error.kind.ErrorKind.TheVariants.{DisplayHelp, DisplayVersion}
 use Rattle.layouts.specs.declared.error.ArrangementError.{ArrangementError}
 use Rattle.layouts.specs.declared.error.ArrangementError.TheVariants as layout
-use Rattle.arranged_sheets.specs.declared.poster.PosterError.{PosterError}
-use Rattle.arranged_sheets.specs.declared.poster.PosterError.TheVariants as poster
+use Rattle.row_sheets.specs.declared.poster.PosterError.{PosterError}
+use Rattle.row_sheets.specs.declared.poster.PosterError.TheVariants as poster
 use Rattle.rows.specs.declared.error.RowError.{RowError}
 use Rattle.rows.specs.declared.error.RowError.TheVariants as row
 use Rattle.sheet_plan.specs.declared.error.MadeError.{MadeError}
@@ -52,11 +52,16 @@ fault_status (fault.Row e) = row_status e
 fault_status (fault.NoSuchPage place pages) = 1
 fault_status (fault.Sheets e) = sheets_status e
 fault_status fault.NoSpecification = 1
+fault_status fault.SeveralPapers = 1
+fault_status (fault.Idle option) = 2
+fault_status fault.OverInput = 2
 fault_status (fault.Read cause) = 3
 fault_status (fault.Run e) = run_status e
 fault_status fault.NoInput = 1
 fault_status fault.Pdf = 1
-fault_status fault.Compressed = 1
+fault_status (fault.Compressed packing) = 1
+fault_status fault.DosEps = 1
+fault_status fault.Utf16 = 1
 fault_status fault.JobLanguage = 1
 fault_status fault.TooLong = 1
 fault_status (fault.Write written cause) = 3

@@ -1,12 +1,12 @@
 //! A text with a caret below the place of a fault.
 use std::alloc::{AllocError, Global};
 
-/// How much of a long text is shown before and behind the place, in bytes.
+/// How much of a long text is shown before and after the place, in bytes.
 const SHOWN_BEFORE: usize = 50;
 
 const SHOWN_BEHIND: usize = 20;
 
-/// Two lines behind a line end: the text round the place, and a caret below it. Two dots stand for what is cut off, and
+/// Two lines after a line end: the text round the place, and a caret below it. Two dots are in place of what is cut off, and
 /// a question mark for a control character. Nothing if the text ends before the place.
 pub(crate) fn caret_below(alloc: Global, text: &str, place: usize) -> Result<String, AllocError> {
     if place > text.len() {
@@ -48,7 +48,7 @@ pub(crate) fn range_place(text: &str, start: usize) -> usize {
     text.len().saturating_sub(left.len())
 }
 
-/// What stands behind the place, or the blank page, that a text begins with.
+/// What comes after the place, or the blank page, that a text begins with.
 fn behind_place(text: &str) -> &str {
     if let Some(behind) = text.strip_prefix("last") {
         return behind;
@@ -63,22 +63,22 @@ fn behind_place(text: &str) -> &str {
     digits.trim_start_matches(|letter: char| letter.is_ascii_digit())
 }
 
-/// Whether a text begins with a place, behind which this is left: blank pages are none.
+/// Whether a text begins with a place, after which this is left: blank pages are none.
 fn is_place(text: &str, left: &str) -> bool {
     left.len() < text.len() && !text.starts_with("blank") && !text.starts_with("_-")
 }
 
-/// Where an item of a specification stands, counted from 0 over the whole text.
+/// Where an item of a specification is, counted from 0 over the whole text.
 pub(crate) fn item_place(text: &str, item: u32) -> usize {
     place_behind(text.as_bytes(), item, true)
 }
 
-/// Where a group of a specification stands, counted from 0.
+/// Where a group of a specification is, counted from 0.
 pub(crate) fn group_place(text: &str, group: u32) -> usize {
     place_behind(text.as_bytes(), group, false)
 }
 
-/// The place behind so many items, or groups, and behind the modulo.
+/// The place after so many items, or groups, and after the modulo.
 fn place_behind(text: &[u8], count: u32, of_items: bool) -> usize {
     let mut start = 0usize;
     let mut left = count;
@@ -101,7 +101,7 @@ fn place_behind(text: &[u8], count: u32, of_items: bool) -> usize {
     start
 }
 
-/// Where the first number over 99,999 stands in a specification: a sixth digit shows it, of those that aren't decimals
+/// Where the first number over 99,999 is in a specification: a sixth digit shows it, of those that aren't decimals
 /// or zeros in front.
 pub(crate) fn large_place(text: &str) -> usize {
     let mut start = 0usize;

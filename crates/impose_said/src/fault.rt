@@ -1,12 +1,30 @@
 //! Why nothing, or not all, was imposed.
-use arranged_sheets::PosterError;
 use impose_words::CommandFault;
 use imposer::RunError;
 use layouts::ArrangementError;
+use row_sheets::PosterError;
 use rows::RowError;
 use sheet_plan::MadeError;
 use std::alloc::AllocError;
 use std::io;
+
+/// By what a file is compressed, as its first bytes show.
+#[derive(Clone, Copy, Debug, PartialEq, Eq)]
+pub enum Packing {
+    Gzip,
+    Bzip2,
+    Xz,
+    Zip,
+}
+
+/// An option that would do nothing.
+#[derive(Clone, Copy, Debug, PartialEq, Eq)]
+pub enum IdleOption {
+    /// The paper of the sheets, where each page is left on its own.
+    Sheet,
+    /// Marks where sheets are cut, where nothing is left free for them.
+    CutMarks,
+}
 
 /// Why nothing, or not all, was imposed.
 #[derive(Debug, Drop)]
@@ -28,6 +46,12 @@ pub enum Fault {
     Sheets(MadeError),
     /// No specification says what is asked for.
     NoSpecification,
+    /// A specification is asked for, and not all pages have the paper that it would have.
+    SeveralPapers,
+    /// An option would do nothing.
+    Idle(IdleOption),
+    /// The picture of the sheets would be written over the input.
+    OverInput,
     /// The input couldn't be opened or read, and why, if the system said it.
     Read(Option<io::Error>),
     /// The run is refused or failed, but for a failed write.
@@ -36,13 +60,17 @@ pub enum Fault {
     NoInput,
     /// The input is a PDF.
     Pdf,
-    /// The input is compressed, by gzip.
-    Compressed,
+    /// The input is compressed so.
+    Compressed(Packing),
+    /// The input is an EPS with a preview before it.
+    DosEps,
+    /// The input is a text of two bytes a letter.
+    Utf16,
     /// The input begins with a printer's job language.
     JobLanguage,
     /// The input is longer than a document may be.
     TooLong,
-    /// The output couldn't be created, or not be written behind so many bytes, and why, if the system said it.
+    /// The output couldn't be created, or not be written after so many bytes, and why, if the system said it.
     Write {
         written: u64,
         cause: Option<io::Error>,

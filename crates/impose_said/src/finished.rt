@@ -1,17 +1,16 @@
 //! What was done.
-use document_paper::Comment;
 use imposer::Report;
 use lengths::Paper;
-use own_papers::Cut;
+use papers::{Comment, Cut};
 
 /// Where the paper of the pages was found.
 #[derive(Clone, Copy, Debug, PartialEq, Eq)]
 pub enum PaperOrigin {
     /// It was named on the command line.
     Named,
-    /// This comment of the document's header tells it.
+    /// This comment of the document's header names it.
     ByComment(Comment),
-    /// Nothing tells it, and so it is the paper at home.
+    /// Nothing names it, and so it is the paper at home.
     AtHome,
     /// It is the first page's own, as no page has the document's.
     FirstPage,
@@ -25,10 +24,12 @@ pub struct Finished {
     pub page_paper: Paper,
     /// Where the paper of the pages was found.
     pub origin: PaperOrigin,
-    /// The pages that the paper cuts which was named for them. By a specification none are told.
+    /// The pages that the paper cuts which was named for them. By a specification none are reported.
     pub cut: Option<Cut>,
     /// How many pages follow the document's trailer, which aren't imposed.
     pub behind: usize,
+    /// How many pages the document says that it has, if it does.
+    pub told: Option<usize>,
 }
 
 /// What was done.

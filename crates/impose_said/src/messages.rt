@@ -3,10 +3,9 @@ ghost use Rattle.std.specs.Prelude.{◌≡◌};
 ghost use Rattle.impose_said.specs.Statuses.{fault_status as status_of_fault, words_status as status_of_words};
 
 use crate::caret::{caret_below, group_place, item_place, large_place, range_place};
-use crate::fault::Fault;
+use crate::fault::{Fault, IdleOption, Packing};
 use crate::mistakes::looks_like_file;
 use crate::shown::shown_word;
-use arranged_sheets::PosterError;
 use clap::error::ErrorKind;
 use command_words::name_of;
 use dsc::DscError;
@@ -18,7 +17,8 @@ use imposer::RunError;
 use layouts::ArrangementError;
 use lengths::Paper;
 use pagespec::SpecError;
-use paper_names::{PaperError, name_list, read_paper};
+use papers::{PaperError, name_list, read_paper};
+use row_sheets::PosterError;
 use rows::RowError;
 use run_statuses::run_status;
 use sheet_plan::{MadeError, PlanError};
@@ -39,7 +39,9 @@ pub fn fault_status(fault: &Fault) -> u8
         Fault::Row(RowError::NoMemory) | Fault::Sheets(MadeError::NoMemory) => 3,
         Fault::Layout(_) | Fault::Poster(_) | Fault::Row(_) | Fault::Sheets(_) => 1,
         Fault::NoSuchPage { .. } | Fault::NoSpecification | Fault::NoInput => 1,
-        Fault::Pdf | Fault::Compressed | Fault::JobLanguage | Fault::TooLong => 1,
+        Fault::SeveralPapers | Fault::Pdf | Fault::Compressed(_) | Fault::JobLanguage => 1,
+        Fault::DosEps | Fault::Utf16 | Fault::TooLong => 1,
+        Fault::Idle(_) | Fault::OverInput => 2,
         Fault::Read(_) | Fault::Write { .. } => 3,
         Fault::Run(error) => run_status(error),
     }
@@ -54,7 +56,7 @@ fn words_status(kind: ErrorKind) -> u8
     }
 }
 
-/// What is said of a fault, without a line end behind it. The request is there once the command line is taken.
+/// What is said of a fault, without a line end after it. The request is there once the command line is taken.
 pub fn fault_text(
     alloc: Global,
     fault: &Fault,
@@ -66,11 +68,8 @@ pub fn fault_text(
         Fault::Poster(error) => String::from_str(alloc, poster_message(error)),
         Fault::Row(error) => row_text(alloc, error, request),
         Fault::Sheets(error) => String::from_str(alloc, sheets_message(error)),
-        Fault::NoSpecification => String::from_str(
-            alloc,
-            "--print-spec: no specification says a selection, cards, a stack, notes or a poster, nor --pages, --odd, --even, \
-            --reverse, --creep or --marks; leave it out",
-        ),
+        Fault::NoSpecification => String::from_str(alloc, NO_SPECIFICATION),
+        Fault::SeveralPapers => String::from_str(alloc, SEVERAL_PAPERS),
         Fault::NoSuchPage { place, pages } => {
             let message = format!(in alloc;
                 "page ranges: the document has pages 1 to {pages} only"
@@ -83,11 +82,42 @@ pub fn fault_text(
             with_cause(alloc, format!(in alloc; "cannot read {name}")?, cause)
         }
         Fault::Run(error) => run_text(alloc, error, request),
-        Fault::NoInput | Fault::Pdf | Fault::Compressed | Fault::JobLanguage | Fault::TooLong =>
-            unread_text(alloc, fault, request),
+        Fault::NoInput | Fault::Pdf | Fault::Compressed(_) | Fault::JobLanguage => {
+            unread_text(alloc, fault, request)
+        }
+        Fault::DosEps | Fault::Utf16 | Fault::TooLong => unread_text(alloc, fault, request),
+        Fault::Idle(option) => String::from_str(alloc, idle_message(*option)),
+        Fault::OverInput => {
+            let name = input_name(alloc, request)?;
+            let name = name.as_str();
+            format!(in alloc;
+                "--preview would write over {name}, which is read: name another file, as sheets.svg, or - for standard output"
+            )
+        }
         Fault::Write { written, cause } => {
             let text = written_text(alloc, *written, request)?;
             with_cause(alloc, text, cause)
+        }
+    }
+}
+
+const NO_SPECIFICATION: &str =
+    "--print-spec: no specification says a selection, cards, a stack, notes or a poster, nor --pages, --odd, --even, --reverse, \
+    --creep or --marks; leave it out";
+
+const SEVERAL_PAPERS: &str =
+    "--print-spec: a specification has one paper, and not all pages have the document's: name one by --paper, or leave \
+    --print-spec out";
+
+/// What is said of an option that would do nothing.
+fn idle_message(option: IdleOption) -> &'static str {
+    match option {
+        IdleOption::Sheet => {
+            "select leaves each page on a sheet of its own size, so --sheet does nothing: for another paper use \
+            impose nup 1 --sheet a4 --pages 1-3 in.ps out.ps"
+        }
+        IdleOption::CutMarks => {
+            "--marks cut draws nothing without room outside the pages: give a --margin of half the --gap at least, as --margin 5mm"
         }
     }
 }
@@ -107,14 +137,32 @@ fn unread_text(
         Fault::Pdf => format!(in alloc;
             "{name} is a PDF, not PostScript; use: pdftops in.pdf - | impose .. -"
         ),
-        Fault::Compressed => format!(in alloc;
-            "{name} is compressed, not PostScript; use: zcat in.ps.gz | impose .. -"
+        Fault::Compressed(packing) => {
+            let unpacked = unpacked_by(*packing);
+            format!(in alloc; "{name} is compressed, not PostScript; use: {unpacked} | impose .. -")
+        }
+        Fault::DosEps => format!(in alloc;
+            "{name} is an EPS with a preview before it, as DOS had them; use: ps2ps in.eps - | impose .. -"
+        ),
+        Fault::Utf16 => format!(in alloc;
+            "{name} is a text of two bytes a letter (UTF-16), not PostScript; use: iconv -f UTF-16 -t ISO-8859-1 in.ps | \
+            impose .. -"
         ),
         Fault::JobLanguage => format!(in alloc;
             "{name} begins with a printer's job language, not with %!; cut that off: \
             sed -n '/^%!/,$p' in.ps | impose .. -"
         ),
         _ => format!(in alloc; "{name} is longer than 1,073,741,824 bytes; split it first"),
+    }
+}
+
+/// What unpacks a file.
+fn unpacked_by(packing: Packing) -> &'static str {
+    match packing {
+        Packing::Gzip => "zcat in.ps.gz",
+        Packing::Bzip2 => "bzcat in.ps.bz2",
+        Packing::Xz => "xzcat in.ps.xz",
+        Packing::Zip => "unzip -p in.zip",
     }
 }
 
@@ -161,7 +209,7 @@ fn file_name(alloc: Global, name: &str) -> Result<String, AllocError> {
     }
 }
 
-/// A failed write behind so many bytes.
+/// A failed write after so many bytes.
 fn written_text(
     alloc: Global,
     written: u64,
@@ -188,7 +236,7 @@ fn with_cause(
     }
 }
 
-/// What is said of a command line that is refused; nothing of words that the command doesn't take, which `words_text` tells.
+/// What is said of a command line that is refused; nothing of words that the command doesn't take, which `words_text` has.
 pub fn command_text(alloc: Global, fault: &CommandFault) -> Result<String, AllocError> {
     match fault {
         CommandFault::Words(_) => Ok(String::new(alloc)),
@@ -237,7 +285,7 @@ fn outfile_text(alloc: Global, text: &str) -> Result<String, AllocError> {
     let text = shown_word(alloc, text)?;
     let text = text.as_str();
     format!(in alloc;
-        "OUTFILE '{text}' begins with a minus, as options do: options stand before --, and a file of this name \
+        "OUTFILE '{text}' begins with a minus, as options do: options come before --, and a file of this name \
         is written ./{text}"
     )
 }
@@ -271,7 +319,7 @@ fn signature_text(alloc: Global, text: &str) -> Result<String, AllocError> {
     }
 }
 
-/// What is said of a text behind a command that names no cells.
+/// What is said of a text after a command that names no cells.
 fn cells_text(alloc: Global, command: GridCommand, text: &str) -> Result<String, AllocError> {
     let (command, example) = match command {
         GridCommand::NUp => ("nup", "impose nup 2 in.ps out.ps"),
@@ -297,7 +345,7 @@ fn cells_text(alloc: Global, command: GridCommand, text: &str) -> Result<String,
     }
 }
 
-/// What is said of a text behind `notes` that names no number of pages.
+/// What is said of a text after `notes` that names no number of pages.
 fn noted_text(alloc: Global, text: &str) -> Result<String, AllocError> {
     let shown = shown_word(alloc, text)?;
     let shown = shown.as_str();
@@ -310,7 +358,7 @@ fn noted_text(alloc: Global, text: &str) -> Result<String, AllocError> {
     }
 }
 
-/// What is said of a text behind `poster` that names no columns and rows.
+/// What is said of a text after `poster` that names no columns and rows.
 fn tiles_text(alloc: Global, text: &str) -> Result<String, AllocError> {
     let shown = shown_word(alloc, text)?;
     let shown = shown.as_str();
@@ -393,7 +441,7 @@ fn paper_text(alloc: Global, option: PaperOption, text: &str) -> Result<String, 
             let names = name_list();
             format!(in alloc;
                 "unknown paper '{shown}' after {option}: name one of {names}, or a size as 210x297mm; \
-                a name with -landscape behind it is the paper on its side"
+                a name with -landscape after it is the paper on its side"
             )
         }
     }
@@ -487,7 +535,7 @@ fn layout_text(error: &ArrangementError, request: Option<&Request>) -> &'static 
 }
 
 /// Why a booklet's sheet would fold along its longer edge. A sheet that isn't named is the pages', and if these aren't named
-/// either the document tells them.
+/// either the document names them.
 fn fold_message(request: Option<&Request>) -> &'static str {
     match named_sheet(request) {
         None => {
@@ -693,7 +741,7 @@ fn document_text(alloc: Global, error: &DscError, name: &str) -> Result<String, 
             by --unguarded"
         ),
         DscError::NotPostScript => format!(in alloc;
-            "{name} is not PostScript: it doesn't begin with %!; cut off what stands before that, or if it is plain text \
+            "{name} is not PostScript: it doesn't begin with %!; cut off what is before that, or if it is plain text \
             use: enscript -p - in.txt | impose .. -"
         ),
         DscError::BadCount(at) => {
@@ -704,7 +752,7 @@ fn document_text(alloc: Global, error: &DscError, name: &str) -> Result<String, 
         }
         DscError::ShortData(at) => {
             format!(in alloc;
-                "{name}: the data behind the %%BeginData: or %%BeginBinary: at byte {at} is cut short; \
+                "{name}: the data after the %%BeginData: or %%BeginBinary: at byte {at} is cut short; \
                 is the document complete?"
             )
         }

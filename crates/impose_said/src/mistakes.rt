@@ -5,7 +5,7 @@ use clap::error::ErrorKind;
 use std::alloc::{AllocError, Global};
 
 /// What is said of words that the command doesn't take, of which the first is the program's name: clap's text, with a tip of
-/// our own on what to do. Clap's tip to put an option behind `--` is left out, as the option would be taken for a
+/// our own on what to do. Clap's tip to put an option after `--` is left out, as the option would be taken for a
 /// file then. No control character of a word is left, and long words are cut.
 pub fn words_text(alloc: Global, error: &Error, words: &[String]) -> Result<String, AllocError> {
     let mut text = format!(in alloc; "{error}")?;
@@ -26,7 +26,7 @@ fn with_shown(alloc: Global, text: String, word: &str) -> Result<String, AllocEr
     text.as_str().replace(alloc, word, shown.as_str())
 }
 
-/// The value in a word that has an option and its value: what stands behind an equals sign, or else behind a letter.
+/// The value in a word that has an option and its value: what comes after an equals sign, or else after a letter.
 fn value_in(word: &str) -> &str {
     match word.split_once("=") {
         Some((_, value)) => value,
@@ -76,7 +76,7 @@ fn leads_astray(text: &str, has_tip: bool) -> bool {
     false
 }
 
-/// The first word of a text that stands in quotes.
+/// The first word of a text that is in quotes.
 fn quoted_in(text: &str) -> &str {
     match text.split_once("'") {
         None => "",
@@ -236,7 +236,7 @@ fn tip_on_option(command: &str, word: &str) -> Option<&'static str> {
         )
     } else if word == "--copies" || word == "--repeat" {
         Some(
-            "each page stands several times on a sheet by: impose cards 2 in.ps out.ps; and the document several times behind \
+            "each page is on a sheet several times by: impose cards 2 in.ps out.ps; and the document several times after \
             itself by --pages 1-,1-",
         )
     } else if word == "--blank" {
@@ -280,7 +280,7 @@ fn begins_with_minus_and_number(word: &str) -> bool {
     }
 }
 
-/// A value with a minus stands behind this word.
+/// A value with a minus comes after this word.
 fn tip_on_negative(command: &str, before: &str) -> &'static str {
     if takes_length(before) {
         "a length is not below 0, as in: --gap 5mm"

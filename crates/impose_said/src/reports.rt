@@ -1,27 +1,62 @@
 //! What is said of a finished run.
 ghost use Rattle.std.specs.Prelude.{◌≡◌, IfOk, Some, option_map, string_bytes};
 ghost use Rattle.impose_said.specs.Said.{HasCounts, IsNote, IsOfCut, IsReport, behind_text as text_of_behind};
+ghost use Rattle.impose_said.specs.Said.{IsOfSheets, is_other_paper as is_other_named, is_same as are_same};
+ghost use Rattle.impose_said.specs.Said.{found_text as text_of_found, pages_text as text_of_pages, told_text as text_of_told};
 ghost use Rattle.impose_said.specs.Said.{is_pdf_name as names_pdf, origin_text as text_of_origin};
 
 use crate::finished::{Finished, PaperOrigin};
 use crate::shown::shown_word;
-use document_paper::Comment;
 use impose_words::{Layout, Request};
 use imposer::Report;
 use lengths::{Paper, print_points};
-use own_papers::Cut;
+use papers::{Comment, Cut};
 use std::alloc::{AllocError, Global};
 
 /// What is said of a finished run.
 pub fn report_text(alloc: Global, done: &Finished, request: &Request) -> Result<String, AllocError>
-    ensures { IfOk result (λ text. IsReport done.now (Some (string_bytes text))) }
+    ensures { IfOk result (λ text. IsReport done.now request.now (Some (string_bytes text))) }
 {
     let counts = counts_text(alloc, &done.report, request)?;
     let counts = counts.as_str();
     let size = size_text(alloc, &done.page_paper)?;
     let size = size.as_str();
     let origin = origin_text(done.origin);
-    format!(in alloc; "{counts}; pages of {size} pt, {origin}")
+    let sheets = sheets_text(alloc, &request.sheet_paper, &done.page_paper)?;
+    let sheets = sheets.as_str();
+    format!(in alloc; "{counts}; pages of {size} pt, {origin}{sheets}")
+}
+
+/// The size of the sheets, if another paper is named for them than the pages have.
+fn sheets_text(
+    alloc: Global,
+    named: &Option<Paper>,
+    page_paper: &Paper,
+) -> Result<String, AllocError>
+    ensures { IfOk result (λ text. IsOfSheets (is_other_named named.now page_paper.now) (string_bytes text)) }
+{
+    if !is_other_paper(named, page_paper) {
+        return Ok(String::new(alloc));
+    }
+    let size = size_text(alloc, named.as_ref().unwrap_or(page_paper))?;
+    let size = size.as_str();
+    format!(in alloc; "; sheets of {size} pt")
+}
+
+/// Whether another paper is named than this one.
+fn is_other_paper(named: &Option<Paper>, paper: &Paper) -> bool
+    ensures { result ≡ is_other_named named.now paper.now }
+{
+    match named {
+        Some(named) => !is_same(named, paper),
+        None => false,
+    }
+}
+
+fn is_same(one: &Paper, other: &Paper) -> bool
+    ensures { result ≡ are_same one.now other.now }
+{
+    one.width().get() == other.width().get() && one.height().get() == other.height().get()
 }
 
 /// How many pages, blanks, sheets and leaves there are, and how many bytes.
@@ -101,7 +136,7 @@ fn cut_size_text(alloc: Global, cut: &Cut) -> Result<String, AllocError> {
     format!(in alloc; "up to {size}")
 }
 
-/// What is said of pages that stand behind the document's trailer.
+/// What is said of pages that follow the document's trailer.
 pub fn behind_text(alloc: Global, done: &Finished) -> Result<Option<String>, AllocError>
     ensures { IfOk result (λ text. option_map string_bytes text ≡ text_of_behind done.now.behind) }
 {
@@ -115,6 +150,42 @@ pub fn behind_text(alloc: Global, done: &Finished) -> Result<Option<String>, All
         _ => Ok(Some(format!(in alloc;
             "{pages} pages follow %%Trailer or %%EOF and are not imposed"
         )?)),
+    }
+}
+
+/// What is said if the document says another number of its pages than were found.
+pub fn told_text(alloc: Global, done: &Finished) -> Result<Option<String>, AllocError>
+    ensures { IfOk result (λ text. option_map string_bytes text ≡ text_of_told done.now.told done.now.report.pages) }
+{
+    let Some(told) = done.told else {
+        return Ok(None);
+    };
+    let found = done.report.pages as usize;
+    if told == found {
+        return Ok(None);
+    }
+    let told = pages_text(alloc, told)?;
+    let told = told.as_str();
+    let found = found_text(alloc, found)?;
+    let found = found.as_str();
+    Ok(Some(format!(in alloc; "the document says {told}, {found}: is it complete?")?))
+}
+
+fn pages_text(alloc: Global, pages: usize) -> Result<String, AllocError>
+    ensures { IfOk result (λ text. string_bytes text ≡ text_of_pages pages) }
+{
+    match pages {
+        1 => String::from_str(alloc, "1 page"),
+        _ => format!(in alloc; "{pages} pages"),
+    }
+}
+
+fn found_text(alloc: Global, pages: usize) -> Result<String, AllocError>
+    ensures { IfOk result (λ text. string_bytes text ≡ text_of_found pages) }
+{
+    match pages {
+        1 => String::from_str(alloc, "1 was found"),
+        _ => format!(in alloc; "{pages} were found"),
     }
 }
 

@@ -6,13 +6,13 @@ use crate::fault::Fault;
 use crate::finished::{Done, Finished};
 use crate::messages::fault_text;
 use crate::mistakes::words_text;
-use crate::reports::{behind_text, cut_text, note_text, report_text};
+use crate::reports::{behind_text, cut_text, note_text, report_text, told_text};
 use clap::Error as WordsError;
 use impose_words::{CommandFault, Request};
 use std::alloc::Global;
 use std::io::ErrorKind;
 
-/// What is said on standard error of how the program ended with these words: of sheets the report, and behind it what else
+/// What is said on standard error of how the program ended with these words: of sheets the report, and after it what else
 /// there is to say of them, unless the request is quiet; of a fault its message, unless whoever reads the output has
 /// closed it; and nothing of anything else. Help and the version, which go to standard output, aren't said here.
 ///
@@ -46,6 +46,7 @@ fn text_of_run(alloc: Global, done: &Finished, request: &Request) -> String
     add_line(alloc, &mut said, report_text(alloc, done, request).ok());
     add_line(alloc, &mut said, cut_text(alloc, done).unwrap_or(None));
     add_line(alloc, &mut said, behind_text(alloc, done).unwrap_or(None));
+    add_line(alloc, &mut said, told_text(alloc, done).unwrap_or(None));
     add_line(alloc, &mut said, note_text(alloc, request).unwrap_or(None));
     said
 }

@@ -4,8 +4,8 @@ use std::alloc::{AllocError, Global};
 /// How many characters of a word are shown.
 const MOST_SHOWN: usize = 100;
 
-/// A word or a name without control characters, which are written as `\u{1b}`, and cut behind its first hundred characters;
-/// two dots stand for what is cut off.
+/// A word or a name without control characters, which are written as `\u{1b}`, and cut after its first hundred characters;
+/// two dots are in place of what is cut off.
 pub(crate) fn shown_word(alloc: Global, word: &str) -> Result<String, AllocError> {
     let mut shown = String::new(alloc);
     for (count, letter) in word.chars().enumerate() {

@@ -11,7 +11,7 @@ use Rattle.layouts.specs.declared.arrangement.Run.TheVariants.{Rows, Columns}
 use Rattle.layouts.specs.declared.arrangement.Turned.TheVariants.{Upright, Left, Right}
 use Rattle.rows.specs.declared.choices.Part.TheVariants.{All, Odd, Even}
 use Rattle.rows.specs.declared.sewing.Signing.TheVariants.{InOne, OfSides, Auto}
-use Rattle.paper_names.specs.Names.{papers}
+use Rattle.papers.specs.Names.{papers}
 use Rattle.impose_words.specs.Signatures.{signing_asked}
 use Rattle.impose_words.specs.Sizes.{size_named}
 use Rattle.impose_words.specs.Arranging.{booklet_marks_named, cells_named, cut_marks_named, noted_alone, run_named, scale_named, turned_named}

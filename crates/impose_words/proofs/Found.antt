@@ -21,7 +21,7 @@ use Rattle.impose_words.specs.declared.request.Layout.TheVariants as layout
 use Rattle.impose_words.specs.declared.request.PageChoice.{PageChoice}
 use Rattle.impose_words.specs.declared.request.Spacing.{Spacing}
 use Rattle.impose_words.specs.Spacings.{keeps_room}
-use Rattle.marks.specs.declared.strokes.Marks.{Marks}
+use Rattle.dressing.specs.declared.strokes.Marks.{Marks}
 use Rattle.layouts.specs.declared.arrangement.Order.{Order}
 use Rattle.layouts.specs.declared.arrangement.Run.{Run}
 use Rattle.layouts.specs.declared.arrangement.Turned.{Turned}

@@ -1,11 +1,11 @@
--- What the values of those arguments stand for that say how pages are arranged in the cells of a sheet.
+-- What the values of those arguments mean that say how pages are arranged in the cells of a sheet.
 use Rattle.std.specs.Prelude.{ℕ, ◌*◌, ℤ, ◌==◌, ◌||◌, Bool, true, false, not, if◌then◌else◌, List, [], ◌∷◌, Option, Some, None, codes}
 use Rattle.std.specs.Str.{bytes_eq}
 use Rattle.rules.specs.Numbers.{is_large, number_of}
 use Rattle.lengths.specs.Reading.{digits, is_empty, number_at, past_digits}
-use Rattle.paper_names.specs.Sizes.{letter_x}
+use Rattle.papers.specs.Sizes.{letter_x}
 use Rattle.layouts.specs.Refusals.{is_count}
-use Rattle.marks.specs.declared.strokes.Marks.{Marks}
+use Rattle.dressing.specs.declared.strokes.Marks.{Marks}
 use Rattle.layouts.specs.declared.arrangement.Cells.{Cells}
 use Rattle.layouts.specs.declared.arrangement.Cells.TheVariants.{AtLeast, Exactly}
 use Rattle.layouts.specs.declared.arrangement.Run.{Run}
@@ -23,11 +23,11 @@ at_least n = if is_count n then Some (AtLeast n) else None
 abbrev pub exactly : (columns rows : ℕ) → Option Cells
 exactly columns rows = if is_count (columns * rows) then Some (Exactly columns rows) else None
 
--- the number that the digits at the front stand for, and what stands behind them
+-- the number that the digits at the front make, and what comes after them
 abbrev pub digits_at : List ℕ → Option (ℕ × List ℕ)
 digits_at text = if is_empty (digits text) then None else Some (number_of (digits text), past_digits text)
 
--- so many columns, and as many rows as the digits say that are all of the text behind them
+-- so many columns, and as many rows as the digits say that are all of the text after them
 abbrev pub with_rows : (columns : ℕ) → Option (ℕ × List ℕ) → Option Cells
 with_rows columns None = None
 with_rows columns (Some (rows, [])) = exactly columns rows
@@ -58,7 +58,7 @@ noted_alone (Some (Exactly columns rows)) = None
 
 -- ---- in which order
 
--- along what pages run, and whether from the right: what stands first says where the second page stands
+-- along what pages run, and whether from the right: what comes first says where the second page is
 abbrev pub run_named : List ℕ → Option (Run × Bool)
 run_named text =
     if bytes_eq text (codes "right-down") then Some (Rows, false)

@@ -4,7 +4,7 @@ use Rattle.made_sheets.specs.Choice.{Choice}
 use Rattle.rows.specs.Choices.{part_named}
 use Rattle.rows.specs.declared.choices.Part.{Part}
 use Rattle.rows.specs.declared.choices.Part.TheVariants.{All, Odd, Even}
-use Rattle.marks.specs.declared.strokes.Marks.{Marks}
+use Rattle.dressing.specs.declared.strokes.Marks.{Marks}
 use Rattle.impose_words.specs.declared.request.PageChoice.{PageChoice}
 
 -- as the row's definition has it

@@ -48,11 +48,11 @@ common_rules =
     ∷ lettered letter_q (flag_rule (codes "quiet"))
     ∷ []
 
--- a subcommand with arguments of its own, and behind them those
+-- a subcommand with arguments of its own, and after them those
 abbrev pub subcommand_app : (name : Text) → (own : List Rule) → App
 subcommand_app name own = fold with_rule (fold with_rule (new_app name) own) common_rules
 
--- what tells of the sheets in place of them
+-- what reports on the sheets in place of them
 abbrev pub look_rules : List Rule
 look_rules = flag_rule (codes "plan") ∷ option_rule (codes "preview") ∷ []
 
@@ -75,7 +75,7 @@ row_rules =
 abbrev pub count_rule : Rule
 count_rule = required_rule (codes "count")
 
--- in which order pages stand in cells, how they lie, and how large they are
+-- in which order pages are in cells, how they lie, and how large they are
 abbrev pub cell_rules : List Rule
 cell_rules =
     option_rule (codes "order")
@@ -120,7 +120,7 @@ spec_app = subcommand_app (codes "spec")
 abbrev pub apps : List App
 apps = nup_app ∷ booklet_app ∷ cards_app ∷ stack_app ∷ notes_app ∷ poster_app ∷ select_app ∷ spec_app ∷ []
 
--- the command itself: it has a version, and a subcommand must stand among the words
+-- the command itself: it has a version, and a subcommand must be among the words
 abbrev pub with_top : Shape → Shape
 with_top s = record s { has_version = true; subcommand_required = true; arg_required_else_help = true }
 

@@ -1,4 +1,4 @@
--- What is made for a request: the sheets, or in place of them what tells of them.
+-- What is made for a request: the sheets, or in place of them a report on them.
 use Rattle.std.specs.Prelude.{ℕ, Bool, true, false, List, Option, Some, None, codes, nat_eq, option_map, string_bytes}
 use Rattle.std.specs.List.{ends_with}
 use Rattle.impose_words.specs.declared.request.Layout.{Layout}

@@ -59,7 +59,7 @@ RefusesBorder found (fault.Words error) = ⊥
 RefusesBorder found fault.NoText = ⊥
 RefusesBorder found (fault.BadLength option text) = ⊥
 
--- a refusal of one of them, each behind those before it
+-- a refusal of one of them, each after those before it
 abbrev pub RefusesSizes : (found : List Row) → CommandFault → Type 0
 RefusesSizes found (fault.UnknownPaper OfPages text) = NamesNoSize OfPages found (string_bytes text)
 RefusesSizes found (fault.UnknownPaper OfSheets text) = (is_some (size_found OfPages found) ≡ true)
@@ -114,7 +114,7 @@ RefusesValue option found (fault.Words error) = ⊥
 RefusesValue option found fault.NoText = ⊥
 RefusesValue option found (fault.BadLength which text) = ⊥
 
--- a refusal of one of them, each behind those before it
+-- a refusal of one of them, each after those before it
 abbrev pub RefusesReading : (found : List Row) → CommandFault → Type 0
 RefusesReading found (fault.BadValue option text) = HasNoValue option found (string_bytes text)
 RefusesReading found fault.NoMemory = ⊤

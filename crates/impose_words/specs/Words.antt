@@ -18,7 +18,7 @@ use Rattle.layouts.specs.declared.arrangement.Turned.TheVariants.{Upright}
 use Rattle.rows.specs.declared.sewing.Signing.{Signing}
 use Rattle.rows.specs.declared.choices.Part.{Part}
 use Rattle.rows.specs.declared.choices.Part.TheVariants.{All, Odd, Even}
-use Rattle.marks.specs.declared.strokes.Marks.{Marks}
+use Rattle.dressing.specs.declared.strokes.Marks.{Marks}
 use Rattle.impose_words.specs.Arranging.{booklet_marks_named, cells_named, cut_marks_named, exact_alone, lines_alone, no_marks, noted_alone}
 use Rattle.impose_words.specs.Arranging.{run_named, scale_named, turned_named}
 use Rattle.impose_words.specs.Choices.{is_whole}
@@ -48,7 +48,7 @@ use Rattle.impose_words.specs.declared.fault.CommandFault.TheVariants as fault
 
 -- ---- values
 
--- a flag stands among the words
+-- a flag is among the words
 abbrev pub has_flag : (id : Text) → (found : List Row) → Bool
 has_flag id found = has_true (first_of id found)
 
@@ -111,7 +111,7 @@ command_name grid.Stack = codes "stack"
 command_name grid.Notes = codes "notes"
 command_name grid.Poster = codes "poster"
 
--- the cells that a text behind such a command means; those of notes are a number of pages, and those of a poster are its sheets,
+-- the cells that a text after such a command means; those of notes are a number of pages, and those of a poster are its sheets,
 -- in so many columns and rows
 abbrev pub cells_in : GridCommand → Text → Option Cells
 cells_in grid.NUp text = cells_named text
@@ -120,7 +120,7 @@ cells_in grid.Stack text = cells_named text
 cells_in grid.Notes text = noted_alone (cells_named text)
 cells_in grid.Poster text = exact_alone (cells_named text)
 
--- the cells that stand behind such a command
+-- the cells that come after such a command
 abbrev pub cells_found : GridCommand → (found : List Row) → Option Cells
 cells_found command found = option_and_then (cells_in command) (first_of (codes "count") found)
 
@@ -330,7 +330,7 @@ pub record WritesToOption (found : List Row) (text : Text) : Type 0 where
   pub given : file_asked (first_of (codes "outfile") found) ≡ Some text
   pub like : is_like_option text ≡ true
 
--- all that stands before it was taken
+-- all that is before it was taken
 pub record HasLayout (name : Text) (found : List Row) : Type 0 where
   pub sizes : HasSizes found
   pub layout : Layout
@@ -347,7 +347,7 @@ pub record HasChoice (name : Text) (found : List Row) : Type 0 where
   pub choice : PageChoice
   pub chosen : ChoosesBy (ranges_id spacing.layout.layout) found choice
 
--- all that stands before what is made was taken, and the layout lays rows
+-- all that is before what is made was taken, and the layout lays rows
 pub record MayLook (name : Text) (found : List Row) : Type 0 where
   pub choice : HasChoice name found
   pub outfile : is_outfile (file_asked (first_of (codes "outfile") found)) ≡ true
@@ -374,7 +374,7 @@ pub record NamesNoLength (option : LengthOption) (found : List Row) (text : Text
   pub none : length_named a4 text ≡ None
   pub before : AreBefore option found
 
--- what stands behind the command names no cells
+-- what comes after the command names no cells
 abbrev pub NamesNoCells : GridCommand → (found : List Row) → (text : Text) → Type 0
 NamesNoCells command found text = (first_of (codes "count") found ≡ Some text) × (cells_in command text ≡ None)
 

@@ -13,7 +13,7 @@ use std::alloc::{AllocError, Global};
 /// What help ends in.
 const PAPERS_AND_EXAMPLES: &str = "Papers:
   a0, a1, a2, a3, a4, a5, a6, b0, b1, b2, b3, b4, b5, b6, c4, c5, c6, dl, letter, legal, tabloid, ledger,
-  statement, executive, folio, quarto, 10x14; each with -landscape behind it lies on its side; or a size,
+  statement, executive, folio, quarto, 10x14; each with -landscape after it lies on its side; or a size,
   as 210x297mm or 8.5x11in
 
 Examples:
@@ -89,7 +89,7 @@ fn cards<'a>(alloc: Global) -> Result<Command<'a>, AllocError>
     let own = vec![in alloc;
         count(
             alloc,
-            "How often each page stands on a sheet, from 1 to 1024, or columns and rows, as 2x4",
+            "How often each page is on a sheet, from 1 to 1024, or columns and rows, as 2x4",
         ),
         order(alloc),
         turned(alloc),
@@ -291,7 +291,7 @@ fn overlap<'a>(alloc: Global) -> Arg<'a>
     ensures { rule_of result ≡ option_rule (codes "overlap") }
 {
     option(alloc, "overlap", "LENGTH").help(
-        "So much of the page stands on both of two neighbouring sheets, as 1cm",
+        "So much of the page is on both of two neighbouring sheets, as 1cm",
     )
 }
 
@@ -354,7 +354,7 @@ fn reverse<'a>(alloc: Global) -> Arg<'a>
 fn plan<'a>(alloc: Global) -> Arg<'a>
     ensures { rule_of result ≡ flag_rule (codes "plan") }
 {
-    flag(alloc, "plan").help("Print which page stands where on each sheet, and impose nothing")
+    flag(alloc, "plan").help("Print which page is where on each sheet, and impose nothing")
 }
 
 fn preview<'a>(alloc: Global) -> Arg<'a>
@@ -386,7 +386,7 @@ fn spec<'a>(alloc: Global) -> Result<Command<'a>, AllocError>
     subcommand(alloc, "spec", about, own)
 }
 
-/// A subcommand with arguments of its own, and behind them those that every subcommand has.
+/// A subcommand with arguments of its own, and after them those that every subcommand has.
 fn subcommand<'a>(
     alloc: Global,
     name: &'a str,

@@ -1,10 +1,10 @@
-//! What the values of those arguments stand for that say how pages are arranged in the cells of a sheet.
+//! What the values of those arguments mean that say how pages are arranged in the cells of a sheet.
 ghost use Rattle.std.specs.Prelude.{◌≡◌, ◌*◌};
 ghost use Rattle.impose_words.specs.Arranging as meaning;
 
+use dressing::Marks;
 use layouts::{Cells, Run, Turned};
 use lengths::{Number, read_digits, read_number};
-use marks::Marks;
 
 /// How many cells a sheet has at most.
 const MOST_CELLS: u64 = 1_024;

@@ -30,9 +30,9 @@ use crate::sizes::size_named;
 use clap::ArgMatches;
 use clap::error::ErrorKind;
 use command_words::{border_named, is_set, number_of, owned, text_of};
+use dressing::Marks;
 use layouts::{Cells, Order, Run, Turned};
 use lengths::{Grains, Number, Paper, a4, length_named};
-use marks::Marks;
 use rows::{Part, Signing};
 use std::alloc::Global;
 
@@ -99,7 +99,7 @@ fn request_of(alloc: Global, name: &str, found: &ArgMatches<'_>) -> Result<Reque
     }
 }
 
-/// The request for this layout of these sizes: what else was found is read in its order, and the first fault is told.
+/// The request for this layout of these sizes: what else was found is read in its order, and the first fault is reported.
 fn request_for(
     alloc: Global,
     sizes: Sizes,
@@ -304,7 +304,7 @@ fn poster_of(alloc: Global, found: &ArgMatches<'_>) -> Result<Layout, CommandFau
     }
 }
 
-/// The cells that stand behind the command.
+/// The cells that come after the command.
 fn cells_of(
     alloc: Global,
     command: GridCommand,
@@ -322,7 +322,7 @@ fn cells_of(
     }
 }
 
-/// The cells that a text behind the command means. Those of notes are a number of pages, and those of a poster are its sheets,
+/// The cells that a text after the command means. Those of notes are a number of pages, and those of a poster are its sheets,
 /// in so many columns and rows.
 fn cells_in(command: GridCommand, text: &str) -> Option<Cells>
     ensures { result ≡ cells_of_command command text.now }
@@ -446,7 +446,7 @@ fn spacing_of(
         Err(fault) => return Err(fault),
     };
     match reading_of(alloc, found) {
-        Ok(Reading { order, scale }) => Ok(Spacing {
+        Ok(OrderAndScale { order, scale }) => Ok(Spacing {
             margin,
             gap,
             trim,
@@ -493,13 +493,13 @@ fn length_name(option: LengthOption) -> &'static str
 
 /// In which order one reads the cells, and the scale of the pages in them.
 #[derive(Clone, Copy, Drop)]
-struct Reading {
+struct OrderAndScale {
     order: Order,
     scale: Option<Number>,
 }
 
 /// Right is turned into left by `--rtl` in whatever order.
-fn reading_of(alloc: Global, found: &ArgMatches<'_>) -> Result<Reading, CommandFault>
+fn reading_of(alloc: Global, found: &ArgMatches<'_>) -> Result<OrderAndScale, CommandFault>
     ensures order { IfOk result (λ reading. order_found (rows_of (found_of found.now)) ≡ Some reading.order) }
     ensures scale { IfOk result (λ reading. scale_found (rows_of (found_of found.now)) ≡ Some reading.scale) }
     ensures refused { IfErr result (RefusesReading (rows_of (found_of found.now))) }
@@ -513,7 +513,7 @@ fn reading_of(alloc: Global, found: &ArgMatches<'_>) -> Result<Reading, CommandF
         Err(fault) => return Err(fault),
     };
     match scale_of(alloc, found) {
-        Ok(scale) => Ok(Reading {
+        Ok(scale) => Ok(OrderAndScale {
             order: Order {
                 run,
                 right_to_left: from_right || is_set(found, "rtl"),

@@ -29,7 +29,7 @@ pub enum GridCommand {
     Poster,
 }
 
-/// The option that says in which order pages stand in cells, how large they are, or which marks are drawn: on a booklet, or
+/// The option that says in which order pages are in cells, how large they are, or which marks are drawn: on a booklet, or
 /// on other sheets.
 #[derive(Clone, Copy, Debug, PartialEq, Eq)]
 pub enum CellOption {
@@ -65,7 +65,7 @@ pub enum CommandFault {
     BadLength(LengthOption, String),
     /// The value of `--signature`, this text, is neither `auto` nor a number of sides that leaves may have.
     BadSignature(String),
-    /// What stands behind the command, this text, names no cells that a sheet takes.
+    /// What comes after the command, this text, names no cells that a sheet takes.
     BadCells(GridCommand, String),
     /// The option's value, this text, is none of its values.
     BadValue(CellOption, String),

@@ -5,9 +5,9 @@ ghost use Rattle.impose_words.specs.Choices.{choice_in, is_whole};
 ghost use Rattle.impose_words.specs.Products.{lays_rows};
 ghost use Rattle.impose_words.specs.Spacings.{arrangement_in, binding_in, keeps_room, notes_in, nothing_kept};
 
+use dressing::Marks;
 use layouts::{Arrangement, Binding, Cells, Order, Run, Turned};
 use lengths::{Grains, Number, Paper};
-use marks::Marks;
 use rows::{Choice, Part, Signing};
 
 /// How the pages are laid out.
@@ -86,7 +86,7 @@ pub struct Spacing {
     pub creep: Grains,
     /// Neighbouring sheets of a poster overlap by this.
     pub overlap: Grains,
-    /// In which order pages stand in the cells. A booklet is bound at the right if they stand from the right to the left.
+    /// In which order pages are in the cells. A booklet is bound at the right if they go from the right to the left.
     pub order: Order,
     /// The scale of the pages; without it they are as large as they can be.
     pub scale: Option<Number>,
@@ -243,7 +243,7 @@ pub struct Request {
     pub marks: Marks,
     /// Whether the guard is put in.
     pub is_guarded: bool,
-    /// What is made: the sheets, or in place of them what tells of them.
+    /// What is made: the sheets, or in place of them a report on them.
     pub product: Product,
     /// Whether the report is left out.
     pub is_quiet: bool,

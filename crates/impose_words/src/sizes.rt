@@ -3,7 +3,7 @@ ghost use Rattle.std.specs.Prelude.{◌≡◌};
 ghost use Rattle.impose_words.specs.Sizes as meaning;
 
 use lengths::Paper;
-use paper_names::read_paper;
+use papers::read_paper;
 
 /// The paper that the text means, by its name or by its width and height.
 pub fn size_named(text: &str) -> Option<Paper>

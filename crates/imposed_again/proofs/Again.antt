@@ -51,7 +51,7 @@ pub record Parts (us : List TextUnit) : Type 0 where
   pub run_is : page_run (nested us) ≡ nested_from 0 run
   pub trailer_is : trailer (nested us) ≡ nested_from 0 rest
 
--- the units before the first one that passes are some, where the first doesn't
+-- there are units before the first one that passes, if the first unit doesn't
 front_some : (t : NestedUnit → Bool) (d : ℕ) (u : TextUnit) (us front back : List TextUnit) (behind : ℕ) → u ∷ us ≡ front ++ back → passes t d front ≡ Some behind → Opens t behind back → t (at_depth d u) ≡ false → 0 < length front
 front_some t d u us (v ∷ front) back behind e p o h = omega arith
 front_some t d u us [] back behind e p o h = clash (t (at_depth d u)) (subst (λ k. t (at_depth k u) ≡ true) (sym (same_some d behind p)) (subst (Opens t behind) (sym e) o)) h

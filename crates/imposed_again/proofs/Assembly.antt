@@ -1,4 +1,4 @@
--- Preamble, sheets and trailer put together are cut into these again.
+-- Preamble, sheets and trailer, joined, are cut into the same parts again.
 use Rattle.std.specs.Prelude.{Ok, Option, Some, None, codes, decimal, map, flat_map, not, if◌then◌else◌}
 use Rattle.std.specs.Str.{bytes_eq}
 use Rattle.std.proofs.Common.{◌==◌, ◌||◌, ◌&&◌, Bool, true, false, append_assoc, ◌≡◌, ℕ, zero, suc, ◌<◌, ◌≤◌, List, [], ◌∷◌, ◌++◌, length, refl, ap, arith, length-append, sym, ◌∙◌, subst}
@@ -59,7 +59,7 @@ pub record Sheets (c : Type 0) (ts : List (List ℕ)) : Type 0 where
   pub none : length ts ≡ 0 → units ≡ []
   pub some : 0 < length ts → 0 < length units
   pub starts : (r : List ℕ) → 0 < length ts → lf (flat_map (λ t. t) ts ++ r) ≡ false
-  -- how many pages they are, from whatever depth; and which, where they are shut
+  -- how many pages they are, from any depth; and which pages, if they are shut
   pub few : (d : ℕ) → length (split_pages (nested_from d units)) ≤ length ts
   pub fewer : (d : ℕ) → 0 < d → 0 < length ts → length (split_pages (nested_from d units)) < length ts
   pub seen : 0 < length ts → 0 < length (split_pages (nested_from 0 units))
@@ -87,13 +87,13 @@ no_sheets c =
 sheet_are : (t : List ℕ) (us : List TextUnit) → Goes t us → AreUnits t us
 sheet_are t us g = subst (λ x. AreUnits x us) (append-nil t) (subst (AreUnits (t ++ [])) (append-nil us) (g [] [] refl))
 
--- the depth behind units that pass a test
+-- the depth after units that pass a test
 pub depth_is : (t : NestedUnit → Bool) (d : ℕ) (us : List TextUnit) (e : ℕ) → passes t d us ≡ Some e → 0 < length us → depth_behind (nested_from d us) ≡ e
 depth_is t d [] e h l = absurd (omega (arith, l))
 depth_is t d (u ∷ []) e h l = let w = passes_cons t d u [] e h in same_some (depth_after d u) e w.1
 depth_is t d (u ∷ v ∷ us) e h l = let w = passes_cons t d u (v ∷ us) e h in depth_is t (depth_after d u) (v ∷ us) e w.1 (omega arith)
 
--- the depth behind a sheet
+-- the depth after a sheet
 sheet_depth : (c : Type 0) (t : List ℕ) (s : Sheet c t) (e : ℕ) → passes begins_part 0 s.rest ≡ Some e → depth_behind (units_of t) ≡ e
 sheet_depth c t s e h =
     let w = passes_either begins_page begins_trailer 0 s.rest e h in
@@ -109,7 +109,7 @@ no_trailer c t s d = by_test (d == 0)
 no_page : (d : ℕ) (u : TextUnit) → 0 < d → begins_page (at_depth d u) ≡ false
 no_page d u l = ap (λ b. (b && not u.is_block) && is_comment (codes "%%Page") u.content) (ne_eqb d 0 (omega (arith, l)))
 
--- behind the page line
+-- after the page line
 inner_split : (c : Type 0) (t : List ℕ) (s : Sheet c t) (us : List TextUnit) (d : ℕ) → split_pages (nested_from (depth_after d s.page) (s.rest ++ us)) ≡ split_pages (nested_from (s.through d).0 us)
 inner_split c t s us d =
     ap (λ k. split_pages (nested_from k (s.rest ++ us))) (s.outside d)
@@ -136,7 +136,7 @@ not_some : (d : ℕ) → (0 < d → ⊥) → d ≡ 0
 not_some zero h = refl
 not_some (suc d) h = absurd (h (omega arith))
 
--- where each but the last is shut, so is the first, or it is the last
+-- if each but the last is shut, the first is shut, or it is the last
 first_shut : (c : Type 0) (t : List ℕ) (ts : List (List ℕ)) (s : Sheet c t) (m : Sheets c ts) → AreShut (t ∷ ts) → Opens begins_page (s.through 0).0 m.units × (map bytes_of (split_pages (nested_from (s.through 0).0 m.units)) ≡ ts)
 first_shut c t [] s m h = let n : m.units ≡ [] = m.none refl in
     (subst (Opens begins_page (s.through 0).0) (sym n) tt, ap (λ us. map bytes_of (split_pages (nested_from (s.through 0).0 us))) n)
@@ -212,7 +212,7 @@ all_sheets c (t ∷ ts) h = more_sheets c t ts h.0 (all_sheets c ts h.1)
 
 -- The trailer.
 
--- there is one under the condition alone
+-- there is a trailer only under the condition
 pub record Trailing (c : Type 0) (text : List ℕ) : Type 0 where
   pub units : List TextUnit
   pub are : AreUnits text units
@@ -305,7 +305,7 @@ pub record Assembled (k : Type 0) (a : List ℕ) (ts : List (List ℕ)) (c : Lis
   pub exact : length (pages (nested units)) ≡ length ts → AreShut ts
   pub stays_shut : k → depth_behind (page_run (nested units)) ≡ 0
 
--- where the trailer begins at this depth, the depth being 0 under the condition
+-- where the trailer begins at this depth, which is 0 under the condition
 trailer_opens : (k : Type 0) (d : ℕ) (us : List TextUnit) → Opens begins_trailer 0 us → (0 < length us → k) → (k → d ≡ 0) → Opens begins_trailer d us
 trailer_opens k d [] o x y = tt
 trailer_opens k d (u ∷ us) o x y = subst (λ e. begins_trailer (at_depth e u) ≡ true) (sym (y (x (omega arith)))) o

@@ -1,5 +1,5 @@
--- What is cut of what was written, worked out: where pages are sheets and where they aren't, and what kept lines, put together,
--- are cut into.
+-- The units of what was written, worked out: where pages are sheets and where they aren't, and the units of joined
+-- kept lines.
 use Rattle.std.proofs.Common.{ℕ, List, [], ◌∷◌, ◌++◌, refl, ◌≡◌, false, None, map, length}
 use Rattle.std.specs.Prelude.{codes, flat_map, Result, Ok, pos}
 use Rattle.std.specs.Fmt.{digits}
@@ -37,7 +37,8 @@ again spec us = document_of (output frame None spec us)
 abbrev sheets_of : Spec → List NestedUnit → List (List ℕ)
 sheets_of spec us = sheet_texts frame (pages us) (sheets spec (length (pages us)))
 
--- how many sheets were written, how many pages are seen of them, and the depth behind the document's last page
+-- the number of sheets that were written, the number of pages that they are read as, and the depth after the
+-- document's last page
 abbrev seen_of : Spec → List ℕ → Result (ℕ × ℕ × ℕ) DocumentFault
 seen_of spec text = document_of text >>= λ us. again spec us >>= λ vs. Ok (length (sheets_of spec us), length (pages vs), depth_behind (page_run us))
 
@@ -54,14 +55,14 @@ piped : each_time ≡ Ok (4, 2, 1)
 unfolding digits
 piped = refl
 
--- and once more, each page for itself
+-- and once more, each page alone
 three_times : (document_of four >>= λ us. again pair us >>= λ vs. again pair vs >>= λ ws. again (single 1 (0 ∷ 0 ∷ [])) ws >>= λ xs. Ok (length (pages xs))) ≡ Ok 2
 unfolding digits
 three_times = refl
 
 -- Pages that leave an embedded document open.
 
--- `0,0`: the only page leaves one open; the second sheet isn't seen as a page
+-- `0,0`: the only page leaves one open; the second sheet isn't read as a page
 abbrev open_page : List ℕ
 open_page = codes "%!\n%%Page: 1 1\n%%BeginDocument: a\n"
 
@@ -75,33 +76,34 @@ both_in_one : (document_of open_page >>= λ us. again (single 1 (0 ∷ 0 ∷ [])
 unfolding digits
 both_in_one = refl
 
--- `2:0,1`: the open page stands on the last sheet alone, and all sheets are seen
+-- `2:0,1`: the open page is only on the last sheet, and all sheets are read as pages
 open_at_last : seen_of (single 2 (0 ∷ 1 ∷ [])) (codes "%!\n%%Page: 1 1\n%%Page: 2 2\n%%BeginDocument: a\n") ≡ Ok (2, 2, 1)
 unfolding digits
 open_at_last = refl
 
--- `2:1,0,0`: an end that stands alone in another page closes it again; the second sheet isn't seen, the third is
+-- `2:1,0,0`: an end without a beginning, in another page, closes it again; the second sheet isn't read as a page,
+-- the third is
 closed_by_another : seen_of (single 2 (1 ∷ 0 ∷ 0 ∷ [])) (codes "%!\n%%Page: 1 1\n%%EndDocument\n%%Page: 2 2\n%%BeginDocument: a\n") ≡ Ok (3, 2, 1)
 unfolding digits
 closed_by_another = refl
 
--- `2:0,0`: the open page is put on no sheet
+-- `2:0,0`: the open page is on no sheet
 not_placed : seen_of (single 2 (0 ∷ 0 ∷ [])) (codes "%!\n%%Page: 1 1\n%%Page: 2 2\n%%BeginDocument: a\n") ≡ Ok (2, 2, 1)
 unfolding digits
 not_placed = refl
 
--- a line `%%Trailer` behind an open document is no trailer, so the depth behind the last page isn't 0
+-- a line `%%Trailer` after an open document is no trailer, so the depth after the last page isn't 0
 abbrev ends_with : List ℕ → Result (ℕ × ℕ) DocumentFault
 ends_with text = document_of text >>= λ us. Ok (length (trailer us), depth_behind (page_run us))
 
 no_trailer : ends_with (codes "%!\n%%Page: 1 1\n%%BeginDocument: a\n%%Trailer\n") ≡ Ok (0, 1)
 no_trailer = refl
 
--- behind the document's end it is one, and the depth is 0
+-- after the document's end it is one, and the depth is 0
 with_trailer : ends_with (codes "%!\n%%Page: 1 1\n%%BeginDocument: a\n%%EndDocument\n%%Trailer\n") ≡ Ok (1, 0)
 with_trailer = refl
 
--- Kept lines put together.
+-- Kept lines, joined.
 
 abbrev bytes_cut : List ℕ → Result (List (List ℕ)) FaultyBlock
 bytes_cut text = cut text >>= λ us. Ok (map (λ u. u.bytes) us)
@@ -109,8 +111,8 @@ bytes_cut text = cut text >>= λ us. Ok (map (λ u. u.bytes) us)
 abbrev bytes_kept : List ℕ → Result (List (List ℕ)) FaultyBlock
 bytes_kept text = cut text >>= λ us. Ok (map (λ u. u.unit.bytes) (kept drops_in_page (nested us)))
 
--- a line that ends with CR, and an empty line: if the line between them is dropped, they are one line. Kept are three units, and
--- their bytes are cut into two
+-- a line that ends with CR, and an empty line: if the line between them is dropped, they become one line. Three
+-- units are kept, and their bytes are cut into two
 kept_units_of : bytes_kept (codes "%%Page: 1 1\na\r%%PageFonts: x\n\nb\n") ≡ Ok (codes "a\r" ∷ codes "\n" ∷ codes "b\n" ∷ [])
 kept_units_of = refl
 
@@ -135,13 +137,14 @@ empty_block_cut_again = refl
 block_of_bytes : bytes_cut (codes "%%BeginBinary: 1\n\r\nb\n") ≡ Ok (codes "%%BeginBinary: 1\n\r" ∷ codes "\n" ∷ codes "b\n" ∷ [])
 block_of_bytes = refl
 
--- The line feed that gives a text its end.
+-- The line feed that ends a text.
 
--- it is a line of its own behind a block of bytes
+-- it is a line of its own after a block of bytes
 end_alone : bytes_cut (ended (codes "%%BeginBinary: 1\nx")) ≡ Ok (codes "%%BeginBinary: 1\nx" ∷ codes "\n" ∷ [])
 end_alone = refl
 
--- and else a part of the last unit: of a line, of a block counted in lines that the text cuts off, of a block of no bytes
+-- otherwise it is a part of the last unit: of a line, of a block counted in lines that the text cuts off, of a
+-- block of no bytes
 end_of_line : bytes_cut (ended (codes "a\rb")) ≡ Ok (codes "a\r" ∷ codes "b\n" ∷ [])
 end_of_line = refl
 
@@ -151,15 +154,15 @@ end_of_lines = refl
 end_of_empty_block : bytes_cut (ended (codes "a\n%%BeginBinary: 0")) ≡ Ok (codes "a\n" ∷ codes "%%BeginBinary: 0\n" ∷ [])
 end_of_empty_block = refl
 
--- A unit and what stands behind it.
+-- A unit and what follows it.
 
--- a line that ends with CR takes a line feed behind it, and one without an end takes what follows
+-- a line that ends with CR takes a line feed that follows, and a line without an end takes all that follows
 cr_before_lf : bytes_cut (codes "a\r" ++ codes "\nb") ≡ Ok (codes "a\r\n" ∷ codes "b" ∷ [])
 cr_before_lf = refl
 
 no_end : bytes_cut (codes "a" ++ codes "b\n") ≡ Ok (codes "ab\n" ∷ [])
 no_end = refl
 
--- no bytes have a first unit too, which has no bytes; so that a unit has some is said apart
+-- an empty text has a first unit too, which has no bytes; that a unit has bytes is therefore a premise of its own
 no_bytes : first_unit [] ≡ Ok (record { content = []; bytes = []; is_block = false })
 no_bytes = refl

@@ -1,4 +1,4 @@
--- What a filter keeps is a row again, and nests as before.
+-- What a filter keeps is a row again, nested as before.
 use Rattle.std.specs.Prelude.{Some, None, codes, not, if◌then◌else◌}
 use Rattle.std.specs.List.{starts_with, list_any, take_while}
 use Rattle.std.specs.Str.{bytes_eq}
@@ -106,7 +106,7 @@ depth_stays d u b e = turn u.is_block (has_key (codes "%%BeginDocument" ∷ []) 
     turn false false true e f = cc
     turn false false false e f = refl
 
--- where all pass, those that are kept pass, and leave the same depth
+-- if all units pass, the kept ones pass too, and leave the same depth
 pub kept_passes : (t : NestedUnit → Bool) (was : Bool) (drops : List ℕ → Bool) (d : ℕ) (us : List TextUnit) (e : ℕ) → Mild drops → passes t d us ≡ Some e → passes t d (kept_units was drops d us) ≡ Some e
 kept_passes t was drops d [] e m h = h
 kept_passes t was drops d (u ∷ us) e m h =

@@ -1,4 +1,4 @@
--- What stands on a made sheet, and what lines begin no part.
+-- What is on a made sheet, and which lines begin no part.
 use Rattle.std.specs.Prelude.{flat_map, codes, ℤ, Option, slice_index_or, map, if◌then◌else◌, None, Ok}
 use Rattle.std.proofs.Common.{arith, ◌≡◌, ℕ, ◌+◌, ◌&&◌, List, [], ◌∷◌, ◌++◌, append_assoc, length-append, false, refl, sym, ap, subst, ◌∙◌}
 use Rattle.std.proofs.lemmas.List.{append-nil}

@@ -1,4 +1,4 @@
--- The pages of a document have bodies that can stand on a sheet.
+-- The pages of a document have bodies that fit on a sheet.
 use mathlib.Core.Logic.{◌⊎◌, inl, inr}
 use Rattle.std.specs.Prelude.{Some, None, Ok, codes, map, not, if◌then◌else◌}
 use Rattle.std.specs.List.{list_any}
@@ -22,7 +22,7 @@ use Rattle.imposed_again.proofs.Recut.{Row, row_of, Blind, Recut, recut, loose, 
 use Rattle.imposed_again.proofs.Keeps.{is_dropped, kept_units, kept_bytes, kept_row, kept_passes, page_mild, depth_stays, page_key}
 use Rattle.imposed_again.proofs.Pieces.{begins_part, Made, Body, no_body, AllBodies}
 
--- What is made of a row: its bytes, with a line end behind them.
+-- What is made of a row: its bytes, followed by a line end.
 
 ended_cases : (t : List ℕ) → ((ended t ≡ t) × (0 < length t → ends t ≡ true)) ⊎ (ended t ≡ t ++ 10 ∷ [])
 ended_cases [] = inl (refl, λ l. absurd (omega (arith, l)))
@@ -88,7 +88,7 @@ page_dropped u h =
     ap (λ t. (t && drops_in_page u.unit.content) || false) (and_first (is_outermost_line u) (is_comment (codes "%%Page") u.unit.content) h)
     ∙ ap (λ k. page_key k || false) (page_named u h)
 
--- the body of a page that stands alone
+-- the body of a page that can be cut alone
 page_body : (c : Type 0) (u : TextUnit) (us : List TextUnit) (d : ℕ) → (c → d ≡ 0) → AreUnits (joined (u ∷ us)) (u ∷ us) → Row (u ∷ us) → begins_page (at_depth 0 u) ≡ true → passes begins_part 0 us ≡ Some d → Body c (body_text (prepared (joined (u ∷ us))))
 page_body c u us d z m r h p =
     let ks : List TextUnit = kept_units true drops_in_page 0 us in
@@ -161,7 +161,7 @@ one_page c z d u us r vs y m h is s =
     subst (λ t. Body c (body_text (prepared t))) (sym text)
     (page_body c u s.front s.behind none (units_front (u ∷ s.front) (joined s.back ++ r) (s.back ++ vs) front) (row_of (u ∷ s.front) (joined s.back ++ r) (s.back ++ vs) front) is0 passing)
 
--- the pages of these units: none leaves an embedded document open, where these units leave none open
+-- the pages of these units: none leaves an embedded document open, if these units leave none open
 pub pages_good : (c : Type 0) (z d : ℕ) (us : List TextUnit) (r : List ℕ) (vs : List TextUnit) → (c → z ≡ 0) → AreUnits (joined us ++ r) (us ++ vs) → passes begins_trailer d us ≡ Some z → EachBody c (map bytes_of (split_pages (nested_from d us)))
 pages_good c z d [] r vs y m h = tt
 pages_good c z d (u ∷ us) r vs y m h =

@@ -1,4 +1,4 @@
--- Texts that stand on a sheet.
+-- Texts on a sheet.
 use Rattle.std.specs.Prelude.{ℤ, ◌-◌, slice_index_or, Option, Some, None, codes, decimal, flat_map, not, if◌then◌else◌}
 use Rattle.std.specs.List.{starts_with, list_any}
 use Rattle.std.specs.Str.{bytes_eq}
@@ -26,7 +26,8 @@ use Rattle.seams.proofs.Plainly.{no_ends_append, no_ends_points, no_ends_scale, 
 abbrev pub begins_part : NestedUnit → Bool
 begins_part u = begins_page u || begins_trailer u
 
--- a text that has units of its own, whatever follows; none begins a part, at whatever depth, and under the condition the depth is 0 behind them again
+-- a text that has units of its own, whatever follows. None of them begins a part, at any depth; under the condition
+-- the depth is 0 again after them
 pub record Piece (c : Type 0) (text : List ℕ) : Type 0 where
   pub units : List TextUnit
   pub goes : Goes text units
@@ -66,7 +67,7 @@ tame_line k c h =
       shut = λ _. tame_passes 0 c h;
     }
 
--- The lines round a placed page.
+-- The lines around a placed page.
 
 edge : (p : Paper) → Whole (edge_text p)
 edge p =
@@ -135,7 +136,7 @@ opening k frame item =
     (tame_line k _ (edge_tame frame.paper)))
     (border k frame.paper frame.border)
 
--- Deeper down still fewer lines begin a part.
+-- At greater depth even fewer lines begin a part.
 
 or_false : (a b : Bool) → (a || b) ≡ false → (a ≡ false) × (b ≡ false)
 or_false true b e = cc
@@ -166,7 +167,7 @@ deeper d k (u ∷ us) e h l =
     let i = deeper (depth_after d u) (depth_after k u) us e w.1 (depth_least d k u l) in
     (i.0, ap (λ b. if b then None else passes begins_part (depth_after k u) us) (part_deeper d k u l w.0) ∙ i.1)
 
--- A body: it ends with a line end, where it isn't empty.
+-- A body: it ends with a line end unless it is empty.
 
 pub record Made (t : NestedUnit → Bool) (depth : ℕ) (text : List ℕ) : Type 0 where
   pub units : List TextUnit
@@ -174,7 +175,7 @@ pub record Made (t : NestedUnit → Bool) (depth : ℕ) (text : List ℕ) : Type
   pub ended : 0 < length text → ends text ≡ true
   pub passing : passes t 0 units ≡ Some depth
 
--- the depth behind a body is 0 under the condition
+-- the depth after a body is 0 under the condition
 pub record Body (c : Type 0) (text : List ℕ) : Type 0 where
   pub depth : ℕ
   pub made : Made begins_part depth text

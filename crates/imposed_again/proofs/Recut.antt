@@ -1,4 +1,4 @@
--- Units of which some were left out, put together and cut anew.
+-- Units, some of which were left out, joined and cut again.
 use mathlib.Core.Logic.{◌⊎◌, inl, inr}
 use Rattle.std.specs.Prelude.{Result, Ok, Option, Some, None, if◌then◌else◌}
 use Rattle.std.proofs.Common.{eqb, ◌&&◌, Bool, true, false, append_assoc, ◌≡◌, ℕ, ◌<◌, List, [], ◌∷◌, ◌++◌, length, drop, refl, ap, arith, length-append, sym, ◌∙◌, subst}
@@ -15,16 +15,16 @@ use Rattle.seams.proofs.UnitsMeet.{unit_same, fed, fed_unit, first_line}
 use Rattle.seams.proofs.Splits.{at_depth}
 use Rattle.seams.proofs.Texts.{some_unit, rest_of}
 
--- the unit stands before a percent sign, and so before all but a line feed
+-- the unit can be followed by a percent sign, and so by anything but a line feed
 abbrev pub Stands : TextUnit → Type 0
 Stands u = first_unit (u.bytes ++ 37 ∷ []) ≡ Ok u
 
--- each is the unit of its bytes, and all but the last stand before more
+-- each is the unit of its bytes, and all but the last can be followed by more
 abbrev pub Row : List TextUnit → Type 0
 Row [] = Unit {0}
 Row (u ∷ us) = (0 < length u.bytes) × (first_unit u.bytes ≡ Ok u) × (0 < length us → Stands u) × Row us
 
--- the same, where the last may do without in front of a line feed
+-- the same, but the last may lack an end before a line feed
 abbrev pub Loose : List TextUnit → Type 0
 Loose [] = Unit {0}
 Loose (u ∷ us) = (0 < length u.bytes) × (first_unit u.bytes ≡ Ok u) × (0 < length us → lf (joined us) ≡ false → Stands u) × Loose us
@@ -36,7 +36,7 @@ pub loose : (us : List TextUnit) → Row us → Loose us
 loose [] h = tt
 loose (u ∷ us) h = (h.0, h.1, (λ l _. h.2 l), loose us h.3)
 
--- a line feed behind a row
+-- a row followed by a line feed
 pub loose_feed : (us : List TextUnit) → Row us → Loose (us ++ feed_unit ∷ [])
 loose_feed [] h = (omega arith, first_line [] [] (refl, refl), (λ l _. absurd (omega (arith, l))), tt)
 loose_feed (u ∷ []) h = (h.0, h.1, (λ _ e. clash true refl e), loose_feed [] tt)
@@ -61,7 +61,7 @@ row_of (u ∷ us) r vs h =
     none [] r vs l m e = omega (arith, l)
     none (w ∷ us) r vs l m e = let some = m.0 in let size : length (joined (w ∷ us) ++ r) ≡ 0 = ap length e in omega (arith, some, size)
 
--- what a unit's content and kind are, not its bytes, decides the test; and an empty line doesn't pass it
+-- the test depends on a unit's content and kind, not on its bytes; and an empty line doesn't pass it
 pub record Blind (t : NestedUnit → Bool) : Type 0 where
   pub fed_too : (d : ℕ) (u : TextUnit) → t (at_depth d (fed u)) ≡ t (at_depth d u)
   pub empty_line : (d : ℕ) → t (at_depth d (line_unit [])) ≡ false
@@ -70,7 +70,7 @@ abbrev pub head_of : List TextUnit → Option (List ℕ × Bool)
 head_of [] = None
 head_of (u ∷ us) = Some (u.content, u.is_block)
 
--- what the row is cut into
+-- the units into which the row is cut
 pub record Recut (t : NestedUnit → Bool) (us : List TextUnit) : Type 0 where
   pub units : List TextUnit
   pub are : AreUnits (joined us) units
@@ -97,7 +97,7 @@ lf_first (b ∷ bs) e = ap (λ k. k ∷ bs) (sym (eqb-true 10 b (and_first (eqb 
 same_unit : {u v : TextUnit} (r : Result TextUnit BlockFault) → r ≡ Ok u → r ≡ Ok v → u ≡ v
 same_unit r e f = cc
 
--- the unit takes the line feed that an empty line is
+-- the unit takes the line feed of an empty line
 takes_feed : (u : TextUnit) (us : List TextUnit) (t : NestedUnit → Bool) (ys : List ℕ) (vs : List TextUnit) → Blind t → joined us ≡ 10 ∷ ys → first_unit (u.bytes ++ 10 ∷ ys) ≡ Ok (fed u)
     → AreUnits (10 ∷ ys) vs → ((d : ℕ) → passes t d vs ≡ passes t d us) → Recut t (u ∷ us)
 takes_feed u us t ys [] b j e m s = cc
@@ -119,7 +119,8 @@ meets : (u : TextUnit) (us : List TextUnit) (t : NestedUnit → Bool) (ys : List
 meets u us t ys b some j c (inl p) = goes_on u us t some (ap (λ x. first_unit (u.bytes ++ x)) j ∙ p) c
 meets u us t ys b some j c (inr p) = takes_feed u us t ys c.units b j p (subst (λ x. AreUnits x c.units) j c.are) c.same
 
--- a row put together is cut into units that pass and nest alike: an empty line is lost where its line feed follows a line that ends with CR
+-- a row, joined, is cut into units that pass and nest in the same way. An empty line is lost where its line feed
+-- follows a line that ends with CR
 pub recut : (t : NestedUnit → Bool) → Blind t → (us : List TextUnit) → Loose us → Recut t us
 recut t b [] h = record { units = []; are = refl; same = λ d. refl; first = refl }
 recut t b (u ∷ []) h = goes_on u [] t h.0 (ap first_unit (append-nil u.bytes) ∙ h.1) (record { units = []; are = refl; same = λ d. refl; first = refl })

@@ -11,7 +11,7 @@ use Rattle.rules.specs.Output.{Frame, sheet_text, output}
 use Rattle.rules.specs.Run.{document_of, plan_in, most_input_bytes, most_pages}
 use Rattle.dsc.specs.Units.{units_of}
 
--- the depth behind units, that is how many embedded documents they leave open; behind none it is 0
+-- the depth after units, which is the number of embedded documents that they leave open; without units it is 0
 abbrev pub depth_behind : List NestedUnit → ℕ
 depth_behind [] = 0
 depth_behind (u ∷ []) = depth_after u.depth u.unit
@@ -21,23 +21,23 @@ depth_behind (u ∷ v ∷ us) = depth_behind (v ∷ us)
 abbrev pub sheet_texts : Frame → List (List ℕ) → List (List Slot) → List (List ℕ)
 sheet_texts frame texts all = map (λ (s, slots). sheet_text frame texts s slots) (enumerate_from 0 all)
 
--- what is written of a document with these sheets: the output of a specification is what is written with its sheets
+-- what is written of a document with these sheets. The output of a specification is what is written with its sheets
 abbrev pub written : Frame → List (List Slot) → List NestedUnit → List ℕ
 written frame all us =
     preamble_text (length all) us
     ++ flat_map (λ (s, slots). sheet_text frame (pages us) s slots) (enumerate_from 0 all)
     ++ trailer_text us
 
--- behind each of these texts but the last no embedded document is open
+-- after each of these texts but the last no embedded document is open
 abbrev pub AreShut : List (List ℕ) → Type 0
 AreShut [] = Unit {0}
 AreShut (text ∷ []) = Unit {0}
 AreShut (text ∷ next ∷ more) = (depth_behind (units_of text) ≡ 0) × AreShut (next ∷ more)
 
--- The units `again` are those of what was written of a document with these sheets. Preamble and trailer are the texts
--- that were written. The pages are the texts of the sheets if each of these but the last leaves no embedded document
--- open; and only then are there as many. If the document's last page leaves none open, nor does the last page of what
--- was written.
+-- The units `again` are those of what was written of a document with these sheets. Preamble and trailer are the
+-- texts that were written. There are as many pages as sheets exactly if each sheet but the last leaves no embedded
+-- document open; then the pages are the texts of the sheets. If the document's last page leaves none open, nor does
+-- the last page of what was written.
 pub record IsAgain (frame : Frame) (all : List (List Slot)) (us again : List NestedUnit) : Type 0 where
   pub before : bytes_of (preamble again) ≡ preamble_text (length all) us
   pub sheets_are : AreShut (sheet_texts frame (pages us) all) → pages again ≡ sheet_texts frame (pages us) all
@@ -46,7 +46,7 @@ pub record IsAgain (frame : Frame) (all : List (List Slot)) (us again : List Nes
   pub behind : bytes_of (trailer again) ≡ trailer_text us
   pub stays_shut : depth_behind (page_run us) ≡ 0 → depth_behind (page_run again) ≡ 0
 
--- what is written of a document with any sheets, of which there are some and not too many, is a document again
+-- what is written of a document with any sheets is a document again, if there are sheets and not too many
 abbrev pub WrittenIsDocument : Type 0
 WrittenIsDocument =
     (frame : Frame) (all : List (List Slot)) (text : List ℕ) (us : List NestedUnit)
@@ -72,8 +72,8 @@ abbrev pub MakesSheets : Type 0
 MakesSheets = (most_slots : ℕ) (sides : Option ℕ) (spec : Spec) (n : ℕ) → AreSidesIfGiven sides
     → IsAdmissible most_slots spec → 0 < n → 0 < length (sheets_in sides spec n)
 
--- the output of an accepted document, an admissible specification and an accepted plan is a document again, unless it
--- is too long; and if the document's last page leaves no embedded document open, its pages are the sheets
+-- the output of an accepted document, an admissible specification and an accepted plan is a document again unless
+-- it is too long. If the document's last page leaves no embedded document open, its pages are the sheets
 abbrev pub ImposedAgain : Type 0
 ImposedAgain =
     (most_slots : ℕ) (frame : Frame) (sides : Option ℕ) (spec : Spec) (text : List ℕ)

@@ -26,7 +26,7 @@ abbrev pub AreTame : List (List ℕ) → Type 0
 AreTame [] = Unit {0}
 AreTame (l ∷ lines) = IsTame l × AreTame lines
 
--- all lines of a dress are such, on whatever sheet of whatever paper
+-- all lines of a dress are such lines, on any sheet of any paper
 pub record IsTameDress (dress : Dress) : Type 0 where
   pub header : AreTame dress.header
   pub start : (s : ℕ) (paper : Paper) → AreTame (dress.start s paper)
@@ -37,9 +37,10 @@ abbrev pub made_texts : (border : Option ℤ) → Dress → List (List ℕ) → 
 made_texts border dress texts all =
     map (λ (s, sheet). made_sheet_text border dress texts s sheet) (enumerate_from 0 all)
 
--- The units `again` are those of the output of these made sheets. Preamble and trailer are the texts that were written.
--- The pages are the texts of the sheets if each of these but the last leaves no embedded document open; and only then are
--- there as many. If the document's last page leaves none open, nor does the last page of the output.
+-- The units `again` are those of the output of these made sheets. Preamble and trailer are the texts that were
+-- written. There are as many pages as sheets exactly if each sheet but the last leaves no embedded document open;
+-- then the pages are the texts of the sheets. If the document's last page leaves none open, nor does the last page
+-- of the output.
 pub record IsMadeAgain (border : Option ℤ) (dress : Dress) (all : List MadeSheet) (us again : List NestedUnit) : Type 0 where
   pub before : bytes_of (preamble again) ≡ dressed_preamble (length all) dress.header us
   pub sheets_are : AreShut (made_texts border dress (pages us) all) → pages again ≡ made_texts border dress (pages us) all
@@ -48,8 +49,8 @@ pub record IsMadeAgain (border : Option ℤ) (dress : Dress) (all : List MadeShe
   pub behind : bytes_of (trailer again) ≡ trailer_text us
   pub stays_shut : depth_behind (page_run us) ≡ 0 → depth_behind (page_run again) ≡ 0
 
--- the output of made sheets, of which there are some and not too many, is a document again, unless it is too long; and if
--- the document's last page leaves no embedded document open, its pages are the sheets
+-- the output of made sheets, if there are any and not too many, is a document again unless it is too long. If the
+-- document's last page leaves no embedded document open, its pages are the sheets
 abbrev pub MadeIsDocument : Type 0
 MadeIsDocument =
     (border : Option ℤ) (dress : Dress) (all : List MadeSheet) (text : List ℕ) (us : List NestedUnit)

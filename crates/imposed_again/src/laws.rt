@@ -2,8 +2,8 @@
 ghost use Rattle.imposed_again.specs.Again.{ImposedAgain, MakesSheets, SheetsShut, TrailerShuts, WrittenIsDocument};
 ghost use Rattle.imposed_again.specs.MadeAgain.{MadeIsDocument};
 
-/// What is written of an accepted document, with any sheets, is accepted again, unless it is too long: its preamble and
-/// trailer are those that were written, and its pages are the sheets exactly if each sheet but the last leaves no
+/// What is written of an accepted document, with any sheets, is accepted again unless it is too long. Its preamble
+/// and trailer are those that were written. Its pages are the sheets exactly if each sheet but the last leaves no
 /// embedded document open.
 pub fn written_is_document()
     ensures { WrittenIsDocument }
@@ -24,14 +24,16 @@ pub fn makes_sheets()
     ensures { MakesSheets }
 {}
 
-/// The output of an accepted document, an admissible specification and an accepted plan is accepted again, unless it is
-/// too long; if the document's last page leaves no embedded document open, the pages of the output are the sheets.
+/// The output of an accepted document, an admissible specification and an accepted plan is accepted again unless it
+/// is too long. If the document's last page leaves no embedded document open, the pages of the output are the
+/// sheets.
 pub fn imposed_again()
     ensures { ImposedAgain }
 {}
 
-/// The output of made sheets of an accepted document is accepted again, unless it is too long, if the lines of its
-/// dress begin nothing; if the document's last page leaves no embedded document open, its pages are the sheets.
+/// The output of made sheets of an accepted document is accepted again unless it is too long, if the lines of its
+/// dress begin no part and no data. If the document's last page leaves no embedded document open, its pages are the
+/// sheets.
 pub fn made_is_document()
     ensures { MadeIsDocument }
 {}

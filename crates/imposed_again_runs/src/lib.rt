@@ -1,4 +1,4 @@
-//! Runs one behind the other: what a run wrote is the next one's input.
+//! Runs one after the other: what a run wrote is the next one's input.
 #![tactic(auto)]
 
 pub mod laws;

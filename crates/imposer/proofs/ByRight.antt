@@ -30,7 +30,7 @@ use Rattle.imposer.specs.Rooms.{PutsAll, HasRoomFrom, HasRoomForPage, PutsByRigh
 use Rattle.imposer.specs.declared.tokens.Tokens.{Tokens}
 use Rattle.imposer.proofs.Held.{calls_called, puts_and_back, unused_put}
 
--- how often numbers below n stand in a list
+-- how often numbers below n are in a list
 abbrev pub times_below : ℕ → List ℕ → ℕ
 times_below zero xs = 0
 times_below (suc n) xs = times_below n xs + times n xs
@@ -217,7 +217,7 @@ room_for_page layout count number p old lt mine room = ⊎_elim
     (λ b. inr b)
     room
 
--- and room is left for those behind it
+-- and room is left for those after it
 pub room_behind : (layout : Layout) (count number p : ℕ) (old new : Tokens) → p % count ≡ number → HasRoomFrom layout count number p old → PutsByRight layout p old new
     → HasRoomFrom layout count number (p + 1) new
 room_behind layout count number p old new mine room puts =

@@ -1,4 +1,4 @@
--- What an error of a plan tells. Out of memory tells of no fault.
+-- What an error of a plan reports. Out of memory reports no fault.
 use Rattle.std.specs.Prelude.{Option, Some, None}
 use Rattle.rules.specs.Run.{PlanFault}
 use Rattle.rules.specs.Run as run

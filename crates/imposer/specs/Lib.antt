@@ -1,5 +1,5 @@
--- Read in this order. Who asks what a run answers may stop behind `Runs`, and who asks what `gather` leaves behind
--- `Gathering`; what follows is of the workers. What a delivery and an imposition call stands in the crate `run_steps`.
+-- Read in this order. Who asks what a run answers may stop after `Runs`, and who asks what `gather` leaves after
+-- `Gathering`; what follows is of the workers. What a delivery and an imposition call is in the crate `run_steps`.
 pub mod Workers
 pub mod Faults
 pub mod Outcomes

@@ -4,6 +4,7 @@ ghost use Rattle.sheet_text.specs.Jobs.{text_of};
 
 use crossbeam_channel::protocol::{Lesson, Outcome, Protocol, Split};
 use crossbeam_channel::{Pass, RuledReceiver, RuledSender};
+use crossbeam_queue::ArrayQueue;
 use sheet_text::Job;
 use sheet_writer::FinishedSheets;
 use std::marker::{Brand, PhantomData};
@@ -48,8 +49,8 @@ impl<T: Texts> Split<()> for SheetRule<T> {
 
 /// The job of a run, whose sheets have the texts that the rule speaks of.
 #[derive(Drop)]
-pub(crate) struct RuledJob<'s, 'j, 'd, T: Texts> {
-    pub(crate) job: &'s Job<'j, 'd>,
+pub(crate) struct RuledJob<'s, 'r, 'd, T: Texts> {
+    pub(crate) job: &'s Job<'r, 'd>,
     pub(crate) of: PhantomData<T>,
     ghost texts: { (s : ℕ) → T.text s ≡ text_of job.now s },
 }
@@ -60,3 +61,12 @@ pub(crate) type Ticket<'r> = Pass<FinishedSheets<'r>, ()>;
 pub(crate) type SheetSender<'r, T> = RuledSender<FinishedSheets<'r>, (), SheetRule<T>>;
 
 pub(crate) type SheetReceiver<'r, T> = RuledReceiver<FinishedSheets<'r>, (), SheetRule<T>>;
+
+/// The two ends of the channel, and places for sheets that were written.
+#[derive(Drop)]
+pub(crate) struct Channel<'r, T: Texts> {
+    pub(crate) sender: SheetSender<'r, T>,
+    pub(crate) receiver: SheetReceiver<'r, T>,
+    /// Sheets that were written, whose memory is used again.
+    pub(crate) spent: ArrayQueue<FinishedSheets<'r>>,
+}

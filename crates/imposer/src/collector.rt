@@ -6,34 +6,15 @@ ghost use Rattle.crossbeam_channel.specs.Ends.{receives_on};
 ghost use Rattle.made_sheets.specs.MadeOutput.{dressed_preamble};
 ghost use Rattle.sheet_writer.specs.Writing.{Stands, GoesOn, AreEarly};
 
-use crate::channel::{RuledJob, SheetReceiver, SheetRule, Texts, Ticket};
+use crate::channel::{SheetRule, Texts, Ticket};
 use crate::gate::{Gate, Look};
+use crate::shared::RunInput;
 use crate::spent::Written;
-use crate::window::{Idling, Window};
-use crossbeam_queue::ArrayQueue;
-use sheet_text::Job;
-use sheet_writer::{Early, FinishedSheets, Progress, Sink, write_early, write_text};
+use crate::window::Idling;
+use sheet_writer::{Early, Progress, Sink, write_early, write_text};
 use std::sync::Wait;
-use std::sync::atomic::AtomicU32;
 use std::sync::atomic::Ordering::SeqCst;
 use workers::Collector;
-
-/// What the collector needs of the run.
-#[derive(Drop)]
-pub(crate) struct CollectorInput<'s, 'r, 'j, 'd, T: Texts, G> {
-    pub(crate) gate: &'s G,
-    pub(crate) job: &'s Job<'j, 'd>,
-    /// The same job, with the texts of the channel's rule.
-    pub(crate) ruled: &'s RuledJob<'s, 'j, 'd, T>,
-    /// How many imposers haven't ended.
-    pub(crate) imposers_left: &'s AtomicU32,
-    pub(crate) receiver: &'s SheetReceiver<'r, T>,
-    /// Where sheets go that were written.
-    pub(crate) spent: &'s ArrayQueue<FinishedSheets<'r>>,
-    /// It moves as sheets are written.
-    pub(crate) window: &'s Window,
-    ghost same_job: { ruled.now.job.now ≡ job.now },
-}
 
 /// What the collector writes to, and the sheets that came before their turn. It owns no memory, so that what becomes
 /// of the sink is known to whom it belongs.
@@ -46,19 +27,19 @@ pub(crate) struct CollectorState<'a, 'r, S> {
     pub(crate) progress: Progress,
 }
 
-impl<'s, 'r, 'j, 'd, 'a, T: Texts, G: Gate, S: Sink> Collector<CollectorState<'a, 'r, S>>
-    for CollectorInput<'s, 'r, 'j, 'd, T, G> {
+impl<'s, 'r, 't, 'd, 'a, T: Texts, G: Gate, S: Sink> Collector<CollectorState<'a, 'r, S>>
+    for RunInput<'s, 'r, 't, 'd, T, G> {
     ghost reference = { λ input state. state.sink.ghost_name };
 
-    ghost is_ready_to_collect = { λ input state. IsSeatAt (receives_on input.receiver.now) state.ticket.now
-        × (state.header.now ≡ dressed_preamble (length input.job.now.plan.sheets) input.job.now.header input.job.now.units)
+    ghost is_ready_to_collect = { λ input state. IsSeatAt (receives_on input.channel.now.receiver) state.ticket.now
+        × (state.header.now ≡ dressed_preamble (length input.shared.now.job.now.plan.sheets) input.shared.now.job.now.header input.shared.now.job.now.units)
         × (state.progress ≡ record { next = 0; written = 0; halted = None })
-        × AreEarly input.job.now state.early.now.groups.items
+        × AreEarly input.shared.now.job.now state.early.now.groups.items
         × IsCountable (S.seen state.sink.now) };
 
     ghost collected = { λ input old new.
-        Stands input.job.now (S.seen old.sink.now) (S.seen new.sink.now) new.progress
-        × AreEarly input.job.now new.early.now.groups.items };
+        Stands input.shared.now.job.now (S.seen old.sink.now) (S.seen new.sink.now) new.progress
+        × AreEarly input.shared.now.job.now new.early.now.groups.items };
 
     fn collect<R: Wait>(&self, rt: &R, state: &mut CollectorState<'a, 'r, S>) {
         state.progress = write_text(state.sink, state.progress, state.header);
@@ -71,19 +52,19 @@ impl<'s, 'r, 'j, 'd, 'a, T: Texts, G: Gate, S: Sink> Collector<CollectorState<'a
 /// Takes finished sheets until all imposers have ended, or nothing more is to be written.
 fn take_all<'r, R: Wait, T: Texts, G: Gate, S: Sink>(
     rt: &R,
-    input: &CollectorInput<'_, 'r, '_, '_, T, G>,
+    input: &RunInput<'_, 'r, '_, '_, T, G>,
     state: &mut CollectorState<'_, 'r, S>,
 )
     requires countable { IsCountable (S.seen state.old.sink.now) }
-    requires ticket { IsSeatAt (receives_on input.now.receiver.now) state.old.ticket.now }
+    requires ticket { IsSeatAt (receives_on input.now.channel.now.receiver) state.old.ticket.now }
     requires going { state.old.progress.halted ≡ None }
-    requires early { AreEarly input.now.job.now state.old.early.now.groups.items }
-    ensures early { AreEarly input.now.job.now state.new.early.now.groups.items }
+    requires early { AreEarly input.now.shared.now.job.now state.old.early.now.groups.items }
+    ensures early { AreEarly input.now.shared.now.job.now state.new.early.now.groups.items }
     ensures same { state.new.sink.ghost_name ≡ state.old.sink.ghost_name }
-    ensures goes_on { GoesOn input.now.job.now (S.seen state.old.sink.now) (S.seen state.new.sink.now)
+    ensures goes_on { GoesOn input.now.shared.now.job.now (S.seen state.old.sink.now) (S.seen state.new.sink.now)
         state.old.progress state.new.progress }
 {
-    let mut idling = input.window.idling();
+    let mut idling = input.shared.window.idling();
     for _ in rt.forever() {
         if !take_turn(rt, input, &mut idling, state) {
             break;
@@ -95,70 +76,72 @@ fn take_all<'r, R: Wait, T: Texts, G: Gate, S: Sink>(
 /// is to be written.
 fn take_turn<'r, R: Wait, T: Texts, G: Gate, S: Sink>(
     rt: &R,
-    input: &CollectorInput<'_, 'r, '_, '_, T, G>,
+    input: &RunInput<'_, 'r, '_, '_, T, G>,
     idling: &mut Idling,
     state: &mut CollectorState<'_, 'r, S>,
 ) -> bool
     requires countable { IsCountable (S.seen state.old.sink.now) }
-    requires ticket { IsSeatAt (receives_on input.now.receiver.now) state.old.ticket.now }
+    requires ticket { IsSeatAt (receives_on input.now.channel.now.receiver) state.old.ticket.now }
     requires going { state.old.progress.halted ≡ None }
-    requires early { AreEarly input.now.job.now state.old.early.now.groups.items }
-    ensures ticket { IsSeatAt (receives_on input.now.receiver.now) state.new.ticket.now }
+    requires early { AreEarly input.now.shared.now.job.now state.old.early.now.groups.items }
+    ensures ticket { IsSeatAt (receives_on input.now.channel.now.receiver) state.new.ticket.now }
     ensures going { IsTrue result → state.new.progress.halted ≡ None }
-    ensures early { AreEarly input.now.job.now state.new.early.now.groups.items }
+    ensures early { AreEarly input.now.shared.now.job.now state.new.early.now.groups.items }
     ensures same { state.new.sink.ghost_name ≡ state.old.sink.ghost_name }
-    ensures goes_on { GoesOn input.now.job.now (S.seen state.old.sink.now) (S.seen state.new.sink.now)
+    ensures goes_on { GoesOn input.now.shared.now.job.now (S.seen state.old.sink.now) (S.seen state.new.sink.now)
         state.old.progress state.new.progress }
     ensures steady { IsTrue result → (S.seen state.new.sink.now).failures ≡ (S.seen state.old.sink.now).failures }
 {
     // Asked before the channel is: what the last imposer sent is there then.
-    let none_left = input.imposers_left.load(SeqCst) == 0;
+    let none_left = input.shared.imposers_left.load(SeqCst) == 0;
     if take_one(rt, input, state) {
-        input.window.come_to(state.progress.next);
+        input.shared.window.come_to(state.progress.next);
         idling.end();
         return state.progress.halted.is_none();
     }
     if none_left {
         return false;
     }
-    input.window.move_to(state.progress.next);
-    input.window.rest(rt, idling);
+    input.shared.window.move_to(state.progress.next);
+    input.shared.window.rest(rt, idling);
     true
 }
 
 /// Takes a batch of finished sheets, and writes those whose turn it is now. False if none was there.
 fn take_one<'r, R: Wait, T: Texts, G: Gate, S: Sink>(
     rt: &R,
-    input: &CollectorInput<'_, 'r, '_, '_, T, G>,
+    input: &RunInput<'_, 'r, '_, '_, T, G>,
     state: &mut CollectorState<'_, 'r, S>,
 ) -> bool
     requires countable { IsCountable (S.seen state.old.sink.now) }
-    requires ticket { IsSeatAt (receives_on input.now.receiver.now) state.old.ticket.now }
+    requires ticket { IsSeatAt (receives_on input.now.channel.now.receiver) state.old.ticket.now }
     requires going { state.old.progress.halted ≡ None }
-    requires early { AreEarly input.now.job.now state.old.early.now.groups.items }
-    ensures ticket { IsSeatAt (receives_on input.now.receiver.now) state.new.ticket.now }
-    ensures early { AreEarly input.now.job.now state.new.early.now.groups.items }
+    requires early { AreEarly input.now.shared.now.job.now state.old.early.now.groups.items }
+    ensures ticket { IsSeatAt (receives_on input.now.channel.now.receiver) state.new.ticket.now }
+    ensures early { AreEarly input.now.shared.now.job.now state.new.early.now.groups.items }
     ensures same { state.new.sink.ghost_name ≡ state.old.sink.ghost_name }
-    ensures goes_on { GoesOn input.now.job.now (S.seen state.old.sink.now) (S.seen state.new.sink.now)
+    ensures goes_on { GoesOn input.now.shared.now.job.now (S.seen state.old.sink.now) (S.seen state.new.sink.now)
         state.old.progress state.new.progress }
     ensures steady { state.new.progress.halted ≡ None → (S.seen state.new.sink.now).failures ≡ (S.seen state.old.sink.now).failures }
     ensures nothing { result ≡ false → state.new.progress.halted ≡ None }
 {
-    input.gate.before_look(Look::Channel);
-    let received = input
+    let shared = input.shared;
+    let channel = input.channel;
+    shared.gate.before_look(Look::Channel);
+    let received = channel
         .receiver
         .try_recv_as::<SheetRule<T>, R>(rt, state.ticket);
-    input.gate.after_look(Look::Channel);
+    shared.gate.after_look(Look::Channel);
     let Ok(batch) = received else {
         return false;
     };
     state.early.put(batch);
     let mut written = Written {
         rt,
-        queue: input.spent,
+        queue: &channel.spent,
     };
     state.progress = write_early(
-        input.job,
+        shared.job,
         state.sink,
         state.progress,
         state.early,

@@ -1,4 +1,4 @@
-//! Who is told of the steps of a run, and of the looks between them.
+//! Who hears of the steps of a run, and of the looks between them.
 
 /// A step of a run.
 #[derive(Clone, Copy, Debug, PartialEq, Eq)]
@@ -18,17 +18,17 @@ pub enum Look {
     Channel,
 }
 
-/// Is told of each step, before it and after it. What a gate does is its own: it may wait, as tests of the threads do.
+/// Is called at each step, before it and after it. What a gate does is its own: it may wait, as tests of the threads do.
 pub trait Gate {
     fn before(&self, step: Step);
 
     fn after(&self, step: Step);
 
-    /// Is told of each look, before it. Does nothing if a gate has none of its own. How often somebody looks depends on
+    /// Is called before each look. Does nothing if a gate has none of its own. How often somebody looks depends on
     /// how the threads run.
     fn before_look(&self, _look: Look) {}
 
-    /// Is told of each look, after it. Does nothing if a gate has none of its own.
+    /// Is called after each look. Does nothing if a gate has none of its own.
     fn after_look(&self, _look: Look) {}
 }
 

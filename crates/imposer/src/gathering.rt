@@ -25,14 +25,14 @@ ghost use Rattle.imposer.specs.Rooms.{HasRoomForAll};
 ghost use Rattle.imposer.specs.Gathering.{IsFreshSeat, IsFreshPass, ReportsOf, WrotePartOf, HandsBackTokens, AreWhole};
 ghost use Rattle.imposer.specs.Gathering.{Answers, Concludes, HandsBack, GivesUp};
 
-use crate::channel::{RuledJob, Texts, Ticket};
-use crate::collector::{CollectorInput, CollectorState};
+use crate::channel::{Channel, RuledJob, Texts, Ticket};
+use crate::collector::CollectorState;
 use crate::gate::Gate;
 use crate::options::Workers;
 use crate::outcome::{Report, RunError};
 use crate::rooms::most_puts_in_all;
 use crate::setup::{Desk, Setup};
-use crate::shared::{Floor, Shared, WorkerInput};
+use crate::shared::{Floor, RunInput, Shared};
 use crate::tokens::{Holding, Tokens};
 use crate::turns::Turns;
 use crate::window::{Window, bytes_of_pages};
@@ -146,7 +146,7 @@ pub(crate) fn gather_on<'d, R: Threads + Wait + Sync, G: Gate + Sync, S: Sink>(
         → AreAllPut floor.now.table.now.layout t.0.front t.1.front)) }
     ensures unshelved { IfSome result.unshelved (IsOn floor.now.shelf.now) }
 {
-    // Each tells that it keeps what every seat and every pass keeps.
+    // Each shows that it keeps what every seat and every pass keeps.
     tokens.seat.share();
     tokens.pass.share();
     let job = floor.job;
@@ -224,32 +224,11 @@ fn gather_as<'r, 'd, T: Texts + Send + Sync, R: Threads + Wait + Sync, G: Gate +
     };
     let Setup {
         desk,
-        sender,
-        receiver,
+        channel,
         sending,
-        spent,
     } = setup;
-    let ruled = RuledJob {
-        job: &*job,
-        of: PhantomData,
-    };
-    let worker_input = WorkerInput {
-        shared: &*shared,
-        sender: &sender,
-        spent: &spent,
-        ruled: &ruled,
-    };
-    let collector_input = CollectorInput {
-        gate: shared.gate,
-        job,
-        ruled: &ruled,
-        imposers_left: &shared.imposers_left,
-        receiver: &receiver,
-        spent: &spent,
-        window: &shared.window,
-    };
     let supplies = supplies_of(shared.alloc, workers, tokens, sending);
-    gather_at(rt, &worker_input, &collector_input, desk, supplies, sink)
+    gather_at(rt, shared, &channel, desk, supplies, sink)
 }
 
 /// What is given out to the workers: the tokens, and the ticket for sending.
@@ -281,33 +260,43 @@ fn supplies_of<'r, 'd>(
 /// at this desk what they finish, and when all have ended the run is answered.
 fn gather_at<'r, 'd, T: Texts + Send + Sync, R: Threads + Wait + Sync, G: Gate + Sync, S: Sink>(
     rt: &R,
-    input: &WorkerInput<'_, 'r, '_, 'd, T, G>,
-    collector: &CollectorInput<'_, 'r, '_, 'd, T, G>,
+    shared: &Shared<'_, 'r, '_, 'd, G>,
+    channel: &Channel<'r, T>,
     desk: Desk<'r>,
     supplies: Supplies<Holding<'d>, Ticket<'r>>,
     sink: &mut S,
 ) -> Gathered<'d>
-    requires pages { HasPages input.now.shared.now.table.now.layout }
+    requires texts { (s : ℕ) → T.text s ≡ text_of shared.now.job.now s }
+    requires pages { HasPages shared.now.table.now.layout }
     requires crew { (0 < supplies.crew.preparers)
         × (supplies.crew.preparers + supplies.crew.imposers < whole_share) }
-    requires held { IsHeld input.now.shared.now whole_share supplies.held }
-    requires blank_sheets { HavePutBlankSheets input.now.shared.now supplies.held.tokens }
-    requires enough { IsEnough input.now.shared.now supplies.crew.preparers 0 supplies.held }
-    requires sending { IsSeatAt (sends_on input.now.sender.now) supplies.ticket }
-    requires receiving { IsSeatAt (receives_on collector.now.receiver.now) desk.receiving }
-    requires desk { IsDeskOf collector.now.job.now desk }
+    requires held { IsHeld shared.now whole_share supplies.held }
+    requires blank_sheets { HavePutBlankSheets shared.now supplies.held.tokens }
+    requires enough { IsEnough shared.now supplies.crew.preparers 0 supplies.held }
+    requires sending { IsSeatAt (sends_on channel.now.sender) supplies.ticket }
+    requires receiving { IsSeatAt (receives_on channel.now.receiver) desk.receiving }
+    requires desk { IsDeskOf shared.now.job.now desk }
     requires countable { IsCountable (S.seen sink.old) }
-    ensures outcome { Answers collector.now.job.now (S.seen sink.old) (S.seen sink.new) result.outcome }
+    ensures outcome { Answers shared.now.job.now (S.seen sink.old) (S.seen sink.new) result.outcome }
     ensures tokens { MatchResult result.outcome (λ _. IsSomeAnd result.tokens (λ t. ⊤)) (λ e.
         HandsBackTokens e result.tokens) }
-    ensures whole { IfSome result.tokens (λ t. AreWhole input.now.shared.now.table.now input.now.shared.now.ready.now t.0 t.1
+    ensures whole { IfSome result.tokens (λ t. AreWhole shared.now.table.now shared.now.ready.now t.0 t.1
         × IsHandedOn t.1.front
-        × (IsNone result.unshelved → IsGathered input.now.shared.now.table.now.layout t.0.front)
-        × (IsTrue input.now.shared.now.by_right
-        → AreAllPut input.now.shared.now.table.now.layout t.0.front t.1.front)) }
-    ensures unshelved { IfSome result.unshelved (IsOn input.now.shared.now.shelf.now) }
+        × (IsNone result.unshelved → IsGathered shared.now.table.now.layout t.0.front)
+        × (IsTrue shared.now.by_right
+        → AreAllPut shared.now.table.now.layout t.0.front t.1.front)) }
+    ensures unshelved { IfSome result.unshelved (IsOn shared.now.shelf.now) }
 {
-    let alloc = input.shared.alloc;
+    let job = shared.job;
+    let ruled = RuledJob {
+        job: &*job,
+        of: PhantomData,
+    };
+    let input = RunInput {
+        shared: &*shared,
+        channel: &*channel,
+        ruled: &ruled,
+    };
     let Desk {
         header,
         trailer,
@@ -326,8 +315,8 @@ fn gather_at<'r, 'd, T: Texts + Send + Sync, R: Threads + Wait + Sync, G: Gate +
         },
     };
     let mut ended = None;
-    let mut state = gather_by(rt, input, collector, supplies, state, &mut ended);
-    let gathered = finish(alloc, collector.job, &mut state, trailer.as_slice(), ended);
+    let mut state = gather_by(rt, &input, &input, supplies, state, &mut ended);
+    let gathered = finish(shared.alloc, job, &mut state, trailer.as_slice(), ended);
     // Taken apart, so that what became of the sink is known.
     let CollectorState {
         sink: _,

@@ -1,4 +1,4 @@
-//! What a run is told beside its specification.
+//! What a run is asked for beside its specification.
 ghost use Rattle.std.specs.Prelude.{◌≡◌, ◌↔◌, IsTrue};
 ghost use Rattle.rules.specs.Signatures.{AreSidesIfGiven};
 ghost use Rattle.sheet_text.specs.Jobs.{is_border};

@@ -13,7 +13,7 @@ use handover::{Pass, Ready};
 use sheet_plan::Plan;
 use std::alloc::{AllocError, Global};
 
-impl<'s, 'r, 'j, 'd, G: Gate> Shared<'s, 'r, 'j, 'd, G> {
+impl<'s, 'r, 't, 'd, G: Gate> Shared<'s, 'r, 't, 'd, G> {
     /// How much of the pass's room preparer `number` of `count` gets: what it needs, as far as there is so much.
     pub(crate) fn room_for(&self, pass: &Pass, number: u32, count: u32) -> u32
         requires count { 0 < count }

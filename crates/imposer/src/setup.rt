@@ -4,11 +4,11 @@ ghost use Rattle.crossbeam_channel.specs.Claims.{IsSeatAt};
 ghost use Rattle.crossbeam_channel.specs.Ends.{sends_on, receives_on};
 ghost use Rattle.imposer.specs.Desks.{IsDeskOf};
 
-use crate::channel::{SheetReceiver, SheetRule, SheetSender, Texts, Ticket};
+use crate::channel::{Channel, SheetRule, Texts, Ticket};
 use crossbeam_channel::bounded_with;
 use crossbeam_queue::ArrayQueue;
 use sheet_text::Job;
-use sheet_writer::{Early, FinishedSheets};
+use sheet_writer::Early;
 use std::alloc::{AllocError, Global};
 
 /// What the collector has before it: the texts round the sheets, places for sheets that come before their turn, and its
@@ -21,16 +21,12 @@ pub(crate) struct Desk<'r> {
     pub(crate) receiving: Ticket<'r>,
 }
 
-/// The collector's desk, the channel of finished sheets, with a ticket for the imposers, and places for sheets that were
-/// written.
+/// The collector's desk, and the channel of finished sheets with a ticket for the imposers.
 #[derive(Drop)]
 pub(crate) struct Setup<'r, T: Texts> {
     pub(crate) desk: Desk<'r>,
-    pub(crate) sender: SheetSender<'r, T>,
-    pub(crate) receiver: SheetReceiver<'r, T>,
+    pub(crate) channel: Channel<'r, T>,
     pub(crate) sending: Ticket<'r>,
-    /// For sheets that were written.
-    pub(crate) spent: ArrayQueue<FinishedSheets<'r>>,
 }
 
 impl<'r, T: Texts> Setup<'r, T> {
@@ -38,8 +34,8 @@ impl<'r, T: Texts> Setup<'r, T> {
     /// imposer waits.
     pub(crate) fn new(alloc: Global, job: &Job<'_, '_>, window: u32) -> Result<Self, AllocError>
         ensures desk { IfOk result (λ s. IsDeskOf job.now s.desk) }
-        ensures receiving { IfOk result (λ s. IsSeatAt (receives_on s.receiver) s.desk.receiving) }
-        ensures sending { IfOk result (λ s. IsSeatAt (sends_on s.sender) s.sending) }
+        ensures receiving { IfOk result (λ s. IsSeatAt (receives_on s.channel.receiver) s.desk.receiving) }
+        ensures sending { IfOk result (λ s. IsSeatAt (sends_on s.channel.sender) s.sending) }
     {
         let header = job.document().dressed_preamble(job.sheets(), job.header())?;
         let trailer = job.document().trailer_text()?;
@@ -57,12 +53,15 @@ impl<'r, T: Texts> Setup<'r, T> {
             early,
             receiving,
         };
-        Ok(Setup {
-            desk,
+        let channel = Channel {
             sender,
             receiver,
-            sending,
             spent,
+        };
+        Ok(Setup {
+            desk,
+            channel,
+            sending,
         })
     }
 }

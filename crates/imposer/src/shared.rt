@@ -3,25 +3,23 @@ ghost use Rattle.std.specs.Prelude.{◌≡◌, IsTrue};
 ghost use Rattle.rules.specs.Sheets.{layout};
 ghost use Rattle.handover.specs.Shelves.{IsShelfOf};
 
-use crate::channel::{RuledJob, SheetSender, Texts};
+use crate::channel::{Channel, RuledJob, Texts};
 use crate::turns::Turns;
 use crate::window::Window;
-use crossbeam_queue::ArrayQueue;
 use gather_table::GatherTable;
 use handover::{Ready, Shelf};
 use sheet_text::Job;
-use sheet_writer::FinishedSheets;
 use std::alloc::Global;
 use std::sync::atomic::AtomicU32;
 
-/// Where a run gathers: a job, the table of its plan, the shelf on which its pages stand, and the queue of sheets that are
+/// Where a run gathers: a job, the table of its plan, the shelf on which its pages lie, and the queue of sheets that are
 /// ready.
 #[derive(Drop)]
-pub(crate) struct Floor<'s, 'r, 'j, 'd, G> {
+pub(crate) struct Floor<'s, 'r, 't, 'd, G> {
     pub(crate) alloc: Global,
     pub(crate) gate: &'s G,
-    pub(crate) job: &'s Job<'j, 'd>,
-    pub(crate) table: &'s GatherTable<'j>,
+    pub(crate) job: &'s Job<'r, 'd>,
+    pub(crate) table: &'s GatherTable<'t>,
     pub(crate) shelf: &'r Shelf<'d>,
     /// Whether the shelf is that of the job's document.
     pub(crate) is_of_document: bool,
@@ -32,11 +30,11 @@ pub(crate) struct Floor<'s, 'r, 'j, 'd, G> {
 
 /// What all threads of one run share. The table is one of the job's plan.
 #[derive(Drop)]
-pub(crate) struct Shared<'s, 'r, 'j, 'd, G> {
+pub(crate) struct Shared<'s, 'r, 't, 'd, G> {
     pub(crate) alloc: Global,
     pub(crate) gate: &'s G,
-    pub(crate) job: &'s Job<'j, 'd>,
-    pub(crate) table: &'s GatherTable<'j>,
+    pub(crate) job: &'s Job<'r, 'd>,
+    pub(crate) table: &'s GatherTable<'t>,
     pub(crate) shelf: &'r Shelf<'d>,
     /// Whether the shelf is that of the job's document. Then pages are put as the document's own, and not compared.
     pub(crate) is_of_document: bool,
@@ -56,14 +54,12 @@ pub(crate) struct Shared<'s, 'r, 'j, 'd, G> {
     ghost same_plan: { table.now.layout ≡ layout job.now.plan },
 }
 
-/// What the workers need of the run: what all threads share, and where finished sheets are sent.
+/// What the threads of a run need, the caller's among them: what all share, and the channel of finished sheets.
 #[derive(Drop)]
-pub(crate) struct WorkerInput<'s, 'r, 'j, 'd, T: Texts, G> {
-    pub(crate) shared: &'s Shared<'s, 'r, 'j, 'd, G>,
-    pub(crate) sender: &'s SheetSender<'r, T>,
-    /// Sheets that were written, whose memory is used again.
-    pub(crate) spent: &'s ArrayQueue<FinishedSheets<'r>>,
+pub(crate) struct RunInput<'s, 'r, 't, 'd, T: Texts, G> {
+    pub(crate) shared: &'s Shared<'s, 'r, 't, 'd, G>,
+    pub(crate) channel: &'s Channel<'r, T>,
     /// The same job, with the texts of the channel's rule.
-    pub(crate) ruled: &'s RuledJob<'s, 'j, 'd, T>,
+    pub(crate) ruled: &'s RuledJob<'s, 'r, 'd, T>,
     ghost same_job: { ruled.now.job.now ≡ shared.now.job.now },
 }

@@ -20,7 +20,7 @@ use std::time::Duration;
 /// About how many bytes the texts of the window's sheets have together.
 const BYTES_AHEAD: usize = 786_432;
 
-/// About how many bytes of text stand round a placed page.
+/// About how many bytes of text there are round a placed page.
 const BYTES_ROUND_A_PAGE: usize = 256;
 
 /// About how many bytes the work has that comes with each sheet, however small.
@@ -52,7 +52,7 @@ pub(crate) struct Window {
     /// No turn is waited for: the sheet that is written next may never come.
     lifted: AtomicBool,
     len: u32,
-    /// How many sheets are written before it is told.
+    /// How many sheets are written before it moves.
     step: u32,
     /// How many sheets an imposer sends together at most.
     batch: u32,
@@ -103,7 +103,7 @@ impl Window {
         self.batch_bytes
     }
 
-    /// The first sheet behind it.
+    /// The first sheet past it.
     pub(crate) fn end(&self) -> u32 {
         if self.lifted.load(SeqCst) {
             return u32::MAX;
@@ -116,7 +116,7 @@ impl Window {
         u32::try_from(self.next.load(SeqCst)).unwrap_or(u32::MAX)
     }
 
-    /// All sheets before this one were written. If a window has many sheets, a quarter of it is told at once, since
+    /// All sheets before this one were written. If a window has many sheets, it moves by a quarter at once, since
     /// imposers look at this word for each sheet.
     pub(crate) fn come_to(&self, next: u32) {
         if next >= self.next().saturating_add(self.step) {
@@ -205,7 +205,7 @@ pub(crate) fn bytes_of_pages(job: &Job<'_, '_>) -> (usize, usize)
     (of_pages, of_slots)
 }
 
-/// Sheets that were taken off the queue by an imposer, and lay behind the window then.
+/// Sheets that were taken off the queue by an imposer, and lay past the window then.
 #[derive(Drop)]
 pub(crate) struct Held {
     sheets: SheetSet,

@@ -8,7 +8,7 @@ use Rattle.lengths.specs.Reading.{digits, past_digits}
 abbrev pub IsDigit : ℕ → Type 0
 IsDigit b = is_ascii_digit b ≡ true
 
--- the two cases of a test
+-- a test is true or false
 pub by_test : (b : Bool) → (b ≡ true) ⊎ (b ≡ false)
 by_test true = inl refl
 by_test false = inr refl
@@ -44,7 +44,7 @@ pub past_digits-append : (ds t : List ℕ) → AllPass is_ascii_digit ds → pas
 past_digits-append [] t h = refl
 past_digits-append (d ∷ ds) t h = past_digits-yes d (ds ++ t) (All-head IsDigit d ds h) ∙ past_digits-append ds t (All-tail IsDigit d ds h)
 
--- no digit stands behind a row of digits
+-- no digit follows a row of digits
 pub digits_past : (t : List ℕ) → digits (past_digits t) ≡ []
 digits_past [] = refl
 digits_past (b ∷ t) = elim (by_test (is_ascii_digit b)) [ inl e ↦ ap digits (past_digits-yes b t e) ∙ digits_past t | inr e ↦ ap digits (past_digits-no b t e) ∙ digits-no b t e ]

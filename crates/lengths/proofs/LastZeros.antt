@@ -1,4 +1,4 @@
--- Rows of digits without the zeros at their end.
+-- Rows of digits without trailing zeros.
 use Rattle.std.proofs.Common.{arith, ◌≡◌, ◌≢◌, ℕ, suc, List, [], ◌∷◌, ◌++◌, Bool, true, false, refl, ap, ◌∙◌, length}
 use Rattle.std.specs.Prelude.{◌==◌, ◌&&◌, if◌then◌else◌}
 use Rattle.std.proofs.lemmas.Grind.{common_steps}
@@ -18,7 +18,7 @@ not_zero n = grind (arith, common_steps)
 some_left : (d x : ℕ) (rest : List ℕ) → before_kept d (x ∷ rest) ≡ d ∷ x ∷ rest
 some_left d x rest = ap (λ b. if b && (d == 48) then [] else d ∷ x ∷ rest) (not_zero (length rest))
 
--- a row that no zero ends stays
+-- a row without trailing zeros stays as it is
 pub without_last_zeros-same : (ds : List ℕ) → ((front : List ℕ) → ds ≢ front ++ 48 ∷ []) → without_last_zeros ds ≡ ds
 without_last_zeros-same [] h = refl
 without_last_zeros-same (d ∷ []) h = last (d == 48) refl

@@ -47,7 +47,7 @@ pub decimals_pass : (t : List ℕ) → AllPass is_ascii_digit (decimals_at t)
 decimals_pass [] = All-nil IsDigit
 decimals_pass (b ∷ t) = elim (by_test (b == 46)) [ inl e ↦ rw e (digits_pass t) | inr e ↦ rw e (All-nil IsDigit) ]
 
--- what an if gave
+-- the result of an if
 pub chosen_some : {A : Type 0} (b : Bool) (x y : A) → (if b then None else Some x) ≡ Some y → (b ≡ false) × (x ≡ y)
 chosen_some true x y e = absurd (cc)
 chosen_some false x y e = (refl, cc)
@@ -75,14 +75,14 @@ number_found t rest v e =
       (is_minus t, sign_of t, digits u, point_of (past_digits u), decimals_at (past_digits u), refl, sign_is t, digits_pass u, point_is (past_digits u), decimals_pass (past_digits u), not_empty _ h.0, sym (ap (λ x. x.0) h.1)),
     )
 
--- a number text is read whole, and on into what follows where that goes on
+-- a number text is read whole, and reading goes on into what follows if that continues it
 unsigned-sign : (sign t : List ℕ) (negative : Bool) → IsSign sign negative → unsigned t ≡ t → is_minus t ≡ false → (unsigned (sign ++ t) ≡ t) × (is_minus (sign ++ t) ≡ negative)
 unsigned-sign [] t negative h u m = (u, m ∙ sym h)
 unsigned-sign (b ∷ []) t true h u m = (ap (λ c. unsigned (c ∷ t)) h.1, ap (λ c. is_minus (c ∷ t)) h.1)
 unsigned-sign (b ∷ []) t false h u m = (ap (λ c. unsigned (c ∷ t)) h.1, ap (λ c. is_minus (c ∷ t)) h.1)
 unsigned-sign (b ∷ c ∷ bs) t negative h u m = absurd (cc (h.0))
 
--- a digit or a dot stands first, and so no sign
+-- a digit or a dot comes first, and so no sign
 abbrev starts : List ℕ → Bool
 starts [] = false
 starts (b ∷ t) = is_ascii_digit b || (b == 46)
@@ -132,7 +132,7 @@ body_read negative whole (b ∷ p) decimals rest w f d n ends =
     from_parts negative (whole ++ (b ∷ (p ++ rest))) whole decimals rest (digits-append whole (b ∷ (p ++ rest)) w ∙ (ap (λ x. whole ++ digits x) same ∙ append-nil whole))
     (ap decimals_at past ∙ (digits-append decimals rest d ∙ (ap (λ x. decimals ++ x) e.0 ∙ append-nil decimals))) (ap past_decimals past ∙ (past_digits-append decimals rest d ∙ e.1)) n
 
--- a number text is read whole, where no number goes on
+-- a number text is read whole if what follows doesn't continue it
 pub number_read : (text rest : List ℕ) (v : ℤ) → IsNumber text v → Ends rest → number_at (text ++ rest) ≡ Some (v, rest)
 unfolding number_at
 number_read text rest v (negative, sign, whole, point, decimals, e, s, w, f, d, n, value) ends =
@@ -148,7 +148,7 @@ number_read text rest v (negative, sign, whole, point, decimals, e, s, w, f, d, 
 pub some_same : {A : Type 0} (x y : A) → Some x ≡ Some y → x ≡ y
 some_same x y e = cc
 
--- two values of one text are one
+-- a text has one value only
 pub one_value : (text : List ℕ) (v w : ℤ) → IsNumber text v → IsNumber text w → v ≡ w
 one_value text v w a b =
     let e : number_at (text ++ []) ≡ Some (v, []) = number_read text [] v a tt in
@@ -165,7 +165,7 @@ not_nil_append : (xs ys : List ℕ) → xs ≢ [] → xs ++ ys ≢ []
 not_nil_append [] ys n = absurd (n refl)
 not_nil_append (x ∷ xs) ys n = λ e. cc (e)
 
--- some number is read, and no bytes of this one are left over
+-- some number is read, and it takes all bytes of this one
 abbrev Reaches : Bool → List ℕ → List ℕ → Type 0
 Reaches negative u rest = (v : ℤ) × (r : List ℕ) × (number_from negative u ≡ Some (v, r)) × (length r ≤ length rest)
 
@@ -191,7 +191,7 @@ body_reaches negative whole (b ∷ p) decimals rest w f d n =
       length-past_digits rest,
     )
 
--- where a number text stands first, one at least as long is read
+-- where a text begins with a number text, one at least as long is read
 pub number_reaches : (text rest : List ℕ) (v : ℤ) → IsNumber text v → (w : ℤ) × (r : List ℕ) × (number_at (text ++ rest) ≡ Some (w, r)) × (length r ≤ length rest)
 unfolding number_at
 number_reaches text rest v (negative, sign, whole, point, decimals, e, s, w, f, d, n, value) =
@@ -226,7 +226,7 @@ number_longest t rest v e =
       },
     )
 
--- where none is read, none stands
+-- where none is read, the text begins with none
 pub no_number : (t : List ℕ) → number_at t ≡ None → (k : ℕ) (v : ℤ) → IsNumber (take k t) v → ⊥
 no_number t e k v is =
     let (w, r, found, left) = number_reaches (take k t) (drop k t) v is in

@@ -31,7 +31,7 @@ of_parts paper text (Some (v, rest)) g is e =
 pub is_length : (paper : Paper) (text : List ℕ) (g : ℤ) → length_named paper text ≡ Some g → IsLength paper text g
 is_length paper text g e = of_parts paper text (number_at text) g refl e
 
--- ---- no number goes on in a unit
+-- ---- a unit continues no number
 
 chosen : (b : Bool) (x : LengthUnit) (o : Option LengthUnit) (u : LengthUnit) (P : Type 0) → (b ≡ true → P) → (o ≡ Some u → P)
     → (if b then Some x else o) ≡ Some u → P

@@ -48,7 +48,7 @@ scan_parts {negative = negative} {whole = whole} {point = point} {decimals = dec
     let r : past_decimals (past_digits (unsigned t)) ≡ rest = ap past_decimals p ∙ sym c.rest_is in
     ap (λ b. number_from b (unsigned t)) (sym c.sign) ∙ from_parts negative (unsigned t) whole decimals rest w d r (some_of whole decimals h)
 
--- what stands behind a number is what is left of the text
+-- what follows a number is the rest of the text
 pub behind : (t rest : List ℕ) (v : ℤ) → number_at t ≡ Some (v, rest) → (length rest ≤ length t) × (drop (length t - length rest) t ≡ rest)
 behind t rest v e =
     let (front, whole, is) = number_found t rest v e in
@@ -80,7 +80,7 @@ pub large_value : (negative : Bool) (whole decimals : List ℕ) → 100_000 ≤ 
 large_value negative whole decimals h =
     ap (nat_lt 99_999_999_999_999) (abs_signed negative (number_of whole * 10 ^ 9 + decimals_value 9 decimals)) ∙ less _ _ (omega arith)
 
--- what is found at a length is the longest number
+-- the number found, of this length, is the longest
 pub longest : (t : List ℕ) (n : ℕ) (v : ℤ) → n ≤ length t → number_at t ≡ Some (v, drop n t) → IsLongestNumber t n v
 longest t n v h e = subst (λ k. IsLongestNumber t k v) (omega (arith, length-drop n t)) (number_longest t (drop n t) v e).1
 

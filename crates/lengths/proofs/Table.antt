@@ -33,7 +33,7 @@ by_test : (b : Bool) → (b ≡ true → ⊥) → b ≡ false
 by_test true h = absurd (h refl)
 by_test false h = refl
 
--- a name that isn't this row's goes on behind it
+-- a name that isn't this row's is looked for in the rows after it
 other_name : (name : List ℕ) (row : Row) (rows : List Row) → is_lowercase row ≡ true → (map to_ascii_lowercase name ≡ map to_ascii_lowercase row.0.now → ⊥)
     → paper_among (map entry (row ∷ rows)) name ≡ paper_among (map entry rows) name
 other_name name row rows lower differs =

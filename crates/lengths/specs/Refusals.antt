@@ -15,7 +15,7 @@ abbrev pub outcome_of : Result (ℤ × ℕ) NumberError → Result (ℤ × ℕ) 
 outcome_of (Ok x) = Ok x
 outcome_of (Err e) = Err (number_fault e)
 
--- the same refusal, as reading off the front gives it
+-- the same refusal, by the function that reads a number off the front
 abbrev pub IsRefused : List ℕ → NumberError → Type 0
 IsRefused bytes NotANumber = number_at bytes ≡ None
 IsRefused bytes (TooLarge n) = (n ≤ length bytes) × (v : ℤ) × (is_large v ≡ true)

@@ -22,7 +22,7 @@ impl Model for Grains {
 }
 
 impl Grains {
-    /// That many grains, if that is in range.
+    /// The length of this many grains, if that is in range.
     pub fn new(count: i128) -> Option<Grains>
         ensures fits { IsSome result ↔ FitsGrains count }
         ensures value { IfSome result (λ g. g ≡ count) }
@@ -34,7 +34,7 @@ impl Grains {
         }
     }
 
-    /// How many grains they are.
+    /// The number of grains.
     pub fn get(self) -> i128
         ensures value { result ≡ self }
         ensures in_range { FitsGrains self }
@@ -42,7 +42,7 @@ impl Grains {
         self.count
     }
 
-    /// That many grains, which is known to be in range.
+    /// The length of this many grains, which is known to be in range.
     pub(crate) fn of(count: i128) -> Grains
         requires { FitsGrains count }
         ensures { result ≡ count }

@@ -8,8 +8,8 @@ use super::paper::Paper;
 use super::read::read_number;
 use super::unit::unit_by_name;
 
-/// The length that the text names: a number up to 99,999.999999999 and its unit, `pt`, `cm`, `mm` or `in`, or points
-/// without one. None of these units asks for the paper.
+/// The length that the text names: a number up to 99,999.999999999 with its unit, `pt`, `cm`, `mm` or `in`; without
+/// a unit it is in points. No such length depends on the paper.
 pub fn length_named(paper: &Paper, text: &[u8]) -> Option<Grains>
     ensures { result ≡ length_named paper.now text.now }
 {

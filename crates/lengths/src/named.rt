@@ -6,7 +6,7 @@ ghost use Rattle.lengths.specs.Lengths.{a4};
 
 use super::paper::Paper;
 
-/// The names, with width and height in points.
+/// Each name with its width and height in points.
 const PAPERS: [(&str, u32, u32); 8] = [
     ("a3", 842, 1191),
     ("a4", 595, 842),
@@ -18,7 +18,7 @@ const PAPERS: [(&str, u32, u32); 8] = [
     ("10x14", 720, 1008),
 ];
 
-/// The paper of this name, whose ASCII letters may be in either case.
+/// The paper of this name. ASCII letters may be in either case.
 pub fn paper_by_name(name: &str) -> Option<Paper>
     ensures { result ≡ paper_named name.now }
 {
@@ -30,7 +30,7 @@ pub fn paper_by_name(name: &str) -> Option<Paper>
     None
 }
 
-/// The paper that is taken if nothing tells one.
+/// The paper that is used where none is given.
 pub fn a4() -> Paper
     ensures { result ≡ a4 }
 {

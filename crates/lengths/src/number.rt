@@ -9,8 +9,8 @@ use std::ops::Neg;
 /// The greatest number, in 10^-9.
 const GREATEST: u64 = 99_999_999_999_999;
 
-/// A whole number of 10^-9, from -99,999,999,999,999 to 99,999,999,999,999: nine decimals behind an integer part of at
-/// most 99,999. Contracts see it as that whole number.
+/// A whole number of 10^-9, from -99,999,999,999,999 to 99,999,999,999,999: an integer part of at most 99,999 and
+/// nine decimals. Contracts see it as that whole number.
 #[derive(Clone, Copy, Debug, PartialEq, Eq, Hash, PartialOrd, Ord)]
 pub struct Number {
     billionths: i64,
@@ -34,7 +34,7 @@ impl Number {
         billionths: 1_000_000_000,
     };
 
-    /// The number of that many 10^-9, if that is in range.
+    /// This many 10^-9 as a number, if it is in range.
     pub fn new(billionths: i64) -> Option<Number>
         ensures fits { IsSome result ↔ FitsNumber billionths }
         ensures value { IfSome result (λ n. n ≡ billionths) }
@@ -46,7 +46,7 @@ impl Number {
         }
     }
 
-    /// How many 10^-9 it is.
+    /// The number of 10^-9.
     pub fn billionths(self) -> i64
         ensures value { result ≡ self }
         ensures in_range { FitsNumber self }
@@ -54,7 +54,7 @@ impl Number {
         self.billionths
     }
 
-    /// The number of a sign, an integer part and nine decimals.
+    /// The number with this sign, integer part and nine decimals.
     pub(crate) fn of_parts(negative: bool, whole: u32, decimals: u32) -> Number
         requires whole { whole ≤ greatest_whole }
         requires decimals { decimals < 10 ^ 9 }

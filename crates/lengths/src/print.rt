@@ -77,7 +77,7 @@ fn append_decimal(value: i64, places: u32, out: &mut Vec<u8>) -> Result<(), Allo
     )
 }
 
-/// The decimals of a part, in units of 10^-places. Most numbers are whole, and these are told first.
+/// The decimals of a part, in units of 10^-places. Whole numbers, by far the most frequent, are tested for first.
 fn decimals_of_part(digits: &mut Buffer, places: u32, part: u64) -> &[u8]
     requires places { places ≤ 9 }
     requires part { part < 10 ^ places }
@@ -90,7 +90,7 @@ fn decimals_of_part(digits: &mut Buffer, places: u32, part: u64) -> &[u8]
     decimals_behind_one(digits.format(10u64.pow(places) + part).as_bytes())
 }
 
-/// The digits of a whole part, which is left out if it is 0 and decimals stand behind it.
+/// The digits of a whole part; none if it is 0 and decimals follow.
 fn unless_dot_follows<'a>(whole: u64, digits: &'a [u8], decimals: &[u8]) -> &'a [u8]
     requires { digits.now ≡ decimal whole }
     ensures value { result.now ≡ whole_text whole decimals.now }
@@ -103,7 +103,8 @@ fn unless_dot_follows<'a>(whole: u64, digits: &'a [u8], decimals: &[u8]) -> &'a 
     }
 }
 
-/// The decimals of a part that was added to a one, so that no zero at its start is lost. Zeros at its end are.
+/// The decimals of a part. The part comes with a one in front, which keeps its leading zeros; zeros at the end are
+/// dropped.
 fn decimals_behind_one(one_and_part: &[u8]) -> &[u8]
     ensures value { result.now ≡ without_last_zeros (drop 1 one_and_part.now) }
     ensures no_longer { length result.now ≤ length one_and_part.now }
@@ -114,7 +115,7 @@ fn decimals_behind_one(one_and_part: &[u8]) -> &[u8]
     }
 }
 
-/// The digits without the zeros at their end.
+/// The digits without trailing zeros.
 fn strip_zeros(digits: &[u8]) -> &[u8]
     ensures value { result.now ≡ without_last_zeros digits.now }
     ensures no_longer { length result.now ≤ length digits.now }
@@ -126,7 +127,7 @@ fn strip_zeros(digits: &[u8]) -> &[u8]
     rest
 }
 
-/// Appends a minus if the number is negative, its whole part, and the decimals behind a dot if there are any.
+/// Appends a minus if the number is negative, its whole part, and, if there are decimals, a dot and the decimals.
 fn append(
     negative: bool,
     whole: &[u8],

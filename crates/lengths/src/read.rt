@@ -19,22 +19,22 @@ const LEAST_LARGE: u32 = 100_000;
 /// Why no number was read.
 #[derive(Clone, Copy, Debug, PartialEq, Eq, Error)]
 pub enum NumberError {
-    /// No number stands at the start.
+    /// The text doesn't begin with a number.
     #[error("not a number")]
     NotANumber,
-    /// The integer part is over 99,999; the length of the number in bytes.
+    /// The integer part is over 99,999. Has the length of the number in bytes.
     #[error("number over 99,999")]
     TooLarge(usize),
 }
 
 /// The longest number that the text begins with, and its length in bytes.
 ///
-/// A number is digits with an optional sign before them and an optional dot among, before or behind them, as in the
-/// page specifications of pstops. Decimals past the ninth are read and have no effect; there is no exponent.
+/// As in the page specifications of pstops, a number is digits with an optional sign before them and an optional
+/// dot before, among or after them. Decimals after the ninth are read and ignored; there is no exponent.
 pub fn read_number(bytes: &[u8]) -> Result<(Number, usize), NumberError>
     ensures longest { IsNumberRead bytes.now (outcome_of result) }
 
-    // The same, as reading off the front gives it.
+    // The same, by the function that reads a number off the front.
     ensures found { IfOk result (λ x.
         (x.1 ≤ length bytes.now) × (number_at bytes.now ≡ Some (x.0, drop x.1 bytes.now))) }
     ensures none { IfErr result (IsRefused bytes.now) }
@@ -42,7 +42,7 @@ pub fn read_number(bytes: &[u8]) -> Result<(Number, usize), NumberError>
     scan(bytes)
 }
 
-/// The digits at the front, by their value or as 100,000 if that is more, and what stands behind them.
+/// The digits at the front as a value, 100,000 if it is larger, and what follows them.
 pub fn read_digits(bytes: &[u8]) -> Option<(u32, &[u8])>
     ensures { let front = digits bytes.now in MatchOption result (front ≡ []) (λ x.
         (front ≢ []) × (x.0 ≡ min least_large (number_of front)) × (x.1.now ≡ past_digits bytes.now)) }
@@ -54,7 +54,7 @@ pub fn read_digits(bytes: &[u8]) -> Option<(u32, &[u8])>
     Some((capped(front), rest))
 }
 
-/// The number at the start and its length, as reading off the front gives it.
+/// The number at the start and its length, by the function that reads a number off the front.
 fn scan(bytes: &[u8]) -> Result<(Number, usize), NumberError>
     ensures found { IfOk result (λ x. number_at bytes.now ≡ Some (x.0, drop x.1 bytes.now)) }
     ensures within { IfOk result (λ x. x.1 ≤ length bytes.now) }
@@ -75,7 +75,7 @@ fn scan(bytes: &[u8]) -> Result<(Number, usize), NumberError>
     Ok((Number::of_parts(negative, points, nine(decimals)), len))
 }
 
-/// What stands behind a sign, if there is one, and whether that is a minus.
+/// Whether there is a minus, and what follows the sign, if there is one.
 fn split_sign(bytes: &[u8]) -> (bool, &[u8])
     ensures sign { result.0 ≡ is_minus bytes.now }
     ensures rest { result.1.now ≡ unsigned bytes.now }
@@ -87,7 +87,7 @@ fn split_sign(bytes: &[u8]) -> (bool, &[u8])
     }
 }
 
-/// The digits behind a dot, if there is one, and what stands behind them.
+/// The digits after a dot, if there is one, and what follows them.
 fn split_decimals(bytes: &[u8]) -> (&[u8], &[u8])
     ensures front { result.0.now ≡ decimals_at bytes.now }
     ensures rest { result.1.now ≡ past_decimals bytes.now }
@@ -98,7 +98,7 @@ fn split_decimals(bytes: &[u8]) -> (&[u8], &[u8])
     }
 }
 
-/// The digits at the front, and what stands behind them.
+/// The digits at the front, and what follows them.
 fn split_digits(bytes: &[u8]) -> (&[u8], &[u8])
     ensures front { result.0.now ≡ digits bytes.now }
     ensures rest { result.1.now ≡ past_digits bytes.now }
@@ -106,7 +106,7 @@ fn split_digits(bytes: &[u8]) -> (&[u8], &[u8])
     bytes.split_at(digits_len(bytes))
 }
 
-/// How many digits stand at the front.
+/// The number of digits at the front.
 fn digits_len(bytes: &[u8]) -> usize
     ensures within { result ≤ length bytes.now }
     ensures front { take result bytes.now ≡ digits bytes.now }
@@ -120,7 +120,7 @@ fn digits_len(bytes: &[u8]) -> usize
     bytes.len()
 }
 
-/// What the digits stand for, or 100,000 if that is more.
+/// The value of the digits, or 100,000 if it is larger.
 fn capped(digits: &[u8]) -> u32
     requires { AllPass is_ascii_digit digits.now }
     ensures { result ≡ min least_large (number_of digits.now) }
@@ -145,7 +145,7 @@ fn nine(decimals: &[u8]) -> u32
     n
 }
 
-/// The decimal at this place, which is 0 behind the last.
+/// The decimal at this place, which is 0 after the last.
 fn decimal_at(decimals: &[u8], i: usize) -> u32
     requires digits { AllPass is_ascii_digit decimals.now }
     requires place { i < 9 }

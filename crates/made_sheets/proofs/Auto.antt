@@ -45,7 +45,7 @@ by_leaves k m = grind arith
 one_more : (k s : ℕ) → (k + 1) * s ≡ k * s + s
 one_more k s = grind arith
 
--- ---- l leaves, k signatures of m leaves each; p is how many leaves these have together
+-- ---- l leaves, k signatures of m leaves each; p is the number of their leaves together
 some_leaves : (n l : ℕ) → 0 < n → n ≤ l * 4 → 0 < l
 some_leaves n l a b = omega (arith, a, b)
 

@@ -1,4 +1,4 @@
--- Made sheets with the lines of their dress are written as with their dress.
+-- Made sheets that carry the lines of their dress are written like sheets with their dress.
 use Rattle.std.proofs.Common.{suc, ◌≡◌, ℕ, ◌+◌, List, [], ◌∷◌, ◌++◌, length, map, refl, ap, ◌∙◌}
 use Rattle.std.specs.Prelude.{flat_map, Option, ℤ}
 use Rattle.std.specs.List.{enumerate_from}

@@ -14,14 +14,14 @@ use Rattle.made_sheets.specs.MadePlans.{MadeNoSuchPage, MadeSlotsOutOfRange, mad
 abbrev made_in : Option ℤ → Dress → List MadeSheet → List ℕ → Result (List ℕ) DocumentFault
 made_in border dress all text = document_of text >>= λ us. Ok (made_output border dress all us)
 
--- moved by so many points to the right
+-- moved by this many points to the right
 abbrev stands : Turn → (x : ℤ) → Item
 stands turn x = record { page = 0; from_end = false; turn = turn; scale = pos 1_000_000_000; x = record { number = x *ℤ pos 1_000_000_000; unit = Pt }; y = record { number = pos 0; unit = Pt } }
 
 abbrev on : Paper → List MadeSlot → MadeSheet
 on paper slots = record { paper = paper; slots = slots }
 
--- two pages, each of a paper of its own, on one sheet: each is clipped by its own paper
+-- two pages, each of its own paper, on one sheet: each is clipped by its own paper
 two_papers : made_in None undressed (on (points 842 595) (Placed 0 (stands Upright (pos 0)) (points 420 595) ∷ Blank ∷ Placed 1 (stands Left (pos 842)) (points 595 842) ∷ []) ∷ []) (codes "%!PS\n%%Page: 1 1\na\n%%Page: 2 2\nb\n") ≡ Ok (codes "%!PS\n%%Pages: 1\n%%Page: 1 1\nuserdict /ImposeSave save put\nuserdict /showpage {} put\n[1 0 0 1 0 0] concat\nnewpath 0 0 moveto 420 0 lineto 420 595 lineto 0 595 lineto closepath clip newpath\na\nImposeSave restore\nuserdict /ImposeSave save put\nuserdict /showpage {} put\n[0 1 -1 0 842 0] concat\nnewpath 0 0 moveto 595 0 lineto 595 842 lineto 0 842 lineto closepath clip newpath\nb\nImposeSave restore\nshowpage\n")
 unfolding digits
 two_papers = refl
@@ -42,7 +42,7 @@ two_marked_sheets = refl
 abbrev first_page : MadeSlot
 first_page = Placed 0 (stands Upright (pos 0)) (points 595 842)
 
--- a slot may not name a page that isn't there
+-- a slot may not name a page that the document lacks
 page_missing : made_plan_of 1 (on (points 595 842) (first_page ∷ []) ∷ on (points 595 842) (Blank ∷ Placed 1 (stands Upright (pos 0)) (points 595 842) ∷ []) ∷ [])
     ≡ Err (MadeNoSuchPage 1)
 page_missing = refl
@@ -54,7 +54,7 @@ just_fits = refl
 one_slot_more : made_plan_of 1 (on (points 595 842) (Blank ∷ []) ∷ on (points 595 842) (replicate 4_097 Blank) ∷ []) ≡ Err (MadeSlotsOutOfRange 1)
 one_slot_more = refl
 
--- and one at least
+-- and at least one
 no_slot : made_plan_of 1 (on (points 595 842) [] ∷ []) ≡ Err (MadeSlotsOutOfRange 0)
 no_slot = refl
 

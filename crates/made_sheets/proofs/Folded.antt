@@ -1,4 +1,4 @@
--- A signature that was folded is read in order.
+-- A folded signature is read in order.
 use Rattle.std.specs.Prelude.{Option, None, length}
 use Rattle.std.proofs.lemmas.List.FromFn.{get_or-map-range_with_len, length-map-range_with_len}
 use Rattle.rules.specs.Sheets.{blocks}
@@ -82,7 +82,7 @@ read_in_order m =
     ∙ range_over 0 (2 * m) (2 * m)
     ∙ ap (λ k. range_with_len 0 k) whole
 
--- ---- whole rows: what stands at a position is what the row has there in its order
+-- ---- whole rows: the entry at a position is the one that the row has there in its order
 abbrev Agree : (s : ℕ) (f g : ℕ → Option ℕ) → Type 0
 Agree s f g = (i : ℕ) → i < s → f i ≡ g (page_in_signature s i)
 

@@ -1,4 +1,4 @@
--- The sheets of a specification, as made ones without dress, are written as its sheets.
+-- The sheets of a specification, made without dress, are written as its sheets.
 use Rattle.std.proofs.Common.{append-nil, suc, ◌≡◌, ℕ, ◌+◌, List, [], ◌∷◌, ◌++◌, Option, Some, None, length, map, refl, ap, ◌∙◌}
 use Rattle.std.specs.Prelude.{flat_map, codes, decimal}
 use Rattle.std.specs.List.{enumerate_from}
@@ -29,7 +29,7 @@ slots_same frame texts (slot ∷ slots) =
 abbrev head : (k : ℕ) → List ℕ
 head k = line (codes "%%Page: " ++ decimal (k + 1) ++ codes " " ++ decimal (k + 1))
 
--- no lines change nothing
+-- without lines nothing changes
 sheet_same : (frame : Frame) (texts : List (List ℕ)) (k : ℕ) (slots : List Slot)
     → made_sheet_text frame.border undressed texts k (record { paper = frame.paper; slots = map (λ slot. made_slot frame.paper slot.page slot.item) slots })
     ≡ sheet_text frame texts k slots

@@ -38,14 +38,14 @@ apart b c h = by_test (b == c) (λ is. absurd (h (same_byte b c is))) (λ isnt. 
 unequal : (xs ys : List ℕ) → (xs ≡ ys → ⊥) → bytes_eq xs ys ≡ false
 unequal xs ys h = by_test (bytes_eq xs ys) (λ is. absurd (h ((bytes_eq-Decides xs ys).0 is))) (λ isnt. isnt)
 
--- ---- bytes that aren't there
+-- ---- bytes that a text lacks
 abbrev Without : ℕ → List ℕ → Type 0
 Without c text = All (λ b. (b == c) ≡ false) text
 
 no_digit : (c b : ℕ) → is_ascii_digit c ≡ false → is_ascii_digit b ≡ true → (b == c) ≡ false
 no_digit c b other is = apart b c (λ same. true≢false (sym is ∙ ap is_ascii_digit same ∙ other))
 
--- a byte that is no digit, no underscore and no letter of the two words
+-- a byte that is not a digit, not an underscore and not a letter of the two words
 record IsSign (c : ℕ) : Type 0 where
   digit : is_ascii_digit c ≡ false
   under : (95 == c) ≡ false
@@ -208,7 +208,7 @@ either : (a b : Bool) → (a || b) ≡ true → (a ≡ true) ⊎ (b ≡ true)
 either true b e = inl refl
 either false b e = inr e
 
--- what a blank page is written as
+-- how a blank page is written
 blank_text : (text : List ℕ) → is_blank_page text ≡ true → IsRange text BlankPage
 blank_text text is = of_either (either (bytes_eq text (codes "blank")) (bytes_eq text (95 ∷ [])) is)
   where
@@ -223,7 +223,7 @@ place_no_blank : (text : List ℕ) (p : Place) → IsPlace text p → IsRange te
 place_no_blank text p is (inl e) = no_place_named_blank p (subst (λ t. IsPlace t p) e is)
 place_no_blank text p is (inr e) = no_lone_place p (subst (λ t. IsPlace t p) e is)
 
--- two texts with a minus sign between them aren't the words, which have none
+-- two texts with a minus sign between them are neither of the words, which have none
 with_minus : (first second : List ℕ) → Without 45 (first ++ 45 ∷ second) → ⊥
 with_minus [] second all = true≢false (All-head (λ b. (b == 45) ≡ false) 45 second all)
 with_minus (b ∷ first) second all = with_minus first second (λ k d less. all (suc k) d (omega (arith, less)))
@@ -348,7 +348,7 @@ all_read (r ∷ q ∷ rs) text (front, rest, e, h, more) =
     ∙ ap (with_more (pieces 44 rest)) (range_read front r h)
     ∙ ap (option_map (λ xs. r ∷ xs)) (all_read (q ∷ rs) rest more)
 
--- a list that is joined has one element at least
+-- a list that is joined has at least one element
 cons_joined : (front rest : List ℕ) (r : Range) (rs : List Range) → IsRange front r → IsJoined 44 IsRange rest rs
     → IsJoined 44 IsRange (front ++ 44 ∷ rest) (r ∷ rs)
 cons_joined front rest r [] h more = absurd more

@@ -64,7 +64,7 @@ forwards n some =
     back : (i : ℕ) → 1 + i - 1 ≡ i
     back i = omega arith
 
--- a document of one page is read upward, of more downward
+-- a document of one page is read upward, a longer one downward
 backwards : (n : ℕ) → 0 < n → map entry (from_to (n + 1 - 1) 1) ≡ reverse (all_pages n)
 backwards zero some = absurd (omega (arith, some))
 backwards (suc zero) some = refl

@@ -22,11 +22,11 @@ blank_behind_first = refl
 signs_of_psselect : row_of_text 3 (codes "_,_1,last,_2-_3") ≡ Ok (None ∷ Some 2 ∷ Some 2 ∷ Some 1 ∷ Some 0 ∷ [])
 signs_of_psselect = refl
 
--- as often as it is named; numbers are read by value
+-- as often as it is named; only the value of numbers counts
 named_twice : row_of_text 9 (codes "007,7-8,8-7") ≡ Ok (Some 6 ∷ Some 6 ∷ Some 7 ∷ Some 7 ∷ Some 6 ∷ [])
 named_twice = refl
 
--- ---- what is no range; the place is where it begins
+-- ---- no range; the place is where it begins
 
 nothing : row_of_text 3 [] ≡ Err (NotARange 0)
 nothing = refl
@@ -55,7 +55,7 @@ no_space = refl
 no_capitals : row_of_text 3 (codes "Last") ≡ Err (NotARange 0)
 no_capitals = refl
 
--- ---- what the document hasn't
+-- ---- what the document lacks
 
 past_the_last : row_of_text 3 (codes "1,2-4") ≡ Err (NotInDocument 2)
 past_the_last = refl
@@ -76,7 +76,7 @@ behind_the_last = refl
 text_comes_first : row_of_text 3 (codes "9,x") ≡ Err (NotARange 2)
 text_comes_first = refl
 
--- ---- limits: the range that passes the limit is told
+-- ---- limits: the range that passes the limit is reported
 
 abbrev at_most : (most : ℕ) → List ℕ → Result Row RowFault
 at_most most text = standing_from 0 (pieces_of text) >>= row_standing most 3
@@ -108,7 +108,7 @@ odd_of_four_backwards = refl
 even_pages : chosen 5 (choice None Even false) ≡ Ok (Some 1 ∷ Some 3 ∷ [])
 even_pages = refl
 
--- of a row that is named, by the places in it: what is left of these are the fronts, and the backs are the even ones
+-- of a row that is named, parts are by place: odd places are the fronts, and even places the backs
 odd_places : chosen 9 (choice (Some (codes "4-7,_")) Odd false) ≡ Ok (Some 3 ∷ Some 5 ∷ None ∷ [])
 odd_places = refl
 
@@ -125,7 +125,7 @@ named_in_one : imposed_row 9 (choice (Some (codes "3-7,_")) All false) (Some InO
     ≡ Ok (None ∷ Some 2 ∷ Some 3 ∷ None ∷ None ∷ Some 4 ∷ Some 5 ∷ Some 6 ∷ [])
 named_in_one = refl
 
--- pages 3 to 14 and a blank: of the four leaves' sixteen sides three more are blank
+-- pages 3 to 14 and a blank: three more of the four leaves' sixteen sides are blank
 chapter_in_one : imposed_row 20 (choice (Some (codes "3-14,_")) All false) (Some InOne)
     ≡ Ok (None ∷ Some 2 ∷ Some 3 ∷ None ∷ None ∷ Some 4 ∷ Some 5 ∷ None ∷ Some 13 ∷ Some 6 ∷ Some 7 ∷ Some 12 ∷ Some 11 ∷ Some 8 ∷ Some 9 ∷ Some 10 ∷ [])
 chapter_in_one = refl
@@ -138,8 +138,8 @@ by_itself : imposed_row 5 (choice None All false) (Some Auto)
     ≡ Ok (None ∷ Some 0 ∷ Some 1 ∷ None ∷ None ∷ Some 2 ∷ Some 3 ∷ Some 4 ∷ [])
 by_itself = refl
 
--- 32 entries are eight leaves, and so one signature; 33 are nine leaves, in signatures of five and four, both of five;
--- 100 are 25 leaves, in four signatures of seven
+-- 32 entries are eight leaves, and so one signature; 33 are nine leaves, in two signatures of five leaves; 100 are
+-- 25 leaves, in four signatures of seven
 eight_leaves : auto_sides 32 ≡ 32
 eight_leaves = refl
 
@@ -166,7 +166,8 @@ eight_pages : faces (in_signatures 8 (all_pages 8))
     ∷ record { left = Some 5; right = Some 2 } ∷ record { left = Some 3; right = Some 4 } ∷ []
 eight_pages = refl
 
--- read: front right, back left of the outer one, then of the inner one; then back right, front left
+-- the order of reading: front right, back left of the outer leaf, then of the inner one; then back right, front
+-- left
 two_leaves : reading 2 ≡ 1 ∷ 2 ∷ 5 ∷ 6 ∷ 7 ∷ 4 ∷ 3 ∷ 0 ∷ []
 two_leaves = refl
 

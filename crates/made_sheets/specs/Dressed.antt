@@ -1,4 +1,4 @@
--- Made sheets together with the lines of their dress, as lists alone: what a program keeps of them.
+-- Made sheets together with the lines of their dress, as lists alone: this is what a program keeps.
 use Rattle.std.specs.Prelude.{◌≡◌, ℕ, ◌+◌, ◌++◌, List, length, map, flat_map, codes, decimal, Option, ℤ}
 use Rattle.std.specs.List.{enumerate_from}
 use Rattle.rules.specs.Bytes.{line}
@@ -35,7 +35,7 @@ dressed_output border header all us =
     ++ flat_map (λ (s, sheet). dressed_sheet_text border (pages us) s sheet) (enumerate_from 0 all)
     ++ trailer_text us
 
--- it is the output of the made sheets and their dress: a law
+-- a law: it is the output of the made sheets with their dress
 abbrev pub DressedIsMade : Type 0
 DressedIsMade = (border : Option ℤ) (dress : Dress) (all : List MadeSheet) (us : List NestedUnit)
     → dressed_output border dress.header (dressed_sheets dress all) us ≡ made_output border dress all us

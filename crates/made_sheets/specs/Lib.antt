@@ -1,5 +1,5 @@
--- Read in this order: sheets as they are made; what is added to the text of an output; the output of made sheets; which
--- of them are taken; rows; what texts name as rows; what is chosen of them; leaves, and how they are read.
+-- Read in this order: sheets as they are made; what is added to the text of an output; the output of made sheets;
+-- which of them are accepted; rows; texts that name rows; what is chosen of them; leaves, and how they are read.
 pub mod Made
 pub mod Dress
 pub mod MadeOutput

@@ -1,12 +1,12 @@
--- Sheets that are made, in whatever way: of a specification, or of a row and an arrangement. All here is this project's
--- own rules.
+-- Sheets that are made in any way: of a specification, or of a row and an arrangement. These are rules of this
+-- project.
 use Rattle.std.specs.Prelude.{ℕ, List, map, Option, Some, None}
 use Rattle.rules.specs.Papers.{Paper}
 use Rattle.rules.specs.Specification.{Item}
 use Rattle.rules.specs.Sheets.{Slot}
 
--- a place on a sheet: blank, or a page, the item that says how it stands there, and the paper by which this page is
--- clipped and bordered, and of which the item's `w` and `h` are parts
+-- a place on a sheet: blank, or a page with its item and its paper. The item says how the page is placed. The paper
+-- clips it, gives it its border, and is what the item's `w` and `h` are parts of
 pub data MadeSlot : Type 0 where
   Blank : MadeSlot
   Placed : (page : ℕ) → Item → Paper → MadeSlot

@@ -1,4 +1,5 @@
--- What is written of made sheets. With no dress, and one paper for all, it is the output of a specification: a law.
+-- What is written of made sheets. By a law, with no dress and one paper for all, it is the output of a
+-- specification.
 use Rattle.std.specs.Prelude.{◌≡◌, ℕ, ◌+◌, ◌++◌, List, [], ◌∷◌, length, flat_map, codes, decimal, Option, ℤ}
 use Rattle.std.specs.Prelude.{slice_index_or}
 use Rattle.std.specs.List.{enumerate_from}
@@ -11,7 +12,7 @@ use Rattle.rules.specs.Output.{Frame, opening_text, closing_text, body_text, out
 use Rattle.made_sheets.specs.Made.{MadeSlot, Blank, Placed, MadeSheet, made_of}
 use Rattle.made_sheets.specs.Dress.{Dress, undressed, lines_text}
 
--- a slot, of a document with these pages; a blank one writes nothing
+-- a slot, of a document with these pages; for a blank nothing is written
 abbrev pub made_slot_text : (border : Option ℤ) → List (List ℕ) → MadeSlot → List ℕ
 made_slot_text border pages Blank = []
 made_slot_text border pages (Placed p item paper) =
@@ -27,7 +28,7 @@ made_sheet_text border dress pages s sheet =
     ++ lines_text (dress.finish s sheet.paper)
     ++ line (codes "showpage")
 
--- the count of sheets, and the dress's lines, are put behind the first line
+-- the number of sheets, and the dress's lines, are put after the first line
 abbrev pub with_lines : (sheets : ℕ) → List (List ℕ) → List NestedUnit → List ℕ
 with_lines sheets lines [] = []
 with_lines sheets lines (first ∷ us) =
@@ -43,8 +44,8 @@ made_output border dress all us =
     ++ flat_map (λ (s, sheet). made_sheet_text border dress (pages us) s sheet) (enumerate_from 0 all)
     ++ trailer_text us
 
--- with no dress, one paper for all, and the sheets of a specification, in signatures or not, the output of made sheets
--- is the output: a law
+-- a law: with no dress and one paper for all, made sheets of a specification, in signatures or not, have the
+-- specification's output
 abbrev pub MadeIsOutput : Type 0
 MadeIsOutput = (frame : Frame) (sides : Option ℕ) (spec : Spec) (us : List NestedUnit) →
     made_output frame.border undressed (made_of frame.paper (sheets_in sides spec (length (pages us)))) us

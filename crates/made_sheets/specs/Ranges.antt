@@ -1,5 +1,5 @@
--- Ranges: a row as a text names it. The signs are those of psselect(1), option -p; the words `blank` and `last`, and what
--- is refused, are this project's own rules.
+-- Ranges: a row as a text names it. The signs are those of psselect(1), option -p; the words `blank` and `last`,
+-- and what is refused, are rules of this project.
 use Rattle.std.specs.Prelude.{◌≡◌, ◌↔◌, ◌⊎◌, ℕ, ◌+◌, ◌-◌, ◌<◌, ◌≤◌, Bool, true, false, ◌&&◌, ◌||◌, ◌==◌, nat_le}
 use Rattle.std.specs.Prelude.{if◌then◌else◌, List, [], ◌∷◌, ◌++◌, map, flat_map, reverse, codes, Option, Some}
 use Rattle.std.specs.Prelude.{None, option_map, option_and_then}
@@ -31,15 +31,15 @@ the_last = FromEnd 1
 
 -- ---- texts
 
--- the text stands for this place: digits, which are read by value; an underscore and digits, or `last`
+-- the text means this place: digits, of which only the value counts; an underscore and digits; or `last`
 abbrev pub IsPlace : List ℕ → Place → Type 0
 IsPlace text (FromStart k) = IsDigits text k
 IsPlace text (FromEnd k) =
     ((digits : List ℕ) × (text ≡ underscore ∷ digits) × IsDigits digits k)
     ⊎ ((text ≡ codes "last") × (k ≡ 1))
 
--- it stands for this range: `blank` or a lone underscore; a place; two places with a minus sign between them, of which
--- the second may be left out and is the last page then
+-- it means this range: `blank` or a lone underscore; a place; or two places with a minus sign between them. The
+-- second may be left out, and then is the last page
 abbrev pub IsRange : List ℕ → Range → Type 0
 IsRange text BlankPage = (text ≡ codes "blank") ⊎ (text ≡ underscore ∷ [])
 IsRange text (FromTo p q) =
@@ -47,7 +47,7 @@ IsRange text (FromTo p q) =
     ⊎ ((first second : List ℕ) × (text ≡ first ++ minus_sign ∷ second) × IsPlace first p
     × (IsPlace second q ⊎ ((second ≡ []) × (q ≡ the_last))))
 
--- ranges with commas between them, one at least
+-- ranges, at least one, with commas between them
 abbrev pub AreRanges : List ℕ → List Range → Type 0
 AreRanges text ranges = IsJoined comma IsRange text ranges
 
@@ -95,16 +95,15 @@ ranges_in (piece ∷ pieces) =
 abbrev pub pieces_of : List ℕ → List (List ℕ)
 pieces_of text = slice_split (λ b. b == comma) text
 
--- the ranges that a text stands for
+-- the ranges that a text means
 abbrev pub ranges_of : List ℕ → Option (List Range)
 ranges_of text = ranges_in (pieces_of text)
 
--- what is read is what the text stands for, and what it stands for is read; so a text stands for one list of ranges at
--- most: a law
+-- a law: reading a text gives its meaning, and every meaning is read; so a text means at most one list of ranges
 abbrev pub RangesAreRead : Type 0
 RangesAreRead = (text : List ℕ) (ranges : List Range) → AreRanges text ranges ↔ (ranges_of text ≡ Some ranges)
 
--- ---- what they name in a document of so many pages
+-- ---- what they name in a document of this many pages
 
 -- the number of a page, counted from 1
 abbrev pub number_in : (pages : ℕ) → Place → ℕ
@@ -131,11 +130,11 @@ abbrev pub entries_of : (pages : ℕ) → Range → Row
 entries_of pages BlankPage = None ∷ []
 entries_of pages (FromTo p q) = map (λ k. Some (k - 1)) (from_to (number_in pages p) (number_in pages q))
 
--- the row that ranges name: their entries, in the order in which they are named, as often as they are named
+-- the row that ranges name: their entries, in the order in which they are named, and as often
 abbrev pub row_named : (pages : ℕ) → List Range → Row
 row_named pages ranges = flat_map (entries_of pages) ranges
 
--- `1-` is all pages, `last-1` is all of them backwards, and `_k` is the k-th from the end: a law
+-- a law: `1-` is all pages, `last-1` is all of them backwards, and `_k` is the k-th from the end
 abbrev pub RangesOfAll : Type 0
 RangesOfAll = (n : ℕ) → 0 < n →
     (row_named n (FromTo (FromStart 1) the_last ∷ []) ≡ all_pages n)

@@ -10,7 +10,7 @@ pub fn made_is_output()
     ensures { MadeIsOutput }
 {}
 
-/// The output of sheets with the lines of their dress is that of the sheets and their dress.
+/// The output of sheets that carry the lines of their dress is that of the sheets with their dress.
 pub fn dressed_is_made()
     ensures { DressedIsMade }
 {}
@@ -35,12 +35,12 @@ pub fn sheets_of_all()
     ensures { SheetsOfAll }
 {}
 
-/// Signatures that are chosen by the number of entries have no more than eight leaves and few blanks.
+/// Signatures that are chosen by the number of entries have at most eight leaves and few blanks.
 pub fn auto_signatures()
     ensures { AutoSignatures }
 {}
 
-/// What is read of a text are the ranges that it stands for.
+/// Reading a text gives the ranges that it means.
 pub fn ranges_are_read()
     ensures { RangesAreRead }
 {}
@@ -50,7 +50,7 @@ pub fn ranges_of_all()
     ensures { RangesOfAll }
 {}
 
-/// The sheets of two entries each are the faces of leaves.
+/// Sheets of two entries each are the faces of leaves.
 pub fn sheets_are_faces()
     ensures { SheetsAreFaces }
 {}

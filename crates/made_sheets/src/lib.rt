@@ -1,4 +1,4 @@
-//! Sheets that are made, their output, and rows: definitions and their laws. There is no code in it.
+//! Sheets that are made, their output, and rows: definitions and their laws. No code.
 #![tactic(auto)]
 
 pub mod laws;

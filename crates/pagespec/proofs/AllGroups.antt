@@ -34,7 +34,7 @@ all_stuck t b e = ap (or_bare t) e ∙ ap (λ o. o >>= λ i. Some ((i ∷ []) �
 all_bare : (t : List ℕ) (i : WrittenItem) → bare_at t ≡ Some i → all_groups_at t ≡ Some ((i ∷ []) ∷ [])
 all_bare t i e = all_groups_read t _ (inr (i, refl, bare_found t i e))
 
--- the one item stands for the whole text
+-- the one item is the whole text
 pub bare_parsed : (t : List ℕ) (item : ParsedItem) (parsed : ParsedGroups) → BareRead t item → parsed.items.items ≡ item ∷ [] → parsed.lengths.items ≡ 1 ∷ [] → ParsesTo (all_groups_at t) parsed
 bare_parsed t item parsed (i, found, shows) items lengths =
     ((i ∷ []) ∷ [], all_bare t i found, record { items = subst (λ ks. AllZip (λ k j. ItemShows j k) ks (i ∷ [])) (sym items) (shows, tt); lengths = lengths })

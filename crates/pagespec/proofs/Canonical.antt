@@ -1,4 +1,4 @@
--- A canonical text is read again: it stands for the items with the fewest modifiers.
+-- A canonical text is read again: it has the items with the fewest modifiers.
 use Rattle.std.proofs.Common.{arith, rules, ◌≡◌, ◌≢◌, ◌⊎◌, inl, inr, ℕ, suc, ◌+◌, ◌^◌, ◌<◌, List, [], ◌∷◌, ◌++◌, Bool, true, false, Option, Some, None, refl, sym, ap, subst, ◌∙◌, length, append_assoc, append-nil, cond}
 use Rattle.std.specs.Prelude.{ℤ, pos, negsuc, nat_abs, int_le, nat_lt, nat_le, ◌||◌, ◌&&◌, ◌==◌, map, flat_map, position, decimal, if◌then◌else◌}
 use Rattle.std.specs.List.{list_any, position_or_len}
@@ -143,7 +143,7 @@ spec_written t spec is none =
     by_modulo false e low are =
         inr (decimal spec.modulo, groups_text (map (λ g. map settled_item g) spec.groups), append_assoc (decimal spec.modulo) (58 ∷ []) (groups_text (map (λ g. map settled_item g) spec.groups)), decimal_is spec.modulo low, are)
 
--- what they come to
+-- their results
 
 no_turn : (one none : Bool) (v : ℤ) (x y : Measure) → quarters (scale_modifiers one v ++ offset_modifiers none x y) ≡ 0
 no_turn true true v x y = refl
@@ -285,7 +285,7 @@ placed_none p xs e = by_any _ refl
         absurd (cc (e, found))
     by_any false h = h
 
--- a test that fails on each fails on each made from them
+-- if a test fails on each, it fails on each that is made from them
 any_made : {X Y : Type 0} (p : X → Bool) (q : Y → Bool) (f : X → Y) → ((x : X) → p x ≡ false → q (f x) ≡ false) → (xs : List X) → list_any p xs ≡ false → list_any q (map f xs) ≡ false
 any_made p q f same [] e = refl
 any_made p q f same (x ∷ xs) e =
@@ -374,7 +374,7 @@ normal_faultless spec e =
     (λ h. any_made (λ g. nat_lt most_slots (length g)) (λ g. nat_lt most_slots (length g)) (λ g. map normal_item g) long_made spec.groups h) slots)
     (ap (λ n. only_if (nat_lt most_groups n) TooManyGroups) (length-map spec.groups (λ g. map normal_item g)) ∙ groups))))))
 
--- the canonical text of what a text comes to is taken, and comes to the same
+-- the canonical text of a text is taken too, with the same result
 pub canonical_taken : (text : List ℕ) (spec : Spec) → Takes most_slots text spec → Takes most_slots (canonical spec) spec
 canonical_taken text spec (h, written, stands, right, e) =
     subst (λ s. Takes most_slots (canonical s) s) (sym e)

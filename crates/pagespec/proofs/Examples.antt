@@ -20,7 +20,7 @@ behind_modulo = (
   inr (codes "1", codes "-L", 1, refl, (All-cons IsDigit 49 [] refl (All-nil IsDigit), λ e. cc (e), refl), (codes "L", refl, refl, λ e. cc (e), turn_written Left)),
 )
 
--- `L` comes to `0L`
+-- `L` has the canonical text `0L`
 one_byte_more : length (canonical (settled (record { modulo = 1; groups = (left false ∷ []) ∷ [] }))) ≡ length (codes "L") + 1
 unfolding digits
 one_byte_more = refl

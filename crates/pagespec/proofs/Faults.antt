@@ -1,4 +1,4 @@
--- The first fault on what the code parsed, against the first fault of the tree.
+-- The first fault of what the code parsed, compared with the first fault of the tree.
 use Rattle.std.proofs.Common.{◌≡◌, ℕ, List, [], ◌∷◌, Bool, true, false, Option, Some, None, refl, ap, ◌∙◌, suc, ◌+◌, length, cond}
 use Rattle.std.specs.Prelude.{position, ◌||◌, nat_lt, not}
 use Rattle.std.specs.Prelude.{◌==◌, nat_le, map}
@@ -25,7 +25,7 @@ first_zip R p q same (x ∷ xs) (y ∷ ys) h =
     let rest = first_zip R p q same xs ys h.1 in
     (ap (λ b. cond (not b) (1 + prefix_len (λ z. not (p z)) xs) 0) (same x y h.0) ∙ ap (λ n. cond (not (q y)) (1 + n) 0) rest.0, ap suc rest.1)
 
--- two rows that stand for each other have the first place of a test at one place
+-- in two rows that correspond entry by entry, a test passes first at the same place
 pub position_zip : {X Y : Type 0} (R : X → Y → Type 0) (p : X → Bool) (q : Y → Bool) → ((x : X) (y : Y) → R x y → p x ≡ q y) → (xs : List X) (ys : List Y) → AllZip R xs ys → position p xs ≡ position q ys
 position_zip R p q same xs ys h =
     let z = first_zip R p q same xs ys h in
@@ -72,7 +72,7 @@ small_items (l ∷ ls) (i ∷ is) h e =
     let n = neither (nat_lt 99_999 i.page || list_any has_large i.modifiers) (list_any (λ i. nat_lt 99_999 i.page || list_any has_large i.modifiers) is) e in
     (small_item l i h.0 n.0, small_items ls is h.1 n.1)
 
--- the lengths of groups have the first long one where the groups do
+-- the lengths of groups have the first long one at the place of the first long group
 position-map : {X : Type 0} (f : X → ℕ) (p : ℕ → Bool) (xs : List X) → AllZip (λ n x. n ≡ f x) (map f xs) xs
 position-map f p [] = tt
 position-map f p (x ∷ xs) = (refl, position-map f p xs)
@@ -97,7 +97,7 @@ parsed_fault modulo ls lengths =
     else_first (only_if (has_too_large modulo ls) TooLarge)
     (found modulo (position (λ i. nat_le modulo i.page) ls) (position (λ i. i.modifiers.scale_zero) ls) (position (λ i. i.modifiers.repeated) ls) (position (λ n. nat_lt most_slots n) lengths) (length lengths))
 
--- what the code finds on what it parsed is the first fault of the tree
+-- what the code finds in its parsed items is the first fault of the tree
 parsed_is_fault : (tree : WrittenSpec) (modulo : ℕ) (ls : List ParsedItem) → AllZip (λ l i. ItemShows i l) ls (items tree) → modulo ≡ min 100_000 tree.modulo
     → parsed_fault modulo ls (map length tree.groups) ≡ fault_of most_slots tree
 parsed_is_fault tree modulo ls zip m =
@@ -120,7 +120,7 @@ parsed_is_fault tree modulo ls zip m =
         ap (λ r. else_first (only_if (nat_lt 99_999 tree.modulo || list_any (λ i. nat_lt 99_999 i.page || list_any has_large i.modifiers) (items tree)) TooLarge) r)
         (found_same _ _ _ _ _ _ _ _ _ _ _ _ mm (ap (λ k. position (λ (i : ParsedItem). nat_le k i.page) ls) mm ∙ pages) zeros again long (length-map tree.groups length))
 
--- a refusal that names this fault, or neither
+-- a refusal with this fault, or neither
 abbrev IsTold : Option SpecError → Option Fault → Type 0
 IsTold o f = option_map fault_named o ≡ option_map (λ x. Some x) f
 
@@ -148,7 +148,7 @@ told_first modulo ls lengths =
     (told_or _ _ _ _ (told_place (position (λ n. nat_lt most_slots n) lengths) error.TooManySlots TooManySlots (λ i. refl))
     (told_where (nat_lt most_groups (length lengths)) error.TooManyGroups TooManyGroups refl))))))
 
--- what the code tells is the first fault of what the text stands for
+-- the code reports the first fault of the text's meaning
 pub told_fault : (spec : WrittenSpec) (modulo : ℕ) (ls : List ParsedItem) (lengths : List ℕ) → AreParsed ls (items spec) → lengths ≡ map length spec.groups → modulo ≡ min 100_000 spec.modulo
     → option_map fault_named (first_fault_of modulo ls lengths) ≡ option_map (λ x. Some x) (fault_of most_slots spec)
 told_fault spec modulo ls lengths zip e m =
@@ -158,7 +158,7 @@ large_told : (b : Bool) (later : Option Fault) → b ≡ true → else_first (on
 large_told true later h e = cc
 large_told false later h e = cc
 
--- no fault was told: the items are as they were parsed, with no number too large
+-- no fault was reported: the items are as they were parsed, with no number too large
 pub no_fault : (spec : WrittenSpec) → fault_of most_slots spec ≡ None → (nat_lt 99_999 spec.modulo || list_any (λ i. nat_lt 99_999 i.page || list_any has_large i.modifiers) (items spec)) ≡ false
 no_fault spec e = by_first _ refl
   where

@@ -1,4 +1,4 @@
--- The first fault that stands in a row of checks.
+-- The first fault in a row of checks.
 use Rattle.std.proofs.Common.{◌≡◌, Option, Some, None, refl, ap, ◌∙◌}
 use Rattle.std.specs.Option.{option_or}
 
@@ -14,7 +14,7 @@ from_the_left None None None (Some x) e f g = refl
 from_the_left None None None None (Some x) f g = refl
 from_the_left None None None None None f g = refl
 
--- the code looks at two at a time, the definition at the first and the others
+-- the code looks at two at a time, the definition at the first and the rest
 pub in_order : {X : Type 0} {a b c d e f g a' b' c' d' e' f' g' two three four five six all : Option X} → two ≡ option_or a b → three ≡ option_or two c → four ≡ option_or three d
     → five ≡ option_or four e → six ≡ option_or five f → all ≡ option_or six g → a ≡ a' → b ≡ b' → c ≡ c' → d ≡ d' → e ≡ e' → f ≡ f' → g ≡ g'
     → all ≡ option_or a' (option_or b' (option_or c' (option_or d' (option_or e' (option_or f' g')))))

@@ -18,7 +18,7 @@ use Rattle.pagespec.proofs.JoinedLoop.{ReadsParts, parts_first, parts_more, part
 abbrev IsParsed : ParsedItem → WrittenItem → Type 0
 IsParsed k i = ItemShows i k
 
--- so far these items of the group were parsed
+-- these items of the group were parsed so far
 pub record KeepsOn (fuel : ℕ) (bytes rest : List ℕ) (old new : List ParsedItem) (count : ℕ) : Type 0 where
   pub front : List WrittenItem
   pub parsed : List ParsedItem
@@ -62,7 +62,7 @@ keeps_stuck n count bytes rest old new on e = parts_stuck 43 item_at n bytes res
 pub keeps_out : (n count : ℕ) (bytes rest : List ℕ) (old new : List ParsedItem) → n ≡ 0 → KeepsOn n bytes rest old new count → group_at bytes ≡ None
 keeps_out n count bytes rest old new is on = parts_out 43 item_at n bytes rest on.front is on.reads
 
--- so far these groups were parsed
+-- these groups were parsed so far
 pub record GroupsOn (fuel : ℕ) (bytes rest : List ℕ) (items : List ParsedItem) (lengths : List ℕ) : Type 0 where
   pub front : List (List WrittenItem)
   pub reads : ReadsParts 44 group_at fuel bytes rest front
@@ -134,7 +134,7 @@ bare_there t body rest from_end parsed m b some (ms, found, shows) e = (
   record { end = m; page = refl; modifiers = shows },
 )
 
--- where one reader is stuck only if the other is
+-- one reader is stuck exactly where the other is
 pub stop_same : {X Y : Type 0} (o : Option X) (p : Option Y) (s : Stop) → (o ≡ None → p ≡ None) → IsStop o s → IsStop p s
 stop_same o p (Stuck left) f e = f e
 stop_same o p NoMemory f e = tt

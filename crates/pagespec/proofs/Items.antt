@@ -15,7 +15,7 @@ use Rattle.pagespec.proofs.Letters.{turn_letter}
 use Rattle.pagespec.specs.Reading.{modifier_at, modifiers_at, is_minus, past_minus, item_with, item_from, item_at}
 use Rattle.pagespec.proofs.Modifiers.{Stood, modifiers_found, modifiers_read, modifiers_end, few_modifiers}
 
--- no modifier and no number goes on
+-- the text continues neither a modifier nor a number
 pub record Closed (rest : List ℕ) : Type 0 where
   pub ends : Ends rest
   pub none : modifier_at rest ≡ None
@@ -38,7 +38,7 @@ item_found t x e =
     ∙ (sym (append_assoc m (digits u) (front ++ rest)) ∙ sym (append_assoc (m ++ digits u) front rest))) in
     subst (Stood IsItem t) same (m ++ digits u ++ front, t_is, (digits u, front, refl, (digits_pass u, not_empty (digits u) some, refl), are))
 
--- no minus stands first
+-- the first byte is no minus
 abbrev pub Unsigned : List ℕ → Type 0
 Unsigned t = (is_minus t ≡ false) × (past_minus t ≡ t)
 

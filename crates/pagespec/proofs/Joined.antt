@@ -34,7 +34,7 @@ joined_found c R part finds (suc k) t xs e =
     let (x, found, more) = bind_some (part t) _ xs e in
     more_found c R (λ u. joined_at c part k u) (λ u ys f. joined_found c R part finds k u ys f) t x (finds t x found) (byte_at c x.1) refl xs more
 
--- a text of the relation is read whole, where what follows lets it end
+-- a text of the relation is read whole, if what follows lets it end
 abbrev pub Reads : {X : Type 0} → (List ℕ → X → Type 0) → (List ℕ → Type 0) → (List ℕ → Option (X × List ℕ)) → Type 0
 Reads {X = X} R Closed part = (text rest : List ℕ) (x : X) → R text x → Closed rest → part (text ++ rest) ≡ Some (x, rest)
 

@@ -3,12 +3,12 @@ use Rattle.std.proofs.Common.{◌≡◌, ℕ, zero, suc, List, [], ◌∷◌, �
 use Rattle.std.specs.List.{AllZip}
 use Rattle.pagespec.specs.Reading.{◌>>=◌, byte_at, joined_at, with_part}
 
--- parts read before, and those behind them
+-- parts that were read before, and those after them
 abbrev pub with_parts : {X : Type 0} → List X → Option (List X × List ℕ) → Option (List X × List ℕ)
 with_parts front None = None
 with_parts front (Some x) = Some (front ++ x.0, x.1)
 
--- so far these parts were read, and what is left reads on
+-- these parts were read so far, and reading the rest continues them
 abbrev pub ReadsParts : {X : Type 0} → ℕ → (List ℕ → Option (X × List ℕ)) → (fuel : ℕ) → (bytes rest : List ℕ) → List X → Type 0
 ReadsParts c part fuel bytes rest front = with_parts front (joined_at c part fuel rest) ≡ joined_at c part (suc (length bytes)) bytes
 

@@ -1,4 +1,4 @@
--- Texts written one behind the other, with a byte between them.
+-- Texts written one after the other, with a byte between them.
 use Rattle.std.proofs.Common.{◌≡◌, ℕ, List, [], ◌∷◌, ◌++◌, sym, ap, ◌∙◌, append_assoc, append-nil}
 use Rattle.std.specs.Prelude.{map, flat_map, Result, Ok, Err, OnOk}
 use Rattle.rules.specs.Specification.{joined_by, Item, Spec, modulo_text, canonical}
@@ -9,7 +9,7 @@ pub joined_first : {X : Type 0} (c : ℕ) (f : X → List ℕ) (x : X) (xs : Lis
 joined_first c f x [] = sym (append-nil (f x))
 joined_first c f x (y ∷ xs) = ap (λ t. f x ++ c ∷ t) (joined_first c f y xs)
 
--- the texts written so far, and the rest of them
+-- the texts written so far, and those that are left
 pub joined_text : {X : Type 0} (c : ℕ) (f : X → List ℕ) (x : X) (xs : List X) (old one new : List ℕ) → one ≡ old ++ f x → new ≡ one ++ flat_map (λ y. c ∷ f y) xs
     → new ≡ old ++ joined_by c (map f (x ∷ xs))
 joined_text c f x xs old one new e g =

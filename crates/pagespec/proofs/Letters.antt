@@ -5,7 +5,7 @@ use Rattle.lengths.proofs.Numbers.{same_byte}
 use Rattle.rules.specs.Specification.{IsTurn}
 use Rattle.pagespec.specs.Reading.{quarters_of}
 
--- a letter with a turn is one of its two
+-- a letter of a turn is one of its two
 abbrev IsOne : ℕ → ℕ → ℕ → Type 0
 IsOne b upper lower = (b ∷ [] ≡ upper ∷ []) ⊎ (b ∷ [] ≡ lower ∷ [])
 

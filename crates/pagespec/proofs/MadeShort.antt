@@ -1,4 +1,4 @@
--- How long the canonical text of a specification is that was made.
+-- The length of the canonical text of a specification that was made.
 use Rattle.std.proofs.Common.{arith, ◌≡◌, ℕ, suc, ◌+◌, ◌*◌, ◌^◌, ◌<◌, ◌≤◌, List, [], ◌∷◌, ◌++◌, false, length}
 use Rattle.std.specs.Prelude.{pos, map, decimal}
 use Rattle.std.specs.List.{AllByRecursion}
@@ -22,7 +22,7 @@ forward page t s x y = record { page = page; from_end = false; turn = t; scale =
 pub page_few : (digits page : ℕ) → 0 < digits → page < 10 ^ digits → page ≤ 99_999 → length (decimal page) ≤ digits
 page_few digits page some below small = length-decimal-le_wide digits page some below (omega (arith, small))
 
--- with a page number of so many digits it has 50 bytes more at most
+-- with a page number of this many digits it has at most 50 bytes more
 pub forward_few : (digits page : ℕ) (t : Turn) (s x y : ℕ) → length (decimal page) ≤ digits → s ≤ 99_999_999_999_999 → x ≤ 99_999_999_999_999 → y ≤ 99_999_999_999_999
     → length (item_text (forward page t s x y)) ≤ digits + 50
 forward_few digits page t s x y few small_s small_x small_y =
@@ -41,7 +41,7 @@ forward_few digits page t s x y few small_s small_x small_y =
     no_unit : (n : ℕ) → n ≤ 99_999_999_999_999 → length (measure_text (in_points n)) ≤ 15
     no_unit n h = omega (arith, positive_few n h, length-append (number_text (pos n)) [])
 
--- parts of so many bytes at most, and a byte before each but the first
+-- parts of at most this many bytes, and a byte before each but the first
 joined_few : {X : Type 0} (c k : ℕ) (f : X → List ℕ) (xs : List X) → AllByRecursion (λ x. length (f x) ≤ k) xs → length (joined_by c (map f xs)) ≤ suc k * length xs
 joined_few c k f [] all = omega arith
 joined_few c k f (x ∷ []) all = omega (arith, all.0)
@@ -54,7 +54,7 @@ joined_few c k f (x ∷ y ∷ xs) all =
 pub group_few : (k : ℕ) (g : List Item) → AllByRecursion (λ i. length (item_text i) ≤ k) g → length (group_text g) ≤ suc k * length g
 group_few k g items = joined_few 43 k item_text g items
 
--- groups of so many bytes at most
+-- groups of at most this many bytes
 pub groups_short : (k : ℕ) (spec : Spec) → spec.modulo ≤ 99_999 → AllByRecursion (λ g. length (group_text g) ≤ k) spec.groups → suc k * length spec.groups ≤ 65_530
     → length (canonical spec) ≤ most_spec_bytes
 groups_short k spec low groups fit =

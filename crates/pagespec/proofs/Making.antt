@@ -1,4 +1,4 @@
--- A specification that is made comes from its canonical text.
+-- A specification that is made is the result of its canonical text.
 use Rattle.std.proofs.Common.{arith, rules, ◌≡◌, inl, inr, ℕ, ◌<◌, ◌≤◌, List, [], ◌∷◌, ◌++◌, Bool, true, false, None, refl, sym, ap, ◌∙◌, length, append_assoc}
 use Rattle.std.specs.Prelude.{nat_lt, nat_le, ◌||◌, ◌&&◌, ◌==◌, map, flat_map, position, decimal, if◌then◌else◌}
 use Rattle.std.specs.List.{list_any, AllByRecursion}
@@ -63,7 +63,7 @@ spec_is slots spec is = by_modulo (spec.modulo == 1) refl
     by_modulo false e = let low : spec.modulo ≤ 99_999 = is.modulo.1 in
         inr (decimal spec.modulo, groups_text spec.groups, append_assoc (decimal spec.modulo) (58 ∷ []) (groups_text spec.groups), decimal_is spec.modulo (omega (arith, low)), groups)
 
--- what it comes to
+-- its result
 
 item_back : (i : Item) → settled_item (written_item i) ≡ i
 item_back i =

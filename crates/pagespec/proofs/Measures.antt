@@ -9,7 +9,7 @@ use Rattle.lengths.proofs.Digits.{by_test}
 use Rattle.lengths.proofs.Numbers.{number_found, number_read, some_same, same_byte}
 use Rattle.pagespec.specs.Reading.{◌>>=◌, byte_at, second_letter, unit_at, measure_from, measure_at}
 
--- what a step took, and what the next made of it
+-- what a step took, and what the next step made of that
 pub bind_some : {A B : Type 0} (o : Option A) (f : A → Option B) (y : B) → (o >>= f) ≡ Some y → (x : A) × (o ≡ Some x) × (f x ≡ Some y)
 bind_some None f y e = absurd (cc)
 bind_some (Some x) f y e = (x, refl, e)
@@ -21,7 +21,7 @@ byte_found c (b ∷ t) rest e = elim (by_test (b == c)) [
   | inr h ↦ absurd (cc (e))
 ]
 
--- no unit goes on, and none begins
+-- the text neither continues a unit nor begins with one
 abbrev pub NoUnit : List ℕ → Type 0
 NoUnit t = unit_at t ≡ (Pt, t)
 
@@ -36,7 +36,7 @@ unit_read Height rest = refl
 abbrev IsUnit : List ℕ → LengthUnit → Type 0
 IsUnit text u = (text ≡ unit_name u) ⊎ ((text ≡ []) × (u ≡ Pt))
 
--- a unit is found, or none
+-- a unit is found, or there is none
 abbrev Unit_found : List ℕ → LengthUnit × List ℕ → Type 0
 Unit_found t x = (front : List ℕ) × (t ≡ front ++ x.1) × IsUnit front x.0
 
@@ -72,7 +72,7 @@ measure_found t rest a e =
     subst (λ x. (front : List ℕ) × (t ≡ front ++ x.1) × IsMeasure front x.0) both
     (number ++ unit, t_is ∙ (ap (λ x. number ++ x) u_is ∙ sym (append_assoc number unit (unit_at v.1).1)), (number, unit, refl, is, is_unit))
 
--- a unit's letters are no digits and no dot
+-- a unit's letters are neither digits nor dots
 unit_ends : (u : LengthUnit) (rest : List ℕ) → Ends (unit_name u ++ rest)
 unit_ends Pt rest = (refl, refl)
 unit_ends Cm rest = (refl, refl)

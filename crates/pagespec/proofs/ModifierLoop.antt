@@ -8,11 +8,11 @@ use Rattle.pagespec.specs.Parsed.{Shows, ModifiersRead}
 use Rattle.pagespec.specs.declared.parsed.Modifiers.{Modifiers}
 use Rattle.pagespec.specs.declared.scan.Modifier.{Modifier as Part}
 
--- modifiers read before, and those behind them
+-- modifiers that were read before, and those after them
 abbrev pub with_front : List Modifier → List Modifier × List ℕ → List Modifier × List ℕ
 with_front front more = (front ++ more.0, more.1)
 
--- so far these modifiers were read, and what is left reads on
+-- these modifiers were read so far, and reading the rest continues them
 abbrev pub ReadsOn : (fuel : ℕ) (bytes rest : List ℕ) → Modifiers → Type 0
 ReadsOn k bytes rest s = (front : List Modifier) × (with_front front (modifiers_at k rest) ≡ modifiers_at (length bytes) bytes) × Shows front s
 

@@ -13,7 +13,7 @@ use Rattle.pagespec.proofs.Letters.{letter_turn, turn_letter}
 use Rattle.pagespec.specs.Reading.{quarters_of, byte_at, measure_at, offset_at, scale_at, modifier_at, modifiers_at, modifiers_or, with_modifier}
 use Rattle.pagespec.proofs.Measures.{bind_some, byte_found, measure_found, measure_read, NoUnit}
 
--- a value was read, and its text is the front
+-- a value was read, and its text is at the front
 abbrev pub Stood : {X : Type 0} → (List ℕ → X → Type 0) → List ℕ → X × List ℕ → Type 0
 Stood Is t x = (front : List ℕ) × (t ≡ front ++ x.1) × Is front x.0
 
@@ -71,7 +71,7 @@ unfolding modifiers_at
 modifiers_found zero t = ([], refl, refl)
 modifiers_found (suc k) t = found_or k t (λ u. modifiers_found k u) (modifier_at t) refl
 
--- a letter of a turn is no other byte that has a meaning
+-- a letter of a turn is no other byte that means something
 turn_ends : (b n : ℕ) → n ≡ quarters_of b → 0 < n → (t : List ℕ) → Ends (b ∷ t)
 turn_ends b n q h t = (elim (by_test (is_ascii_digit b)) [ inl e ↦ absurd (grind (arith, common_steps)) | inr e ↦ e ], elim (by_test (b == 46)) [ inl e ↦ absurd (grind (arith, common_steps)) | inr e ↦ e ])
 
@@ -128,7 +128,7 @@ modifier_read (Moved x y) text rest (first, second, e, is_x, is_y) ends =
     ap (λ x. modifier_at (x ++ rest)) e ∙ (ap (λ z. modifier_at (40 ∷ z)) (append_assoc (first ++ 44 ∷ second) (41 ∷ []) rest ∙ append_assoc first (44 ∷ second) (41 ∷ rest))
     ∙ offset_read first second rest x y is_x is_y)
 
--- modifiers are read whole, where none goes on
+-- modifiers are read whole, where no other follows
 pub modifiers_read : (k : ℕ) (ms : List Modifier) (text rest : List ℕ) → AreModifiers text ms → Ends rest → modifier_at rest ≡ None → length ms ≤ k → modifiers_at k (text ++ rest) ≡ (ms, rest)
 unfolding modifiers_at
 modifiers_read zero [] text rest e ends none h = ap (λ x. ([], x ++ rest)) e
@@ -139,7 +139,7 @@ modifiers_read (suc k) (m ∷ ms) text rest (front, more, e, is, are) ends none 
     ∙ (ap (modifiers_or (λ u. modifiers_at k u) (front ++ (more ++ rest))) (modifier_read m front (more ++ rest) is (modifiers_end ms more rest are ends))
     ∙ ap (with_modifier m) (modifiers_read k ms more rest are ends none (omega arith)))
 
--- each modifier has a byte
+-- each modifier has at least one byte
 some_byte : (m : Modifier) (text : List ℕ) → IsModifier text m → 0 < length text
 some_byte (Quarters n) text is = let (letter, e, q, more) = turn_letter text n is in subst (λ x. 0 < length x) (sym e) (omega arith)
 some_byte (Scaled v) text (number, e, is) = subst (λ x. 0 < length x) (sym e) (omega arith)

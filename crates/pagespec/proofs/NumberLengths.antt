@@ -1,4 +1,4 @@
--- How many bytes a printed number has: no more than the text that was read, and 16 at most.
+-- How many bytes a printed number has: no more than the text that was read, and at most 16.
 use Rattle.std.proofs.Common.{arith, rules, ◌≡◌, ◌≢◌, ℕ, zero, suc, ◌+◌, ◌-◌, ◌*◌, ◌/◌, ◌%◌, ◌^◌, ◌<◌, ◌≤◌, List, [], ◌∷◌, ◌++◌, Bool, true, false, refl, sym, ap, subst, ◌∙◌, length, take, drop}
 use Rattle.std.specs.Prelude.{ℤ, pos, negsuc, nat_abs, nat_lt, decimal, fold, if◌then◌else◌, replicate, ◌==◌}
 use Rattle.std.specs.List.{AllPass}
@@ -11,7 +11,7 @@ use Rattle.rules.specs.Numbers.{number_of, decimals_value, decimals_of, without_
 use Rattle.rules.proofs.Digits.{IsDigit, with_digit, number_behind, number_below, decimal_goes_on}
 use Rattle.rules.proofs.LastZeros.{filled, without_last_zeros-filled, stripped_length}
 
--- the nine decimals that count, with zeros behind where there are fewer
+-- the nine decimals that count, filled up with zeros
 abbrev nine : List ℕ → List ℕ
 nine decimals = take 9 (decimals ++ replicate 9 48)
 
@@ -29,7 +29,7 @@ nine_pass decimals pass = take_pass 9 (decimals ++ replicate 9 48) (All-append I
 pub decimals_below : (decimals : List ℕ) → AllPass is_ascii_digit decimals → decimals_value 9 decimals < 10 ^ 9
 decimals_below decimals pass = subst (λ n. decimals_value 9 decimals < 10 ^ n) (nine_long decimals) (number_below (nine decimals) (nine_pass decimals pass))
 
--- what is printed of decimals are those that count, without the zeros at their end
+-- the printed decimals are those that count, without the zeros at their end
 decimals_printed : (decimals : List ℕ) → AllPass is_ascii_digit decimals → decimals_of 9 (decimals_value 9 decimals) ≡ without_last_zeros (nine decimals)
 decimals_printed decimals pass =
     let row = nine decimals in
@@ -49,7 +49,7 @@ decimals_short decimals pass = subst (λ xs. length xs ≤ length decimals) (sym
         let many : 9 ≤ length decimals = search (rules, e) in
         omega (arith, stripped_length (nine decimals), nine_long decimals)
 
--- digits are no fewer than those of the decimal that is printed
+-- there are at least as many digits as in the printed decimal
 pub digits_short : (ds : List ℕ) → AllPass is_ascii_digit ds → ds ≢ [] → number_of ds < 10 ^ 64 → length (decimal (number_of ds)) ≤ length ds
 digits_short [] pass some small = absurd (some refl)
 digits_short (d ∷ ds) pass some small = length-decimal-le_wide (length (d ∷ ds)) (number_of (d ∷ ds)) (omega arith) (number_below (d ∷ ds) pass) small
@@ -59,7 +59,7 @@ abs_signed true zero = refl
 abs_signed true (suc n) = refl
 abs_signed false n = refl
 
--- a sign is printed only where one stands
+-- a sign is printed only where one is written
 sign_short : (sign : List ℕ) (negative : Bool) (n : ℕ) → IsSign sign negative → length (sign_text (signed negative n)) ≤ length sign
 sign_short [] true n is = absurd (cc (is))
 sign_short [] false n is = omega arith
@@ -88,7 +88,7 @@ left_out_short : (b : Bool) (n k : ℕ) → length (decimal n) ≤ k → length 
 left_out_short true n k h = omega arith
 left_out_short false n k h = h
 
--- a whole part and decimals are printed no longer than they stand
+-- a whole part and decimals are printed no longer than they are written
 whole_short : (whole fraction decimals printed_ : List ℕ) → AllPass is_ascii_digit whole → number_of whole < 10 ^ 64 → IsFraction fraction decimals → whole ++ decimals ≢ [] → length printed_ ≤ length decimals
     → length (whole_text (number_of whole) printed_) + length (fraction_text printed_) ≤ length whole + length fraction
 whole_short [] fraction [] [] pass small is some few = absurd (some refl)
@@ -101,7 +101,7 @@ whole_short (w ∷ whole) fraction decimals [] pass small is some few =
 whole_short (w ∷ whole) fraction decimals (p ∷ ps) pass small is some few =
     omega (arith, left_out_short (number_of (w ∷ whole) == 0) (number_of (w ∷ whole)) (length (w ∷ whole)) (digits_short (w ∷ whole) pass (λ e. absurd (cc (e))) small), fraction_short (p ∷ ps) fraction decimals is few)
 
--- a number is small where its whole part is
+-- a number is small if its whole part is
 pub small_abs : (v : ℤ) → is_large v ≡ false → nat_abs v < 10 ^ 14
 small_abs v e = search (rules, e)
 
@@ -123,7 +123,7 @@ parts_of negative whole decimals v pass e =
       part_is = ap (λ n. n % 10 ^ 9) size ∙ mod-mul-add (number_of whole) (10 ^ 9) (decimals_value 9 decimals) below;
     }
 
--- a number is printed no longer than it stands
+-- a number is printed no longer than it is written
 pub number_short : (text : List ℕ) (v : ℤ) → IsNumber text v → is_large v ≡ false → length (number_text v) ≤ length text
 number_short text v (negative, sign, whole, fraction, decimals, e, s, w, f, d, n, value) small =
     let parts = parts_of negative whole decimals v d value in
@@ -148,7 +148,7 @@ whole_few n (d ∷ ds) h = by_zero (n == 0)
 part_few : (part : ℕ) → part < 10 ^ 9 → length (decimals_of 9 part) ≤ 9
 part_few part h = omega (arith, stripped_length (drop 1 (decimal (10 ^ 9 + part))), length-drop 1 (decimal (10 ^ 9 + part)), length-decimal-le_wide 10 (10 ^ 9 + part) (omega arith) (omega arith) (omega arith))
 
--- any small number is printed with 16 bytes at most
+-- any small number is printed with at most 16 bytes
 pub number_few : (v : ℤ) → is_large v ≡ false → length (number_text v) ≤ 16
 number_few v small =
     let n = nat_abs v in
@@ -164,7 +164,7 @@ number_few v small =
       length-append (sign_text v) (whole_text (n / 10 ^ 9) ds),
     )
 
--- and with 15 at most where it has no sign
+-- and with at most 15 if it has no sign
 pub positive_few : (n : ℕ) → n ≤ 99_999_999_999_999 → length (number_text (pos n)) ≤ 15
 positive_few n h =
     let ds = decimals_of 9 (n % 10 ^ 9) in

@@ -1,4 +1,4 @@
--- What modifiers come to, with one more.
+-- The result of modifiers with one more.
 use Rattle.std.proofs.Common.{arith, ◌≡◌, ℕ, ◌+◌, ◌%◌, List, [], ◌∷◌, ◌++◌, Bool, true, false, Option, Some, None, cond, refl, sym, ap, subst, ◌∙◌}
 use Rattle.std.specs.Prelude.{ℤ, pos, int_le, not, ◌||◌, nat_lt, count_by, option_map}
 use Rattle.std.specs.List.{list_any}
@@ -75,7 +75,7 @@ any_more p ms m = list_any-append p ms (m ∷ []) ∙ ap (λ b. list_any p ms ||
 count_more : (p : Modifier → Bool) (ms : List Modifier) (m : Modifier) → count_by p (ms ++ m ∷ []) ≡ count_by p ms + count_by p (m ∷ [])
 count_more p ms m = sum_by-append (λ x. cond (p x) 1 0) ms (m ∷ [])
 
--- a scale stands there where one was counted
+-- where a scale was counted, there is one
 some_scale : (ms : List Modifier) → nat_lt 0 (count_by is_scale ms) ≡ is_some (first_scale ms)
 some_scale [] = refl
 some_scale (Quarters k ∷ ms) = some_scale ms

@@ -1,4 +1,4 @@
--- What reading a whole text came to.
+-- The result of reading a whole text.
 use Rattle.std.proofs.Common.{arith, ◌≡◌, ◌≤◌, ◌<◌, ◌^◌, ℕ, suc, List, [], ◌∷◌, Bool, true, false, Option, Some, None, refl, sym, ap, subst, ◌∙◌, inl, inr, length, map, min}
 use Rattle.std.specs.Prelude.{flat_map, option_map, ◌==◌, nat_lt, nat_le, position}
 use Rattle.std.specs.List.{list_any}
@@ -26,7 +26,7 @@ use Rattle.pagespec.proofs.Settling.{groups_settle, parsed_fit}
 pub syntax_refused : (t bytes : List ℕ) → length t ≤ most_spec_bytes → bytes ≡ t → spec_at bytes ≡ None → Refuses most_slots t Syntax
 syntax_refused t bytes h b e = (h, λ spec is. no_tree t (ap spec_at (sym b) ∙ e) spec is)
 
--- a text that was read, and what was parsed of it
+-- a text that was read, and what was parsed from it
 pub record Read (t : List ℕ) (modulo : ℕ) (parsed : List ParsedItem) (lengths : List ℕ) : Type 0 where
   pub spec : WrittenSpec
   pub stands : IsSpec t spec
@@ -43,7 +43,7 @@ all_read t bytes modulo parsed ks ns b read e f = record {
   counted = f ∙ read.groups.lengths;
 }
 
--- each item but one has a byte behind it or before it that is no other's
+-- each item but one has a byte before or after it that belongs to no other
 few_in_groups : (gs : List (List WrittenItem)) (text : List ℕ) → IsJoined 44 IsGroup text gs → length (flat_map (λ g. g) gs) ≤ suc (length text)
 few_in_groups [] text joined = absurd joined
 few_in_groups (g ∷ []) text joined = subst (λ xs. length xs ≤ suc (length text)) (sym (append-nil g)) (few_parts 43 IsItem g text joined)
@@ -72,7 +72,7 @@ few_parsed t modulo ks ns read h = omega (arith, h, AllZip-long (λ k i. ItemSho
 pub few_lengths : (t : List ℕ) (modulo : ℕ) (ks : List ParsedItem) (ns : List ℕ) → Read t modulo ks ns → length t ≤ most_spec_bytes → length ns < 2 ^ 32
 few_lengths t modulo ks ns read h = omega (arith, h, ap length read.counted, length-map read.spec.groups length, few_groups_in t read.spec read.stands)
 
--- a fault of what a text stands for is none of the text itself
+-- a fault of the meaning of a text is no fault of the text itself
 abbrev OfSpec : Option Fault → Type 0
 OfSpec None = Unit {0}
 OfSpec (Some TooLong) = ⊥

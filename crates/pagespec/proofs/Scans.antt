@@ -1,4 +1,4 @@
--- What the readers of the code found, against reading off the front.
+-- What the readers of the code found, compared with reading off the front.
 use Rattle.std.proofs.Common.{arith, ◌≡◌, ◌≢◌, ℕ, List, [], ◌∷◌, Bool, true, false, Option, Some, None, refl, sym, ap, subst, ◌∙◌, drop}
 use Rattle.std.specs.Prelude.{ℤ, if◌then◌else◌, ◌==◌}
 use Rattle.rules.specs.Papers.{LengthUnit}
@@ -32,7 +32,7 @@ pub scale_none : (t : List ℕ) → number_at t ≡ None → scale_at t ≡ None
 unfolding scale_at
 scale_none t e = rw e refl
 
--- a number that is too large, and what stands behind it
+-- a number that is too large, and what follows it
 pub too_large : (t : List ℕ) (n : ℕ) (e : NumberError) → e ≡ TooLarge n → IsRefused t e → (v : ℤ) × (is_large v ≡ true) × (number_at t ≡ Some (v, drop n t))
 too_large t n e is h = let r = subst (IsRefused t) is h in (r.1, r.2, r.3)
 
@@ -91,13 +91,13 @@ at_other t u b n e f g q h = ap modifier_at e ∙ rw (differs b 64 f) (rw (diffe
     by_none true z = refl
     by_none false z = let k : quarters_of b ≡ 0 = sym q ∙ h in absurd (grind (arith, common_steps, k))
 
--- a number that is kept, with the unit behind it
+-- a number that is kept, with the unit after it
 pub measure_kept : (t behind rest : List ℕ) (n : ℕ) (v : ℤ) (u : LengthUnit) → number_at t ≡ Some (v, drop n t) → behind ≡ drop n t → is_large v ≡ false
     → (unit_at behind).0 ≡ u → (unit_at behind).1 ≡ rest → (a : Measure) × (measure_at t ≡ Some (a, rest)) × ((a ≡ record { number = v; unit = u }) × (is_large a.number ≡ false))
 measure_kept t behind rest n v u found back small eu er =
     (record { number = v; unit = u }, measure_there t behind rest v u (found ∙ ap (λ r. Some (v, r)) (sym back)) eu er, (refl, small))
 
--- one that isn't
+-- one that isn't kept
 pub measure_lost : (t behind rest : List ℕ) (n : ℕ) (e : NumberError) (u : LengthUnit) → e ≡ TooLarge n → IsRefused t e → behind ≡ drop n t
     → (unit_at behind).0 ≡ u → (unit_at behind).1 ≡ rest → (a : Measure) × (measure_at t ≡ Some (a, rest)) × (is_large a.number ≡ true)
 measure_lost t behind rest n e u is refused back eu er =

@@ -1,4 +1,4 @@
--- What the parsed items come to, against what the written ones do.
+-- The results of the parsed items, compared with those of the written ones.
 use Rattle.std.proofs.Common.{arith, ◌≡◌, ◌%◌, ℕ, List, [], ◌∷◌, ◌++◌, Bool, Option, Some, None, refl, sym, ap, subst, ◌∙◌, length, take, drop}
 use Rattle.std.specs.Prelude.{map, flat_map, unwrap_or, option_map, pos, ℤ}
 use Rattle.std.specs.List.{AllZip}
@@ -44,7 +44,7 @@ item page from_end turn scale x y = record { page = page; from_end = from_end; t
 pub same_item : (p p' : ℕ) (b b' : Bool) (t t' : Turn) (s s' : ℤ) (x x' y y' : Measure) → p ≡ p' → b ≡ b' → t ≡ t' → s ≡ s' → x ≡ x' → y ≡ y' → item p b t s x y ≡ item p' b' t' s' x' y'
 same_item p p' b b' t t' s s' x x' y y' ep eb et es ex ey = rw ep (rw eb (rw et (rw es (rw ex (rw ey refl)))))
 
--- what is parsed of an item with small numbers comes to the item's own
+-- an item with small numbers has the same result, parsed or as written
 pub small_settles : (k : ParsedItem) (i : WrittenItem) → Small k i → item_of_parsed k ≡ settled_item i
 small_settles k i s =
     let known : Known i.modifiers k.modifiers = s.shows.modifiers.known s.large in
@@ -68,7 +68,7 @@ drop_front : {X : Type 0} (xs ys : List X) → drop (length xs) (xs ++ ys) ≡ y
 drop_front [] ys = refl
 drop_front (x ∷ xs) ys = drop_front xs ys
 
--- groups put in one row are had back by their lengths
+-- groups that were put in one row are recovered by their lengths
 pub split_groups : {X : Type 0} (gs : List (List X)) → split_by (map length gs) (flat_map (λ g. g) gs) ≡ gs
 split_groups [] = refl
 split_groups (g ∷ gs) =
@@ -88,7 +88,7 @@ map_lengths : {X Y : Type 0} (f : X → Y) (gs : List (List X)) → map length g
 map_lengths f [] = refl
 map_lengths f (g ∷ gs) = ap (λ n. n ∷ map length gs) (sym (length-map g f)) ∙ ap (λ ns. length (map f g) ∷ ns) (map_lengths f gs)
 
--- groups of parsed items, had back by their lengths, come to the groups' own
+-- groups of parsed items, recovered by their lengths, have the results of the groups themselves
 pub groups_settle : (ks : List ParsedItem) (gs : List (List WrittenItem)) (lengths : List ℕ) → AllZip Small ks (flat_map (λ g. g) gs) → lengths ≡ map length gs
     → split_by lengths (map item_of_parsed ks) ≡ map (λ g. map settled_item g) gs
 groups_settle ks gs lengths zip e =
@@ -105,7 +105,7 @@ pub parsed_fit : {X Y : Type 0} (R : X → Y → Type 0) (xs : List X) (gs : Lis
 parsed_fit R xs gs lengths zip e =
     subst (λ ns. AreLengths ns xs) (sym e) (lengths_same (map length gs) xs (flat_map (λ g. g) gs) (sym (AllZip-long R xs (flat_map (λ g. g) gs) zip)) (lengths_fit gs))
 
--- the loop over groups: these came of it, and what is left is split further
+-- the loop over groups: these are its results so far, and the rest is split further
 pub record SettlesOn (all left : List ℕ) (parsed rest : List ParsedItem) (groups : List (List Item)) : Type 0 where
   pub done : groups ++ split_by left (map item_of_parsed rest) ≡ split_by all (map item_of_parsed parsed)
   pub fits : AreLengths left rest

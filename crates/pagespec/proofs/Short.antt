@@ -66,7 +66,7 @@ pub either : (a b : Bool) → (a || b) ≡ false → (a ≡ false) × (b ≡ fal
 either true b e = absurd (cc (e))
 either false b e = (refl, e)
 
--- modifiers are written no longer than they stand
+-- modifiers are written no longer than in the text
 modifiers_short : (ms : List Modifier) (text : List ℕ) → AreModifiers text ms → list_any has_large ms ≡ false
     → length (turn_text (turn_of (quarters ms))) + length (scale_part (scale ms)) + length (offset_part (offset_x ms) (offset_y ms)) ≤ length text
 modifiers_short [] text are small = omega arith
@@ -119,7 +119,7 @@ digits_stand : (ds : List ℕ) (n : ℕ) → IsDigits ds n → n < 10 ^ 5 → le
 digits_stand ds n (pass, some, is) h =
     subst (λ k. length (decimal k) ≤ length ds) (sym is) (digits_short ds pass some (omega (arith, h, is)))
 
--- an item is written no longer than it stands
+-- an item is written no longer than in the text
 item_short : (text : List ℕ) (i : WrittenItem) → IsItem text i → large_item i ≡ false → length (item_text (settled_item i)) ≤ length text
 item_short text i (ds, rest, e, is, are) small =
     let (page, behind) = either (nat_lt greatest_whole i.page) (list_any has_large i.modifiers) small in
@@ -137,7 +137,7 @@ pub minus_few : (b : Bool) → length (minus_text b) ≤ 1
 minus_few true = omega arith
 minus_few false = omega arith
 
--- an item without its page number is written with few bytes, and with one more than it stands at most
+-- an item without its page number is written with few bytes, and at most one byte longer than in the text
 bare_zero : (i : WrittenItem) → i.page ≡ 0 → length (decimal i.page) ≤ 1
 bare_zero i page = subst (λ n. length (decimal n) ≤ 1) (sym page) (length-decimal-le_wide 1 0 (omega arith) (omega arith) (omega arith))
 
@@ -160,7 +160,7 @@ bare_short text i (rest, e, page, some, are) small =
     let (low, behind) = either (nat_lt greatest_whole i.page) (list_any has_large i.modifiers) small in
     omega (arith, item_length i, bare_zero i page, ap length e, length-append (minus_text i.from_end) rest, modifiers_short i.modifiers rest are behind)
 
--- rows are written no longer than they stand where their parts are
+-- rows are written no longer than in the text if their parts are
 joined_short : {X Y : Type 0} (c : ℕ) (R : List ℕ → X → Type 0) (f : Y → List ℕ) (g : X → Y) (large : X → Bool)
     → ((t : List ℕ) (x : X) → R t x → large x ≡ false → length (f (g x)) ≤ length t)
     → (xs : List X) (text : List ℕ) → IsJoined c R text xs → list_any large xs ≡ false → length (joined_by c (map f (map g xs))) ≤ length text
@@ -194,7 +194,7 @@ record IsBare (text : List ℕ) (written : ℕ) : Type 0 where
   pub few : written ≤ 60
   pub short : written ≤ suc (length text)
 
--- groups are written no longer than they stand, but for an item without its page number
+-- groups are written no longer than in the text, except an item without its page number
 groups_short : (text : List ℕ) (gs : List (List WrittenItem)) → AreGroups text gs → list_any large_item (flat_map (λ g. g) gs) ≡ false → (length (groups_text gs) ≤ length text) ⊎ IsBare text (length (groups_text gs))
 groups_short text gs (inl joined) small =
     inl (joined_short 44 IsGroup (λ g. joined_by 43 (map item_text g)) (λ g. map settled_item g) (λ g. list_any large_item g) group_short gs text joined (sym (any_row large_item gs) ∙ small))
@@ -209,7 +209,7 @@ modulo_short m k h = unless (m == 1) (decimal m ++ 58 ∷ []) (suc k) (omega (ar
 canonical_length : (spec : WrittenSpec) → length (canonical (settled spec)) ≡ length (modulo_text spec.modulo) + length (groups_text spec.groups)
 canonical_length spec = length-append (modulo_text spec.modulo) (groups_text spec.groups)
 
--- what the canonical text of a text of so many bytes has
+-- what the canonical text of a text of this many bytes keeps to
 record IsShort (text : List ℕ) (written : ℕ) : Type 0 where
   pub enough : written ≤ most_spec_bytes
   pub one_more : written ≤ length text + 1

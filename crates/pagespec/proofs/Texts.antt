@@ -18,7 +18,7 @@ use Rattle.pagespec.proofs.Items.{Closed, minus_whole, item_found, item_read, mi
 abbrev pub IsGroup : List ℕ → List WrittenItem → Type 0
 IsGroup text g = IsJoined 43 IsItem text g
 
--- no item and no group goes on
+-- the text continues neither an item nor a group
 abbrev pub GroupClosed : List ℕ → Type 0
 GroupClosed rest = Closed rest × (byte_at 43 rest ≡ None)
 
@@ -88,7 +88,7 @@ bare_read t i (ms, e, page, some, are) =
     ∙ (ap (λ x. whole (item_with i.from_end 0 (modifiers_at (length x) x))) past
     ∙ (ap (λ x. whole (item_with i.from_end 0 x)) read ∙ ap (λ n. Some (record i { page = n })) (sym page))))
 
--- an item without its number is none with one
+-- an item without its number isn't one with a number
 bare_is_none : (t : List ℕ) (i : WrittenItem) → IsBareItem t i → item_at t ≡ None
 unfolding item_at
 bare_is_none t i (ms, e, page, some, are) =
@@ -125,7 +125,7 @@ all_groups_read t gs (inr (i, same, bare)) =
     ap (λ x. or_bare t (x >>= whole)) (no_groups t (bare_is_none t i bare))
     ∙ (ap (λ o. o >>= λ j. Some ((j ∷ []) ∷ [])) (bare_read t i bare) ∙ ap (λ x. Some x) (sym same))
 
--- what the digits before a colon are
+-- the digits before a colon
 abbrev HasModulo : List ℕ → List ℕ → Type 0
 HasModulo t rest = (t ≡ digits t ++ 58 ∷ rest) × (digits t ≢ [])
 
@@ -180,7 +180,7 @@ tree_read t (Some rest) gs m are = absurd (no_colon t rest gs (modulo_found t re
 colon_here : (ds rest : List ℕ) → AllPass is_ascii_digit ds → (digits (ds ++ 58 ∷ rest) ≡ ds) × (past_digits (ds ++ 58 ∷ rest) ≡ 58 ∷ rest)
 colon_here ds rest h = (digits-append ds (58 ∷ rest) h ∙ append-nil ds, past_digits-append ds (58 ∷ rest) h)
 
--- each text of the grammar is read, as its tree
+-- each text of the grammar is read, with its tree
 pub spec_read : (t : List ℕ) (tree : WrittenSpec) → IsSpec t tree → spec_at t ≡ Some tree
 unfolding spec_at
 spec_read t tree (inl (one, are)) = tree_read t (past_modulo t) tree.groups refl are ∙ ap (λ m. Some (record tree { modulo = m })) (sym one)
@@ -191,6 +191,6 @@ spec_read t tree (inr (ds, rest, e, (pass, some, is), are)) =
     let m : past_modulo t ≡ Some rest = bare_taken (digits t) _ (λ n. some (sym d ∙ n)) ∙ ap (byte_at 58) p in
     ap (tree_from t) m ∙ (ap (λ x. x >>= tree_of (number_of (digits t))) (all_groups_read rest tree.groups are) ∙ ap (λ n. Some (record tree { modulo = n })) (ap number_of d ∙ sym is))
 
--- a text that isn't read is no text of the grammar
+-- a text that isn't read is not in the grammar
 pub no_tree : (t : List ℕ) → spec_at t ≡ None → (tree : WrittenSpec) → IsSpec t tree → ⊥
 no_tree t e tree is = let f = spec_read t tree is in cc

@@ -11,7 +11,7 @@ use Rattle.pagespec.specs.declared.error.SpecError.TheVariants.{ScaleZero, Repea
 use Rattle.pagespec.specs.declared.error.SpecError.TheVariants.{NoMemory}
 use Rattle.pagespec.specs.declared.parsed.ParsedItem.{ParsedItem}
 
--- the fault that a refusal names, but for out of memory
+-- the fault that a refusal names; out of memory names none
 abbrev pub fault_named : SpecError → Option rules.Fault
 fault_named TooLong = Some rules.TooLong
 fault_named (Syntax at) = Some rules.Syntax

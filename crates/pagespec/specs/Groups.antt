@@ -1,4 +1,4 @@
--- Groups as they were read, against the groups of the text.
+-- Groups as they were read, compared with the groups of the text.
 use Rattle.std.specs.Prelude.{◌≡◌, ℕ, List, [], ◌∷◌, ◌++◌, length, map, flat_map, Option, Some, None}
 use Rattle.std.specs.List.{AllZip}
 use Rattle.rules.specs.Specification.{WrittenItem}
@@ -9,12 +9,12 @@ use Rattle.pagespec.specs.declared.groups.ParsedGroups.{ParsedGroups}
 use Rattle.pagespec.specs.declared.groups.Stop.{Stop}
 use Rattle.pagespec.specs.declared.groups.Stop.TheVariants.{Stuck, NoMemory}
 
--- if a reader is stuck, nothing is read; out of memory says nothing
+-- if a reader is stuck, nothing is read; out of memory says nothing of the text
 abbrev pub IsStop : {X : Type 0} → Option X → Stop → Type 0
 IsStop o (Stuck left) = o ≡ None
 IsStop o NoMemory = Unit {0}
 
--- these items were parsed so
+-- the written items were parsed as these
 abbrev pub AreParsed : List ParsedItem → List WrittenItem → Type 0
 AreParsed parsed items = AllZip (λ k i. ItemShows i k) parsed items
 
@@ -35,7 +35,7 @@ pub record GroupRead (bytes : List ℕ) (old new : List ParsedItem) (count : ℕ
   pub shows : AreParsed parsed group
   pub counted : count ≡ length group
 
--- all items as they were parsed, and how many each group has
+-- all items as they were parsed, and the number of items of each group
 pub record IsParseOf (groups : List (List WrittenItem)) (parsed : ParsedGroups) : Type 0 where
   pub items : AreParsed parsed.items.items (flat_map (λ g. g) groups)
   pub lengths : parsed.lengths.items ≡ map length groups
@@ -47,6 +47,6 @@ GroupsRead bytes parsed rest = (groups : List (List WrittenItem))
 abbrev pub BareRead : List ℕ → ParsedItem → Type 0
 BareRead bytes parsed = (item : WrittenItem) × (bare_at bytes ≡ Some item) × ItemShows item parsed
 
--- these groups are there, and were parsed so
+-- there are groups, and they were parsed as these
 abbrev pub ParsesTo : Option (List (List WrittenItem)) → ParsedGroups → Type 0
 ParsesTo o parsed = (groups : List (List WrittenItem)) × (o ≡ Some groups) × IsParseOf groups parsed

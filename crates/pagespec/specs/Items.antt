@@ -1,4 +1,4 @@
--- What the items of the code stand for.
+-- The meaning of the code's items.
 use Rattle.std.specs.Prelude.{ℕ, List, map}
 use Rattle.rules.specs.Bytes.{plus_sign, comma}
 use Rattle.std.specs.declared.vec.Vec.{Vec}
@@ -29,7 +29,7 @@ item_of i = record {
   y = measure_of i.offset.1;
 }
 
--- the groups, as lists of what their items stand for
+-- the groups, as lists of the meaning of their items
 abbrev pub groups_of : List (Vec Item Global) → List (List rules.Item)
 groups_of groups = map (λ g. map item_of g.items) groups
 

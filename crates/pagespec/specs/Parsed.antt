@@ -1,4 +1,4 @@
--- An item as it was parsed, against the item as it is written.
+-- An item as it was parsed, compared with the item as it is written.
 use Rattle.std.specs.Prelude.{◌≡◌, ℕ, ◌%◌, ℤ, Bool, false, ◌||◌, nat_lt, min, List, [], ◌∷◌, length, count_by, Option}
 use Rattle.std.specs.Prelude.{Some, None, option_map}
 use Rattle.std.specs.List.{list_any}
@@ -23,7 +23,7 @@ first_offset (Quarters n ∷ ms) = first_offset ms
 first_offset (Scaled v ∷ ms) = first_offset ms
 first_offset (Moved x y ∷ ms) = Some (x, y)
 
--- a second scale or a second offset stands there
+-- there is a second scale or a second offset
 abbrev pub is_repeated : List Modifier → Bool
 is_repeated ms = nat_lt 1 (count_by is_scale ms) || nat_lt 1 (count_by is_offset ms)
 
@@ -39,7 +39,7 @@ pub record Shows (ms : List Modifier) (s : Modifiers) : Type 0 where
   pub large : s.too_large ≡ list_any has_large ms
   pub known : s.too_large ≡ false → Known ms s
 
--- these are the modifiers at the front, and this is what they come to
+-- these are the modifiers at the front, and this is their result
 abbrev pub ModifiersRead : List ℕ → Modifiers → List ℕ → Type 0
 ModifiersRead bytes s rest = (ms : List Modifier) × (modifiers_at (length bytes) bytes ≡ (ms, rest)) × Shows ms s
 

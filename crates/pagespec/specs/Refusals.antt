@@ -5,7 +5,7 @@ use Rattle.pagespec.specs.declared.error.SpecError.{SpecError}
 use Rattle.pagespec.specs.declared.error.SpecError.TheVariants.{Syntax}
 use Rattle.pagespec.specs.Faults.{fault_named}
 
--- this fault is the text's first; out of memory says only that the text isn't too long
+-- this is the text's first fault; out of memory says only that the text isn't too long
 abbrev pub NamesFault : List ℕ → Option Fault → Type 0
 NamesFault text None = length text ≤ most_spec_bytes
 NamesFault text (Some fault) = Refuses most_slots text fault
@@ -13,7 +13,7 @@ NamesFault text (Some fault) = Refuses most_slots text fault
 abbrev pub IsRefusal : List ℕ → SpecError → Type 0
 IsRefusal text e = NamesFault text (fault_named e)
 
--- the place of a syntax fault is a byte of the text, or the end behind its last one
+-- the place of a syntax fault is a byte of the text, or the end after its last one
 abbrev pub IsPlaced : List ℕ → SpecError → Type 0
 IsPlaced text (Syntax at) = at ≤ length text
 IsPlaced text e = Unit {0}

@@ -1,4 +1,4 @@
--- What the parsed items come to.
+-- The results of the parsed items.
 use Rattle.std.specs.Prelude.{◌≤◌, ℕ, pos, List, [], ◌∷◌, length, take, drop, Option, Some, None, unwrap_or}
 use Rattle.rules.specs.Specification.{Measure, Item, turn_of, zero_points}
 use Rattle.pagespec.specs.Items.{measure_of}
@@ -19,12 +19,12 @@ item_of_parsed k = record {
   y = (offset_of_parsed k.modifiers.offset).1;
 }
 
--- parts of these lengths, one behind the other
+-- parts of these lengths, one after the other
 abbrev pub split_by : {X : Type 0} → List ℕ → List X → List (List X)
 split_by [] xs = []
 split_by (n ∷ ns) xs = take n xs ∷ split_by ns (drop n xs)
 
--- there are so many
+-- these are the lengths
 abbrev pub AreLengths : {X : Type 0} → List ℕ → List X → Type 0
 AreLengths [] xs = Unit {0}
 AreLengths (n ∷ ns) xs = (n ≤ length xs) × AreLengths ns (drop n xs)

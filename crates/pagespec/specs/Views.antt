@@ -1,4 +1,4 @@
--- What the readers found, as the definitions see it.
+-- What the readers found, in terms of the definitions.
 use Rattle.std.specs.Prelude.{◌≡◌, ℕ, true, false, List, Option, Some, None}
 use Rattle.rules.specs.Numbers.{is_large}
 use Rattle.rules.specs.Specification as rules

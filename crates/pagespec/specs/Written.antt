@@ -7,12 +7,12 @@ use Rattle.pagespec.specs.Reading.{spec_at}
 use Rattle.pagespec.specs.Groups.{IsParseOf}
 use Rattle.pagespec.specs.declared.groups.ParsedGroups.{ParsedGroups}
 
--- the modulo of a text with this behind its colon, and what is left to read
+-- the modulo of a text with this after its colon, and what is left to read
 abbrev pub ModuloRead : List ℕ → Option (List ℕ) → ℕ → List ℕ → Type 0
 ModuloRead bytes None modulo rest = (modulo ≡ 1) × (rest ≡ bytes)
 ModuloRead bytes (Some behind) modulo rest = (modulo ≡ min least_large (number_of (digits bytes))) × (rest ≡ behind)
 
--- this was parsed of what the text stands for
+-- this was parsed of the text's meaning
 pub record WrittenRead (bytes : List ℕ) (modulo : ℕ) (parsed : ParsedGroups) : Type 0 where
   pub spec : WrittenSpec
   pub found : spec_at bytes ≡ Some spec

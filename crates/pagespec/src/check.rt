@@ -1,4 +1,4 @@
-//! The checks on what a text stands for, each over all items or all groups, in their order.
+//! The checks on the meaning of a text, each over all items or all groups, in order.
 ghost use Rattle.std.specs.Prelude.{◌≡◌, ◌<◌, ◌^◌, ◌||◌, length, position, nat_lt, nat_le, option_map, if◌then◌else◌};
 ghost use Rattle.std.specs.Prelude.{Some};
 ghost use Rattle.std.specs.Option.{ForSome};
@@ -87,7 +87,7 @@ fn too_many_slots(lengths: &[usize]) -> Option<usize>
     lengths.iter().position(|n| MOST_SLOTS < *n)
 }
 
-/// The place of an item or a group, as a refusal names it.
+/// The place of an item or a group in the type of a refusal.
 fn as_index(place: Option<usize>) -> Option<u32>
     requires { ForSome place (λ i. i < 2 ^ 32) }
     ensures { result ≡ place }

@@ -1,14 +1,15 @@
 //! Why a text is refused as a specification.
 use thiserror::Error;
 
-/// The first check that a text fails, in this order. Each check is over the whole text; items and groups are counted
-/// from 0 over the whole text, and the lowest one at fault is named.
+/// The first check that a text fails, in this order. Each check is over the whole text. Items and groups are
+/// counted from 0 over the whole text; the lowest one at fault is named.
 #[derive(Clone, Copy, Debug, PartialEq, Eq, Error)]
 pub enum SpecError {
     /// The text has over 65,536 bytes.
     #[error("specification: too long")]
     TooLong,
-    /// The grammar has no such text; the length of the longest prefix that some text of the grammar begins with.
+    /// The text is not in the grammar. Has the length of the longest prefix with which some text of the grammar
+    /// begins.
     #[error("specification: syntax error at byte {0}")]
     Syntax(usize),
     /// The modulo, a page number or the integer part of a number is over 99,999.
@@ -31,7 +32,7 @@ pub enum SpecError {
     /// There are over 10,000 groups.
     #[error("specification: too many groups")]
     TooManyGroups,
-    /// A growth was refused. It may come in place of any check but the first.
+    /// Memory for growth was refused. This may come in place of any check but the first.
     #[error("out of memory")]
     NoMemory,
 }

@@ -7,21 +7,21 @@ use crate::parsed::{ParsedItem, read_item, read_modifiers, split_minus};
 use crate::scan::{Rest, Stuck, read_byte};
 use std::alloc::Global;
 
-/// The items of all groups in one row, as they stand in a text, and how many each group has.
+/// The items of all groups in one row, in the order of the text, and the number of items of each group.
 #[derive(Drop)]
 pub struct ParsedGroups {
     pub items: Vec<ParsedItem>,
     pub lengths: Vec<usize>,
 }
 
-/// Why reading ended before its end.
+/// Why reading stopped early.
 #[derive(Clone, Copy)]
 pub enum Stop {
     Stuck(Stuck),
     NoMemory,
 }
 
-/// All groups of a text that has no modulo before them; or its one item, whose page number is left out.
+/// All groups of a text that has no modulo before them; or its only item, whose page number is left out.
 pub fn read_all_groups(alloc: Global, bytes: &[u8]) -> Result<ParsedGroups, Stop>
     ensures { MatchResult result (ParsesTo (all_groups_at bytes.now)) (IsStop (all_groups_at bytes.now)) }
 {
@@ -36,14 +36,14 @@ pub fn read_all_groups(alloc: Global, bytes: &[u8]) -> Result<ParsedGroups, Stop
     }
 }
 
-/// The place that is farther behind in the text.
+/// The place that is further on in the text.
 fn farther(one: Stuck, other: Stuck) -> Stuck {
     Stuck {
         left: one.left.min(other.left),
     }
 }
 
-/// The groups of a text, behind which nothing stands.
+/// The groups that are the whole text.
 fn read_groups_to_end(alloc: Global, bytes: &[u8]) -> Result<ParsedGroups, Stop>
     ensures { let groups = whole_groups_at bytes.now in MatchResult result (ParsesTo groups) (IsStop groups) }
 {
@@ -93,7 +93,7 @@ fn read_bare_item(bytes: &[u8]) -> Result<ParsedItem, Stuck>
     })
 }
 
-/// The groups at the front, and what is left behind them.
+/// The groups at the front, and what is left after them.
 fn read_groups(alloc: Global, bytes: &[u8]) -> Result<(ParsedGroups, Rest<'_>), Stop>
     ensures { MatchResult result (λ x. GroupsRead bytes.now x.0 x.1.text.now) (IsStop (groups_at bytes.now)) }
 {
@@ -117,7 +117,7 @@ fn read_groups(alloc: Global, bytes: &[u8]) -> Result<(ParsedGroups, Rest<'_>), 
     Err(Stop::Stuck(Stuck { left: 0 }))
 }
 
-/// The group at the front, whose items are added to the row: how many they are, and what is left behind them.
+/// Adds the items of the group at the front to the row; gives their number, and what is left after them.
 fn read_group<'t>(bytes: &'t [u8], items: &mut Vec<ParsedItem>) -> Result<(usize, Rest<'t>), Stop>
     ensures { MatchResult result (λ x. GroupRead bytes.now items.old.items items.new.items x.0 x.1.text.now)
         (IsStop (group_at bytes.now)) }
@@ -136,7 +136,7 @@ fn read_group<'t>(bytes: &'t [u8], items: &mut Vec<ParsedItem>) -> Result<(usize
     Err(Stop::Stuck(Stuck { left: 0 }))
 }
 
-/// Adds the item at the front to the row: what is left behind it.
+/// Adds the item at the front to the row; gives what is left after it.
 fn append_item<'t>(bytes: &'t [u8], items: &mut Vec<ParsedItem>) -> Result<Rest<'t>, Stop>
     ensures { MatchResult result (λ x. ItemAppended bytes.now items.old.items items.new.items x.text.now)
         (IsStop (item_at bytes.now)) }

@@ -25,7 +25,7 @@ pub enum Turn {
     Right,
 }
 
-/// What an item of a specification comes to (pstops manual, page specifications). The page is scaled first, then
+/// The result of an item of a specification (pstops manual, page specifications). The page is scaled first, then
 /// turned, then moved by the offset, to the right and up.
 #[derive(Clone, Copy, Debug, PartialEq, Eq)]
 pub struct Item {
@@ -34,8 +34,8 @@ pub struct Item {
     /// Blocks are counted from the end.
     pub from_end: bool,
     pub turn: Turn,
-    /// Above zero; 1 if no scale is written.
+    /// Greater than zero; 1 if no scale is written.
     pub scale: Number,
-    /// 0 pt and 0 pt if no offset is written.
+    /// Both are 0 pt if no offset is written.
     pub offset: (Measure, Measure),
 }

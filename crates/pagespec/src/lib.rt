@@ -1,5 +1,6 @@
-//! Page specifications, as pstops takes them: which pages stand on a sheet, in which order, turned, scaled and moved
-//! how. A text is read once, refused by name if it isn't admissible, and written again in its canonical form.
+//! Page specifications, as pstops takes them: which pages are on a sheet, in which order, and how they are turned,
+//! scaled and moved. A text is read once, refused with a named error if it isn't admissible, and written again in
+//! its canonical form.
 #![tactic(auto)]
 
 mod check;

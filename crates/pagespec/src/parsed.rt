@@ -1,4 +1,4 @@
-//! An item as it is parsed: enough to tell every fault of it, and the item itself if it has none.
+//! An item as it is parsed: enough to find every fault, and the item itself if it has none.
 ghost use Rattle.std.specs.Prelude.{◌≡◌, ◌∷◌, ◌++◌, [], List, None, MatchResult, not, int_le, pos};
 ghost use Rattle.rules.specs.Specification.{Modifier as WrittenModifier};
 ghost use Rattle.pagespec.specs.Reading.{is_minus, past_minus, item_at};
@@ -9,7 +9,7 @@ use crate::item::Measure;
 use crate::scan::{Modifier, Rest, Stuck, read_modifier, rest_at};
 use lengths::{Number, read_digits};
 
-/// What an item's modifiers come to, as far as they were read.
+/// The result of an item's modifiers, as far as they were read.
 #[derive(Clone, Copy)]
 pub struct Modifiers {
     /// Quarters to the left, modulo a full turn.
@@ -21,12 +21,12 @@ pub struct Modifiers {
     pub too_large: bool,
     /// Some scale isn't above zero.
     pub scale_zero: bool,
-    /// A second scale or a second offset stands there.
+    /// There is a second scale or a second offset.
     pub repeated: bool,
 }
 
 impl Modifiers {
-    /// Of no modifier.
+    /// The result of no modifiers.
     const NONE: Modifiers = Modifiers {
         quarters: 0,
         scale: None,
@@ -36,7 +36,7 @@ impl Modifiers {
         repeated: false,
     };
 
-    /// With one modifier more behind them.
+    /// The result with one modifier more after them.
     fn and(self, modifier: Modifier) -> Modifiers
         ensures { (ms : List WrittenModifier) (m : WrittenModifier)
             → Shows ms self → Stands modifier m → Shows (ms ++ m ∷ []) result }
@@ -71,16 +71,16 @@ fn is_above_zero(v: Number) -> bool
     v.billionths() > 0
 }
 
-/// An item as it stands in a text.
+/// An item as the text has it.
 #[derive(Clone, Copy)]
 pub struct ParsedItem {
     pub from_end: bool,
-    /// The page number, or 100,000 if it is more.
+    /// The page number, or 100,000 if it is larger.
     pub page: u32,
     pub modifiers: Modifiers,
 }
 
-/// The item at the front, and what is left behind it.
+/// The item at the front, and what is left after it.
 pub fn read_item(bytes: &[u8]) -> Result<(ParsedItem, Rest<'_>), Stuck>
     ensures { MatchResult result (λ x. ItemRead bytes.now x.0 x.1.text.now) (λ stuck. item_at bytes.now ≡ None) }
 {
@@ -99,7 +99,7 @@ pub fn read_item(bytes: &[u8]) -> Result<(ParsedItem, Rest<'_>), Stuck>
     }
 }
 
-/// What stands behind a minus, if there is one.
+/// Whether there is a minus, and what follows it.
 pub fn split_minus(bytes: &[u8]) -> (bool, &[u8])
     ensures minus { result.0 ≡ is_minus bytes.now }
     ensures rest { result.1.now ≡ past_minus bytes.now }
@@ -110,7 +110,7 @@ pub fn split_minus(bytes: &[u8]) -> (bool, &[u8])
     }
 }
 
-/// What the modifiers at the front come to, and what is left behind them.
+/// The result of the modifiers at the front, and what is left after them.
 pub fn read_modifiers(bytes: &[u8]) -> (Modifiers, Rest<'_>)
     ensures { ModifiersRead bytes.now result.0 result.1.text.now }
 {

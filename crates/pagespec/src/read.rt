@@ -18,12 +18,12 @@ use std::alloc::Global;
 /// The most bytes that a text may have.
 const MOST_BYTES: usize = 65_536;
 
-/// The specification that a text stands for (pstops manual, page specifications). A modulo that isn't written is 1; if
-/// the whole text has one item, its page number may be left out and is 0. Numbers are read by their value, however long
-/// they are.
+/// The specification that a text means (pstops manual, page specifications). A modulo that isn't written is 1; if
+/// the whole text is one item, its page number may be left out and is 0. Only the value of a number counts, however
+/// long it is.
 ///
-/// The checks are made one after the other, each over the whole text, and the first one that fails is named, with the
-/// lowest item or group at fault. The text is gone over once.
+/// Each check goes over the whole text. The first one that fails is named, with the lowest item or group at fault.
+/// The text is read only once.
 pub fn read_spec(alloc: Global, text: &str) -> Result<Spec, SpecError>
     ensures taken { IfOk result (λ spec. Takes most_slots text.now spec) }
     ensures refused { IfErr result (IsRefusal text.now) }
@@ -50,7 +50,7 @@ pub fn read_spec(alloc: Global, text: &str) -> Result<Spec, SpecError>
     }
 }
 
-/// The modulo of a text, or 100,000 if it is more, and its groups.
+/// The modulo of a text, or 100,000 if it is larger, and its groups.
 fn read_written(alloc: Global, bytes: &[u8]) -> Result<(u32, ParsedGroups), Stop>
     ensures { MatchResult result (λ x. WrittenRead bytes.now x.0 x.1) (IsStop (spec_at bytes.now)) }
 {
@@ -61,7 +61,7 @@ fn read_written(alloc: Global, bytes: &[u8]) -> Result<(u32, ParsedGroups), Stop
     }
 }
 
-/// What the digits before a colon come to, or 100,000 if that is more, and what stands behind the colon.
+/// The value of the digits before a colon, or 100,000 if it is larger, and what follows the colon.
 fn split_modulo(bytes: &[u8]) -> (u32, &[u8])
     ensures { ModuloRead bytes.now (past_modulo bytes.now) result.0 result.1.now }
 {

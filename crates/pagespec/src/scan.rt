@@ -8,14 +8,14 @@ ghost use Rattle.pagespec.specs.Views.{MeasureRead, ModifierRead, IsMeasureOf, S
 use crate::item::Measure;
 use lengths::{Number, NumberError, Unit, read_number};
 
-/// The place where a reader can't go on: no text of the grammar has the next byte there.
+/// The place where a reader can't continue: in no text of the grammar does the next byte come here.
 #[derive(Clone, Copy)]
 pub struct Stuck {
-    /// How many bytes are left there.
+    /// The number of bytes that are left there.
     pub left: usize,
 }
 
-/// What is left behind something that was read.
+/// What is left after something was read.
 #[derive(Clone, Copy)]
 pub struct Rest<'t> {
     pub text: &'t [u8],
@@ -23,7 +23,7 @@ pub struct Rest<'t> {
     pub stuck: Stuck,
 }
 
-/// A modifier as it stands. A number over 99,999 isn't kept, only that it stood there.
+/// A modifier as it is written. Of a number over 99,999 only its presence is kept.
 #[derive(Clone, Copy)]
 pub enum Modifier {
     /// This many quarters to the left.
@@ -33,7 +33,7 @@ pub enum Modifier {
     TooLarge,
 }
 
-/// The modifier at the front, and what stands behind it.
+/// The modifier at the front, and what follows it.
 pub fn read_modifier(bytes: &[u8]) -> Result<(Modifier, &[u8]), Stuck>
     ensures { MatchResult result (λ x. ModifierRead bytes.now x.0 x.1.now)
         (λ stuck. modifier_at bytes.now ≡ None) }
@@ -57,7 +57,7 @@ pub fn read_modifier(bytes: &[u8]) -> Result<(Modifier, &[u8]), Stuck>
     }
 }
 
-/// The quarter turns that a letter stands for; 0 if it is no turn.
+/// The quarter turns of a letter; 0 if it is no turn.
 fn quarters_of(letter: u8) -> u8
     ensures value { result ≡ quarters_of letter }
     ensures few { result < 4 }
@@ -70,7 +70,7 @@ fn quarters_of(letter: u8) -> u8
     }
 }
 
-/// A scale behind its sign.
+/// A scale after its sign.
 fn read_scale(bytes: &[u8]) -> Result<(Modifier, &[u8]), Stuck>
     ensures { MatchResult result
         (λ x. (m : WrittenModifier) × (scale_at bytes.now ≡ Some (m, x.1.now)) × Stands x.0 m)
@@ -83,7 +83,7 @@ fn read_scale(bytes: &[u8]) -> Result<(Modifier, &[u8]), Stuck>
     }
 }
 
-/// An offset behind its opening parenthesis.
+/// An offset after its opening parenthesis.
 fn read_offset(bytes: &[u8]) -> Result<(Modifier, &[u8]), Stuck>
     ensures { MatchResult result
         (λ x. (m : WrittenModifier) × (offset_at bytes.now ≡ Some (m, x.1.now)) × Stands x.0 m)
@@ -135,7 +135,8 @@ fn read_measure(bytes: &[u8]) -> Result<(Option<Measure>, Rest<'_>), Stuck>
     }
 }
 
-/// The unit at the front, which is points if none stands. The first letter of a unit of two may stand there alone.
+/// The unit at the front, which is points if there is none. If a unit has two letters, the text may end after the
+/// first.
 fn read_unit(bytes: &[u8]) -> (Unit, Rest<'_>)
     ensures unit { (unit_at bytes.now).0 ≡ length_unit result.0 }
     ensures rest { (unit_at bytes.now).1 ≡ result.1.text.now }
@@ -158,7 +159,7 @@ fn read_unit(bytes: &[u8]) -> (Unit, Rest<'_>)
     }
 }
 
-/// This rest, of which nothing more could be read.
+/// This rest, if nothing more could be read of it.
 pub fn rest_at(text: &[u8]) -> Rest<'_>
     ensures { result.text.now ≡ text.now }
 {
@@ -168,7 +169,7 @@ pub fn rest_at(text: &[u8]) -> Rest<'_>
     }
 }
 
-/// What stands behind this byte, which comes first.
+/// What follows this byte, if the text begins with it.
 pub fn read_byte(byte: u8, bytes: &[u8]) -> Option<&[u8]>
     ensures { MatchOption result (byte_at byte bytes.now ≡ None) (λ rest. byte_at byte bytes.now ≡ Some rest.now) }
 {
@@ -178,7 +179,7 @@ pub fn read_byte(byte: u8, bytes: &[u8]) -> Option<&[u8]>
     }
 }
 
-/// The place behind a sign and a dot, if no number stands at the start.
+/// The place after a sign and a dot, if the text doesn't begin with a number.
 fn stuck_in_number(bytes: &[u8]) -> Stuck {
     let left = match bytes {
         [b'+' | b'-', b'.', rest @ ..] | [b'+' | b'-' | b'.', rest @ ..] => rest.len(),

@@ -1,4 +1,4 @@
-//! What the items of a text come to, if they have no fault.
+//! The result of the items of a text, if they have no fault.
 ghost use Rattle.std.specs.Prelude.{◌≡◌, map, IfOk, unwrap_or};
 ghost use Rattle.rules.specs.Specification as rules;
 ghost use Rattle.pagespec.specs.Items.{item_of, turn_of, groups_of, measure_of};
@@ -9,7 +9,7 @@ use crate::parsed::ParsedItem;
 use lengths::Number;
 use std::alloc::{AllocError, Global};
 
-/// The groups of these lengths that the items make.
+/// The groups of these lengths that the items form.
 pub fn settled_groups(
     alloc: Global,
     parsed: &[ParsedItem],
@@ -39,7 +39,7 @@ fn settled_group(alloc: Global, parsed: &[ParsedItem]) -> Result<Vec<Item>, Allo
     Ok(group)
 }
 
-/// What an item comes to: the scale is 1 and the offset 0 pt and 0 pt if none is written.
+/// The result of an item: the scale is 1 and the offset 0 pt and 0 pt if none is written.
 fn settled_item(parsed: ParsedItem) -> Item
     ensures { item_of result ≡ item_of_parsed parsed }
 {
@@ -52,7 +52,7 @@ fn settled_item(parsed: ParsedItem) -> Item
     }
 }
 
-/// The turn by so many quarters to the left.
+/// The turn by this many quarters to the left.
 fn turn_by(quarters: u8) -> Turn
     ensures { turn_of result ≡ rules.turn_of quarters }
 {

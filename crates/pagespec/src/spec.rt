@@ -7,8 +7,8 @@ ghost use Rattle.pagespec.specs.Made.{IsWritable};
 use crate::item::Item;
 use std::marker::Model;
 
-/// A specification that every check passed: the modulo, and for each sheet of a block the items on it. A contract sees
-/// it as what its text comes to. Its type keeps that some text is taken that comes to it.
+/// A specification that passed every check: the modulo, and for each sheet of a block the items on it. A contract
+/// sees it as the result of its text. An invariant of its type says that some text has this result.
 #[derive(Debug, Drop)]
 pub struct Spec {
     modulo: u32,
@@ -38,8 +38,8 @@ impl Spec {
         Spec { modulo, groups }
     }
 
-    /// The specification of this modulo and these groups, for programs that make one and don't read it. That it passes
-    /// every check is the caller's to show.
+    /// The specification of this modulo and these groups, for programs that make one instead of reading it. The
+    /// caller has to show that it passes every check.
     pub fn of_groups(modulo: u32, groups: Vec<Vec<Item>>) -> Spec
         requires { IsWritable most_slots (record { modulo = modulo; groups = groups_of groups.items }) }
         ensures { result ≡ record { modulo = modulo; groups = groups_of groups.items } }
@@ -47,7 +47,7 @@ impl Spec {
         Spec::new(modulo, groups)
     }
 
-    /// How many pages a block has, at least 1.
+    /// The number of pages of a block, at least 1.
     pub fn modulo(&self) -> u32
         ensures value { result ≡ self.now.modulo }
         ensures admissible { IsAdmissible most_slots self.now }
@@ -55,7 +55,7 @@ impl Spec {
         self.modulo
     }
 
-    /// The groups in order; each is one sheet of every block, and has its items in the order in which they are drawn.
+    /// The groups in order. Each is one sheet of every block; its items are in the order in which they are drawn.
     pub fn groups(&self) -> &[Vec<Item>]
         ensures items { groups_of result.now ≡ self.now.groups }
         ensures admissible { IsAdmissible most_slots self.now }

@@ -13,9 +13,9 @@ use itoa::Buffer;
 use lengths::{Number, Unit, print_number};
 use std::alloc::{AllocError, Global};
 
-/// The canonical text of a specification, which is one that `read_spec` takes and reads as the same specification: the
-/// modulo if it isn't 1, page numbers without leading zeros, one letter for a turn, and no scale, offset or unit that
-/// changes nothing.
+/// The canonical text of a specification. `read_spec` takes it and reads it as the same specification. It has the
+/// modulo if that isn't 1, page numbers without leading zeros, one letter for a turn, and no scale, offset or unit
+/// that changes nothing.
 pub fn write_spec(alloc: Global, spec: &Spec) -> Result<String, AllocError>
     ensures canonical { IfOk result (λ text. string_bytes text ≡ rules.canonical spec.now) }
     ensures taken { IfOk result (λ text. Takes most_slots (string_bytes text) spec.now) }
@@ -108,7 +108,7 @@ fn turn_letter(turn: Turn) -> &'static [u8]
     }
 }
 
-/// The scale behind its sign, if it isn't 1.
+/// The scale after its sign, if it isn't 1.
 fn append_scale(scale: Number, out: &mut Vec<u8>) -> Result<(), AllocError>
     ensures { OnOk result (out.new.items ≡ out.old.items ++ rules.scale_part scale) }
 {
@@ -154,7 +154,7 @@ fn is_points(unit: Unit) -> bool
     }
 }
 
-/// A number and its unit; points are left out.
+/// A number and its unit, unless that is points.
 fn append_measure(measure: &Measure, out: &mut Vec<u8>) -> Result<(), AllocError>
     ensures { OnOk result (out.new.items ≡ out.old.items ++ rules.measure_text (measure_of measure.now)) }
 {

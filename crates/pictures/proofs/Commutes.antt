@@ -11,12 +11,12 @@ use Rattle.pictures.specs.Placing.{Around, state_at, snapshot_at, graphics_at}
 use Rattle.pictures.specs.Pictures.{PlacingCommutes}
 use Rattle.pictures.proofs.Runs.{nothing}
 
--- where the one goes on, the other does, placed
+-- if the one goes on, the other does, placed
 abbrev pub Follows : Around → Option State → Option State → Type 0
 Follows a None r = Unit {0}
 Follows a (Some t) r = r ≡ Some (state_at a t)
 
--- where the one finds a procedure, the other finds it with more behind
+-- if the one finds a procedure, the other finds it, followed by more
 abbrev pub Extends : List Token → Option (List Token × List Token) → Option (List Token × List Token) → Type 0
 Extends more None r = Unit {0}
 Extends more (Some (ts, rest)) r = r ≡ Some (ts, rest ++ more)

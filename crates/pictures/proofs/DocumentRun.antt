@@ -14,19 +14,19 @@ use Rattle.rules.proofs.Whole.{parts_make_text}
 use Rattle.pictures.specs.Objects.{Token}
 use Rattle.pictures.specs.Machine.{State, Painting, Runs}
 use Rattle.pictures.specs.Scanner.{Between, ended, tokens, IsComplete}
-use Rattle.pictures.specs.Sheets.{run_of}
+use Rattle.pictures.specs.Sheets.{run_of, with_more}
 use Rattle.pictures.specs.Documents.{started, page_of, OnSlot, OnSlots, OnSheets}
 use Rattle.pictures.specs.DocumentRun.{ComesTo, PrintsSheet, pages_before, PagesAreIndependent, OnPages, page_pictures, PagesArePrinted}
 use Rattle.pictures.specs.Unaware.{PagePrints, SheetsShowTheDocument}
 use Rattle.pictures.proofs.Runs.{runs_join, runs_none}
-use Rattle.pictures.proofs.More.{runs_with_more, with_more}
+use Rattle.pictures.proofs.More.{runs_with_more}
 use Rattle.pictures.proofs.Scanned.{tokens_join}
 use Rattle.pictures.proofs.NumberTokens.{Reads, reads_join}
 use Rattle.pictures.proofs.Output.{complete_read}
 use Rattle.pictures.proofs.Kept.{cut_of}
 use Rattle.pictures.proofs.Own.{prints, sheets_show_the_pages}
 
--- Runs to an end, one behind the other.
+-- Runs to an end, one after the other.
 
 pub come_none : (s : State) → ComesTo s [] (run_of [] s)
 come_none s = (runs_none false (run_of [] s), refl)
@@ -36,7 +36,7 @@ come_further s u t ts us (run, left) more =
     runs_join false (run_of (ts ++ us) s) (with_more us u) t (runs_with_more us (run_of ts s) u run)
     (subst (λ l. Runs false (record u { left = l ++ us }) t) (sym left) more)
 
--- what has been printed when the document has come to a page
+-- what has been printed when the document has reached a page
 record Stands (us : List NestedUnit) (s : State) (picture : ℕ → List Painting) (p : ℕ) : Type 0 where
   state : State
   comes : ComesTo s (pages_before us p) state
@@ -119,7 +119,7 @@ pages_are_printed text us picture s e (complete, come, painted, sheets) h same =
       x.sheets,
     )
 
--- Only pages of the document stand on sheets.
+-- All pages on sheets are pages of the document.
 
 page_on : (P : ℕ → Type 0) (n place : ℕ) (b : Bool) → ((p : ℕ) → p < n → P p) → (b ≡ true → place < n) → OnSlot P (if b then Some place else None)
 page_on P n place true h k = h place (k refl)

@@ -1,4 +1,4 @@
--- A run that comes to an end comes to one alone.
+-- A run that comes to an end has only this end.
 use Rattle.std.specs.Prelude.{Option, Some, None}
 use Rattle.std.proofs.Common.{◌≡◌, ℕ, zero, suc, refl, ap, ◌∙◌, sym, false, List, [], ◌∷◌}
 use Rattle.pictures.specs.Machine.{State, Painting, step, step_on, steps, and_then}

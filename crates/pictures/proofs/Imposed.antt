@@ -1,11 +1,11 @@
--- What a machine prints of made sheets.
+-- What a machine prints, given made sheets.
 use Rattle.std.specs.Prelude.{Option, Some, codes, decimal, flat_map, if◌then◌else◌, ℤ}
 use Rattle.std.specs.List.{enumerate_from}
 use Rattle.std.proofs.Common.{◌≡◌, ℕ, ◌+◌, refl, ap, ◌∙◌, sym, subst, Bool, true, false, not, ◌&&◌, ◌||◌, ◌==◌, true≢false, eqb-true, List, [], ◌∷◌, ◌++◌, map, append_assoc, append-nil, length}
 use Rattle.rules.specs.Bytes.{line, line_feed, space, tab, carriage_return}
 use Rattle.rules.specs.Numbers.{points_text}
 use Rattle.rules.specs.Papers.{Paper}
-use Rattle.rules.specs.Parts.{NestedUnit, pages}
+use Rattle.rules.specs.Parts.{NestedUnit, pages, preamble, bytes_of}
 use Rattle.rules.specs.Filters.{trailer_text}
 use Rattle.made_sheets.specs.Made.{MadeSlot, Blank, Placed, MadeSheet}
 use Rattle.made_sheets.specs.Dress.{Dress, lines_text}
@@ -13,19 +13,18 @@ use Rattle.made_sheets.specs.MadeOutput.{made_slot_text, made_sheet_text, dresse
 use Rattle.pictures.specs.Objects.{Token, Name}
 use Rattle.pictures.specs.Machine.{State, Painting, Runs}
 use Rattle.pictures.specs.Scanner.{Between, InComment, Class, White, Regular, class_of, is_white, percent_sign, form_feed, null, ends_comment, scan_from, behind, ended, tokens, IsComplete}
-use Rattle.pictures.specs.Sheets.{Shown, AllPaint, sheet_tokens}
-use Rattle.pictures.specs.Pictures.{sheets_tokens, AllSheetsPaint}
-use Rattle.pictures.specs.Documents.{started, body_of_page, PagePaints}
+use Rattle.pictures.specs.Sheets.{Shown, sheet_tokens}
+use Rattle.pictures.specs.Pictures.{sheets_tokens}
+use Rattle.pictures.specs.Documents.{started, body_of_page}
 use Rattle.pictures.specs.Unaware.{PagePrints}
 use Rattle.pictures.specs.Imposed.{ends_nowhere, is_comment_line, are_comments, IsQuiet, frame_of, made_slot_shown, made_sheet_shown, made_pictures, OnMadeSlot, OnMadeSlots, OnMadeSheets, MadeSheetsShowThePages}
 use Rattle.pictures.proofs.Tests.{first, second}
-use Rattle.pictures.proofs.Runs.{runs_join}
-use Rattle.pictures.proofs.More.{runs_with_more}
+use Rattle.pictures.proofs.Runs.{AreRuns, free_are_runs}
 use Rattle.pictures.proofs.Names.{not_true}
-use Rattle.pictures.proofs.Sheets.{sheets_are_printed}
+use Rattle.pictures.proofs.Sheets.{AllPlace, AllSheetsPlace, Prints, sheets_run, ground_prints}
 use Rattle.pictures.proofs.Scanned.{tokens_join}
 use Rattle.pictures.proofs.NumberTokens.{Reads, reads_join, AllRegular, IsWord, points_word}
-use Rattle.pictures.proofs.Output.{placed_of, page_line, complete_read, slot_read, placed_append}
+use Rattle.pictures.proofs.Output.{placed_of, page_line, complete_read, slot_read, placed_append, RunsOn, BodyPlaces, runs_alike, free_runs_on, body_places}
 use Rattle.pictures.proofs.Kept.{dressed_runs_alike}
 use Rattle.pictures.proofs.Own.{page_paints}
 
@@ -154,7 +153,7 @@ made_cut border dress all us picture q complete h =
     ∙ ap (λ ts. ts ++ last) (ap (λ x. x.0 ++ ended x.1) both ∙ append-nil (tokens begun ++ shown))
     ∙ append_assoc (tokens begun) shown last
 
--- what is so of each page, where something else is
+-- one property of each page from another
 
 on_made_slot : (P Q : Paper → ℕ → Type 0) → ((paper : Paper) (p : ℕ) → P paper p → Q paper p) → (slot : MadeSlot) → OnMadeSlot P slot → OnMadeSlot Q slot
 on_made_slot P Q f Blank h = tt
@@ -168,40 +167,46 @@ pub on_made_sheets : (P Q : Paper → ℕ → Type 0) → ((paper : Paper) (p : 
 on_made_sheets P Q f [] h = tt
 on_made_sheets P Q f (sheet ∷ all) h = (on_made_slots P Q f sheet.slots h.0, on_made_sheets P Q f all h.1)
 
--- what is said of slots, said of what they show
+-- What any machine prints whose runs are these.
 
-abbrev Paints : List NestedUnit → (ℕ → List Painting) → State → Paper → ℕ → Type 0
-Paints us picture s paper p = PagePaints us s p (picture p)
+abbrev pub Bodies : (State → State → Type 0) → Option ℤ → List NestedUnit → (ℕ → List Painting) → State → Paper → ℕ → Type 0
+Bodies R border us picture s paper p = BodyPlaces R (frame_of border paper) us s p (picture p)
 
-made_slot_paints : (border : Option ℤ) (us : List NestedUnit) (picture : ℕ → List Painting) (s : State) (slot : MadeSlot) (xs : List Shown) → OnMadeSlot (Paints us picture s) slot → AllPaint s xs
-    → AllPaint s (made_slot_shown border us picture slot ++ xs)
-made_slot_paints border us picture s Blank xs h k = k
-made_slot_paints border us picture s (Placed p item paper) xs h k = (h.1, k)
+made_slot_places : (R : State → State → Type 0) (border : Option ℤ) (us : List NestedUnit) (picture : ℕ → List Painting) (s : State) (slot : MadeSlot) (xs : List Shown)
+    → OnMadeSlot (Bodies R border us picture s) slot → AllPlace R s xs → AllPlace R s (made_slot_shown border us picture slot ++ xs)
+made_slot_places R border us picture s Blank xs h k = k
+made_slot_places R border us picture s (Placed p item paper) xs h k = (h.1 item, k)
 
-made_slots_paint : (border : Option ℤ) (us : List NestedUnit) (picture : ℕ → List Painting) (s : State) (slots : List MadeSlot) → OnMadeSlots (Paints us picture s) slots
-    → AllPaint s (flat_map (made_slot_shown border us picture) slots)
-made_slots_paint border us picture s [] h = tt
-made_slots_paint border us picture s (slot ∷ slots) h =
-    made_slot_paints border us picture s slot (flat_map (made_slot_shown border us picture) slots) h.0 (made_slots_paint border us picture s slots h.1)
+made_slots_place : (R : State → State → Type 0) (border : Option ℤ) (us : List NestedUnit) (picture : ℕ → List Painting) (s : State) (slots : List MadeSlot)
+    → OnMadeSlots (Bodies R border us picture s) slots → AllPlace R s (flat_map (made_slot_shown border us picture) slots)
+made_slots_place R border us picture s [] h = tt
+made_slots_place R border us picture s (slot ∷ slots) h =
+    made_slot_places R border us picture s slot (flat_map (made_slot_shown border us picture) slots) h.0 (made_slots_place R border us picture s slots h.1)
 
-made_sheets_paint : (border : Option ℤ) (us : List NestedUnit) (picture : ℕ → List Painting) (s : State) (all : List MadeSheet) → OnMadeSheets (Paints us picture s) all
-    → AllSheetsPaint s (map (made_sheet_shown border us picture) all)
-made_sheets_paint border us picture s [] h = tt
-made_sheets_paint border us picture s (sheet ∷ all) h = (made_slots_paint border us picture s sheet.slots h.0, made_sheets_paint border us picture s all h.1)
+made_sheets_place : (R : State → State → Type 0) (border : Option ℤ) (us : List NestedUnit) (picture : ℕ → List Painting) (s : State) (all : List MadeSheet)
+    → OnMadeSheets (Bodies R border us picture s) all → AllSheetsPlace R s (map (made_sheet_shown border us picture) all)
+made_sheets_place R border us picture s [] h = tt
+made_sheets_place R border us picture s (sheet ∷ all) h = (made_slots_place R border us picture s sheet.slots h.0, made_sheets_place R border us picture s all h.1)
 
-pub made_sheets_show_the_pages : MadeSheetsShowThePages
-made_sheets_show_the_pages border dress all text us picture s q d apart (complete, run, nothing_left, nothing_painted, nothing_printed, ground) plain h =
-    let begun : List ℕ = dressed_preamble (length all) dress.header us in
+pub made_bodies_are_shown : (R : State → State → Type 0) → AreRuns R → (start : List Token → State) (border : Option ℤ) (dress : Dress) (all : List MadeSheet) (us : List NestedUnit) (picture : ℕ → List Painting) (s : State)
+    → IsQuiet dress → RunsOn R start (dressed_preamble (length all) dress.header us) s → s.painted ≡ [] → Prints R s → OnMadeSheets (Bodies R border us picture s) all
+    → R (start (tokens (made_output border dress all us))) (record s { left = tokens (trailer_text us); sheets = made_pictures border us picture s all })
+made_bodies_are_shown R m start border dress all us picture s q (complete, run) nothing_painted prints bodies =
+    let first : List ℕ = dressed_preamble (length all) dress.header us in
     let shown : List (List Shown) = map (made_sheet_shown border us picture) all in
     let last : List Token = tokens (trailer_text us) in
     let more : List Token = sheets_tokens shown ++ last in
-    let alike = dressed_runs_alike (length all) dress.header text us (comments_read dress.header q.header) d apart complete in
-    let paint : OnMadeSheets (Paints us picture s) all =
-    on_made_sheets (λ paper p. PagePrints us s p (picture p)) (Paints us picture s) (λ paper p x. page_paints us s p (picture p) plain x) all h in
-    let whole : OnMadeSheets (AreComplete us) all = on_made_sheets (Paints us picture s) (AreComplete us) (λ paper p x. x.0) all paint in
+    let whole : OnMadeSheets (AreComplete us) all = on_made_sheets (Bodies R border us picture s) (AreComplete us) (λ paper p x. x.0) all bodies in
     let end : State = record s { left = last; sheets = made_pictures border us picture s all } in
-    subst (λ ts. Runs false (started ts) end) (sym (made_cut border dress all us picture q alike.1 whole))
-    (runs_join false (started (tokens begun ++ more)) (record s { left = s.left ++ more }) end
-    (runs_with_more more (started (tokens begun)) s (subst (λ ts. Runs false (started ts) s) (sym alike.0) run))
-    (subst (λ l. Runs false (record s { left = l ++ more }) end) (sym nothing_left)
-    (sheets_are_printed s shown last ground nothing_painted (made_sheets_paint border us picture s all paint))))
+    subst (λ ts. R (start ts) end) (sym (made_cut border dress all us picture q complete whole))
+    (m.joined (start (tokens first ++ more)) (record s { left = more }) end (run more)
+    (sheets_run R m s shown last prints nothing_painted (made_sheets_place R border us picture s all bodies)))
+
+pub made_sheets_show_the_pages : MadeSheetsShowThePages
+made_sheets_show_the_pages border dress all text us picture s q d apart (complete, run, left, painted, printed, ground) plain h =
+    let alike = dressed_runs_alike (length all) dress.header text us (comments_read dress.header q.header) d apart complete in
+    made_bodies_are_shown (Runs false) free_are_runs started border dress all us picture s q
+    (runs_alike (Runs false) started (bytes_of (preamble us)) (dressed_preamble (length all) dress.header us) s alike.0 alike.1 (free_runs_on (bytes_of (preamble us)) s complete run left))
+    painted (ground_prints (Runs false) free_are_runs s ground)
+    (on_made_sheets (λ paper p. PagePrints us s p (picture p)) (Bodies (Runs false) border us picture s)
+    (λ paper p x. body_places (frame_of border paper) us s p (picture p) ground (page_paints us s p (picture p) plain x)) all h)

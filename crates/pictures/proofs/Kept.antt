@@ -1,4 +1,4 @@
--- What is kept of a page, and of the preamble, is run as they are.
+-- What is kept of a page, and of the preamble, runs like the original.
 use Rattle.std.specs.Prelude.{Result, Ok, Err, flat_map, if◌then◌else◌, codes, decimal, nat_eq, cond}
 use Rattle.std.specs.List.{starts_with}
 use Rattle.std.proofs.lemmas.List.Sums.{take_while-cons}
@@ -23,11 +23,11 @@ use Rattle.pictures.proofs.LinesRead.{begins, more_begins, header_begins, body_b
 use Rattle.pictures.proofs.NumberTokens.{Reads, reads_join}
 use Rattle.pictures.proofs.Output.{count_line}
 
--- a complete text, and another behind it
+-- a complete text, followed by another
 complete_then : (a b : List ℕ) → IsComplete a → scan_from Between (a ++ b) ≡ behind (scan_from Between a).0 (scan_from Between b)
 complete_then a b e = scan_behind Between a b ∙ ap (λ r. behind (scan_from Between a).0 (scan_from r b)) e
 
--- Units that are lines, with those behind them.
+-- Units that are lines, with those after them.
 
 abbrev Shape : NestedUnit → List NestedUnit → Type 0
 Shape u us = u.unit.is_block ≡ false → begins u.unit.content ≡ true → has_form_feed u.unit.bytes ≡ false
@@ -66,7 +66,7 @@ lines_up_to p (u ∷ us) h = subst AreLines (sym (up_to_cons p u us)) (turn (not
     turn true more = (λ f b g. ⊎_elim inl (λ y. inr (y.0, ap (up_to p) y.1)) (h.0 f b g), more)
     turn false more = tt
 
--- What goes is a line that begins with a percent sign.
+-- A dropped line begins with a percent sign.
 
 abbrev Begin : (List ℕ → Bool) → Type 0
 Begin drops = (content : List ℕ) → drops content ≡ true → begins content ≡ true
@@ -104,7 +104,7 @@ not_both r e f = true≢false (ap is_between (sym e ∙ f))
 abbrev Same : Reading → List NestedUnit → List NestedUnit → Type 0
 Same r us vs = scan_from r (bytes_of us) ≡ scan_from r (bytes_of vs)
 
--- a unit that goes
+-- a unit that is dropped
 gone : (u : NestedUnit) (us ks : List NestedUnit) → (scan_from Between u.unit.bytes ≡ ([], Between)) ⊎ ((scan_from Between u.unit.bytes ≡ ([], InComment)) × (us ≡ []))
     → ((scan_from Between (bytes_of us)).1 ≡ Between → Same Between ks us) → (scan_from Between (bytes_of (u ∷ us))).1 ≡ Between → Same Between ks (u ∷ us)
 gone u us ks x f end = ⊎_elim
@@ -153,7 +153,7 @@ nested_bytes : (d : ℕ) (us : List TextUnit) → bytes_of (nested_from d us) �
 nested_bytes d [] = refl
 nested_bytes d (u ∷ us) = ap (λ l. u.bytes ++ l) (nested_bytes (depth_after d u) us)
 
--- a text whose last byte is no line end gets one
+-- a text that doesn't end with a line end gets one
 one_end : (b : Bool) (x : ℕ) (P : List ℕ → Type 0) → P (x ∷ []) → P (x ∷ line_feed ∷ []) → P (if b then x ∷ [] else x ∷ line_feed ∷ [])
 one_end true x P p q = p
 one_end false x P p q = q
@@ -214,7 +214,7 @@ document_lines text us e =
 complete_is : (a : List ℕ) → IsComplete a → Reads Between a (scan_from Between a).0 Between
 complete_is a e = ap (λ r. ((scan_from Between a).0, r)) e
 
--- what is put behind the first unit has no tokens
+-- what is put after the first unit has no tokens
 put_same : (put : List ℕ) (u : NestedUnit) (us : List NestedUnit) → Reads Between put [] Between → first_is_complete (u ∷ us) ≡ true
     → scan_from Between ((u.unit.bytes ++ put) ++ bytes_of us) ≡ scan_from Between (bytes_of (u ∷ us))
 put_same put u us none e =
@@ -227,7 +227,7 @@ put_same put u us none e =
     ∙ ap (λ l. behind l (scan_from Between rest)) (append-nil ts)
     ∙ sym (scan_behind Between a rest ∙ ap (λ x. behind x.0 (scan_from x.1 rest)) first_read)
 
--- lines that are put there, with the count of sheets before them
+-- lines that are put there, after the number of sheets
 lines_same : (sheets : ℕ) (lines : List (List ℕ)) (ks : List NestedUnit) → Reads Between (lines_text lines) [] Between → first_is_complete ks ≡ true
     → scan_from Between (with_lines sheets lines ks) ≡ scan_from Between (bytes_of ks)
 lines_same sheets lines [] none e = refl
@@ -240,7 +240,7 @@ count_same : (sheets : ℕ) (ks : List NestedUnit) → first_is_complete ks ≡ 
 count_same sheets [] e = refl
 count_same sheets (u ∷ ks) e = put_same (line (codes "%%Pages: " ++ decimal sheets)) u ks (count_line sheets) e
 
--- a preamble whose first part is read as what is kept of the document's is run as the document's
+-- a preamble whose first part has the tokens of what is kept of the document's runs like the document's
 abbrev RunsAlike : List ℕ → List NestedUnit → Type 0
 RunsAlike first us = (tokens (ended first) ≡ tokens (bytes_of (preamble us))) × IsComplete (ended first)
 

@@ -155,7 +155,7 @@ line_unit true (Ok k) text content n u e f = absurd (true≢false (ap (λ v. v.i
 line_unit true (Err fault) text content n u e f = absurd (apart_results fault u e)
 line_unit false d text content n u e f = (sym (ap (λ v. v.content) (same_ok _ u e)), sym (ap (λ v. v.bytes) (same_ok _ u e)))
 
--- such a line has no tokens; and if it doesn't end, it ends the text
+-- such a line has no tokens; if it has no end, it ends the text
 abbrev pub HasNone : List ℕ → List ℕ → Type 0
 HasNone line text = (scan_from Between line ≡ ([], Between)) ⊎ ((scan_from Between line ≡ ([], InComment)) × (line ≡ text))
 

@@ -1,4 +1,4 @@
--- More tokens behind those that are left change nothing but that they are left too.
+-- More tokens after those that are left change nothing, except that they are left too.
 use Rattle.std.specs.Prelude.{Option, Some, None}
 use Rattle.std.proofs.Common.{◌≡◌, ℕ, zero, suc, refl, ap, ◌∙◌, sym, if◌then◌else◌, List, [], ◌∷◌, ◌++◌, append_assoc, Bool, true, false}
 use Rattle.pictures.specs.Objects.{Token, Name, Opens, Closes, Bound, Unknown, Object, Procedure, Plain, Matrix, Dictionary, View, TakesMatrix, SetsMatrix, DefaultMatrix, InitialMatrix, InitialClip, ClipOutline, PathElements, SetsDevice, ErasesPage, Call}
@@ -7,11 +7,9 @@ use Rattle.pictures.specs.Objects.{Effect}
 use Rattle.pictures.specs.Operators.{Work, with_operands, taken, computed, computed_on, controlled}
 use Rattle.pictures.specs.Dictionaries.{meaning, system}
 use Rattle.pictures.specs.Machine.{State, Graphics, Snapshot, Clip, body_of, opened, drawn, worked, running, popped, popped_all, viewed, set_to, outlined, traced, chain_of, filled_from, copied, path_tokens, save_of, back, returned, restored, perform, done, meant, act, step_on, step, steps, and_then, Runs, may_go_back}
+use Rattle.pictures.specs.Sheets.{with_more}
 use Rattle.pictures.proofs.Runs.{nothing}
 use Rattle.pictures.proofs.Commutes.{Extends, body_goes_on}
-
-abbrev pub with_more : List Token → State → State
-with_more more s = record s { left = s.left ++ more }
 
 -- where the one goes on, the other does
 abbrev Follows : List Token → Option State → Option State → Type 0

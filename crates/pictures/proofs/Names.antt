@@ -1,4 +1,4 @@
--- Dictionaries with the names that the sheet's text puts, and without them.
+-- Dictionaries with and without the names that the sheet's text defines.
 use Rattle.std.specs.Prelude.{Option, Some, None, if◌then◌else◌, codes, bytes_eq, option_map}
 use Rattle.std.specs.List.{list_all}
 use Rattle.std.specs.Char.{is_ascii_digit}
@@ -18,15 +18,9 @@ use Rattle.std.proofs.Common.{◌++◌, take, drop}
 use Rattle.pictures.specs.Operators.{are_there, rolled, rolling, shift, filled, made_of, Work, with_operands, collected, gathered, below_mark, cleared, nth, loaded, bound_to, bound, define, ended, computed_on, controlled_on, times, judged, located, known_there, sort_of, objects_compared, are_literal, holder, element, turned, counting}
 use Rattle.pictures.specs.Sheets.{among, in_userdict}
 use Rattle.pictures.specs.Unaware.{put_names, names_in, none_among, asked_by}
+use Rattle.pictures.specs.Shifted.{up, ups, two, Agree, up_work}
 use Rattle.pictures.proofs.Tests.{first, second, by_test}
-use Rattle.pictures.proofs.Shifted.{up, ups, up_collected, collected_up, below_mark_up, nth_up, onto_up, system_same}
-
-abbrev pub two : ℕ → List Entry
-two level = in_userdict (codes "showpage") (Procedure []) ∷ in_userdict (codes "ImposeSave") (Saved level) ∷ []
-
--- what these entries have is what those have, shifted, and the two names besides
-abbrev pub Agree : ℕ → List Entry → List Entry → Type 0
-Agree n es fs = (d : ℕ) (k : List ℕ) → entry_of d k es ≡ or (option_map up (entry_of d k fs)) (entry_of d k (two n))
+use Rattle.pictures.proofs.Shifted.{up_collected, collected_up, below_mark_up, nth_up, onto_up, system_same}
 
 among_false : (k : List ℕ) (other : List ℕ) → bytes_eq k other ≡ false → bytes_eq other k ≡ false
 among_false k other e = by_test (bytes_eq other k)
@@ -65,9 +59,6 @@ pub agrees_put : (n : ℕ) (es fs : List Entry) (d : ℕ) (name : List ℕ) (o :
     → Agree n (record { dictionary = d; key = name; value = up o } ∷ es) (record { dictionary = d; key = name; value = o } ∷ fs)
 agrees_put n es fs d name o a c k =
     ap (λ x. if bytes_eq name k && (d == c) then Some (up o) else x) (a c k) ∙ or_if (bytes_eq name k && (d == c)) o (entry_of c k fs) (entry_of c k (two n))
-
-abbrev pub up_work : List Entry → Work → Work
-up_work es w = record { operands = ups w.operands; dictionaries = w.dictionaries; entries = es; made = w.made }
 
 abbrev pub WorkGoes : ℕ → Option Work → Option Work → Type 0
 WorkGoes n None r = Unit {0}

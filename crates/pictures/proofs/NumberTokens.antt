@@ -1,4 +1,4 @@
--- A printed number, with something behind it that ends a word, is a token.
+-- A printed number, followed by something that ends a word, is a token.
 use Rattle.std.specs.Prelude.{ℤ, decimal, nat_abs, nat_lt, if◌then◌else◌}
 use Rattle.std.proofs.Common.{◌≡◌, ℕ, zero, suc, ◌+◌, ◌/◌, ◌%◌, ◌^◌, lt→ltb, T, ◌<◌, ◌≤◌, refl, ap, ◌∙◌, sym, subst, Bool, true, false, ◌&&◌, ◌==◌, List, [], ◌∷◌, ◌++◌, append_assoc, append-nil, reverse, length, drop, arith, eq-or-lt_of_le, ⊎_elim}
 use Rattle.std.proofs.lemmas.List.Elements.{All-head, All-tail}
@@ -13,7 +13,7 @@ use Rattle.rules.specs.Bytes.{dot, minus_sign}
 use Rattle.pictures.specs.Objects.{Token, Number, Name, Unknown}
 use Rattle.pictures.specs.Scanner.{Reading, Between, InWord, behind, class_of, Regular, scan_from, word, is_number, is_sign, is_whole, has_radix, begins_exponent, ends_comment, digits_from, decimals_from, begun, in_word}
 
--- what is known of each digit is known of all
+-- a property of each digit holds for all
 at_least : (P : ℕ → Type 0) (n d : ℕ) → n ≤ d → P n → (n + 1 ≤ d → P d) → P d
 at_least P n d l p f = ⊎_elim (λ e. subst P e p) (λ lt. f (omega (arith, lt))) (eq-or-lt_of_le l)
 
@@ -82,7 +82,7 @@ whole_then some (w ∷ whole) ds h k e =
     ∙ ap (λ b. b && digits_from true (whole ++ fraction_text ds)) h.0.1
     ∙ whole_then true whole ds h.1 k (λ _. refl)
 
--- All that is printed is digits, a dot and a minus; however large the number is.
+-- Only digits, a dot and a minus are printed, however large the number is.
 
 mod_ten : (n : ℕ) → n % 10 < 10
 mod_ten n = omega arith

@@ -1,4 +1,4 @@
--- The tokens of what stands before a placed page.
+-- The tokens of what comes before a placed page.
 use Rattle.std.specs.Prelude.{Option, Some, None, codes, ℤ, option_map}
 use Rattle.std.proofs.Common.{◌≡◌, ℕ, refl, ap, ◌∙◌, subst, List, [], ◌∷◌, ◌++◌, append-nil, reverse}
 use Rattle.rules.specs.Bytes.{line, line_feed, space}

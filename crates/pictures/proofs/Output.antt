@@ -1,4 +1,4 @@
--- What a machine prints of an output.
+-- What a machine prints, given an output.
 use Rattle.std.specs.Prelude.{Option, Some, None, codes, decimal, flat_map, if◌then◌else◌}
 use Rattle.std.specs.List.{enumerate_from}
 use Rattle.std.proofs.Common.{◌≡◌, ℕ, ◌+◌, refl, ap, ◌∙◌, sym, subst, false, List, [], ◌∷◌, ◌++◌, map, append_assoc, append-nil, length}
@@ -14,13 +14,12 @@ use Rattle.rules.specs.Output.{Frame, opening_text, closing_text, slot_text, she
 use Rattle.pictures.specs.Objects.{Token, Name}
 use Rattle.pictures.specs.Machine.{State, Painting, Runs}
 use Rattle.pictures.specs.Scanner.{Reading, Between, InComment, scan_from, behind, ended, tokens, IsComplete}
-use Rattle.pictures.specs.Sheets.{Shown, saving_tokens, placing_tokens, closing_tokens, placed_tokens, sheet_tokens}
-use Rattle.pictures.specs.Pictures.{sheets_tokens, AllSheetsPaint}
-use Rattle.pictures.specs.Sheets.{AllPaint}
+use Rattle.pictures.specs.Sheets.{Shown, IsGround, saving_tokens, placing_tokens, closing_tokens, placed_tokens, sheet_tokens, with_more}
+use Rattle.pictures.specs.Pictures.{sheets_tokens}
 use Rattle.pictures.specs.Documents.{numbers_of, started, body_of_page, shown_slot, shown_sheet, sheet_pictures, PagePaints, OnSlot, OnSlots, OnSheets, all_sheets, OutputIsPrinted}
-use Rattle.pictures.proofs.Runs.{runs_join}
+use Rattle.pictures.proofs.Runs.{AreRuns, free_are_runs}
 use Rattle.pictures.proofs.More.{runs_with_more}
-use Rattle.pictures.proofs.Sheets.{sheets_are_printed}
+use Rattle.pictures.proofs.Sheets.{Places, AllPlace, AllSheetsPlace, Prints, sheets_run, ground_prints, page_places}
 use Rattle.pictures.proofs.Scanned.{tokens_join}
 use Rattle.pictures.proofs.NumberTokens.{Reads, reads_join, AllDigits, decimal_digits}
 use Rattle.pictures.proofs.OpeningTokens.{opening_read}
@@ -104,7 +103,7 @@ sheets_read frame us picture k (slots ∷ more) h =
     (sheet_read frame us picture k slots h.0)
     (sheets_read frame us picture (k + 1) more h.1)
 
--- what is so of each page, where something else is
+-- one property of each page from another
 
 on_slot : (P Q : ℕ → Type 0) → ((p : ℕ) → P p → Q p) → (page : Option ℕ) → OnSlot P page → OnSlot Q page
 on_slot P Q f None h = tt
@@ -117,21 +116,6 @@ on_slots P Q f (slot ∷ slots) h = (on_slot P Q f slot.page h.0, on_slots P Q f
 pub on_sheets : (P Q : ℕ → Type 0) → ((p : ℕ) → P p → Q p) → (all : List (List Slot)) → OnSheets P all → OnSheets Q all
 on_sheets P Q f [] h = tt
 on_sheets P Q f (slots ∷ more) h = (on_slots P Q f slots h.0, on_sheets P Q f more h.1)
-
--- what is said of slots, said of what they show
-
-slot_paints : (frame : Frame) (us : List NestedUnit) (picture : ℕ → List Painting) (s : State) (page : Option ℕ) (item : Item) (xs : List Shown) → OnSlot (λ p. PagePaints us s p (picture p)) page → AllPaint s xs
-    → AllPaint s (shown_slot frame us picture page item ++ xs)
-slot_paints frame us picture s None item xs h k = k
-slot_paints frame us picture s (Some p) item xs h k = (h.1, k)
-
-slots_paint : (frame : Frame) (us : List NestedUnit) (picture : ℕ → List Painting) (s : State) (slots : List Slot) → OnSlots (λ p. PagePaints us s p (picture p)) slots → AllPaint s (shown_sheet frame us picture slots)
-slots_paint frame us picture s [] h = tt
-slots_paint frame us picture s (slot ∷ slots) h = slot_paints frame us picture s slot.page slot.item (shown_sheet frame us picture slots) h.0 (slots_paint frame us picture s slots h.1)
-
-sheets_paint : (frame : Frame) (us : List NestedUnit) (picture : ℕ → List Painting) (s : State) (all : List (List Slot)) → OnSheets (λ p. PagePaints us s p (picture p)) all → AllSheetsPaint s (map (shown_sheet frame us picture) all)
-sheets_paint frame us picture s [] h = tt
-sheets_paint frame us picture s (slots ∷ more) h = (slots_paint frame us picture s slots h.0, sheets_paint frame us picture s more h.1)
 
 -- the tokens of an output
 pub output_cut : (frame : Frame) (sides : Option ℕ) (spec : Spec) (us : List NestedUnit) (picture : ℕ → List Painting)
@@ -150,18 +134,68 @@ output_cut frame sides spec us picture complete h =
     ∙ ap (λ ts. ts ++ last) (ap (λ x. x.0 ++ ended x.1) both ∙ append-nil (tokens first ++ sheets_tokens shown))
     ∙ append_assoc (tokens first) (sheets_tokens shown) last
 
-pub output_is_printed : OutputIsPrinted
-output_is_printed frame sides spec us picture s (complete, run, nothing_left, nothing_painted, nothing_printed, ground) h =
-    let all : List (List Slot) = sheets_in sides spec (length (pages us)) in
+-- What any machine prints whose runs are these: what it begins with is `start`.
+
+-- the text ends between tokens, and brings the machine here, whatever comes after it
+abbrev pub RunsOn : (State → State → Type 0) → (List Token → State) → List ℕ → State → Type 0
+RunsOn R start text s = IsComplete text × ((more : List Token) → R (start (tokens text ++ more)) (record s { left = more }))
+
+pub runs_on : (R : State → State → Type 0) (start : List Token → State) (text : List ℕ) (s : State)
+    → ((ts more : List Token) → R (start ts) s → R (start (ts ++ more)) (with_more more s)) → IsComplete text → R (start (tokens text)) s → s.left ≡ [] → RunsOn R start text s
+runs_on R start text s on complete run nothing_left =
+    (complete, λ more. subst (λ l. R (start (tokens text ++ more)) (record s { left = l ++ more })) nothing_left (on (tokens text) more run))
+
+-- so does another text with the same tokens
+pub runs_alike : (R : State → State → Type 0) (start : List Token → State) (text other : List ℕ) (s : State) → tokens other ≡ tokens text → IsComplete other → RunsOn R start text s → RunsOn R start other s
+runs_alike R start text other s same complete (whole, run) = (complete, λ more. subst (λ ts. R (start (ts ++ more)) (record s { left = more })) (sym same) (run more))
+
+-- what is kept of a page is placed, wherever that is, and paints this
+abbrev pub BodyPlaces : (State → State → Type 0) → Frame → List NestedUnit → State → ℕ → List Painting → Type 0
+BodyPlaces R frame us s p picture =
+    IsComplete (body_of_page us p) × ((item : Item) → Places R s (record { placed = record { numbers = numbers_of frame item; body = tokens (body_of_page us p) }; picture = picture }))
+
+slot_places : (R : State → State → Type 0) (frame : Frame) (us : List NestedUnit) (picture : ℕ → List Painting) (s : State) (page : Option ℕ) (item : Item) (xs : List Shown)
+    → OnSlot (λ p. BodyPlaces R frame us s p (picture p)) page → AllPlace R s xs → AllPlace R s (shown_slot frame us picture page item ++ xs)
+slot_places R frame us picture s None item xs h k = k
+slot_places R frame us picture s (Some p) item xs h k = (h.1 item, k)
+
+slots_place : (R : State → State → Type 0) (frame : Frame) (us : List NestedUnit) (picture : ℕ → List Painting) (s : State) (slots : List Slot)
+    → OnSlots (λ p. BodyPlaces R frame us s p (picture p)) slots → AllPlace R s (shown_sheet frame us picture slots)
+slots_place R frame us picture s [] h = tt
+slots_place R frame us picture s (slot ∷ slots) h = slot_places R frame us picture s slot.page slot.item (shown_sheet frame us picture slots) h.0 (slots_place R frame us picture s slots h.1)
+
+sheets_place : (R : State → State → Type 0) (frame : Frame) (us : List NestedUnit) (picture : ℕ → List Painting) (s : State) (all : List (List Slot))
+    → OnSheets (λ p. BodyPlaces R frame us s p (picture p)) all → AllSheetsPlace R s (map (shown_sheet frame us picture) all)
+sheets_place R frame us picture s [] h = tt
+sheets_place R frame us picture s (slots ∷ more) h = (slots_place R frame us picture s slots h.0, sheets_place R frame us picture s more h.1)
+
+pub bodies_are_shown : (R : State → State → Type 0) → AreRuns R → (start : List Token → State) (frame : Frame) (sides : Option ℕ) (spec : Spec) (us : List NestedUnit) (picture : ℕ → List Painting) (s : State)
+    → RunsOn R start (preamble_text (length (all_sheets sides spec us)) us) s → s.painted ≡ [] → Prints R s → OnSheets (λ p. BodyPlaces R frame us s p (picture p)) (all_sheets sides spec us)
+    → R (start (tokens (output frame sides spec us))) (record s { left = tokens (trailer_text us); sheets = sheet_pictures frame us picture s (all_sheets sides spec us) })
+bodies_are_shown R m start frame sides spec us picture s (complete, run) nothing_painted prints bodies =
+    let all : List (List Slot) = all_sheets sides spec us in
     let first : List ℕ = preamble_text (length all) us in
     let shown : List (List Shown) = map (shown_sheet frame us picture) all in
     let last : List Token = tokens (trailer_text us) in
     let more : List Token = sheets_tokens shown ++ last in
     let complete_pages : OnSheets (λ p. IsComplete (body_of_page us p)) all =
-    on_sheets (λ p. PagePaints us s p (picture p)) (λ p. IsComplete (body_of_page us p)) (λ p q. q.0) all h in
+    on_sheets (λ p. BodyPlaces R frame us s p (picture p)) (λ p. IsComplete (body_of_page us p)) (λ p q. q.0) all bodies in
     let end : State = record s { left = last; sheets = sheet_pictures frame us picture s all } in
-    subst (λ ts. Runs false (started ts) end) (sym (output_cut frame sides spec us picture complete complete_pages))
-    (runs_join false (started (tokens first ++ more)) (record s { left = s.left ++ more }) end
-    (runs_with_more more (started (tokens first)) s run)
-    (subst (λ l. Runs false (record s { left = l ++ more }) end) (sym nothing_left)
-    (sheets_are_printed s shown last ground nothing_painted (sheets_paint frame us picture s all h))))
+    subst (λ ts. R (start ts) end) (sym (output_cut frame sides spec us picture complete complete_pages))
+    (m.joined (start (tokens first ++ more)) (record s { left = more }) end (run more)
+    (sheets_run R m s shown last prints nothing_painted (sheets_place R frame us picture s all bodies)))
+
+-- The machine of the laws.
+
+pub free_runs_on : (text : List ℕ) (s : State) → IsComplete text → Runs false (started (tokens text)) s → s.left ≡ [] → RunsOn (Runs false) started text s
+free_runs_on text s complete run left = runs_on (Runs false) started text s (λ ts more r. runs_with_more more (started ts) s r) complete run left
+
+pub body_places : (frame : Frame) (us : List NestedUnit) (s : State) (p : ℕ) (picture : List Painting) → IsGround s → PagePaints us s p picture → BodyPlaces (Runs false) frame us s p picture
+body_places frame us s p picture g (complete, paints) =
+    (complete, λ item. page_places s (record { placed = record { numbers = numbers_of frame item; body = tokens (body_of_page us p) }; picture = picture }) g paints)
+
+pub output_is_printed : OutputIsPrinted
+output_is_printed frame sides spec us picture s (complete, run, left, painted, printed, ground) h =
+    bodies_are_shown (Runs false) free_are_runs started frame sides spec us picture s
+    (free_runs_on (preamble_text (length (all_sheets sides spec us)) us) s complete run left) painted (ground_prints (Runs false) free_are_runs s ground)
+    (on_sheets (λ p. PagePaints us s p (picture p)) (λ p. BodyPlaces (Runs false) frame us s p (picture p)) (λ p q. body_places frame us s p (picture p) ground q) (all_sheets sides spec us) h)

@@ -1,4 +1,4 @@
--- What a page prints of itself is what it paints by itself.
+-- What a page prints by itself is what it paints by itself.
 use Rattle.std.specs.Prelude.{nat_lt, Option, Some, None, Ok, if◌then◌else◌, codes, option_map, bytes_eq}
 use Rattle.std.proofs.lemmas.Slice.Eq.{bytes_eq-Decides}
 use Rattle.std.proofs.Common.{◌≡◌, ℕ, zero, suc, refl, ap, ap₂, ◌∙◌, sym, subst, Bool, true, false, not, ◌&&◌, ◌||◌, ◌==◌, List, [], ◌∷◌, true≢false, eqb-true, length, ◌+◌, arith}
@@ -22,9 +22,10 @@ use Rattle.pictures.specs.Documents.{started, page_of, PreambleRuns, PagePaints}
 use Rattle.pictures.proofs.Output.{output_is_printed, on_sheets}
 use Rattle.pictures.proofs.Tests.{first, second}
 use Rattle.pictures.proofs.Runs.{nothing, runs_join, runs_one, runs_none}
-use Rattle.pictures.proofs.Shifted.{up, ups, ups_same, entry_same, system_same}
-use Rattle.pictures.proofs.Names.{Agree, two, meaning_agrees, not_true}
-use Rattle.pictures.proofs.Unaware.{all_steps_free, all_steps_go, up_state, up_shot, up_shots, AllAgree}
+use Rattle.pictures.proofs.Shifted.{ups_same, entry_same, system_same}
+use Rattle.pictures.proofs.Names.{meaning_agrees, not_true}
+use Rattle.pictures.specs.Shifted.{up, ups, two, Agree, AllAgree, up_shot, up_shots, up_state}
+use Rattle.pictures.proofs.Unaware.{all_steps_free, all_steps_go}
 use Rattle.std.proofs.lemmas.Bool.{ne_eqb, ltb-false}
 
 -- A held machine prints nothing.
@@ -142,7 +143,7 @@ absent_means [] es k e = refl
 absent_means (d ∷ ds) es k e =
     ap₂ or (none_of (entry_of d k es) (first (not (has (entry_of d k es))) (absent ds es k) e)) (absent_means ds es k (second (not (has (entry_of d k es))) (absent ds es k) e))
 
-two_found : (n : ℕ) (es fs : List Entry) (ds : List ℕ) (k : List ℕ) (v : Object) → Agree n es fs → ((d : ℕ) → entry_of d k (two n) ≡ (if 0 == d then Some v else None))
+pub two_found : (n : ℕ) (es fs : List Entry) (ds : List ℕ) (k : List ℕ) (v : Object) → Agree n es fs → ((d : ℕ) → entry_of d k (two n) ≡ (if 0 == d then Some v else None))
     → absent ds fs k ≡ true → is_in 0 ds ≡ true → meaning ds es k ≡ Some v
 two_found n es fs [] k v a t e i = absurd (true≢false (sym i))
 two_found n es fs (d ∷ ds) k v a t e i =
@@ -166,7 +167,7 @@ at_userdict key k d es e h =
     subst (λ c. entry_of c k es ≡ None) (eqb-true 0 d (second (bytes_eq key k) (0 == d) h))
     (subst (λ l. entry_of 0 l es ≡ None) ((bytes_eq-Decides key k).0 (first (bytes_eq key k) (0 == d) h)) e)
 
-begins : (s : State) → IsPlainGround s → Agree s.level (entries_before s) s.work.entries
+pub begins : (s : State) → IsPlainGround s → Agree s.level (entries_before s) s.work.entries
 begins s p d k =
     begins_if (bytes_eq (codes "showpage") k && (0 == d)) (bytes_eq (codes "ImposeSave") k && (0 == d)) (entry_of d k s.work.entries) (Procedure []) (Saved s.level)
     (at_userdict (codes "showpage") k d s.work.entries p.no_showpage)
@@ -183,13 +184,13 @@ plain_graphics g e =
 abbrev by_itself : State → List Token → List Object → Graphics → List Graphics → List Painting → State
 by_itself s body os g gs ps = record (alone s body) { work = record (alone s body).work { operands = os }; graphics = g; stacked = gs; painted = ps }
 
-same_start : (s : State) (body : List Token) → IsPlainGround s → up_state (entries_before s) [] (run_of body s) ≡ alone s body
+pub same_start : (s : State) (body : List Token) → IsPlainGround s → up_state (entries_before s) [] (run_of body s) ≡ alone s body
 same_start s body p = sym (
     ap₂ (λ os g. by_itself s body os g [] []) (sym (ups_same s.work.operands p.operands)) (plain_graphics s.graphics p.ground.graphics)
     ∙ ap₂ (λ gs ps. by_itself s body (ups s.work.operands) s.graphics gs ps) (sym p.stacked) (sym p.painted))
 
 -- shifted, no save of the page is of the level of the sheet's
-up_missing : (n : ℕ) (ess : List (List Entry)) (shots : List Snapshot) → none_before n shots ≡ true → save_of n (up_shots ess shots) ≡ None
+pub up_missing : (n : ℕ) (ess : List (List Entry)) (shots : List Snapshot) → none_before n shots ≡ true → save_of n (up_shots ess shots) ≡ None
 up_missing n [] shots e = refl
 up_missing n (es ∷ ess) [] e = refl
 up_missing n (es ∷ ess) (shot ∷ shots) e =
@@ -240,7 +241,7 @@ paints s body picture p q =
       picture_is = q.ends.placed_nothing ∙ q.picture_is;
     }
 
--- nothing stands behind the page's showpage
+-- nothing follows the page's showpage
 pub nothing_behind :
     (s at : State) → at.work.operands ≡ s.work.operands → at.work.dictionaries ≡ s.work.dictionaries → none_before s.level at.saves ≡ true
     → absent at.work.dictionaries at.work.entries (codes "ImposeSave") ≡ true

@@ -23,11 +23,11 @@ either_true false b e = e
 pub known_ground : (s : State) → IsGround s → Known placing_names s.work
 known_ground s g name h = g.names name (either_true (bytes_eq name (codes "showpage")) (among name placing_names) h)
 
--- the state behind a placed page, before what is left
+-- the state after a placed page, before what is left
 abbrev pub behind : List Token → Numbers → State → List Painting → State
 behind l n s picture = record s { left = l; painted = picture_at (place_in s.graphics n) picture ++ (border_in s.graphics n n.border ++ s.painted) }
 
--- what restore makes, with these operands and dictionaries
+-- the result of restore, with these operands and dictionaries
 abbrev gone_back : List Token → Numbers → State → List Painting → List Object → List ℕ → State
 gone_back l n s picture os ds = record (behind l n s picture) { work = record s.work { operands = os; dictionaries = ds } }
 
@@ -35,7 +35,7 @@ past : {A : Type 0} (b : Bool) (v w : A) (x y z : Option A) → (x ≡ None → 
 past true v w x y z f e = absurd (true≢false (sym (ap is_none e)))
 past false v w x y z f e = f e
 
--- saves of other levels are passed over
+-- saves of other levels are skipped
 passed_over : (p : Place) (level : ℕ) (shots more : List Snapshot) → save_of level shots ≡ None → save_of level (map (snapshot_at p) shots ++ more) ≡ save_of level more
 passed_over p level [] more e = refl
 passed_over p level (shot ∷ shots) more e =
@@ -54,7 +54,7 @@ restoring s t n rest more g l =
     ∙ ap (λ b. if b then Some (gone_back rest n s t.painted t.work.operands t.work.dictionaries) else None) may
     ∙ ap₂ (λ os ds. Some (gone_back rest n s t.painted os ds)) l.operands l.dictionaries
 
-closing : (s t : State) (n : Numbers) (rest : List Token) → IsGround s → LeavesAsItWas s t
+pub closing : (s t : State) (n : Numbers) (rest : List Token) → IsGround s → LeavesAsItWas s t
     → Runs false (state_at (around (closing_tokens ++ rest) n s) t) (behind rest n s t.painted)
 closing s t n rest g l =
     let a : Around = around (closing_tokens ++ rest) n s in
@@ -69,12 +69,12 @@ closing s t n rest g l =
     subst (λ x. Runs false (record p { left = x ++ (closing_tokens ++ rest) }) (behind rest n s t.painted)) (sym l.nothing_left) start
 
 -- the tokens, bracketed to the right
-bracketed : (x : Placed) (rest : List Token)
+pub bracketed : (x : Placed) (rest : List Token)
     → placed_tokens x ++ rest ≡ saving_tokens ++ (placing_tokens x.numbers ++ (x.body ++ (closing_tokens ++ rest)))
 bracketed x rest =
     ap (λ ts. saving_tokens ++ ts) (append_assoc (placing_tokens x.numbers) (x.body ++ closing_tokens) rest ∙ ap (λ ts. placing_tokens x.numbers ++ ts) (append_assoc x.body closing_tokens rest))
 
-assembled : (s : State) (x : Shown) (rest : List Token)
+pub assembled : (s : State) (x : Shown) (rest : List Token)
     → behind rest x.placed.numbers s x.picture ≡ record s { left = rest; painted = page_picture s.graphics x ++ s.painted }
 assembled s x rest = ap (λ ps. record s { left = rest; painted = ps })
     (sym (append_assoc (picture_at (place_in s.graphics x.placed.numbers) x.picture) (border_in s.graphics x.placed.numbers x.placed.numbers.border) s.painted))

@@ -1,20 +1,14 @@
 -- Objects, with the levels of saves shifted by one: operators of the work do the same.
 use Rattle.std.specs.Prelude.{Option, Some, None, if◌then◌else◌, bytes_eq, option_map, nat_lt}
-use Rattle.std.proofs.Common.{◌≡◌, ℕ, zero, suc, ◌+◌, refl, ap, ap₂, ◌∙◌, sym, Bool, true, false, not, ◌&&◌, ◌==◌, List, [], ◌∷◌, map, true≢false, arith}
+use Rattle.std.proofs.Common.{◌≡◌, ℕ, zero, suc, ◌+◌, refl, ap, ap₂, ◌∙◌, sym, Bool, true, false, not, ◌&&◌, ◌==◌, List, [], ◌∷◌, true≢false, arith}
 use Rattle.pictures.specs.Objects.{Token, Text, Hexadecimal, Object, Plain, Mark}
 use Rattle.pictures.specs.Objects.{Saved, Want, ANumber, AText, AnArray, AMatrix, AFont, AName, ATruth}
 use Rattle.pictures.specs.Dictionaries.{Entry, system, entry_of, has, systemdict}
 use Rattle.pictures.specs.Operators.{taken, fits, also, collected, onto, below_mark, nth, all_are_old, is_old}
 use Rattle.pictures.specs.Unaware.{is_saved, no_saved, no_saved_in}
+use Rattle.pictures.specs.Shifted.{up, ups}
 use Rattle.std.proofs.lemmas.Bool.{lt-ltb, ltb-true, le-ltb, ltb-false}
 use Rattle.pictures.proofs.Tests.{first, second, by_test}
-
-abbrev pub up : Object → Object
-up (Saved level) = Saved (level + 1)
-up o = o
-
-abbrev pub ups : List Object → List Object
-ups os = map up os
 
 abbrev pub up_taken : Option (List Object × List Object) → Option (List Object × List Object)
 up_taken None = None

@@ -1,5 +1,5 @@
--- A held machine that asks for none of the names that the sheet's text puts does the same with them, one save further
--- in, and what a free machine does without them.
+-- Take a held machine that uses none of the names that the sheet's text defines. With these names, one save further
+-- in, it does the same, and so does a free machine without them.
 use Rattle.std.specs.Prelude.{Option, Some, None, if◌then◌else◌, option_map, codes}
 use Rattle.std.proofs.lemmas.Bool.{ne_eqb}
 use Rattle.std.proofs.lemmas.Bool.Decides.{eqb_tells}
@@ -11,10 +11,11 @@ use Rattle.pictures.specs.Operators.{Work, taken, computed_on, controlled_on, al
 use Rattle.pictures.specs.Machine.{State, Graphics, Snapshot, body_of, opened, drawn, worked, running, popped, popped_all, save_of, back, returned, restored, chain_of, filled_from, copied, perform, done, meant, act, step_on, step, steps, and_then, may_go_back}
 use Rattle.pictures.specs.Sheets.{among}
 use Rattle.pictures.specs.Unaware.{put_names, none_among, asked_by, asked_on, unaware_step, unaware_steps}
+use Rattle.pictures.specs.Shifted.{up, ups, Agree, AllAgree, up_work, up_shot, up_shots, up_state}
 use Rattle.pictures.proofs.Tests.{first, second}
 use Rattle.pictures.proofs.Runs.{nothing}
-use Rattle.pictures.proofs.Shifted.{up, ups, up_taken, taken_up, all_are_old_up, system_same}
-use Rattle.pictures.proofs.Names.{Agree, up_work, WorkGoes, ControlGoes, works_on, controls_on, meaning_agrees, not_true}
+use Rattle.pictures.proofs.Shifted.{up_taken, taken_up, all_are_old_up, system_same}
+use Rattle.pictures.proofs.Names.{WorkGoes, ControlGoes, works_on, controls_on, meaning_agrees, not_true}
 
 -- Free, and held.
 
@@ -64,33 +65,6 @@ all_steps_free (suc n) s t e =
     goes_free n (unaware_step s) (step false s) t (unaware_free (none_among (asked_on s.left s) put_names) (step true s) (step false s) (steps_on_free s.left s)) (λ r k. all_steps_free n r t k) e
 
 -- With the names, and without.
-
-abbrev pub up_shot : List Entry → Snapshot → Snapshot
-up_shot es b = record { level = b.level + 1; entries = es; made = b.made; kept = b.kept; graphics = b.graphics; stacked = b.stacked }
-
-abbrev pub up_shots : List (List Entry) → List Snapshot → List Snapshot
-up_shots [] bs = []
-up_shots (es ∷ ess) [] = []
-up_shots (es ∷ ess) (b ∷ bs) = up_shot es b ∷ up_shots ess bs
-
-abbrev pub AllAgree : ℕ → List (List Entry) → List Snapshot → Type 0
-AllAgree n [] [] = Unit {0}
-AllAgree n [] (b ∷ bs) = ⊥
-AllAgree n (es ∷ ess) [] = ⊥
-AllAgree n (es ∷ ess) (b ∷ bs) = Agree n es b.entries × AllAgree n ess bs
-
-abbrev pub up_state : List Entry → List (List Entry) → State → State
-up_state es ess s = record {
-  left = s.left;
-  work = up_work es s.work;
-  kept = s.kept;
-  level = s.level + 1;
-  graphics = s.graphics;
-  stacked = s.stacked;
-  saves = up_shots ess s.saves;
-  painted = s.painted;
-  sheets = [];
-}
 
 abbrev pub Goes : ℕ → Option State → Option State → Type 0
 Goes n None r = Unit {0}

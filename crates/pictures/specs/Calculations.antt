@@ -1,7 +1,8 @@
--- Calculating with numbers, and comparing (PostScript Language Reference, third edition, 3.3.3; 8.2 by the operators' names).
--- Whole numbers are calculated with as they are, without a limit. Of any other number nothing is calculated: the result is
--- a term, the texts of the operands and the operator's name behind them, `0.1 0.2 add`. So nothing is rounded, and what is
--- drawn with a term is drawn with what an interpreter makes of it. A comparison of such numbers stops the machine.
+-- Calculating with numbers, and comparing (PostScript Language Reference, third edition, 3.3.3; 8.2 by the
+-- operators' names). Whole numbers are calculated without a limit. With other numbers nothing is calculated: the
+-- result is a term, the texts of the operands followed by the operator's name, `0.1 0.2 add`. So nothing is
+-- rounded, and drawing with a term means drawing with the value that an interpreter computes from it. A comparison
+-- of such numbers stops the machine.
 use Rattle.std.specs.Prelude.{ℕ, ◌+◌, ◌/◌, List, [], ◌∷◌, ◌++◌, Bool, true, false, not, ◌||◌, ◌==◌, if◌then◌else◌, codes}
 use Rattle.std.specs.Prelude.{Option, Some, None, ℤ, pos, ◌+ℤ◌, ◌-ℤ◌, ◌*ℤ◌, neg_ℤ, nat_abs, int_lt, decimal, bytes_eq}
 use Rattle.std.specs.List.{list_all}
@@ -33,11 +34,11 @@ name_of Subtract = codes "sub"
 name_of Multiply = codes "mul"
 name_of Divide = codes "div"
 
--- two numbers and the operator behind them
+-- two numbers followed by the operator
 abbrev pub term : Calculation → List ℕ → List ℕ → List ℕ
 term c a b = a ++ codes " " ++ b ++ codes " " ++ name_of c
 
--- `add`, `sub` and `mul` of whole numbers are whole; `div` makes no whole number
+-- `add`, `sub` and `mul` of whole numbers are whole; `div` gives no whole number
 abbrev pub calculated_on : Calculation → (a b : List ℕ) → Option ℤ → Option ℤ → List ℕ
 calculated_on Add a b (Some m) (Some n) = whole_text (m +ℤ n)
 calculated_on Subtract a b (Some m) (Some n) = whole_text (m -ℤ n)
@@ -77,7 +78,7 @@ names_compared Equal a b = Some (bytes_eq a b)
 names_compared NotEqual a b = Some (not (bytes_eq a b))
 names_compared c a b = None
 
--- how many turns `for` makes: up to the limit and with it, or down to it. A step of 0 stops the machine
+-- the number of turns of `for`: up or down to the limit, inclusive. A step of 0 stops the machine
 abbrev pub turns : (first step limit : ℤ) → Option ℕ
 turns first step limit =
     if int_lt (pos 0) step then Some (if int_lt limit first then 0 else nat_abs (limit -ℤ first) / nat_abs step + 1)

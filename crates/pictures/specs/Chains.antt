@@ -1,5 +1,5 @@
--- Whether two transformations are the same: the same matrices concatenated, with the same numbers. Of anything but numbers
--- this isn't told.
+-- Whether two transformations are the same: the same matrices concatenated, with the same numbers. With operands
+-- other than numbers there is no answer.
 use Rattle.std.specs.Prelude.{List, [], ◌∷◌, Bool, true, false, ◌&&◌, bytes_eq}
 use Rattle.pictures.specs.Objects.{Token, Number, Object, Plain, Array, Call}
 

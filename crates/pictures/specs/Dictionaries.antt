@@ -1,6 +1,6 @@
--- Dictionaries and names (PostScript Language Reference, third edition, 3.3.9, 3.4, 3.7.5). All dictionaries are one list
--- of entries, the latest first. The topmost dictionary on the stack that has a name says what it means; below them all
--- is systemdict, which never changes.
+-- Dictionaries and names (PostScript Language Reference, third edition, 3.3.9, 3.4, 3.7.5). All dictionaries are
+-- one list of entries, the latest first. The topmost dictionary on the stack that has a name gives its meaning;
+-- below them all is systemdict, which never changes.
 use Rattle.std.specs.Prelude.{ℕ, List, [], ◌∷◌, Bool, true, false, ◌&&◌, ◌==◌, if◌then◌else◌, Option, Some, None, codes}
 use Rattle.std.specs.Prelude.{bytes_eq}
 use Rattle.std.specs.List.{list_any}
@@ -19,17 +19,17 @@ use Rattle.pictures.specs.Objects.{If, IfElse, Repeat, For, ForAll, Want, ANumbe
 use Rattle.pictures.specs.Objects.{AMatrix, AFont, AName, ATruth, Effect, Segments, Transforms, Sets, Paints, PaintsBeside}
 use Rattle.pictures.specs.Objects.{Shows, Clips, Forgets}
 
--- what one dictionary has for one key; dictionaries are known by their numbers
+-- what one dictionary has for one key; dictionaries are identified by number
 pub record Entry : Type 0 where
   pub dictionary : ℕ
   pub key : List ℕ
   pub value : Object
 
--- the dictionary that is made first, and that is never taken from the stack
+-- the dictionary that is made first, and is never removed from the stack
 abbrev pub userdict : ℕ
 userdict = 0
 
--- a graphics operator, by the operands that it wants and by its effect
+-- a graphics operator, with the operands that it takes and its effect
 abbrev pub draws : List ℕ → List Want → Effect → Entry
 draws name wants effect = record { dictionary = userdict; key = name; value = Operator name (Draws wants effect) }
 
@@ -39,8 +39,8 @@ is name kind = record { dictionary = userdict; key = name; value = Operator name
 abbrev pub constant : List ℕ → Object → Entry
 constant name object = record { dictionary = userdict; key = name; value = object }
 
--- each by its name in 8.2, 'Operator details', with its operands there, the topmost first. userdict, systemdict, true and
--- false are no operators, but values. Where an operator takes operands of several kinds, one kind is here
+-- each by its name in 8.2, 'Operator details', with its operands there, the topmost first. userdict, systemdict,
+-- true and false are values, not operators. If an operator takes operands of several kinds, only one kind is here
 abbrev pub systemdict : List Entry
 systemdict =
     constant (codes "userdict") (Dictionary userdict) ∷ constant (codes "systemdict") SystemDictionary
@@ -125,11 +125,11 @@ abbrev pub or : Option Object → Option Object → Option Object
 or None next = next
 or (Some o) next = Some o
 
--- a dictionary that is read-only has an entry for this, which is no name, since no byte is 256
+-- a read-only dictionary has an entry for this, which can't be a name, as no byte is 256
 abbrev pub read_only : List ℕ
 read_only = 256 ∷ []
 
--- what a name means (3.3.8), if these dictionaries are on the stack, the topmost first
+-- the meaning of a name (3.3.8) if these dictionaries are on the stack, the topmost first
 abbrev pub meaning : List ℕ → List Entry → List ℕ → Option Object
 meaning [] es key = system key
 meaning (d ∷ ds) es key = or (entry_of d key es) (meaning ds es key)

@@ -1,4 +1,4 @@
--- A document as it is, run page after page in one machine: what it prints, and what it means that its pages are
+-- A document as it is, run page after page in one machine: what it prints, and what it means for its pages to be
 -- independent of one another.
 use Rattle.std.specs.Prelude.{◌≡◌, ℕ, zero, suc, ◌<◌, List, [], ◌∷◌, flat_map, take, length, false, Ok}
 use Rattle.rules.specs.Parts.{NestedUnit, preamble, pages, trailer, bytes_of}
@@ -17,39 +17,39 @@ ComesTo s ts t = Runs false (run_of ts s) t × (t.left ≡ [])
 abbrev pub PrintsSheet : State → List Token → List Painting → Type 0
 PrintsSheet s ts picture = (t : State) × ComesTo s ts t × (t.painted ≡ []) × (t.sheets ≡ picture ∷ s.sheets)
 
--- the pages before this one, one behind the other
+-- the pages before this one, one after the other
 abbrev pub pages_before : List NestedUnit → ℕ → List Token
 pages_before us p = flat_map tokens (take p (pages us))
 
--- Page independence of the Document Structuring Conventions 3.0: each page, run in the state in which the document has
--- come to it, prints the same as if it is run right behind the preamble, in the state s
+-- Page independence of the Document Structuring Conventions 3.0. Each page, run in the state that the document has
+-- reached, prints the same as when it is run directly after the preamble, in the state s
 abbrev pub PagesAreIndependent : List NestedUnit → State → Type 0
 PagesAreIndependent us s =
     (p : ℕ) (u : State) (picture : List Painting) → p < length (pages us) → ComesTo s (pages_before us p) u
     → PrintsSheet s (tokens (page_of us p)) picture → PrintsSheet u (tokens (page_of us p)) picture
 
--- this is so of each page of the document
+-- this holds for each page of the document
 abbrev pub OnPages : (ℕ → Type 0) → List NestedUnit → Type 0
 OnPages P us = (p : ℕ) → p < length (pages us) → P p
 
--- the preamble ends between tokens, and the machine is then in the state s, with nothing painted or printed
+-- the preamble ends between tokens; then the machine is in the state s, with nothing painted or printed
 abbrev pub PreambleComesTo : List ℕ → State → Type 0
 PreambleComesTo text s =
     IsComplete text × ComesTo (started []) (tokens text) s × (s.painted ≡ []) × (s.sheets ≡ [])
 
--- so many pages' pictures, the latest first
+-- the pictures of this many pages, the latest first
 abbrev pub page_pictures : (ℕ → List Painting) → ℕ → List (List Painting)
 page_pictures picture zero = []
 page_pictures picture (suc n) = picture n ∷ page_pictures picture n
 
--- a machine runs the document up to its trailer, and has then printed these pictures, one for each page in order
+-- a machine runs the document up to its trailer, and has then printed these pictures, one for each page, in order
 abbrev pub DocumentPrints : List ℕ → List NestedUnit → (ℕ → List Painting) → Type 0
 DocumentPrints text us picture =
     (t : State) × Runs false (started (tokens text)) t × (t.left ≡ tokens (bytes_of (trailer us))) × (t.painted ≡ [])
     × (t.sheets ≡ page_pictures picture (length (pages us)))
 
--- if the pages are independent, the document prints, page after page, what each page prints right behind the preamble: a
--- law
+-- a law: if the pages are independent, the document prints, page after page, what each page prints directly after
+-- the preamble
 abbrev pub PagesArePrinted : Type 0
 PagesArePrinted =
     (text : List ℕ) (us : List NestedUnit) (picture : ℕ → List Painting) (s : State)

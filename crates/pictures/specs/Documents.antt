@@ -32,7 +32,7 @@ numbers_of frame item =
       border = option_map points_text frame.border;
     }
 
--- what stands before a placed page is cut into the tokens of the sheet's text, and ends between tokens: a law
+-- a law: what comes before a placed page is cut into the tokens of the sheet's text, and ends between tokens
 abbrev pub OpeningIsCut : Type 0
 OpeningIsCut =
     (frame : Frame) (item : Item)
@@ -41,7 +41,7 @@ OpeningIsCut =
 
 -- A document.
 
--- a machine in which nothing has run yet: userdict is on the stack (3.7.5), the graphics state is the initial one
+-- a machine before anything has run: userdict is on the stack (3.7.5), the graphics state is the initial one
 abbrev pub started : List Token → State
 started ts = record {
   left = ts;
@@ -59,7 +59,7 @@ started ts = record {
 abbrev pub page_of : List NestedUnit → ℕ → List ℕ
 page_of us p = slice_index_or (pages us) p []
 
--- what the output keeps of a page
+-- the part of a page that the output keeps
 abbrev pub body_of_page : List NestedUnit → ℕ → List ℕ
 body_of_page us p = body_text (prepared (page_of us p))
 
@@ -75,17 +75,17 @@ shown_slot frame us picture (Some p) item =
 abbrev pub shown_sheet : Frame → List NestedUnit → (ℕ → List Painting) → List Slot → List Shown
 shown_sheet frame us picture slots = flat_map (λ slot. shown_slot frame us picture slot.page slot.item) slots
 
--- the picture that each sheet is to be, the latest sheet first: of its slots in order, each page's own picture placed
--- as its item says
+-- the picture that each sheet should have, the latest sheet first: for its slots in order, each page's own picture,
+-- placed by its item
 abbrev pub sheet_pictures :
     Frame → List NestedUnit → (ℕ → List Painting) → State → List (List Slot) → List (List Painting)
 sheet_pictures frame us picture s all = printed s.graphics (map (shown_sheet frame us picture) all) s.sheets
 
--- the page paints this by itself, behind the preamble; and its text ends between tokens
+-- the page paints this by itself, after the preamble; and its text ends between tokens
 abbrev pub PagePaints : List NestedUnit → State → ℕ → List Painting → Type 0
 PagePaints us s p picture = IsComplete (body_of_page us p) × PaintsAlone s (tokens (body_of_page us p)) picture
 
--- this is so of each page that stands on a sheet
+-- this holds for each page on a sheet
 abbrev pub OnSlot : (ℕ → Type 0) → Option ℕ → Type 0
 OnSlot P None = Unit {0}
 OnSlot P (Some p) = P p
@@ -98,7 +98,7 @@ abbrev pub OnSheets : (ℕ → Type 0) → List (List Slot) → Type 0
 OnSheets P [] = Unit {0}
 OnSheets P (slots ∷ more) = OnSlots P slots × OnSheets P more
 
--- the preamble ends between tokens, and the machine is then here, with nothing painted or printed
+-- the preamble ends between tokens; then the machine is in this state, with nothing painted or printed
 abbrev pub PreambleRuns : List ℕ → State → Type 0
 PreambleRuns text s =
     IsComplete text × Runs false (started (tokens text)) s × (s.left ≡ []) × (s.painted ≡ []) × (s.sheets ≡ [])
@@ -117,8 +117,8 @@ IsPrinted frame sides spec us picture s =
       sheets = sheet_pictures frame us picture s (all_sheets sides spec us);
     })
 
--- what a machine prints of an output: the sheets in order, each with the pictures of its pages, placed; the trailer is
--- then still to run: a law
+-- a law: given an output, a machine prints the sheets in order, each with the pictures of its pages, placed; the
+-- trailer is then left to run
 abbrev pub OutputIsPrinted : Type 0
 OutputIsPrinted =
     (frame : Frame) (sides : Option ℕ) (spec : Spec) (us : List NestedUnit) (picture : ℕ → List Painting) (s : State)

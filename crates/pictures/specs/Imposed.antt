@@ -1,4 +1,4 @@
--- What is written of made sheets, on which each page has a paper of its own: the pictures that it is to be.
+-- The output of made sheets, on which each page has its own paper: the pictures that it should have.
 use Rattle.std.specs.Prelude.{◌≡◌, ℕ, Bool, true, false, not, ◌&&◌, ◌==◌, List, [], ◌∷◌, map, flat_map, Option, Some, Ok, ℤ}
 use Rattle.rules.specs.Papers.{Paper}
 use Rattle.rules.specs.Parts.{NestedUnit, preamble, bytes_of}
@@ -39,7 +39,7 @@ pub record IsQuiet (dress : Dress) : Type 0 where
 
 -- Made sheets.
 
--- the frame of a page: its own paper, and the border that all pages have
+-- the frame of a page: its own paper, and the border, which is the same for all pages
 abbrev pub frame_of : Option ℤ → Paper → Frame
 frame_of border paper = record { paper = paper; border = border }
 
@@ -51,13 +51,13 @@ made_slot_shown border us picture (Placed p item paper) = shown_slot (frame_of b
 abbrev pub made_sheet_shown : Option ℤ → List NestedUnit → (ℕ → List Painting) → MadeSheet → List Shown
 made_sheet_shown border us picture sheet = flat_map (made_slot_shown border us picture) sheet.slots
 
--- the picture that each sheet is to be, the latest sheet first: of its slots in order, each page's own picture placed
--- as its item says, on the page's own paper
+-- the picture that each sheet should have, the latest sheet first: for its slots in order, each page's own picture,
+-- placed by its item, on the page's own paper
 abbrev pub made_pictures :
     Option ℤ → List NestedUnit → (ℕ → List Painting) → State → List MadeSheet → List (List Painting)
 made_pictures border us picture s all = printed s.graphics (map (made_sheet_shown border us picture) all) s.sheets
 
--- this is so of each page that stands on a sheet, and of its paper
+-- this holds for each page on a sheet, with its paper
 abbrev pub OnMadeSlot : (Paper → ℕ → Type 0) → MadeSlot → Type 0
 OnMadeSlot P Blank = Unit {0}
 OnMadeSlot P (Placed p item paper) = P paper p
@@ -76,8 +76,9 @@ MadeIsPrinted border dress all us picture s =
     Runs false (started (tokens (made_output border dress all us)))
     (record s { left = tokens (trailer_text us); sheets = made_pictures border us picture s all })
 
--- Of an accepted document: if a machine runs the preamble, and each page prints a picture of itself, then it prints of
--- any made sheets, written with no added lines but comments, those pictures, placed: a law
+-- A law about an accepted document. Suppose that a machine runs the preamble, and that each page prints a picture
+-- by itself. Then it prints these pictures, placed, for any made sheets that are written without added lines other
+-- than comments
 abbrev pub MadeSheetsShowThePages : Type 0
 MadeSheetsShowThePages =
     (border : Option ℤ) (dress : Dress) (all : List MadeSheet) (text : List ℕ) (us : List NestedUnit)

@@ -1,7 +1,8 @@
--- The machine: its state, and one step. A step takes the next token (PostScript Language Reference, third edition, 3.5).
--- None is an error, or that nothing is left to run. Transformations are free: the current transformation (4.3.2) is the
--- list of matrices that were concatenated, the innermost first, and none is multiplied. A point is its operands with the
--- list of its time (4.4.1). Whoever reads a list as the product of its matrices reads every mark so.
+-- The machine: its state, and one step. A step takes the next token (PostScript Language Reference, third edition,
+-- 3.5). None means an error, or that nothing is left to run. Transformations are free: the current transformation
+-- (4.3.2) is the list of matrices that were concatenated, the innermost first, and none is multiplied. A point is
+-- its operands together with the list at that time (4.4.1). Reading a list as the product of its matrices gives
+-- every mark its usual reading.
 use Rattle.std.specs.Prelude.{◌≡◌, ℕ, zero, suc, ◌+◌, List, [], ◌∷◌, ◌++◌, Bool, ◌&&◌, ◌||◌, ◌==◌, if◌then◌else◌}
 use Rattle.std.specs.Prelude.{Option}
 use Rattle.std.specs.Prelude.{Some, None, codes, bytes_eq, true, not}
@@ -16,13 +17,14 @@ use Rattle.pictures.specs.Dictionaries.{Entry, meaning, system}
 use Rattle.pictures.specs.Operators.{Work, with_operands, taken, computed, computed_on, controlled, all_old, all_are_old}
 
 -- a segment of a path: the operator with its operands, and the transformation at the time. After `show` the current
--- point hangs on the settings too
+-- point depends on the settings too
 pub record Segment : Type 0 where
   pub call : Call
   pub chain : List Call
   pub settings : List Call
 
--- the path within which is painted, and the operator that set it: `clip` and `eoclip` of 8.2, which narrow what there was
+-- the path to which painting is limited, and the operator that set it: `clip` and `eoclip` of 8.2, which narrow the
+-- clip
 pub record Clip : Type 0 where
   pub name : List ℕ
   pub path : List Segment
@@ -53,8 +55,9 @@ pub record Snapshot : Type 0 where
   pub graphics : Graphics
   pub stacked : List Graphics
 
--- what is left to run; what matrices hold, the latest first; the graphics states that were pushed since the last save; the
--- saves; what has been painted on this sheet, the latest first; the sheets that were printed, the latest first
+-- what is left to run; what matrices hold, the latest first; the graphics states that were pushed after the last
+-- save; the saves; what has been painted on this sheet, the latest first; the sheets that were printed, the latest
+-- first
 pub record State : Type 0 where
   pub left : List Token
   pub work : Work
@@ -66,11 +69,12 @@ pub record State : Type 0 where
   pub painted : List Painting
   pub sheets : List (List Painting)
 
--- one operand more (3.4)
+-- one more operand (3.4)
 abbrev pub push : Object → State → State
 push o s = record s { work = with_operands s.work (o ∷ s.work.operands) }
 
--- a procedure's tokens, up to its closing brace, and those behind it (3.2, Procedures): none of them is run yet (3.5.3)
+-- a procedure's tokens, up to its closing brace, and those after it (3.2, Procedures): none of them is run yet
+-- (3.5.3)
 abbrev pub keep : Token → Option (List Token × List Token) → Option (List Token × List Token)
 keep t None = None
 keep t (Some (ts, rest)) = Some (t ∷ ts, rest)
@@ -87,8 +91,8 @@ abbrev pub opened : Option (List Token × List Token) → State → Option State
 opened None s = None
 opened (Some (ts, rest)) s = Some (push (Procedure ts) (record s { left = rest }))
 
--- the effect of a graphics operator, each by its name in 8.2: `fill`, `eofill` and `stroke` take the path away,
--- `rectfill` and `rectstroke` leave it alone, and so do `clip` and `eoclip`; `show` moves the current point
+-- the effect of a graphics operator, each by its name in 8.2. `fill`, `eofill` and `stroke` remove the path;
+-- `rectfill`, `rectstroke`, `clip` and `eoclip` leave it alone; `show` moves the current point
 abbrev pub changed : Effect → Call → Graphics → Graphics
 changed Segments c g = record g { path = record { call = c; chain = g.chain; settings = [] } ∷ g.path }
 changed Transforms c g = record g { chain = c ∷ g.chain }
@@ -121,8 +125,8 @@ abbrev pub running : Option (List Token × Work) → State → Option State
 running None s = None
 running (Some (ts, w)) s = Some (record s { left = ts ++ s.left; work = w })
 
--- `grestore` of 8.2: the graphics state is back. If none was pushed since the last save, it is that of the save, which
--- stays
+-- `grestore` of 8.2: the graphics state is restored. If none was pushed after the last save, it is that of the
+-- save, which stays
 abbrev pub popped : List Graphics → State → Option State
 popped (g ∷ gs) s = Some (record s { graphics = g; stacked = gs })
 popped [] s = below s.saves s
@@ -131,13 +135,13 @@ popped [] s = below s.saves s
     below [] s = None
     below (shot ∷ shots) s = Some (record s { graphics = shot.graphics })
 
--- `grestoreall` of 8.2: the graphics state is that of the last save, which stays, and nothing is pushed. Without a save it
--- is the job's first one, which this machine doesn't have: there it stops
+-- `grestoreall` of 8.2: the graphics state is that of the last save, which stays, and nothing is pushed. Without a
+-- save it would be the job's first one, which this machine doesn't have, so it stops there
 abbrev pub popped_all : List Snapshot → State → Option State
 popped_all [] s = None
 popped_all (shot ∷ shots) s = Some (record s { graphics = shot.graphics; stacked = [] })
 
--- `save` of 8.2 keeps dictionaries, matrices and graphics, and begins a stack of its own
+-- `save` of 8.2 keeps dictionaries, matrices and graphics, and begins a new stack of graphics states
 abbrev pub saved : State → State
 saved s = record s {
   work = with_operands s.work (Saved s.level ∷ s.work.operands);
@@ -153,16 +157,16 @@ saved s = record s {
   } ∷ s.saves;
 }
 
--- the save of this level, and those before it
+-- the save of this level, and the earlier ones
 abbrev pub save_of : ℕ → List Snapshot → Option (Snapshot × List Snapshot)
 save_of level [] = None
 save_of level (shot ∷ shots) = if shot.level == level then Some (shot, shots) else save_of level shots
 
--- no operand or dictionary on the stack is newer than the save: else invalidrestore
+-- no operand or dictionary on the stack is newer than the save; otherwise invalidrestore
 abbrev pub may_go_back : Snapshot → List Object → Work → Bool
 may_go_back shot os w = all_are_old shot.made shot.level os && all_old shot.made w.dictionaries
 
--- `restore` of 8.2: dictionaries, matrices and graphics are those of the save; saves after it are void
+-- `restore` of 8.2: dictionaries, matrices and graphics are those of the save; later saves are void
 abbrev pub returned : List Object → Snapshot → List Snapshot → State → State
 returned os shot shots s = record s {
   work = record s.work { operands = os; entries = shot.entries; made = shot.made };
@@ -193,11 +197,11 @@ initial g = record { chain = []; path = []; clip = []; settings = fonts g.settin
 abbrev pub reset : State → State
 reset s = record s { graphics = initial s.graphics }
 
--- `showpage` of 8.2: the sheet is printed, and the next one begins, empty and with `initgraphics` done
+-- `showpage` of 8.2: the sheet is printed, and the next one begins, empty and after `initgraphics`
 abbrev pub shipped : State → State
 shipped s = record (reset s) { painted = []; sheets = s.painted ∷ s.sheets }
 
--- what a matrix holds. One that nothing has filled holds no transformation of the machine's: there it stops
+-- what a matrix holds. A matrix that was never filled holds no transformation of the machine, so it stops there
 abbrev pub chain_of : ℕ → List Kept → Option (List Call)
 chain_of number [] = None
 chain_of number (k ∷ ks) = if k.number == number then Some k.chain else chain_of number ks
@@ -205,7 +209,7 @@ chain_of number (k ∷ ks) = if k.number == number then Some k.chain else chain_
 abbrev pub filled_with : ℕ → List Call → State → State
 filled_with number chain s = record s { kept = record { number = number; chain = chain } ∷ s.kept }
 
--- `copy` of 8.2: one matrix holds then what another one does; any other operand is a count of operands to be copied
+-- `copy` of 8.2: then one matrix holds what another one does. Any other operand is a count of operands to be copied
 abbrev pub filled_from : Option (List Call) → ℕ → List Object → State → Option State
 filled_from None number os s = None
 filled_from (Some chain) number os s =
@@ -220,7 +224,7 @@ set_to None os s = None
 set_to (Some chain) os s =
     Some (record s { work = with_operands s.work os; graphics = record s.graphics { chain = chain } })
 
--- `clippath` of 8.2, where nothing has clipped: the outline of the device. Another clip is no path of this machine's
+-- `clippath` of 8.2, if nothing has clipped: the outline of the device. Another clip is not a path of this machine
 abbrev pub outlined : List ℕ → List Clip → State → Option State
 outlined name [] s = Some (record s {
   graphics = record s.graphics {
@@ -229,7 +233,7 @@ outlined name [] s = Some (record s {
 })
 outlined name (c ∷ cs) s = None
 
--- the procedure of `pathforall` for an element, of the four that it takes
+-- the procedure of `pathforall` for an element, one of the four that it takes
 abbrev pub procedure_for : List ℕ → (moves lines curves closes : List Token) → Option (List Token)
 procedure_for name moves lines curves closes =
     if bytes_eq name (codes "moveto") then Some moves
@@ -238,14 +242,14 @@ procedure_for name moves lines curves closes =
     else if bytes_eq name (codes "closepath") then Some closes
     else None
 
--- numbers in the order in which they were written, and these tokens behind them
+-- numbers in the order in which they were written, followed by these tokens
 abbrev pub numbers_before : List Object → List Token → List Token
 numbers_before [] ts = ts
 numbers_before (Plain t ∷ os) ts = numbers_before os (t ∷ ts)
 numbers_before (o ∷ os) ts = ts
 
--- the element stands so in the path, before the next one: a `moveto` behind a `moveto` takes its place, and what isn't
--- moved to behind a `closepath` begins where that ended (4.4.1). There the machine stops
+-- the element is in the path like this, before the next one. A `moveto` after a `moveto` replaces it, and what
+-- follows a `closepath` without a `moveto` begins where that ended (4.4.1). The machine stops there
 abbrev pub may_precede : (name next : List ℕ) → Bool
 may_precede name next =
     if bytes_eq name (codes "moveto") then not (bytes_eq next (codes "moveto"))
@@ -260,8 +264,8 @@ abbrev pub and_before : (List Token → Option (List Token)) → Option (List To
 and_before f None = None
 and_before f (Some ts) = f ts
 
--- `pathforall` of 8.2: for each element of the path its numbers, as they are under the current transformation, and its
--- procedure. They are the numbers that were written if the transformation is the same: else the machine stops
+-- `pathforall` of 8.2: for each element of the path its numbers, under the current transformation, and its
+-- procedure. They are the numbers that were written if the transformation is the same; otherwise the machine stops
 abbrev pub path_tokens :
     List Call → (moves lines curves closes : List Token) → List Segment → (next : List ℕ) → List Token
     → Option (List Token)
@@ -275,7 +279,7 @@ abbrev pub traced : Option (List Token) → List Object → State → Option Sta
 traced None os s = None
 traced (Some ts) os s = Some (record s { left = ts ++ s.left; work = with_operands s.work os })
 
--- `setpagedevice` of 8.2: the sheet is empty, and `initgraphics` done. What it sets of the device isn't noted
+-- `setpagedevice` of 8.2: the sheet is empty, after `initgraphics`. What it sets of the device isn't recorded
 abbrev pub viewed : View → List ℕ → List Object → State → Option State
 viewed TakesMatrix name (Matrix n ∷ os) s = Some (filled_with n s.graphics.chain s)
 viewed SetsMatrix name (Matrix n ∷ os) s = set_to (chain_of n s.kept) os s
@@ -290,8 +294,8 @@ viewed SetsDevice name (Dictionary d ∷ os) s =
 viewed ErasesPage name os s = Some (record s { painted = [] })
 viewed v name os s = None
 
--- a machine that is held may neither print nor reset, nor look at where it is: so what it runs can't tell where it is, nor
--- leave it
+-- a held machine may neither print nor reset, nor look at where it is. So what it runs can neither find out where
+-- it is nor leave
 abbrev pub perform : (held : Bool) → List ℕ → Kind → State → Option State
 perform held name (Computes c) s = worked (computed c s.work) s
 perform held name (Controls c) s = running (controlled c s.work) s
@@ -306,7 +310,8 @@ perform held name Resets s = if held then None else Some (reset s)
 perform held name Copies s = copied s.work.operands s
 perform held name (Looks v) s = if held then None else viewed v name s.work.operands s
 
--- what a name's value does (3.5.5): a procedure is run, an operator performed, an executable name looked up, all else pushed
+-- the effect of a name's value (3.5.5): a procedure is run, an operator performed, an executable name looked up,
+-- all else pushed
 abbrev pub done : Bool → Object → State → Option State
 done held (Procedure ts) s = Some (record s { left = ts ++ s.left })
 done held (Operator name kind) s = perform held name kind s
@@ -317,7 +322,7 @@ abbrev pub meant : Bool → Option Object → State → Option State
 meant held None s = None
 meant held (Some o) s = done held o s
 
--- a name is looked up when it is run (3.3.8); one that was bound is systemdict's
+-- a name is looked up when it is run (3.3.8); a bound name is systemdict's
 abbrev pub act : Bool → Token → State → Option State
 act held (Name name) s = meant held (meaning s.work.dictionaries s.work.entries name) s
 act held (Bound name) s = meant held (system name) s
@@ -337,7 +342,7 @@ abbrev pub and_then : (State → Option State) → Option State → Option State
 and_then f None = None
 and_then f (Some s) = f s
 
--- so many steps
+-- this many steps
 abbrev pub steps : Bool → ℕ → State → Option State
 steps held zero s = Some s
 steps held (suc n) s = and_then (steps held n) (step held s)

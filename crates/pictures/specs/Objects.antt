@@ -1,12 +1,13 @@
--- Tokens and objects of a small PostScript machine. What is cited is the PostScript Language Reference, third edition:
--- 3.2 has the syntax of tokens, 3.3 the types of objects. Numbers are their texts, and so is a number that was calculated
+-- Tokens and objects of a small PostScript machine. The PostScript Language Reference, third edition, is cited: 3.2
+-- has the syntax of tokens, 3.3 the types of objects. Numbers are their texts, also those that were calculated
 -- (Calculations). An array is its elements, which are tokens: it holds numbers, names and strings, and no array.
--- Arrays, procedures and strings are values here (3.3.1 has them shared), since no operator of this machine changes one in
--- place.
+-- Arrays, procedures and strings are values here (in 3.3.1 they are shared), as no operator of this machine changes
+-- one in place.
 use Rattle.std.specs.Prelude.{ℕ, List, Bool}
 
--- a number, an executable and a literal name, a string as it is written and one in hexadecimal digits, the braces of a
--- procedure; a name that `bind` has bound to an operator (3.12.1); and what this machine doesn't know, at which it stops
+-- a number, an executable and a literal name, a string as it is written and one in hexadecimal digits, the braces
+-- of a procedure; a name that `bind` has bound to an operator (3.12.1); and anything else, at which this machine
+-- stops
 pub data Token : Type 0 where
   Number : (text : List ℕ) → Token
   Name : (name : List ℕ) → Token
@@ -18,7 +19,7 @@ pub data Token : Type 0 where
   Bound : (name : List ℕ) → Token
   Unknown : Token
 
--- what two numbers make, and how they are compared
+-- what is calculated from two numbers, and how they are compared
 pub data Calculation : Type 0 where
   Add : Calculation
   Subtract : Calculation
@@ -33,7 +34,7 @@ pub data Comparison : Type 0 where
   Greater : Comparison
   GreaterOrEqual : Comparison
 
--- operators on operands and dictionaries, and those that say what is run next
+-- operators on operands and dictionaries, and those that control what is run next
 pub data Computation : Type 0 where
   Pop : Computation
   Duplicate : Computation
@@ -79,7 +80,7 @@ pub data Control : Type 0 where
   For : Control
   ForAll : Control
 
--- what an operand has to be
+-- what an operand must be
 pub data Want : Type 0 where
   ANumber : Want
   AText : Want
@@ -89,9 +90,9 @@ pub data Want : Type 0 where
   AName : Want
   ATruth : Want
 
--- what a graphics operator does with its operands: a segment of the path (4.4), a matrix of the chain (4.3), a setting
--- (4.2), painting with the path, beside the path (4.5), at the current point (5.1), narrowing the clip (4.4.2), an empty
--- path
+-- what a graphics operator does with its operands: a segment of the path (4.4), a matrix of the chain (4.3), a
+-- setting (4.2), painting with the path, beside the path (4.5) or at the current point (5.1), narrowing the clip
+-- (4.4.2), an empty path
 pub data Effect : Type 0 where
   Segments : Effect
   Transforms : Effect
@@ -102,9 +103,9 @@ pub data Effect : Type 0 where
   Clips : Effect
   Forgets : Effect
 
--- operators that look at where the machine is, or put it back to where it began: transformations that are kept in a
--- matrix and set again (4.3.2), the clip's outline and the path's elements (4.4), the initial matrix and clip (4.2), the
--- page device (6.1.1), the page as it is so far
+-- operators that look at where the machine is, or return it to where it began: transformations that are kept in a
+-- matrix and set again (4.3.2), the clip's outline and the path's elements (4.4), the initial matrix and clip
+-- (4.2), the page device (6.1.1), the page as it is so far
 pub data View : Type 0 where
   TakesMatrix : View
   SetsMatrix : View
@@ -117,7 +118,7 @@ pub data View : Type 0 where
   ErasesPage : View
   CopiesPage : View
 
--- operators by what they do: the graphics stack (4.2), saves (3.7.3), printing a sheet, `initgraphics`, `copy`
+-- operators by effect: the graphics stack (4.2), saves (3.7.3), printing a sheet, `initgraphics`, `copy`
 pub data Kind : Type 0 where
   Computes : Computation → Kind
   Controls : Control → Kind
@@ -132,9 +133,9 @@ pub data Kind : Type 0 where
   Copies : Kind
   Looks : View → Kind
 
--- a token that stands for itself, a boolean, a mark, an array, a procedure, a dictionary by its number, systemdict, a save
--- by its level, a font by what it was made of, an operator (3.3). A matrix that `matrix` made is known by its number, as a
--- dictionary is, since operators fill it in place
+-- a token that is its own value, a boolean, a mark, an array, a procedure, a dictionary by its number, systemdict,
+-- a save by its level, a font by what it was made of, an operator (3.3). A matrix from `matrix` is identified by
+-- number, like a dictionary, because operators fill it in place
 pub data Object : Type 0 where
   Plain : Token → Object
   Truth : Bool → Object

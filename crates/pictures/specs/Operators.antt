@@ -1,6 +1,6 @@
--- What operators do with operands, dictionaries and procedures: all that paints nothing. Each is by its name in 8.2,
--- 'Operator details', of the PostScript Language Reference, third edition; an operand that it doesn't take stops the
--- machine.
+-- What operators that paint nothing do with operands, dictionaries and procedures. Each is by its name in 8.2,
+-- 'Operator details', of the PostScript Language Reference, third edition; an operand that it doesn't take stops
+-- the machine.
 use Rattle.std.specs.List.{list_all, range_with_len}
 use Rattle.std.specs.Char.{is_ascii_digit}
 use Rattle.rules.specs.Numbers.{number_of}
@@ -22,8 +22,8 @@ use Rattle.pictures.specs.Objects.{AMatrix, AFont, AName, ATruth}
 use Rattle.pictures.specs.Calculations.{whole_of, whole_text, calculated, negated, compared, names_compared, turns}
 use Rattle.pictures.specs.Dictionaries.{Entry, meaning, system, entry_of, has, is_lacked, read_only}
 
--- the operands and the dictionaries on their stacks, the topmost first (3.4); all entries; how many dictionaries and
--- matrices have been made
+-- the operands and the dictionaries on their stacks, the topmost first (3.4); all entries; the numbers of
+-- dictionaries and matrices that have been made
 pub record Work : Type 0 where
   pub operands : List Object
   pub dictionaries : List ℕ
@@ -38,7 +38,7 @@ are_numbers [] = true
 are_numbers (Number text ∷ ts) = are_numbers ts
 are_numbers (t ∷ ts) = false
 
--- an array is one of numbers, and a matrix one of six (4.3.3)
+-- an array is one of numbers; a matrix is one of six numbers (4.3.3)
 abbrev pub fits : Want → Object → Bool
 fits ANumber (Plain (Number text)) = true
 fits AText (Plain (Text bytes)) = true
@@ -54,7 +54,7 @@ abbrev pub also : Object → Option (List Object × List Object) → Option (Lis
 also o None = None
 also o (Some (os, rest)) = Some (o ∷ os, rest)
 
--- the operands that are wanted, and those below them
+-- the operands that are taken, and those below them
 abbrev pub taken : List Want → List Object → Option (List Object × List Object)
 taken [] os = Some ([], os)
 taken (w ∷ ws) [] = None
@@ -66,8 +66,8 @@ collected ts (Mark ∷ os) = Some (ts, os)
 collected ts (Plain t ∷ os) = collected (t ∷ ts) os
 collected ts os = None
 
--- `bind`: a name that means an operator is bound to it, whatever it means later. The operator's own name is kept. Inner
--- procedures are bound too
+-- `bind`: a name that means an operator is bound to it, whatever the name means later. The operator's own name is
+-- kept. Inner procedures are bound too
 abbrev pub bound_to : Option Object → Token → Token
 bound_to (Some (Operator name kind)) t = Bound name
 bound_to o t = t
@@ -115,7 +115,7 @@ abbrev pub times : ℕ → List Token → List Token
 times zero ts = []
 times (suc n) ts = ts ++ times n ts
 
--- the answer of a comparison
+-- the result of a comparison
 abbrev pub judged : Option Bool → Work → Option Work
 judged None w = None
 judged (Some test) w = Some (with_operands w (Truth test ∷ w.operands))
@@ -125,21 +125,21 @@ abbrev pub holder : List ℕ → List Entry → List ℕ → Option ℕ
 holder [] es key = None
 holder (d ∷ ds) es key = if has (entry_of d key es) then Some d else holder ds es key
 
--- `where`: that dictionary and true, or systemdict and true, or false; at a name that this machine lacks it stops
+-- `where`: that dictionary and true, or systemdict and true, or false; it stops at a name that this machine lacks
 abbrev pub located : Option ℕ → (in_system lacks : Bool) → Work → Option Work
 located (Some d) in_system lacks w = Some (with_operands w (Truth true ∷ Dictionary d ∷ w.operands))
 located None true lacks w = Some (with_operands w (Truth true ∷ SystemDictionary ∷ w.operands))
 located None false true w = None
 located None false false w = Some (with_operands w (Truth false ∷ w.operands))
 
--- `known` of systemdict: at a name that this machine lacks it stops
+-- `known` of systemdict: it stops at a name that this machine lacks
 abbrev pub known_there : (in_system lacks : Bool) → Option Bool
 known_there true lacks = Some true
 known_there false true = None
 known_there false false = Some false
 
--- what `eq` tells apart whatever the value: a string is equal to the name with its characters, and here a procedure and a
--- matrix are arrays, and a font is a dictionary
+-- what `eq` distinguishes whatever the value. A string is equal to the name with its characters; here a procedure
+-- and a matrix are arrays, and a font is a dictionary
 abbrev pub sort_of : Object → List ℕ
 sort_of (Plain (Number text)) = codes "number"
 sort_of (Plain t) = codes "name or string"
@@ -159,8 +159,8 @@ sameness Equal (Some same) = Some same
 sameness NotEqual (Some same) = Some (not same)
 sameness c x = None
 
--- `eq` and the like, of whole numbers, names and dictionaries; objects of two sorts differ, and others of one sort stop
--- the machine
+-- `eq` and the like, of whole numbers, names and dictionaries; objects of two sorts differ, and others of one sort
+-- stop the machine
 abbrev pub objects_compared : Comparison → (a b : Object) → Option Bool
 objects_compared c (Plain (Number a)) (Plain (Number b)) = compared c a b
 objects_compared c (Plain (Literal a)) (Plain (Literal b)) = names_compared c a b
@@ -176,7 +176,7 @@ element n [] w = None
 element zero (t ∷ ts) w = Some (with_operands w (Plain t ∷ w.operands))
 element (suc n) (t ∷ ts) w = element n ts w
 
--- the elements of a procedure's tokens, within so many braces: a procedure in it is one
+-- the number of elements of a procedure's tokens, inside this many braces: a procedure in it is one element
 abbrev pub elements_in : List Token → (depth : ℕ) → ℕ
 elements_in [] depth = 0
 elements_in (Opens ∷ ts) zero = suc (elements_in ts 1)
@@ -186,13 +186,13 @@ elements_in (Closes ∷ ts) (suc depth) = elements_in ts depth
 elements_in (t ∷ ts) zero = suc (elements_in ts 0)
 elements_in (t ∷ ts) (suc depth) = elements_in ts (suc depth)
 
--- the elements of an array, pushed in their order
+-- the elements of an array, pushed in order
 abbrev pub onto : List Token → List Object → List Object
 onto [] os = os
 onto (t ∷ ts) os = onto ts (Plain t ∷ os)
 
--- the keys and values down to the mark, put into a dictionary as by `def`, the topmost first: so of equal keys the first
--- one that was written counts
+-- the keys and values down to the mark, put into a dictionary as by `def`, the topmost first: so of equal keys the
+-- first one that was written counts
 abbrev pub filled : ℕ → List Object → List Entry → Option (List Entry × List Object)
 filled d (Mark ∷ os) es = Some (es, os)
 filled d (o ∷ Plain (Literal name) ∷ os) es =
@@ -204,7 +204,7 @@ made_of None w = None
 made_of (Some (es, os)) w =
     Some (record w { operands = Dictionary (w.made + 1) ∷ os; entries = es; made = w.made + 1 })
 
--- so many operands are there
+-- there are this many operands
 abbrev pub are_there : List ℕ → List Object → Bool
 are_there text os = list_all is_ascii_digit text && nat_le (number_of text) (length os)
 
@@ -221,7 +221,7 @@ abbrev pub rolling : Option ℤ → ℕ → Bool → List Object → Work → Op
 rolling None n there os w = None
 rolling (Some j) n there os w = if there then Some (with_operands w (rolled n (shift n j) os)) else None
 
--- by the operands, the topmost first
+-- the result for these operands, the topmost first
 abbrev pub computed_on : Computation → List Object → Work → Option Work
 computed_on Pop (o ∷ os) w = Some (with_operands w os)
 computed_on Duplicate (o ∷ os) w = Some (with_operands w (o ∷ o ∷ os))
@@ -318,13 +318,13 @@ controlled_on c os w = None
 abbrev pub controlled : Control → Work → Option (List Token × Work)
 controlled c w = controlled_on c w.operands w
 
--- no dictionary is newer than so many
+-- no dictionary is newer than this many
 abbrev pub all_old : ℕ → List ℕ → Bool
 all_old n [] = true
 all_old n (d ∷ ds) = nat_lt d (n + 1) && all_old n ds
 
--- an operand that was there when so many dictionaries had been made and so many saves were in force: of an array, a
--- procedure, a string or a font that isn't known, and it is taken for newer
+-- an operand that existed when this many dictionaries had been made and this many saves were in force. For an
+-- array, a procedure, a string or a font this isn't known, so it counts as newer
 abbrev pub is_old : (made level : ℕ) → Object → Bool
 is_old made level (Dictionary d) = nat_lt d (made + 1)
 is_old made level (Matrix n) = nat_lt n (made + 1)

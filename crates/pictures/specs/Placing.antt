@@ -1,6 +1,6 @@
--- What it means that a picture is placed: every transformation has some outermost matrices more, and every clip some
--- outermost paths. `concat` puts its matrix innermost (PostScript Language Reference, third edition, 4.3.2), and `clip`
--- narrows what there was (4.4.2): so what stands before all else is outermost.
+-- What it means to place a picture: every transformation gets some outermost matrices, and every clip some
+-- outermost paths. `concat` puts its matrix innermost (PostScript Language Reference, third edition, 4.3.2), and
+-- `clip` narrows the clip (4.4.2): so what comes first is outermost.
 use Rattle.std.specs.Prelude.{List, ◌++◌, map}
 use Rattle.pictures.specs.Objects.{Token, Call}
 use Rattle.pictures.specs.Machine.{Segment, Clip, Graphics, Painting, Snapshot, State}
@@ -34,11 +34,11 @@ picture_at p ps = map (painting_at p) ps
 abbrev pub snapshot_at : Place → Snapshot → Snapshot
 snapshot_at p x = record x { graphics = graphics_at p x.graphics; stacked = map (graphics_at p) x.stacked }
 
--- a place within another: what is placed in the inner one is so placed in the outer one
+-- a place within another: the combined place of what is placed in the inner one and then in the outer one
 abbrev pub within : (outer inner : Place) → Place
 within p q = record { chain = q.chain ++ p.chain; clip = map (clip_at p) q.clip ++ p.clip }
 
--- what is round a machine that is placed: the place, what is left to run behind it, the saves before it, what was
+-- the surroundings of a placed machine: the place, what is left to run after it, the saves before it, what was
 -- painted before it, and the sheets
 pub record Around : Type 0 where
   pub place : Place

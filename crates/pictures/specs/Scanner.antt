@@ -1,6 +1,6 @@
--- How bytes are cut into tokens (PostScript Language Reference, third edition, 3.2), by a reader that takes one byte at
--- a time. What this machine doesn't know, names with two slashes, strings in base 85, numbers with a radix and binary
--- tokens (3.14), is a token of its own, at which it stops; and so are errors of syntax.
+-- How bytes are cut into tokens (PostScript Language Reference, third edition, 3.2), by a reader that takes one
+-- byte at a time. Beyond this machine are names with two slashes, strings in base 85, numbers with a radix, binary
+-- tokens (3.14) and errors of syntax. Each is a token of its own, at which it stops.
 use Rattle.std.specs.Prelude.{◌≡◌, ℕ, zero, suc, List, [], ◌∷◌, ◌++◌, reverse, Bool, true, false, ◌&&◌, ◌||◌, ◌==◌}
 use Rattle.std.specs.Prelude.{if◌then◌else◌, nat_lt}
 use Rattle.std.specs.Char.{is_ascii_digit}
@@ -46,9 +46,9 @@ opening_brace = 123
 abbrev pub closing_brace : ℕ
 closing_brace = 125
 
--- what the reader is in: nothing, a comment, a word, a literal name, a string so many parentheses deep, a string behind
--- a backslash, an angle bracket, hexadecimal digits, a closing angle bracket. What was read so far stands with it, the
--- latest byte first
+-- what the reader is in: nothing, a comment, a word, a literal name, a string this many parentheses deep, a string
+-- after a backslash, an angle bracket, hexadecimal digits, a closing angle bracket. It has what was read so far,
+-- the latest byte first
 pub data Reading : Type 0 where
   Between : Reading
   InComment : Reading
@@ -123,7 +123,7 @@ decimals_from some [] = some
 decimals_from some (b ∷ bs) =
     if begins_exponent b then some && is_whole bs else is_ascii_digit b && decimals_from true bs
 
--- digits with a dot among them at most, one digit at least, and an exponent or none
+-- digits, at least one, with at most one dot among them, and an exponent or none
 abbrev pub digits_from : (some : Bool) → List ℕ → Bool
 digits_from some [] = some
 digits_from some (b ∷ bs) =
@@ -144,7 +144,7 @@ has_radix some (b ∷ bs) = if b == number_sign then some else is_ascii_digit b 
 abbrev pub word : List ℕ → Token
 word text = if is_number text then Number text else if has_radix false text then Unknown else Name text
 
--- the token that ends
+-- the token that is complete
 abbrev pub ended : Reading → List Token
 ended Between = []
 ended InComment = []
@@ -159,7 +159,7 @@ ended InClosingAngle = Unknown ∷ []
 abbrev pub behind : List Token → List Token × Reading → List Token × Reading
 behind ts (us, r) = (ts ++ us, r)
 
--- a byte that stands between tokens: what it is by itself, and what the reader is in behind it
+-- a byte between tokens: what it is by itself, and what the reader is in after it
 abbrev pub begun : Class → ℕ → List Token × Reading
 begun White b = ([], Between)
 begun Percent b = ([], InComment)
@@ -173,12 +173,12 @@ begun Bracket b = (Name (b ∷ []) ∷ [], Between)
 begun NotKnown b = (Unknown ∷ [], Between)
 begun Regular b = ([], InWord (b ∷ []))
 
--- a byte behind a word's first ones
+-- a byte after the first ones of a word
 abbrev pub in_word : Class → List ℕ → ℕ → List Token × Reading
 in_word Regular bs b = ([], InWord (b ∷ bs))
 in_word class bs b = behind (word (reverse bs) ∷ []) (begun class b)
 
--- behind a slash
+-- after a slash
 abbrev pub in_literal : Class → List ℕ → ℕ → List Token × Reading
 in_literal Regular bs b = ([], InLiteral (b ∷ bs))
 in_literal Slash [] b = (Unknown ∷ [], InLiteral [])
@@ -199,7 +199,7 @@ in_text depth bs b =
 abbrev pub is_hexadecimal : ℕ → Bool
 is_hexadecimal b = is_ascii_digit b || (nat_lt 64 b && nat_lt b 71) || (nat_lt 96 b && nat_lt b 103)
 
--- between angle brackets; white space says nothing there
+-- between angle brackets; white space has no meaning there
 abbrev pub in_hexadecimal : List ℕ → ℕ → List Token × Reading
 in_hexadecimal bs b =
     if is_hexadecimal b then ([], InHexadecimal (b ∷ bs))
@@ -207,17 +207,17 @@ in_hexadecimal bs b =
     else if b == greater_than then (Hexadecimal (reverse bs) ∷ [], Between)
     else (Unknown ∷ [], Between)
 
--- behind an angle bracket: a second one makes a name, `<<`; else it is a string
+-- after an angle bracket: a second one makes a name, `<<`; otherwise it is a string
 abbrev pub in_angle : ℕ → List Token × Reading
 in_angle b = if b == less_than then (Name (less_than ∷ less_than ∷ []) ∷ [], Between) else in_hexadecimal [] b
 
--- behind a closing one, which has no string to close: `>>`, or an error
+-- after a closing one, which has no string to close: `>>`, or an error
 abbrev pub in_closing_angle : ℕ → List Token × Reading
 in_closing_angle b =
     if b == greater_than then (Name (greater_than ∷ greater_than ∷ []) ∷ [], Between)
     else behind (Unknown ∷ []) (begun (class_of b) b)
 
--- the next byte: the tokens that it ends, and what the reader is in then
+-- the next byte: the tokens that it completes, and what the reader is in then
 abbrev pub next : Reading → ℕ → List Token × Reading
 next Between b = begun (class_of b) b
 next InComment b = ([], if ends_comment b then Between else InComment)
@@ -241,6 +241,6 @@ tokens text = (scan_from Between text).0 ++ ended (scan_from Between text).1
 abbrev pub IsComplete : List ℕ → Type 0
 IsComplete text = (scan_from Between text).1 ≡ Between
 
--- the tokens of a complete text and another behind it are those of the one and those of the other: a law
+-- a law: the tokens of a complete text followed by another are those of the first and then those of the second
 abbrev pub TokensJoin : Type 0
 TokensJoin = (a b : List ℕ) → IsComplete a → tokens (a ++ b) ≡ tokens a ++ tokens b

@@ -1,5 +1,5 @@
--- The text of a sheet as tokens, and the picture that is to come of it. Its operators are of the PostScript Language
--- Reference, third edition, 8.2: what a page changes is saved and restored, its `showpage` is a procedure that does
+-- The text of a sheet as tokens, and the picture that it should give. Its operators are of the PostScript Language
+-- Reference, third edition, 8.2. A page's changes are saved and restored, its `showpage` is a procedure that does
 -- nothing, and `concat` and `clip` come before all that it does.
 use Rattle.std.specs.Prelude.{◌≡◌, ℕ, ◌+◌, List, [], ◌∷◌, ◌++◌, flat_map, Bool, true, false, ◌||◌, Option, Some, None}
 use Rattle.std.specs.Prelude.{codes, bytes_eq}
@@ -26,7 +26,7 @@ pub record Numbers : Type 0 where
 abbrev pub zero_text : List ℕ
 zero_text = codes "0"
 
--- a path round the paper
+-- a path around the paper
 abbrev pub edge_tokens : Numbers → List Token
 edge_tokens n =
     Name (codes "newpath") ∷ Number zero_text ∷ Number zero_text ∷ Name (codes "moveto")
@@ -81,15 +81,15 @@ point name x y chain = record {
   settings = [];
 }
 
--- round the paper
+-- around the paper
 abbrev pub edge : Numbers → List Call → List Segment
 edge n chain =
     record { call = record { name = codes "closepath"; operands = [] }; chain = chain; settings = [] }
     ∷ point (codes "lineto") zero_text n.height chain ∷ point (codes "lineto") n.width n.height chain
     ∷ point (codes "lineto") n.width zero_text chain ∷ point (codes "moveto") zero_text zero_text chain ∷ []
 
--- where a page is placed that is placed by these numbers, if the graphics state was this: its matrix is the outermost
--- but for those that were there, and its paper too
+-- the place of a page that is placed by these numbers, if the graphics state was this. Its matrix is outermost
+-- within those that were there, and so is its paper
 abbrev pub place_in : Graphics → Numbers → Place
 place_in g n = record {
   chain = matrix_of n ∷ g.chain;
@@ -114,12 +114,13 @@ border_in g n (Some width) = record {
 abbrev pub in_userdict : List ℕ → Object → Entry
 in_userdict name o = record { dictionary = userdict; key = name; value = o }
 
--- what the sheet's text has put before a page
+-- what the sheet's text has defined before a page
 abbrev pub entries_before : State → List Entry
 entries_before s =
     in_userdict (codes "showpage") (Procedure []) ∷ in_userdict (codes "ImposeSave") (Saved s.level) ∷ s.work.entries
 
--- a page by itself: with the names that the sheet's text puts, no place, and nothing below it that it could get back to
+-- a page by itself: with the names that the sheet's text defines, no place, and nothing below it to which it could
+-- return
 abbrev pub alone : State → List Token → State
 alone s body = record {
   left = body;
@@ -133,7 +134,7 @@ alone s body = record {
   sheets = [];
 }
 
--- it has run, and left the stacks as they were; a save that is still in force is none of the sheet's own level
+-- it has run, and left the stacks as they were; a save that is still in force isn't of the sheet's own level
 pub record LeavesAsItWas (s t : State) : Type 0 where
   pub nothing_left : t.left ≡ []
   pub operands : t.work.operands ≡ s.work.operands
@@ -142,20 +143,20 @@ pub record LeavesAsItWas (s t : State) : Type 0 where
   pub save_name : meaning t.work.dictionaries t.work.entries (codes "ImposeSave") ≡ Some (Saved s.level)
   pub restore_name : meaning t.work.dictionaries t.work.entries (codes "restore") ≡ system (codes "restore")
 
--- from a state behind the preamble the page paints this by itself
+-- from a state after the preamble the page paints this by itself
 pub record PaintsAlone (s : State) (body : List Token) (picture : List Painting) : Type 0 where
   pub end : State
   pub run : Runs true (alone s body) end
   pub leaves : LeavesAsItWas s end
   pub picture_is : end.painted ≡ picture
 
--- The state behind the preamble.
+-- The state after the preamble.
 
 abbrev pub among : List ℕ → List (List ℕ) → Bool
 among name [] = false
 among name (other ∷ others) = bytes_eq name other || among name others
 
--- the operators that the sheet's text uses, but for showpage
+-- the operators that the sheet's text uses, except showpage
 abbrev pub placing_names : List (List ℕ)
 placing_names =
     codes "userdict" ∷ codes "save" ∷ codes "put" ∷ codes "[" ∷ codes "]" ∷ codes "concat" ∷ codes "newpath"
@@ -165,8 +166,8 @@ placing_names =
 abbrev pub sheet_names : List (List ℕ)
 sheet_names = codes "showpage" ∷ placing_names
 
--- the names that the sheet's text uses mean the operators; nothing on the stacks is newer than the state; and the
--- graphics state is what `initgraphics` makes of it, since the first sheet's `showpage` does so
+-- the names that the sheet's text uses mean the operators; and nothing on the stacks is newer than the state. The
+-- graphics state is already as after `initgraphics`, which the first sheet's `showpage` executes
 pub record IsGround (s : State) : Type 0 where
   pub names :
       (name : List ℕ) → among name sheet_names ≡ true → meaning s.work.dictionaries s.work.entries name ≡ system name
@@ -185,15 +186,19 @@ abbrev pub AllPaint : State → List Shown → Type 0
 AllPaint s [] = Unit {0}
 AllPaint s (x ∷ xs) = PaintsAlone s x.placed.body x.picture × AllPaint s xs
 
--- a page on its sheet: its own picture placed, behind its border; the latest painting first
+-- a page on its sheet: its own picture placed, after its border; the latest painting first
 abbrev pub page_picture : Graphics → Shown → List Painting
 page_picture g x =
     picture_at (place_in g x.placed.numbers) x.picture ++ border_in g x.placed.numbers x.placed.numbers.border
 
--- a sheet: the pictures of its pages in their order, the latest painting first
+-- a sheet: the pictures of its pages in order, the latest painting first
 abbrev pub sheet_picture : Graphics → List Shown → List Painting → List Painting
 sheet_picture g [] before = before
 sheet_picture g (x ∷ xs) before = sheet_picture g xs (page_picture g x ++ before)
 
 abbrev pub run_of : List Token → State → State
 run_of ts s = record s { left = ts }
+
+-- these tokens too, after those that are left
+abbrev pub with_more : List Token → State → State
+with_more more s = record s { left = s.left ++ more }

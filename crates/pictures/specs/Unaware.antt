@@ -1,4 +1,4 @@
--- A page that the document itself prints, and that asks for none of the names that the sheet's text puts.
+-- A page that the document itself prints, and that uses none of the names that the sheet's text defines.
 use Rattle.std.specs.Prelude.{◌≡◌, ℕ, zero, suc, List, [], ◌∷◌, Bool, true, false, not, ◌&&◌, ◌||◌, ◌==◌, if◌then◌else◌}
 use Rattle.std.specs.Prelude.{nat_lt, Option, Some, None, Ok, codes}
 use Rattle.rules.specs.Specification.{Spec}
@@ -15,7 +15,7 @@ use Rattle.pictures.specs.Dictionaries.{Entry, userdict, meaning, system, entry_
 use Rattle.pictures.specs.Machine.{State, Painting, Snapshot, shipped, step, and_then, Runs}
 use Rattle.pictures.specs.Sheets.{among, run_of, IsGround, PaintsAlone}
 
--- the names that the sheet's text puts
+-- the names that the sheet's text defines
 abbrev pub put_names : List (List ℕ)
 put_names = codes "showpage" ∷ codes "ImposeSave" ∷ []
 
@@ -34,7 +34,7 @@ asked_by (Some (Operator name (Computes Get))) (Plain (Literal k) ∷ os) = k �
 asked_by (Some (Operator name (Computes Bind))) (Procedure ts ∷ os) = names_in ts
 asked_by o os = []
 
--- the names whose meaning the next step asks for
+-- the names whose meaning the next step needs
 abbrev pub asked_on : List Token → State → List (List ℕ)
 asked_on [] s = []
 asked_on (Name name ∷ ts) s = name ∷ asked_by (meaning s.work.dictionaries s.work.entries name) s.work.operands
@@ -45,7 +45,7 @@ abbrev pub none_among : List (List ℕ) → List (List ℕ) → Bool
 none_among [] names = true
 none_among (k ∷ ks) names = not (among k names) && none_among ks names
 
--- one step of a held machine that asks for none of these names
+-- one step of a held machine that uses none of these names
 abbrev pub unaware_step : State → Option State
 unaware_step s = if none_among (asked_on s.left s) put_names then step true s else None
 
@@ -74,8 +74,8 @@ abbrev pub no_saved_in : List Entry → Bool
 no_saved_in [] = true
 no_saved_in (e ∷ es) = not (is_saved e.value) && no_saved_in es
 
--- behind the preamble nothing is saved, pushed or painted; and userdict is on the stack, without the names that the
--- sheet's text puts
+-- after the preamble nothing is saved, pushed or painted; and userdict is on the stack, without the names that the
+-- sheet's text defines
 pub record IsPlainGround (s : State) : Type 0 where
   pub ground : IsGround s
   pub stacked : s.stacked ≡ []
@@ -87,14 +87,14 @@ pub record IsPlainGround (s : State) : Type 0 where
   pub no_showpage : entry_of userdict (codes "showpage") s.work.entries ≡ None
   pub no_save : entry_of userdict (codes "ImposeSave") s.work.entries ≡ None
 
--- each of these saves was made when so many were in force, or later
+-- each of these saves was made when this many were in force, or later
 abbrev pub none_before : ℕ → List Snapshot → Bool
 none_before level [] = true
 none_before level (shot ∷ shots) = not (nat_lt shot.level level) && none_before level shots
 
--- What stands behind a page's showpage: `end`, `restore`, or nothing at all. Once the sheet is printed, it runs to its end,
--- and paints and prints nothing. And if showpage does nothing, it paints nothing either, and then the stacks are as they
--- were, and the page's own saves alone are in force
+-- What follows a page's showpage: `end`, `restore`, or nothing. After the sheet is printed, it runs to its end, and
+-- paints and prints nothing. If showpage does nothing, it paints nothing either; then the stacks are as they were,
+-- and only the page's own saves are in force
 pub record EndsThePage (s at : State) (after : List Token) : Type 0 where
   pub printed : State
   pub printed_run : Runs false (shipped (run_of after at)) printed
@@ -112,7 +112,7 @@ pub record EndsThePage (s at : State) (after : List Token) : Type 0 where
   pub save_name : absent placed.work.dictionaries placed.work.entries (codes "ImposeSave") ≡ true
   pub restore_name : meaning placed.work.dictionaries placed.work.entries (codes "restore") ≡ system (codes "restore")
 
--- behind the preamble the page runs up to its showpage, which is found by its name; what stands behind that ends the page
+-- after the preamble the page runs up to its showpage, which is found by its name; what follows that ends the page
 pub record PrintsItself (s : State) (body : List Token) (picture : List Painting) : Type 0 where
   pub at : State
   pub count : ℕ
@@ -124,22 +124,22 @@ pub record PrintsItself (s : State) (body : List Token) (picture : List Painting
   pub picture_is : at.painted ≡ picture
   pub ends : EndsThePage s at after
 
--- What a page prints of itself, behind the preamble, is what it paints by itself: a law. So what a sheet has of it is
--- what the document printed, placed
+-- A law: what a page prints by itself, after the preamble, is what it paints by itself. So a sheet has what the
+-- document printed, placed
 abbrev pub OwnPicture : Type 0
 OwnPicture =
     (s : State) (body : List Token) (picture : List Painting) → IsPlainGround s → PrintsItself s body picture
     → PrintsSheet s body picture × PaintsAlone s body picture
 
--- the page, as the document has it, prints this of itself; its text ends between tokens, and so does what stands before
--- each of its lines that is dropped
+-- the page, as the document has it, prints this by itself; its text ends between tokens, and so does the text
+-- before each dropped line
 abbrev pub PagePrints : List NestedUnit → State → ℕ → List Painting → Type 0
 PagePrints us s p picture =
     IsComplete (page_of us p) × (page_comments_apart (page_of us p) ≡ true)
     × PrintsItself s (tokens (page_of us p)) picture
 
--- Of an accepted document: if a machine runs the preamble, and each page prints a picture of itself, then it prints of
--- the output, sheet by sheet, those pictures, placed: a law. Preamble and pages are the document's own
+-- A law about an accepted document. If a machine runs the preamble, and each page prints a picture by itself, then,
+-- given the output, it prints these pictures, placed, sheet by sheet. Preamble and pages are the document's own
 abbrev pub SheetsShowThePages : Type 0
 SheetsShowThePages =
     (frame : Frame) (sides : Option ℕ) (spec : Spec) (text : List ℕ) (us : List NestedUnit) (picture : ℕ → List Painting)
@@ -149,8 +149,8 @@ SheetsShowThePages =
     → OnSheets (λ p. PagePrints us s p (picture p)) (all_sheets sides spec us)
     → IsPrinted frame sides spec us picture s
 
--- Of an accepted document whose pages are independent: the document prints a picture for each page, and its output shows
--- these, sheet by sheet, placed: a law
+-- A law about an accepted document whose pages are independent: the document prints a picture for each page, and
+-- its output shows these, sheet by sheet, placed
 abbrev pub SheetsShowTheDocument : Type 0
 SheetsShowTheDocument =
     (frame : Frame) (sides : Option ℕ) (spec : Spec) (text : List ℕ) (us : List NestedUnit) (picture : ℕ → List Painting)

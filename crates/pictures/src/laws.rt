@@ -23,17 +23,17 @@ pub fn sheets_are_printed()
     ensures { SheetsArePrinted }
 {}
 
-/// The tokens of a complete text and another behind it are those of the one and those of the other.
+/// The tokens of a complete text followed by another are those of the first and then those of the second.
 pub fn tokens_join()
     ensures { TokensJoin }
 {}
 
-/// What stands before a placed page is cut into the tokens of the sheet's text.
+/// What comes before a placed page is cut into the tokens of the sheet's text.
 pub fn opening_is_cut()
     ensures { OpeningIsCut }
 {}
 
-/// A machine prints of an output the sheets in order, each with the pictures of its pages, placed.
+/// Given an output, a machine prints the sheets in order, each with the pictures of its pages, placed.
 pub fn output_is_printed()
     ensures { OutputIsPrinted }
 {}
@@ -48,32 +48,32 @@ pub fn points_are_put()
     ensures { PointsArePut }
 {}
 
-/// What a page prints of itself, behind the preamble, is what it paints by itself.
+/// What a page prints by itself, after the preamble, is what it paints by itself.
 pub fn own_picture()
     ensures { OwnPicture }
 {}
 
-/// A machine prints of an output, sheet by sheet, what the document's own pages print, placed.
+/// Given an output, a machine prints, sheet by sheet, what the document's own pages print, placed.
 pub fn sheets_show_the_pages()
     ensures { SheetsShowThePages }
 {}
 
-/// A document prints, page after page, what each page prints behind the preamble, if its pages are independent.
+/// A document prints, page after page, what each page prints after the preamble, if its pages are independent.
 pub fn pages_are_printed()
     ensures { PagesArePrinted }
 {}
 
-/// And a machine prints of an output, sheet by sheet, what the document has printed, placed.
+/// Then, given an output, a machine prints, sheet by sheet, what the document has printed, placed.
 pub fn sheets_show_the_document()
     ensures { SheetsShowTheDocument }
 {}
 
-/// A picture that is placed, and placed again, is placed once, in the one place within the other.
+/// A picture that is placed and placed again is placed once, in the combined place.
 pub fn places_compose()
     ensures { PlacesCompose }
 {}
 
-/// The tokens of what is kept of a page are the page's, if each line that is dropped begins between tokens.
+/// The tokens of what is kept of a page are the page's, if each dropped line begins between tokens.
 pub fn kept_runs_alike()
     ensures { KeptRunsAlike }
 {}
@@ -83,7 +83,8 @@ pub fn preamble_runs_alike()
     ensures { PreambleRunsAlike }
 {}
 
-/// A machine prints of made sheets, written with no added lines but comments, what the document's own pages print, placed.
+/// Given made sheets, written without added lines other than comments, a machine prints what the document's own
+/// pages print, placed.
 pub fn made_sheets_show_the_pages()
     ensures { MadeSheetsShowThePages }
 {}

@@ -69,7 +69,7 @@ pub opening_joined :
     → v3 ++ border ≡ o ++ (placing ++ ((edge ++ codes " clip newpath") ++ 10 ∷ []) ++ border)
 opening_joined o placing edge border v1 v2 v3 e1 e2 e3 = rw (e3, e2, e1) (simp append_assoc)
 
--- ---- the parts of a text, but for the last, are no longer than it
+-- ---- each part of a text but the last is no longer than the text
 pub matrix_fits :
     (a b c d x y : List ℕ) → let all : List ℕ = codes "[" ++ spaced (a ∷ b ∷ c ∷ d ∷ x ∷ y ∷ []) ++ codes "]" in
     let scales : List ℕ = codes "[" ++ a ++ codes " " ++ b ++ codes " " ++ c ++ codes " " ++ d in

@@ -1,4 +1,4 @@
--- Appends one after another keep what stood there at the start.
+-- Appends one after another keep what was there at the start.
 use Rattle.std.proofs.Common.{ℕ, List, ◌≡◌, ◌+◌, ◌<◌, ◌≤◌, ◌++◌, length, vec_len, vec_capacity, ◌∙◌, ap, append_assoc, arith}
 use Rattle.std.specs.Prelude.{Result, Ok, Err, OnErr}
 use Rattle.std.proofs.lemmas.List.{length-append}
@@ -13,7 +13,7 @@ keeps_more old middle new first second = record {
   room = let f = first.room in let s = second.room in omega arith;
 }
 
--- a last part for which there is no room has none behind the parts before it either
+-- a last part for which there is no room has none after the parts before it either
 pub full_behind : (old middle : Vec ℕ Global) (last all : List ℕ) → Keeps old middle → middle.items ++ last ≡ old.items ++ all
     → vec_capacity middle < vec_len middle + length last → vec_capacity old < vec_len old + length all
 full_behind old middle last all kept joined full =
@@ -48,7 +48,7 @@ grown_more old middle new most part before kept is = record {
       omega arith;
 }
 
--- what holds holds if there is an error
+-- what holds whenever there is an error
 pub on_err : {T E : Type 0} {P : Type 0} (r : Result T E) → P → OnErr r P
 on_err (Ok x) p = tt
 on_err (Err e) p = p
@@ -60,7 +60,7 @@ pub full_later : (old middle : Vec ℕ Global) (most part all : ℕ) → Grown o
     → vec_capacity old < vec_len old + all
 full_later old middle most part all before full fits = let room = before.room in let len = before.len in omega arith
 
--- the parts of a text, but for the last, are no longer than it
+-- each part of a text but the last is no longer than the text
 pub fit_three : (all a b c : List ℕ) → (a ++ b) ++ c ≡ all → (length a ≤ length all) × (length a + length b ≤ length all)
 fit_three all a b c is =
     let whole : length ((a ++ b) ++ c) ≡ length all = ap length is in

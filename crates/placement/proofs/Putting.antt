@@ -1,4 +1,4 @@
--- What puts a page by the matrix of an item puts it where the item does.
+-- Putting a page by the matrix of an item puts it where the item does.
 use Rattle.std.proofs.Common.{◌≡◌, ◌∙◌, ap}
 use Rattle.rules.specs.Papers.{Paper}
 use Rattle.rules.specs.Specification.{Item}

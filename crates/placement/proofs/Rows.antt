@@ -1,4 +1,4 @@
--- What is read of a printed matrix.
+-- What is read from a printed matrix.
 use Rattle.std.proofs.Common.{arith, ◌≡◌, ◌≢◌, ℕ, ◌*◌, ◌^◌, ◌/◌, ◌<◌, ◌≤◌, List, [], ◌∷◌, ◌++◌, refl, sym, ap, subst, ◌∙◌, length, append-nil}
 use Rattle.std.specs.Prelude.{ℤ, pos, negsuc, nat_abs, ◌*ℤ◌, codes}
 use Rattle.std.proofs.lemmas.Int.{ints}
@@ -10,7 +10,7 @@ use Rattle.rules.proofs.Printed.{fraction_is, sign_is, printed_is_number, printe
 use Rattle.rules.proofs.OneNumber.{one_number}
 use Rattle.placement.specs.Printed.{nearest, PrintedIsRow, OneRow}
 
--- five decimals at most, in 10^-9
+-- at most five decimals, in 10^-9
 in_nine : (ds : List ℕ) → length ds ≤ 5 → decimals_value 9 ds ≡ decimals_value 5 ds * 10_000
 in_nine [] h = refl
 in_nine (a ∷ []) h = omega arith
@@ -90,7 +90,7 @@ printed_row m fits = (
 same_tail : (b c : ℕ) (xs ys : List ℕ) → b ∷ xs ≡ c ∷ ys → xs ≡ ys
 same_tail b c xs ys e = cc
 
--- numbers with a space between them are read in one way at most
+-- numbers with a space between them are read in at most one way
 one_joined : (text : List ℕ) (vs ws : List ℤ) → IsJoined space IsNumber text vs → IsJoined space IsNumber text ws → vs ≡ ws
 one_joined text [] ws h k = absurd h
 one_joined text (v ∷ vs) [] h k = absurd k

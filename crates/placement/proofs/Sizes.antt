@@ -1,4 +1,4 @@
--- What is added up for a coordinate fits in 128 bits.
+-- The sums for a coordinate fit in 128 bits.
 use Rattle.std.proofs.Common.{arith, ℕ, ◌+◌, ◌*◌, ◌^◌, ◌≤◌, FitsSigned, ℤ, pos, nat_abs, ◌+ℤ◌, ◌*ℤ◌}
 use Rattle.std.proofs.Common.{sym, subst, w64, w32}
 use Rattle.std.proofs.lemmas.Int.{ints, unsigned_abs-mul}

@@ -1,4 +1,4 @@
--- What the matrices of the code stand for, and the points that they send pages to.
+-- The meaning of the code's matrices, and the points to which they send those of a page.
 use Rattle.std.specs.Prelude.{ℤ}
 use Rattle.rules.specs.Placement as rules
 use Rattle.placement.specs.declared.matrix.Matrix.{Matrix}

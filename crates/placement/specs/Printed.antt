@@ -1,4 +1,4 @@
--- What is read of a printed matrix, and how far that is from the matrix.
+-- What is read from a printed matrix, and how far that is from the matrix.
 use Rattle.std.specs.Prelude.{◌≡◌, ℕ, ◌≤◌, ℤ, pos, nat_abs, ◌*ℤ◌, ◌-ℤ◌, List, [], ◌∷◌, ◌++◌, codes}
 use Rattle.rules.specs.Bytes.{space}
 use Rattle.rules.specs.Numbers.{IsNumber, rounded}
@@ -28,7 +28,7 @@ abbrev pub PrintedIsRow : Type 0
 PrintedIsRow = (m : Matrix) → FitsMatrix m
     → IsRow (matrix_text m) (m.a ∷ m.b ∷ m.c ∷ m.d ∷ nearest m.tx ∷ nearest m.ty ∷ [])
 
--- a text is one row of numbers at most
+-- a text is at most one row of numbers
 abbrev pub OneRow : Type 0
 OneRow = (text : List ℕ) (numbers others : List ℤ) → IsRow text numbers → IsRow text others → numbers ≡ others
 
@@ -36,12 +36,11 @@ OneRow = (text : List ℕ) (numbers others : List ℤ) → IsRow text numbers �
 abbrev pub printed_matrix : Matrix → Matrix
 printed_matrix m = record m { tx = pos 127 *ℤ nearest m.tx; ty = pos 127 *ℤ nearest m.ty }
 
--- no farther apart than so many grains, to the side and in height
+-- at most this many grains apart, across and in height
 pub record IsWithin (most : ℕ) (p q : Point) : Type 0 where
   pub x : nat_abs (p.x -ℤ q.x) ≤ most
   pub y : nat_abs (p.y -ℤ q.y) ≤ most
 
--- the printed matrix sends each point to within 635,000 grains, which are half of 10^-5 of a point, of where the matrix
--- does
+-- the printed matrix sends each point to within 635,000 grains (half of 10^-5 of a point) of where the matrix does
 abbrev pub PrintedIsNear : Type 0
 PrintedIsNear = (m : Matrix) (p : Point) → IsWithin 635_000 (applied (printed_matrix m) p) (applied m p)

@@ -1,4 +1,4 @@
-//! Where the page of an item stands on its sheet: the matrix that puts it there, and the texts before and behind it.
+//! Where the page of an item is on its sheet: the matrix that puts it there, and the texts before and after it.
 #![tactic(auto)]
 
 pub mod laws;

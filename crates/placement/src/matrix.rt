@@ -21,7 +21,7 @@ pub struct Matrix {
 impl Matrix {
     ghost use Rattle.placement.specs.Matrices.{numbers_of, point};
 
-    /// Where the matrix sends a point in whole points, in grains.
+    /// Where the matrix sends a whole point, in grains.
     pub fn apply(&self, x: i32, y: i32) -> (i128, i128)
         ensures sent { point result.0 result.1 ≡ applied (numbers_of self.now) (point x y) }
 

@@ -1,4 +1,4 @@
-//! The texts round a placed page. Each is appended whole or not at all.
+//! The texts around a placed page. Each is appended whole or not at all.
 ghost use Rattle.std.specs.Prelude.{◌≡◌, ◌+◌, ◌<◌, ◌≤◌, ◌++◌, length, OnOk, OnErr, vec_len, vec_capacity, take};
 ghost use Rattle.rules.specs.Numbers.{scale_text, points_text};
 ghost use Rattle.rules.specs.Placement.{matrix_text as text_of};
@@ -27,9 +27,9 @@ pub fn matrix_text(matrix: &Matrix, out: &mut Vec<u8>) -> Result<(), AllocError>
     undo_if_refused(appended, len, out)
 }
 
-/// Appends what stands before a page placed by this item: its `save`, a `showpage` that does nothing, the matrix, a
-/// clip to the paper, which is placed with the page, and a line that draws a border of this width round it, if one is
-/// asked for. If memory is refused, nothing is appended.
+/// Appends what comes before a page placed by this item: its `save`, a `showpage` that does nothing, the matrix,
+/// and a clip to the paper, which is placed with the page. If a border is asked for, a line that draws one of this
+/// width follows. If memory is refused, nothing is appended.
 pub fn opening_text(
     item: &Item,
     paper: &Paper,
@@ -48,7 +48,7 @@ pub fn opening_text(
     undo_if_refused(appended, len, out)
 }
 
-/// Appends what stands behind a placed page: the `restore` of its `save`. If memory is refused, nothing is appended.
+/// Appends what comes after a placed page: the `restore` of its `save`. If memory is refused, nothing is appended.
 pub fn closing_text(out: &mut Vec<u8>) -> Result<(), AllocError>
     ensures appended { OnOk result (out.new.items ≡ out.old.items ++ closing) }
     ensures unchanged { OnErr result (out.new.items ≡ out.old.items) }
@@ -58,7 +58,7 @@ pub fn closing_text(out: &mut Vec<u8>) -> Result<(), AllocError>
     out.extend_from_slice(b"ImposeSave restore\n")
 }
 
-/// Takes back what stands past this length, if an append was refused.
+/// Removes what is after this length, if an append was refused.
 fn undo_if_refused(
     appended: Result<(), AllocError>,
     len: usize,
@@ -152,7 +152,7 @@ fn append_border(paper: &Paper, border: Option<Grains>, out: &mut Vec<u8>) -> Re
     append_text(b" stroke grestore\n", out)
 }
 
-/// The path round the paper.
+/// The path around the paper.
 #[tactic(auto, using(crate::proofs::Keeping::keeps_more))]
 fn append_edge(paper: &Paper, out: &mut Vec<u8>) -> Result<(), AllocError>
     ensures appended { OnOk result (out.new.items ≡ out.old.items ++ edge_text paper.now) }
@@ -167,7 +167,7 @@ fn append_edge(paper: &Paper, out: &mut Vec<u8>) -> Result<(), AllocError>
     append_text(b" lineto closepath", out)
 }
 
-/// A text and a number in full behind it.
+/// A text followed by a number in full.
 #[tactic(auto, using(crate::proofs::Keeping::keeps_more))]
 fn append_scale(text: &[u8], scale: Number, out: &mut Vec<u8>) -> Result<(), AllocError>
     ensures appended { OnOk result (out.new.items ≡ out.old.items ++ (text.now ++ scale_text scale)) }
@@ -178,7 +178,7 @@ fn append_scale(text: &[u8], scale: Number, out: &mut Vec<u8>) -> Result<(), All
     print_scale(scale, out)
 }
 
-/// A text and a length in points behind it.
+/// A text followed by a length in points.
 #[tactic(auto, using(crate::proofs::Keeping::keeps_more))]
 fn append_points(text: &[u8], grains: Grains, out: &mut Vec<u8>) -> Result<(), AllocError>
     ensures appended { OnOk result (out.new.items ≡ out.old.items ++ (text.now ++ points_text grains)) }

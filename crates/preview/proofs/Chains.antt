@@ -1,4 +1,4 @@
--- A text that is appended behind another.
+-- A text that is appended to another.
 use Rattle.std.proofs.Common.{ℕ, List, ◌++◌, ◌≡◌, ap, ◌∙◌, append_assoc}
 
 pub joined : (o a b one two : List ℕ) → one ≡ o ++ a → two ≡ one ++ b → two ≡ o ++ (a ++ b)

@@ -1,4 +1,4 @@
--- Each place stands in the row and the column that the order gives it.
+-- Each place is in the row and the column that the order gives it.
 use Rattle.std.proofs.Common.{arith, ◌≡◌, ℕ, suc, zero, ◌+◌, ◌-◌, ◌*◌, ◌/◌, ◌%◌, ◌<◌, Bool, true, false, ap, ◌∙◌}
 use Rattle.std.proofs.Math.Nat.{mod-lt, div-lt_iff_lt-mul, mul_comm}
 use Rattle.std.proofs.lemmas.Nat.{div-add-mod'}

@@ -21,7 +21,7 @@ more text j (suc i) (y ∷ xs) x at =
     append_assoc (text j y) (numbered text (suc j) (take i xs)) (text (j + suc i) x)
     ∙ ap (λ t. text j y ++ t) (ap (λ k. numbered text (suc j) (take i xs) ++ text k x) next ∙ more text (suc j) i xs x at)
 
--- the same behind a text, of things among others
+-- the same after a text, of things among others
 pub one_more : {X : Type 0} (text : ℕ → X → List ℕ) (front old new : List ℕ) (j i k : ℕ) (xs : List X) (x : X) → slice_get xs i ≡ Some x → k ≡ j + i
     → old ≡ front ++ numbered text j (take i xs) → new ≡ old ++ text k x → new ≡ front ++ numbered text j (take (i + 1) xs)
 one_more text front old new j i k xs x at place before step =

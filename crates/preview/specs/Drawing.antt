@@ -41,7 +41,7 @@ head paper number =
 abbrev pub page_picture : Paper → (number : ℕ) → List ℕ
 page_picture paper number = outline (codes "page") paper ++ flipped paper ++ head paper number ++ codes "</g>"
 
--- what stands in a slot; a blank one isn't drawn
+-- what is in a slot; a blank one isn't drawn
 abbrev pub slot_picture : MadeSlot → List ℕ
 slot_picture Blank = []
 slot_picture (Placed p item paper) = line (under (matrix_of paper item) ++ page_picture paper (p + 1) ++ codes "</g>")

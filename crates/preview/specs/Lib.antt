@@ -1,4 +1,4 @@
--- Read in this order: how sheets are numbered and named; which place stands where on them; in which ways pages stand on
+-- Read in this order: how sheets are numbered and named; which place is where on them; in which ways pages lie on
 -- them; the text of a plan; lines on sheets; the picture of a plan.
 pub mod Naming
 pub mod Reading

@@ -1,6 +1,6 @@
 -- The text of a plan: for each sheet or leaf a line with the pages in its places, row by row, as one holds the sheet for its
--- pages to be upright; behind them how many sheets and blank places there are, on which edge leaves are flipped, and in which
--- ways pages stand on their sheets.
+-- pages to be upright; then how many sheets and blank places there are, on which edge leaves are flipped, and in which
+-- ways pages lie on their sheets.
 use Rattle.std.specs.Prelude.{ℕ, ◌+◌, ◌-◌, ◌*◌, ◌/◌, ◌%◌, ◌==◌, nat_le, nat_lt, if◌then◌else◌, List, [], ◌++◌, length, sum_by}
 use Rattle.std.specs.Prelude.{Option, Some, None, slice_get, codes, decimal}
 use Rattle.rules.specs.Bytes.{line}
@@ -21,17 +21,17 @@ use Rattle.preview.specs.Ways.{ways_text}
 
 -- ---- a sheet
 
--- what stands in a place; pages are counted from 1
+-- what is in a place; pages are counted from 1
 abbrev pub place_text : MadeSlot → List ℕ
 place_text Blank = codes "blank"
 place_text (Placed p item paper) = decimal (p + 1)
 
--- what stands in a cell, which may be no place of the sheet
+-- what is in a cell, which may be no place of the sheet
 abbrev pub cell_text : Option MadeSlot → List ℕ
 cell_text None = codes "-"
 cell_text (Some slot) = place_text slot
 
--- what stands before a cell, and before a row
+-- what is before a cell, and before a row
 abbrev pub bar : (column : ℕ) → List ℕ
 bar column = if column == 0 then [] else codes " | "
 

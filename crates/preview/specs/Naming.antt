@@ -5,7 +5,7 @@ use Rattle.rules.specs.Papers.{Paper}
 use Rattle.preview.specs.declared.naming.Sides.{Sides}
 use Rattle.preview.specs.declared.naming.Sides.TheVariants.{One, Both}
 
--- the texts of these, one behind the other; the first of them has number k
+-- the texts of these, one after the other; the first of them has number k
 abbrev pub numbered : {X : Type 0} → (ℕ → X → List ℕ) → (k : ℕ) → List X → List ℕ
 numbered text k [] = []
 numbered text k (x ∷ xs) = text k x ++ numbered text (suc k) xs

@@ -1,4 +1,4 @@
--- Which place stands where on a sheet, as one holds it for its pages to be upright.
+-- Which place is where on a sheet, as one holds it for its pages to be upright.
 use Rattle.std.specs.Prelude.{◌≡◌, ℕ, ◌+◌, ◌-◌, ◌*◌, ◌<◌, Bool, if◌then◌else◌}
 use Rattle.layouts.specs.Cells.{Grid, size, read_columns, read_rows, row_of, column_of}
 use Rattle.layouts.specs.declared.arrangement.Order.{Order}
@@ -28,7 +28,7 @@ abbrev pub along : Run → (rows columns row column : ℕ) → ℕ
 along Rows rows columns row column = row * columns + column
 along Columns rows columns row column = column * rows + row
 
--- which place stands in this row and this column
+-- which place is in this row and this column
 abbrev pub place_at : Order → Grid → (row column : ℕ) → ℕ
 place_at o g row column =
     along o.run (read_rows o.turned g) (read_columns o.turned g) (row_read o.turned g row column)

@@ -1,4 +1,4 @@
--- In which ways pages stand on sheets: with which paper, on a sheet of which paper, at which scale.
+-- In which ways pages lie on sheets: with which paper, on a sheet of which paper, at which scale.
 use Rattle.std.specs.Prelude.{ℕ, Bool, ◌&&◌, ◌||◌, nat_lt, if◌then◌else◌, List, [], ◌∷◌, ◌++◌, length, codes}
 use Rattle.std.specs.List.{fold, list_any}
 use Rattle.std.specs.Ordering.{int_eq}
@@ -15,15 +15,15 @@ is_same_paper a b = int_eq a.width b.width && int_eq a.height b.height
 abbrev pub is_same_way : (a b : Way) → Bool
 is_same_way a b = is_same_paper a.page b.page && is_same_paper a.sheet b.sheet && int_eq a.scale b.scale
 
--- how many ways are told
+-- how many ways are listed
 abbrev pub most_told : ℕ
 most_told = 16
 
--- this way behind these, if it is none of them; behind one more than are told none is kept
+-- this way after these, if it is none of them; after one more than are listed none is kept
 abbrev pub with_way : List Way → Way → List Way
 with_way ways way = if nat_lt most_told (length ways) || list_any (is_same_way way) ways then ways else ways ++ way ∷ []
 
--- how a slot's page stands on a sheet with this paper
+-- how a slot's page lies on a sheet with this paper
 abbrev pub with_slot : (sheet : Paper) → List Way → MadeSlot → List Way
 with_slot sheet ways Blank = ways
 with_slot sheet ways (Placed p item paper) = with_way ways (record { page = paper; sheet = sheet; scale = item.scale })
@@ -38,7 +38,7 @@ ways_of all = fold with_sheet [] all
 abbrev pub way_text : Way → List ℕ
 way_text way = codes "pages of " ++ size_text way.page ++ codes " on sheets of " ++ size_text way.sheet ++ codes ", scale " ++ scale_text way.scale
 
--- what is told of the way with this number: the first one that isn't told stands for all others
+-- what the line says of the way with this number: in place of the first that isn't listed, that there are others
 abbrev pub way_told : (k : ℕ) → Way → List ℕ
 way_told k way = if nat_lt k most_told then way_text way else codes "and in other ways"
 

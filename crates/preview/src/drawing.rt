@@ -19,7 +19,7 @@ use std::alloc::{AllocError, Global};
 
 /// A picture of these sheets, as an SVG: each sheet with its name and its paper, and on it each page under the matrix
 /// that places it: its outline, its number, counted from 1, and an arrow to its head; and above the pages these lines.
-/// Sheets stand four in a row, each as large as its square allows. Of more sheets than `most` the first are drawn, and a line says how many more there are.
+/// There are four sheets in a row, each as large as its square allows. Of more sheets than `most` the first are drawn, and a line says how many more there are.
 pub fn preview_text(
     alloc: Global,
     sheets: &MadeSheets,

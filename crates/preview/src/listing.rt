@@ -13,10 +13,10 @@ use sheet_plan::{MadeSheets, PlacedSlot};
 use std::alloc::{AllocError, Global};
 
 /// The text of a plan of these sheets: for each sheet, or for each leaf if they are printed on both sides, a line with the
-/// pages in its places, counted from 1, row by row as one holds the sheet for them to be upright; behind them a line that says how many sheets,
-/// leaves and blank places there are; one that names the edge on which leaves are flipped; and one for each way in which
-/// pages stand on sheets, with their papers and the scale. Of more sheets or leaves than `most` the first half of that many
-/// and the last are listed, and between them a line says how many are left out. Of more than 16 ways a last line stands for
+/// pages in its places, counted from 1, row by row as one holds the sheet for them to be upright; then a line that says how
+/// many sheets, leaves and blank places there are; one that names the edge on which leaves are flipped; and one for each way
+/// in which pages lie on sheets, with their papers and the scale. Of more sheets or leaves than `most` the first half of that many
+/// and the last are listed, and between them a line says how many are left out. Of more than 16 ways a last line is for
 /// the others.
 pub fn plan_text(
     alloc: Global,

@@ -22,7 +22,7 @@ pub enum Sides {
     Both { flip: Edge },
 }
 
-/// How many sheets there are. More than a `u32` can count are told as out of memory, as are their lines.
+/// How many sheets there are. More than a `u32` can count are reported as out of memory, as are their lines.
 pub(crate) fn count_of(sheets: &MadeSheets) -> Result<u32, AllocError>
     ensures { IfOk result (λ count. count ≡ length sheets.now) }
 {

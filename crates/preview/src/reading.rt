@@ -12,7 +12,7 @@ use layouts::{Grid, Order, Run, Turned};
 use sheet_plan::{MadeSheets, PlacedSlot};
 use std::alloc::AllocError;
 
-/// Where the places of a sheet stand: in the cells of a grid, in this order; or it has one place, a tile of a page that goes
+/// Where the places of a sheet are: in the cells of a grid, in this order; or it has one place, a tile of a page that goes
 /// over sheets in so many rows and columns, row by row from the head, and each from the left.
 #[derive(Clone, Copy, Debug, PartialEq, Eq)]
 pub enum Places {
@@ -20,7 +20,7 @@ pub enum Places {
     Tiles { grid: Grid },
 }
 
-/// How sheets are printed, and where their places stand.
+/// How sheets are printed, and where their places are.
 #[derive(Clone, Copy, Debug, PartialEq, Eq)]
 pub struct Reading {
     pub sides: Sides,
@@ -38,97 +38,91 @@ pub(crate) fn append_places(
     ensures { OnOk result (out.new.items ≡ out.old.items ++ places_text places.now sheets.now sheet) }
 {
     match places {
-        Places::Cells { grid, order } => append_cells(sheets, sheet, order, *grid, out),
+        Places::Cells { grid, order } => {
+            let cells = CellSheet {
+                sheets,
+                number: sheet,
+                grid: *grid,
+                order: *order,
+            };
+            cells.append_cells(out)
+        }
         Places::Tiles { grid } => append_tile(sheets, sheet, *grid, out),
     }
 }
 
-/// The cells of a sheet, row by row, as one holds it for its pages to be upright.
-fn append_cells(
-    sheets: &MadeSheets,
-    sheet: u32,
-    order: &Order,
+/// A sheet whose places are in the cells of a grid, in this order.
+#[derive(Clone, Copy)]
+struct CellSheet<'s> {
+    sheets: &'s MadeSheets,
+    /// Which of the sheets it is.
+    number: u32,
     grid: Grid,
-    out: &mut Vec<u8>,
-) -> Result<(), AllocError>
-    requires { sheet < length sheets.now }
-    ensures { OnOk result (out.new.items ≡ out.old.items ++ cells_text (slots_at sheets.now sheet) order.now grid) }
-{
-    for row in 0..grid.rows {
-        append_row(sheets, sheet, order, grid, row, out)?;
+    order: Order,
+}
+
+impl<'s> CellSheet<'s> {
+    /// The cells row by row, as one holds the sheet for its pages to be upright.
+    fn append_cells(&self, out: &mut Vec<u8>) -> Result<(), AllocError>
+        requires { self.now.number < length self.now.sheets.now }
+        ensures { OnOk result (out.new.items ≡ out.old.items
+            ++ cells_text (slots_at self.now.sheets.now self.now.number) self.now.order self.now.grid) }
+    {
+        for row in 0..self.grid.rows {
+            self.append_row(row, out)?;
+        }
+        Ok(())
     }
-    Ok(())
-}
 
-/// The cells of a row, and what stands before it.
-fn append_row(
-    sheets: &MadeSheets,
-    sheet: u32,
-    order: &Order,
-    grid: Grid,
-    row: u32,
-    out: &mut Vec<u8>,
-) -> Result<(), AllocError>
-    requires sheet { sheet < length sheets.now }
-    requires row { row < grid.rows }
-    ensures { OnOk result (out.new.items ≡ out.old.items ++ cells_in (slots_at sheets.now sheet) order.now grid row) }
-{
-    out.extend_from_slice(slash(row))?;
-    append_columns(sheets, sheet, order, grid, row, out)?;
-    Ok(())
-}
-
-/// The cells of a row.
-fn append_columns(
-    sheets: &MadeSheets,
-    sheet: u32,
-    order: &Order,
-    grid: Grid,
-    row: u32,
-    out: &mut Vec<u8>,
-) -> Result<(), AllocError>
-    requires sheet { sheet < length sheets.now }
-    requires row { row < grid.rows }
-    ensures { OnOk result (out.new.items
-        ≡ out.old.items ++ each (cell_at (slots_at sheets.now sheet) order.now grid row) 0 grid.columns) }
-{
-    for column in 0..grid.columns {
-        append_next(
-            sheets,
-            sheet,
-            column,
-            place_at(order, grid, row, column),
-            out,
-        )?;
+    /// The cells of a row, and what is before it.
+    fn append_row(&self, row: u32, out: &mut Vec<u8>) -> Result<(), AllocError>
+        requires number { self.now.number < length self.now.sheets.now }
+        requires row { row < self.now.grid.rows }
+        ensures { OnOk result (out.new.items ≡ out.old.items
+            ++ cells_in (slots_at self.now.sheets.now self.now.number) self.now.order self.now.grid row) }
+    {
+        out.extend_from_slice(slash(row))?;
+        self.append_columns(row, out)?;
+        Ok(())
     }
-    Ok(())
+
+    /// The cells of a row.
+    fn append_columns(&self, row: u32, out: &mut Vec<u8>) -> Result<(), AllocError>
+        requires number { self.now.number < length self.now.sheets.now }
+        requires row { row < self.now.grid.rows }
+        ensures { OnOk result (out.new.items ≡ out.old.items
+            ++ each (cell_at (slots_at self.now.sheets.now self.now.number) self.now.order self.now.grid row) 0
+            self.now.grid.columns) }
+    {
+        for column in 0..self.grid.columns {
+            self.append_cell(row, column, out)?;
+        }
+        Ok(())
+    }
+
+    /// What is in a cell, and before it.
+    fn append_cell(&self, row: u32, column: u32, out: &mut Vec<u8>) -> Result<(), AllocError>
+        requires number { self.now.number < length self.now.sheets.now }
+        requires row { row < self.now.grid.rows }
+        requires column { column < self.now.grid.columns }
+        ensures { OnOk result (out.new.items ≡ out.old.items
+            ++ cell_at (slots_at self.now.sheets.now self.now.number) self.now.order self.now.grid row column) }
+    {
+        let place = place_at(&self.order, self.grid, row, column);
+        out.extend_from_slice(bar(column))?;
+        append_slot(self.sheets, self.number, place, out)?;
+        Ok(())
+    }
 }
 
-/// What stands in the cell of this number, and before it.
-fn append_next(
-    sheets: &MadeSheets,
-    sheet: u32,
-    column: u32,
-    number: u64,
-    out: &mut Vec<u8>,
-) -> Result<(), AllocError>
-    requires { sheet < length sheets.now }
-    ensures { OnOk result (out.new.items
-        ≡ out.old.items ++ (bar_of column ++ cell_text (slice_get (slots_at sheets.now sheet) number))) }
-{
-    out.extend_from_slice(bar(column))?;
-    append_cell(sheets, sheet, number, out)?;
-    Ok(())
-}
-
-/// What stands before a row.
+/// What is before a row.
 fn slash(row: u32) -> &'static [u8]
     ensures { result.now ≡ slash_of row }
 {
     if row == 0 { b"" } else { b" / " }
 }
 
-/// What stands before a cell.
+/// What is before a cell.
 fn bar(column: u32) -> &'static [u8]
     ensures { result.now ≡ bar_of column }
 {
@@ -161,7 +155,7 @@ fn read_cell(turned: Turned, grid: Grid, row: u32, column: u32) -> (u32, u32)
     }
 }
 
-/// Which place stands in this row and this column.
+/// Which place is in this row and this column.
 fn place_at(order: &Order, grid: Grid, row: u32, column: u32) -> u64
     requires row { row < grid.rows }
     requires column { column < grid.columns }
@@ -180,8 +174,8 @@ fn place_at(order: &Order, grid: Grid, row: u32, column: u32) -> u64
     }
 }
 
-/// What stands in the cell of this number, which may be no place of the sheet.
-fn append_cell(
+/// What is in the place of this number, which the sheet may not have.
+fn append_slot(
     sheets: &MadeSheets,
     sheet: u32,
     number: u64,
@@ -199,7 +193,7 @@ fn append_cell(
     Ok(())
 }
 
-/// What stands in a place.
+/// What is in a place.
 fn append_place(placed: Option<PlacedSlot<'_>>, out: &mut Vec<u8>) -> Result<(), AllocError>
     ensures { OnOk result (out.new.items ≡ out.old.items ++ place_text (placed_of placed.entry)) }
 {
@@ -221,7 +215,7 @@ fn append_tile(
     ensures { OnOk result (out.new.items
         ≡ out.old.items ++ (cell_text (slice_get (slots_at sheets.now sheet) 0) ++ tile_name grid sheet)) }
 {
-    append_cell(sheets, sheet, 0, out)?;
+    append_slot(sheets, sheet, 0, out)?;
     append_tile_name(grid, sheet, out)?;
     Ok(())
 }

@@ -1,4 +1,4 @@
-//! In which ways pages stand on sheets.
+//! In which ways pages lie on sheets.
 ghost use Rattle.std.specs.Prelude.{◌≡◌, ◌<◌, ◌++◌, ◌||◌, nat_lt, length, OnOk, IfOk, Some, slice_get};
 ghost use Rattle.std.specs.List.{fold, list_any};
 ghost use Rattle.made_sheets.specs.Made.{MadeSheet};
@@ -12,10 +12,10 @@ use lengths::{Number, Paper, print_scale};
 use sheet_plan::{MadeSheets, PlacedSlot};
 use std::alloc::{AllocError, Global};
 
-/// How many ways are told.
+/// How many ways are listed.
 const MOST_TOLD: usize = 16;
 
-/// How a page stands on a sheet: their papers, and the page's scale.
+/// How a page lies on a sheet: their papers, and the page's scale.
 #[derive(Clone, Copy, Debug, PartialEq, Eq)]
 pub(crate) struct Way {
     pub(crate) page: Paper,
@@ -23,7 +23,7 @@ pub(crate) struct Way {
     pub(crate) scale: Number,
 }
 
-/// A line for each way in which pages stand on these sheets, of which there are so many.
+/// A line for each way in which pages lie on these sheets, of which there are so many.
 pub(crate) fn append_ways(
     alloc: Global,
     sheets: &MadeSheets,
@@ -56,7 +56,7 @@ fn way_at(ways: &[Way], number: usize) -> &Way
     &ways[number]
 }
 
-/// The line of a way; of the first that isn't told, one that stands for all others.
+/// The line of a way; in place of the first that isn't listed, one for all others.
 fn append_line(number: usize, way: &Way, out: &mut Vec<u8>) -> Result<(), AllocError>
     ensures { OnOk result (out.new.items ≡ out.old.items ++ way_line number way.now) }
 {
@@ -65,7 +65,7 @@ fn append_line(number: usize, way: &Way, out: &mut Vec<u8>) -> Result<(), AllocE
     Ok(())
 }
 
-/// What is told of the way with this number.
+/// What the line says of the way with this number.
 fn append_told(number: usize, way: &Way, out: &mut Vec<u8>) -> Result<(), AllocError>
     ensures { OnOk result (out.new.items ≡ out.old.items ++ way_told number way.now) }
 {
@@ -88,8 +88,8 @@ fn append_way(way: &Way, out: &mut Vec<u8>) -> Result<(), AllocError>
     Ok(())
 }
 
-/// The different ways in which pages stand on these sheets, of which there are so many. No more are kept than are told,
-/// and one.
+/// The different ways in which pages lie on these sheets, of which there are so many. One more is kept than are listed,
+/// and no others.
 fn different_ways(alloc: Global, sheets: &MadeSheets, count: u32) -> Result<Vec<Way>, AllocError>
     requires { count ≡ length sheets.now }
     ensures { IfOk result (λ ways. ways.items ≡ ways_of sheets.now) }

@@ -62,7 +62,7 @@ pub unknown_letter : fault_of pstops (codes "-x" ∷ codes "0" ∷ []) ≡ Unkno
 unfolding clap_on_literals pstops
 unknown_letter = refl
 
--- a specification that begins with a minus is read as a letter, but for one behind two dashes
+-- a specification that begins with a minus is read as a letter, but for one after two dashes
 pub minus_specification : fault_of pstops (codes "-0" ∷ []) ≡ UnknownArgument ∷ []
 unfolding clap_on_literals pstops
 minus_specification = refl
@@ -160,7 +160,7 @@ a4_if_none_is_named = refl
 abbrev bad : Option (List ℕ)
 bad = Some (codes "x")
 
--- of several faults the first of -p, -w, -h and -d is told
+-- of several faults the first of -p, -w, -h and -d is reported
 pub paper_first : options_named bad bad bad bad None (record { preparers = 2; imposers = 2 }) ≡ Err UnknownPaper
 unfolding options_named number_at
 paper_first = refl

@@ -10,8 +10,8 @@ use Rattle.sheet_plan.specs.declared.error.PlanError.TheVariants as plan
 use Rattle.imposer.specs.declared.outcome.RunError.{RunError}
 use Rattle.imposer.specs.declared.outcome.RunError.TheVariants as run
 use Rattle.imposer.specs.declared.outcome.Report.{Report}
-use Rattle.input.specs.declared.read.ReadFault.{ReadFault}
-use Rattle.input.specs.declared.read.ReadFault.TheVariants as read
+use Rattle.world.specs.declared.read.ReadFault.{ReadFault}
+use Rattle.world.specs.declared.read.ReadFault.TheVariants as read
 use Rattle.run_statuses.specs.Statuses.{run_status}
 use Rattle.pstops_cli.specs.declared.command.CommandFault.{CommandFault}
 use Rattle.pstops_cli.specs.declared.command.CommandFault.TheVariants as command

@@ -10,7 +10,7 @@ use Rattle.imposer.specs.declared.outcome.RunError.{RunError}
 use Rattle.imposer.specs.declared.outcome.RunError.TheVariants as run
 use Rattle.sheet_writer.specs.Sinks.{SinkView, fresh_sink}
 use Rattle.world.specs.Outputs.{IsFrontOf, told_if}
-use Rattle.input.specs.Input.{IsFirst, most_bytes}
+use Rattle.world.specs.Input.{IsFirst, most_bytes}
 use Rattle.pstops_cli.specs.Command.{Reads, Refuses, Takes, pstops}
 use Rattle.pstops_cli.specs.Messages.{fault_status, fault_text, said}
 use Rattle.pstops_cli.specs.RequestRuns.{Ends, IsSaidOf, asked_by}
@@ -51,7 +51,7 @@ IsCreating f = (f ≡ fault.Create) ⊎ (f ≡ fault.Run (run.NoMemory 0))
 
 -- ---- the run
 
--- The run of a request into an output that was just created, which now tells `written`: it ended in some way, with all
+-- The run of a request into an output that was just created, which now reports `written`: it ended in some way, with all
 -- that a run promises, and that way has this status and this line; or it finished and its last bytes couldn't be
 -- written, which is said. The output has a first part of what the run handed on, and at status 0 all of it.
 pub record Ran (r : Request) (input : List ℕ) (tells : Bool) (written : Option (List ℕ)) (status : ℕ)
@@ -94,7 +94,7 @@ EndsProgram words gives tells has_world has_output written status line =
     ⊎ ((r : Request) × (input : List ℕ) × HasRead words gives r input
     × CreatesAndRuns r input tells has_world has_output written status line)
 
--- The request that the words make was carried out: the output tells its name and exactly the output defined for the
+-- The request that the words make was carried out: the output reports its name and exactly the output defined for the
 -- input.
 abbrev pub CarriesOut : (words : List Text) → Gives → (tells : Bool) → (written : Option (List ℕ)) → Type 0
 CarriesOut words gives tells written =

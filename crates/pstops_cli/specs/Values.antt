@@ -1,4 +1,4 @@
--- What the values of the options stand for.
+-- What the values of the options mean.
 use Rattle.std.specs.Prelude.{⊤, ◌≤◌, ℕ, unwrap_or, ok_or, option_and_then, if◌then◌else◌}
 use Rattle.std.specs.Prelude.{List, Option, Some, None, Result, Ok, Err, codes}
 use Rattle.rules.specs.Signatures.{most_sides}

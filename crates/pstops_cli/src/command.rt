@@ -26,7 +26,7 @@ pub struct Request {
     pub infile: Option<String>,
     /// The file that is written; standard output if there is none.
     pub outfile: Option<String>,
-    /// What a run is told besides.
+    /// What else a run is given.
     pub options: Options,
     /// Whether the report line is left out.
     pub quiet: bool,
@@ -66,7 +66,7 @@ impl From<AllocError> for CommandFault {
 ///
 /// Words that the command doesn't take are `BadWords`, and so are other values of `-s`, `-j` and `-k`. Among words that
 /// it takes, a paper without a name comes first as `UnknownPaper`, then as `BadLength` the values of `-w` and `-h`,
-/// which are lengths above zero, and of `-d`, which isn't below zero, whatever order they stand in.
+/// which are lengths above zero, and of `-d`, which isn't below zero, whatever their order.
 #[tactic(auto, using(crate::proofs::SimpleCommand::pstops_is_simple))]
 pub fn read_command(alloc: Global, words: &[String]) -> Result<Request, CommandFault>
     ensures taken { IfOk result (λ _. Takes (map string_bytes words.now)) }

@@ -9,8 +9,8 @@ mod request_runs;
 mod values;
 
 pub use command::{CommandFault, Request, read_command};
-pub use input::{MOST_BYTES, ReadFault, ReadSource, Source, SourceFault, read_input};
 pub use messages::{Fault, fault_line};
 pub use program::{Ended, pstops};
 pub use request_runs::run_request;
 pub use std::alloc::AllocError as NoMemory;
+pub use world::{MOST_BYTES, ReadFault, ReadSource, Source, SourceFault, read_input};

@@ -9,11 +9,11 @@ ghost use Rattle.pstops_cli.specs.Messages.{run_text as text_of_run, said, spec_
 use crate::command::CommandFault;
 use dsc::DscError;
 use imposer::{Report, RunError};
-use input::ReadFault;
 use pagespec::SpecError;
 use run_statuses::run_status;
 use sheet_plan::PlanError;
 use std::alloc::{AllocError, Global};
+use world::ReadFault;
 
 /// Why the program ends without having written its output.
 #[derive(Debug, Drop)]

@@ -4,20 +4,19 @@ ghost use Rattle.std.specs.Prelude.{IfOk, IfErr};
 ghost use Rattle.world.specs.Outputs.{told_if};
 ghost use Rattle.pstops_cli.specs.Programs.{CarriesOut, CreatesAndRuns, EndsProgram, HasRead, IsCreating, IsSaid};
 ghost use Rattle.pstops_cli.specs.Programs.{RunsInto, StopsBefore};
-ghost use Rattle.input.specs.Input.{IsFirst, most_bytes};
+ghost use Rattle.world.specs.Input.{IsFirst, most_bytes};
 
 use crate::command::{Request, read_command};
 use crate::messages::{Fault, fault_line};
 use crate::request_runs::run_request;
 use command_words::name_of;
 use imposer::RunError;
-use input::{ReadFault, ReadSource, read_input};
 use std::alloc::Global;
 use std::io;
 use std::io::ErrorKind;
 use std::sync::Wait;
 use std::thread::Threads;
-use world::{World, buffered, write_out};
+use world::{ReadFault, ReadSource, World, buffered, read_input, write_out};
 
 /// How the program ended.
 #[derive(Drop)]

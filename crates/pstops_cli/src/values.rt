@@ -1,4 +1,4 @@
-//! What the values of the options stand for.
+//! What the values of the options mean.
 ghost use Rattle.std.specs.Prelude.{◌≡◌, option_map};
 ghost use Rattle.pstops_cli.specs.Values as meaning;
 

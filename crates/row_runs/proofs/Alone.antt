@@ -1,4 +1,4 @@
--- Pages as they are stand alone.
+-- Pages as they are lie alone.
 use Rattle.std.proofs.Common.{arith, ℕ, suc, zero, ◌<◌, Option, Some, None, List, [], ◌∷◌, refl}
 use Rattle.std.specs.Prelude.{All, AllPairs, slice_index_or}
 use Rattle.std.proofs.lemmas.Int.{ints}
@@ -8,7 +8,7 @@ use Rattle.made_sheets.specs.Made.{MadeSlot, Placed}
 use Rattle.made_sheets.specs.Rows.{Row}
 use Rattle.layouts.specs.Placed.{IsInside, bare}
 use Rattle.row_sheets.specs.RowSheets.{as_it_is, selected, selected_sheet}
-use Rattle.arranged_sheets.specs.Filled.{SlotIsInside, SlotsAreApart}
+use Rattle.row_sheets.specs.Filled.{SlotIsInside, SlotsAreApart}
 use Rattle.row_runs.specs.Standing.{StandsAlone}
 
 inside : (paper : Paper) → IsInside (bare paper) paper as_it_is

@@ -21,12 +21,12 @@ use Rattle.sheet_plan.specs.MadeRefusals.{RefusesMade}
 use Rattle.sheet_plan.specs.declared.error.MadeError.{MadeError}
 use Rattle.sheet_plan.specs.declared.error.MadeError.TheVariants as plan
 use Rattle.sheet_plan.proofs.Accepted.{looked_none, found_at, slots_out, too_many_places, too_many_sheets, uneven}
-use Rattle.arranged_sheets.specs.Filled.{Filling, card_entry, card_sheets, is_turned, slot_on}
-use Rattle.arranged_sheets.specs.Posters.{IsNoPosterIn, entry_tiles, poster_paper, row_tiles, tile_item}
-use Rattle.arranged_sheets.specs.Shapes.{IsRefusedIn, filling}
-use Rattle.arranged_sheets.specs.declared.poster.Poster.{Poster}
-use Rattle.arranged_sheets.specs.declared.poster.PosterError.{PosterError}
-use Rattle.arranged_sheets.specs.declared.poster.PosterError.TheVariants as no_poster
+use Rattle.row_sheets.specs.Filled.{Filling, card_entry, card_sheets, is_turned, slot_on}
+use Rattle.row_sheets.specs.Posters.{IsNoPosterIn, entry_tiles, poster_paper, row_tiles, tile_item}
+use Rattle.row_sheets.specs.Shapes.{IsRefusedIn, filling}
+use Rattle.row_sheets.specs.declared.poster.Poster.{Poster}
+use Rattle.row_sheets.specs.declared.poster.PosterError.{PosterError}
+use Rattle.row_sheets.specs.declared.poster.PosterError.TheVariants as no_poster
 use Rattle.row_runs.specs.declared.asked.Laying.{Laying}
 use Rattle.row_runs.specs.declared.asked.Laying.TheVariants as laying
 use Rattle.row_runs.specs.Errors.{of_arrangement, of_poster}

@@ -7,8 +7,8 @@ use Rattle.made_sheets.specs.Rows.{all_pages}
 use Rattle.made_sheets.specs.Choice.{InOne, OfSides}
 use Rattle.layouts.specs.Grids.{plain_order}
 use Rattle.layouts.specs.declared.setting.Setting.{Setting}
-use Rattle.marks.specs.Drawn.{stroke_line}
-use Rattle.marks.specs.declared.strokes.Marks.{Marks}
+use Rattle.dressing.specs.Drawn.{stroke_line}
+use Rattle.dressing.specs.declared.strokes.Marks.{Marks}
 use Rattle.preview.specs.declared.guides.Guide.{Guide}
 use Rattle.preview.specs.declared.guides.GuideKind.{GuideKind}
 use Rattle.preview.specs.declared.guides.GuideKind.TheVariants.{Margin, Fold, Cut}

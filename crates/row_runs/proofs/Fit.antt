@@ -8,12 +8,12 @@ use Rattle.made_sheets.specs.Choice.{signed}
 use Rattle.made_sheets.specs.Made.{MadeSheet}
 use Rattle.made_sheets.specs.Rows.{Row}
 use Rattle.layouts.specs.Cells.{size}
-use Rattle.arranged_sheets.specs.Filled.{card_entry, duplex_entry, grid_entry, stack_entry, behind_in}
-use Rattle.arranged_sheets.specs.Posters.{AllMayBePosters, poster_paper}
-use Rattle.arranged_sheets.specs.Shapes.{filling}
-use Rattle.arranged_sheets.specs.declared.poster.Poster.{Poster}
-use Rattle.arranged_sheets.proofs.InCells.{filled_stands_in_cells}
-use Rattle.arranged_sheets.proofs.Shown.{can_be, poster_has_tiles, row_is_shown}
+use Rattle.row_sheets.specs.Filled.{card_entry, duplex_entry, grid_entry, stack_entry, behind_in}
+use Rattle.row_sheets.specs.Posters.{AllMayBePosters, poster_paper}
+use Rattle.row_sheets.specs.Shapes.{filling}
+use Rattle.row_sheets.specs.declared.poster.Poster.{Poster}
+use Rattle.row_sheets.proofs.InCells.{filled_stands_in_cells}
+use Rattle.row_sheets.proofs.Shown.{can_be, poster_has_tiles, row_is_shown}
 use Rattle.row_runs.specs.declared.asked.Asked.{Asked}
 use Rattle.row_runs.specs.declared.asked.Laying.{Laying}
 use Rattle.row_runs.specs.declared.asked.Laying.TheVariants as laying
@@ -36,7 +36,7 @@ asked_so pages papers a row printed leaves l made chosen is_printed many evened 
     (subst (λ x. LaidSo x leaves papers printed made) l_is laid)) in
     record { row = row; is_chosen = chosen; are_laid = so.0; fits = so.1 }
 
--- ---- where its pages stand
+-- ---- where its pages are
 
 -- one scale for all pages leaves the cells as they are
 evened_may_be : (same_scale : Bool) (l : Laying) (papers : List Paper) (row : Row) → MayBeLaid l → MayBeLaid (evened_if same_scale l papers row)

@@ -1,3 +1,4 @@
+pub mod Told
 pub mod BySpec
 pub mod Examples
 pub mod Lines

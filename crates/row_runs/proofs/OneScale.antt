@@ -16,7 +16,7 @@ use Rattle.row_runs.specs.Evened.{WhyNotEven, evened_if}
 use Rattle.row_runs.specs.Sheets.{RefusesAsked, row_chosen, sewn}
 use Rattle.row_runs.specs.Standing.{StandAsLaid}
 
--- they stand as others do
+-- they are placed as others are
 pub evened_stand : (same_scale : Bool) (l : Laying) (papers : List Paper) (row : Row) (made : List MadeSheet) → StandAsLaid (evened_if same_scale l papers row) made → StandAsLaid l made
 evened_stand false l papers row made h = h
 evened_stand true (laying.AsTheyAre blank) papers row made h = h

@@ -13,10 +13,10 @@ use Rattle.layouts.specs.declared.setting.Setting.{Setting}
 use Rattle.rows.specs.Sewing.{MayBeSewn, signing_of}
 use Rattle.rows.specs.declared.sewing.Signing.{Signing}
 use Rattle.rows.specs.declared.sewing.Signing.TheVariants as code
-use Rattle.arranged_sheets.specs.Bound.{as_bound, faces_on}
-use Rattle.arranged_sheets.specs.SameScale.{at_one_scale}
-use Rattle.arranged_sheets.specs.Shapes.{filling}
-use Rattle.arranged_sheets.proofs.Folding.{faces_read}
+use Rattle.row_sheets.specs.Bound.{as_bound, faces_on}
+use Rattle.row_sheets.specs.SameScale.{at_one_scale}
+use Rattle.row_sheets.specs.Shapes.{filling}
+use Rattle.row_sheets.proofs.Folding.{faces_read}
 use Rattle.row_runs.specs.Evened.{evened_if}
 use Rattle.row_runs.specs.ReadAsBound.{AskedIsRead}
 use Rattle.row_runs.specs.Sheets.{leaves_in, sewn, sheets_laid}

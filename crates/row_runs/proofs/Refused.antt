@@ -1,5 +1,6 @@
 -- What a refusal says of what was asked for, of a run, and of a look.
-use Rattle.std.proofs.Common.{◌≡◌, ◌≤◌, ℕ, List, Ok, inr, refl, sym, subst}
+use Rattle.std.proofs.Common.{◌≡◌, ◌≤◌, ℕ, List, Ok, Option, None, Some, inl, inr, refl, sym, subst}
+use Rattle.std.specs.Io.KnownBytes.{Keeps}
 use Rattle.std.specs.Prelude.{IsOk}
 use Rattle.rules.specs.Papers.{Paper}
 use Rattle.made_sheets.specs.Choice.{signed}
@@ -12,7 +13,8 @@ use Rattle.row_runs.specs.declared.error.AskedError.TheVariants as error
 use Rattle.row_runs.specs.declared.run.RowJob.{RowJob}
 use Rattle.row_runs.specs.Evened.{evened_if}
 use Rattle.row_runs.specs.Looks.{RefusesLook}
-use Rattle.row_runs.specs.Runs.{RefusesRun, page_count}
+use Rattle.sheet_writer.specs.Sinks.{SinkView}
+use Rattle.row_runs.specs.Runs.{FailedWith, IsUnwritten, RefusesRun, WroteWith, page_count}
 use Rattle.row_runs.specs.Sheets.{FitAsLaid, HaveSpace, RefusesAsked, RefusesLaying, laying_for, leaves_in, row_chosen, sewn, sheets_laid}
 
 of_laying : (pages : ℕ) (papers : List Paper) (a : Asked) (row : Row) (e : AskedError) → pages ≤ 1_000_000 → row_chosen pages a ≡ Ok row → RefusesLaying (laying_for a papers row) (leaves_in (sewn a) row) papers (signed (sewn a) row) e
@@ -67,3 +69,33 @@ seen j (error.Write written) h = absurd h
 -- and a look
 pub look_refused : (j : RowJob) (n : ℕ) (e : AskedError) → n ≡ page_count j → RefusesAsked n j.papers.now j.asked e → RefusesLook j e
 look_refused j n e is h = seen j e (subst (λ (k : ℕ). RefusesAsked k j.papers.now j.asked e) is h)
+
+-- nothing was written before
+pub asked_unwritten : (pages : ℕ) (papers : List Paper) (a : Asked) (e : AskedError) → RefusesAsked pages papers a e → IsUnwritten e
+asked_unwritten pages papers a (error.Row e) h = tt
+asked_unwritten pages papers a (error.Arrangement e) h = tt
+asked_unwritten pages papers a (error.Poster e) h = tt
+asked_unwritten pages papers a (error.Sheets e) h = tt
+asked_unwritten pages papers a (error.NoMemory written) h = h.0
+asked_unwritten pages papers a (error.Write written) h = absurd h
+
+-- so a run that was refused so left its sink alone
+stays : (known : Option (List ℕ)) → Keeps known known
+stays None = tt
+stays (Some xs) = refl
+
+pub row_unwritten : (j : RowJob) (e : AskedError) (view : SinkView) → IsUnwritten e → WroteWith j view view e
+row_unwritten j (error.Row e) view none = stays view.bytes
+row_unwritten j (error.Arrangement e) view none = stays view.bytes
+row_unwritten j (error.Poster e) view none = stays view.bytes
+row_unwritten j (error.Sheets e) view none = stays view.bytes
+row_unwritten j (error.NoMemory written) view none = inl (none, stays view.bytes)
+row_unwritten j (error.Write written) view none = absurd none
+
+pub row_steady : (e : AskedError) (view : SinkView) → IsUnwritten e → FailedWith e view view
+row_steady (error.Row e) view none = refl
+row_steady (error.Arrangement e) view none = refl
+row_steady (error.Poster e) view none = refl
+row_steady (error.Sheets e) view none = refl
+row_steady (error.NoMemory written) view none = inl refl
+row_steady (error.Write written) view none = absurd none

@@ -16,7 +16,7 @@ use Rattle.layouts.specs.Grids.{alone, arranged, bound, count_of}
 use Rattle.layouts.proofs.Fitting.{arranged_is_fitted, bound_is_fitted}
 use Rattle.row_sheets.specs.BySpec.{by_spec, sheet_by, slot_by}
 use Rattle.row_sheets.proofs.GroupByGroup.{made_sheets_are}
-use Rattle.arranged_sheets.specs.Filled.{Filling, booklet_sheets, filled, grid_entry, grid_sheets, slot_in}
+use Rattle.row_sheets.specs.Filled.{Filling, booklet_sheets, filled, grid_entry, grid_sheets, slot_in}
 use Rattle.row_runs.specs.Specified.{GridIsSpecified, BookletIsSpecified, of_paper}
 
 -- ---- lists

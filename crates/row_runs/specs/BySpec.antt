@@ -13,7 +13,7 @@ use Rattle.row_sheets.specs.BySpec.{PassesLimit, by_spec}
 use Rattle.sheet_plan.specs.MadeRefusals.{RefusesMade}
 use Rattle.sheet_writer.specs.Sinks.{SinkView}
 use Rattle.imposer.specs.declared.outcome.Report.{Report}
-use Rattle.sheet_runs.specs.Runs.{ReportsOn, WroteStart, told_output}
+use Rattle.row_runs.specs.SheetsRuns.{ReportsOn, WroteStart, told_output}
 use Rattle.row_runs.specs.Runs.{AfterError}
 use Rattle.row_runs.specs.declared.by_spec.SpecJob.{SpecJob}
 use Rattle.row_runs.specs.declared.error.AskedError.{AskedError}
@@ -42,7 +42,7 @@ pub record AreSpecPlan (j : SpecJob) (made : List MadeSheet) : Type 0 where
 abbrev pub output_by_spec : SpecJob → List MadeSheet → List ℕ
 output_by_spec j made = told_output j.border [] made j.document.now
 
--- exactly the output of these sheets was appended, with the lines that tell their papers, and the report has its numbers
+-- exactly the output of these sheets was appended, with the lines that report their papers, and the report has its numbers
 pub record ImposesBySpec (j : SpecJob) (old new : Option (List ℕ)) (done : Report) : Type 0 where
   pub made : List MadeSheet
   pub planned : AreSpecPlan j made

@@ -3,10 +3,10 @@ use Rattle.rows.specs.declared.error.RowError.{RowError}
 use Rattle.rows.specs.declared.error.RowError.TheVariants as row
 use Rattle.layouts.specs.declared.error.ArrangementError.{ArrangementError}
 use Rattle.layouts.specs.declared.error.ArrangementError.TheVariants as arrangement
-use Rattle.arranged_sheets.specs.declared.poster.PosterError.{PosterError}
-use Rattle.arranged_sheets.specs.declared.poster.PosterError.TheVariants as poster
-use Rattle.sheet_runs.specs.declared.error.SheetsError.{SheetsError}
-use Rattle.sheet_runs.specs.declared.error.SheetsError.TheVariants as sheets
+use Rattle.row_sheets.specs.declared.poster.PosterError.{PosterError}
+use Rattle.row_sheets.specs.declared.poster.PosterError.TheVariants as poster
+use Rattle.row_runs.specs.declared.sheets_error.SheetsError.{SheetsError}
+use Rattle.row_runs.specs.declared.sheets_error.SheetsError.TheVariants as sheets
 use Rattle.row_runs.specs.declared.error.AskedError.{AskedError}
 use Rattle.row_runs.specs.declared.error.AskedError.TheVariants as error
 

@@ -4,8 +4,8 @@ use Rattle.rules.specs.Papers.{Paper}
 use Rattle.made_sheets.specs.Rows.{Row}
 use Rattle.layouts.specs.declared.error.ArrangementError.{ArrangementError}
 use Rattle.layouts.specs.declared.setting.Setting.{Setting}
-use Rattle.arranged_sheets.specs.Shapes.{filling}
-use Rattle.arranged_sheets.specs.SameScale.{HaveNoScale, at_one_scale}
+use Rattle.row_sheets.specs.Shapes.{filling}
+use Rattle.row_sheets.specs.SameScale.{HaveNoScale, at_one_scale}
 use Rattle.row_runs.specs.declared.asked.Laying.{Laying}
 use Rattle.row_runs.specs.declared.asked.Laying.TheVariants as laying
 
@@ -29,7 +29,7 @@ with_setting t (laying.Leaves setting) = laying.Leaves t
 with_setting t (laying.Booklet setting turned_backs creep) = laying.Booklet t turned_backs creep
 with_setting t (laying.Poster poster) = laying.Poster poster
 
--- all pages of the row have one scale in the cells; entries that stand as they are, and posters, keep theirs
+-- all pages of the row have one scale in the cells; entries that are laid as they are, and posters, keep theirs
 abbrev pub evened_in : Option Setting → Laying → List Paper → Row → Laying
 evened_in None l papers row = l
 evened_in (Some t) l papers row = with_setting (at_one_scale (filling t papers) row) l

@@ -4,19 +4,19 @@ use Rattle.std.specs.List.{range_with_len}
 use Rattle.rules.specs.Papers.{Paper}
 use Rattle.layouts.specs.Placed.{Room}
 use Rattle.layouts.specs.Cells.{Grid}
-use Rattle.marks.specs.Places.{gap_at, grains_in}
+use Rattle.dressing.specs.Places.{gap_at, grains_in}
 use Rattle.layouts.specs.declared.setting.Setting.{Setting}
-use Rattle.arranged_sheets.specs.declared.poster.Poster.{Poster}
+use Rattle.row_sheets.specs.declared.poster.Poster.{Poster}
 use Rattle.preview.specs.declared.guides.Guide.{Guide}
 use Rattle.preview.specs.declared.guides.GuideKind.{GuideKind}
 use Rattle.preview.specs.declared.guides.GuideKind.TheVariants.{Margin, Fold, Cut, Note}
-use Rattle.marks.specs.declared.strokes.Marks.{Marks}
-use Rattle.marks.specs.declared.strokes.Stroke.{Stroke}
+use Rattle.dressing.specs.declared.strokes.Marks.{Marks}
+use Rattle.dressing.specs.declared.strokes.Stroke.{Stroke}
 use Rattle.row_runs.specs.Marked.{ruled_if}
 use Rattle.row_runs.specs.declared.asked.Laying.{Laying}
 use Rattle.row_runs.specs.declared.asked.Laying.TheVariants as laying
 
--- a line that stands so far from the left edge of a paper, and one that lies so far from the lower one
+-- a line that is so far from the left edge of a paper, and one that lies so far from the lower one
 abbrev pub upright : GuideKind → Paper → (x : ℤ) → Guide
 upright kind paper x = record { kind = kind; start = (x, pos 0); end = (x, paper.height) }
 

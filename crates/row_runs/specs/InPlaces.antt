@@ -1,4 +1,4 @@
--- Where the pages of the sheets that are asked for stand: what follows as none of them had to be refused.
+-- Where the pages of the sheets that are asked for are: what follows as none of them had to be refused.
 use Rattle.std.specs.Prelude.{◌≡◌, ⊤, ℕ, List, All, Option, Some}
 use Rattle.rules.specs.Papers.{Paper}
 use Rattle.rules.specs.Placement.{Point}
@@ -7,9 +7,9 @@ use Rattle.made_sheets.specs.Choice.{signed}
 use Rattle.made_sheets.specs.Made.{MadeSheet}
 use Rattle.made_sheets.specs.Rows.{Row}
 use Rattle.layouts.specs.Placed.{IsOfPage}
-use Rattle.arranged_sheets.specs.Posters.{HasTiles, IsOnTile, poster_paper}
-use Rattle.arranged_sheets.specs.Standing.{StandsInCells}
-use Rattle.arranged_sheets.specs.declared.poster.Poster.{Poster}
+use Rattle.row_sheets.specs.Posters.{HasTiles, IsOnTile, poster_paper}
+use Rattle.row_sheets.specs.Standing.{StandsInCells}
+use Rattle.row_sheets.specs.declared.poster.Poster.{Poster}
 use Rattle.row_runs.specs.Sheets.{AreAsked, MayBeAsked, laying_for, sewn}
 use Rattle.row_runs.specs.declared.asked.Asked.{Asked}
 use Rattle.row_runs.specs.declared.asked.Laying.{Laying}
@@ -22,7 +22,7 @@ pub record IsShownOn (p : Poster) (papers : List Paper) (i page : ℕ) (made : L
   pub shown : (at : Point) → IsOfPage 0 (poster_paper p papers page) at → IsOnTile p made i page (poster_paper p papers page) at
 
 -- in cells that are filled in turn each page is fitted into its own, and they read in order; of a poster's pages each
--- point is shown. How pages stand on leaves that are folded, or as they are, `StandAsLaid` says alone
+-- point is shown. How pages lie on leaves that are folded, or as they are, `StandAsLaid` says alone
 abbrev pub StandInPlaces : Laying → List Paper → Row → List MadeSheet → Type 0
 StandInPlaces (laying.AsTheyAre blank) papers row made = ⊤
 StandInPlaces (laying.Grid setting cells) papers row made = All (StandsInCells setting) made
@@ -32,7 +32,7 @@ StandInPlaces (laying.Leaves setting) papers row made = All (StandsInCells setti
 StandInPlaces (laying.Booklet setting turned_backs creep) papers row made = ⊤
 StandInPlaces (laying.Poster p) papers row made = (i page : ℕ) → entry_of row i ≡ Some page → IsShownOn p papers i page made
 
--- the sheets that are asked for stand so: a law
+-- it is so on the sheets that are asked for: a law
 abbrev pub AskedStandInPlaces : Type 0
 AskedStandInPlaces = (pages : ℕ) (papers : List Paper) (a : Asked) (made : List MadeSheet) → MayBeAsked a
     → (asked : AreAsked pages papers a made)

@@ -1,4 +1,4 @@
--- What is told of sheets before they are imposed.
+-- What is shown of sheets before they are imposed.
 use Rattle.std.specs.Prelude.{◌≡◌, ℕ, List}
 use Rattle.made_sheets.specs.Made.{MadeSheet}
 use Rattle.preview.specs.Listing.{plan_text}

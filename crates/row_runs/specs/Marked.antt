@@ -1,10 +1,10 @@
 -- The marks on the sheets of a laying.
 use Rattle.std.specs.Prelude.{Bool, if◌then◌else◌, List, [], ◌++◌}
 use Rattle.layouts.specs.declared.setting.Setting.{Setting}
-use Rattle.marks.specs.Strokes.{cut_marks, fold_marks, outer_cut_marks}
-use Rattle.marks.specs.Ruled.{note_lines}
-use Rattle.marks.specs.declared.strokes.Marks.{Marks}
-use Rattle.marks.specs.declared.strokes.Stroke.{Stroke}
+use Rattle.dressing.specs.Strokes.{cut_marks, fold_marks, outer_cut_marks}
+use Rattle.dressing.specs.Ruled.{note_lines}
+use Rattle.dressing.specs.declared.strokes.Marks.{Marks}
+use Rattle.dressing.specs.declared.strokes.Stroke.{Stroke}
 use Rattle.row_runs.specs.declared.asked.Laying.{Laying}
 use Rattle.row_runs.specs.declared.asked.Laying.TheVariants as laying
 
@@ -26,7 +26,7 @@ ruled_if asked setting = if asked then note_lines setting.room setting.grid else
 
 -- the strokes on each sheet of a laying, of the marks that are asked for: booklets are folded between their halves, and
 -- cut round them; other sheets are cut between their cells; pages as they are and posters have no marks. Lines for notes
--- stand on sheets whose cells are filled in turn
+-- are on sheets whose cells are filled in turn
 abbrev pub strokes_in : Marks → Laying → List Stroke
 strokes_in marks (laying.AsTheyAre blank) = []
 strokes_in marks (laying.Poster poster) = []

@@ -10,13 +10,13 @@ use Rattle.made_sheets.specs.Rows.{Row}
 use Rattle.layouts.specs.declared.setting.Setting.{Setting}
 use Rattle.rows.specs.Sewing.{signing_of}
 use Rattle.rows.specs.declared.sewing.Signing.{Signing}
-use Rattle.arranged_sheets.specs.Bound.{faces_on, read_bound}
+use Rattle.row_sheets.specs.Bound.{faces_on, read_bound}
 use Rattle.row_runs.specs.Sheets.{AreAsked, MayBeAsked}
 use Rattle.row_runs.specs.declared.asked.Asked.{Asked}
 use Rattle.row_runs.specs.declared.asked.Laying.TheVariants as laying
 
 -- the sides of a booklet's leaves, folded and bound in signatures of so many, read leaf by leaf and signature by signature,
--- are the row; behind its end are the blanks that fill up the last signature
+-- are the row; after its end are the blanks that fill up the last signature
 abbrev pub AreReadAs : (right_to_left turned_backs : Bool) → (sides : ℕ) → Row → List MadeSheet → Type 0
 AreReadAs right_to_left turned_backs sides row made = (let signatures = blocks sides (length row) in
     flat_map (read_bound right_to_left (sides / 4) (faces_on right_to_left turned_backs made)) (range_with_len 0 signatures)

@@ -1,11 +1,11 @@
--- How the sheets of a laying are read: on which sides they are printed, and where their places stand.
+-- How the sheets of a laying are read: on which sides they are printed, and where their places are.
 use Rattle.std.specs.Prelude.{ℕ, false, if◌then◌else◌, max, nat_lt}
 use Rattle.layouts.specs.Cells.{Grid, held_height, held_width}
 use Rattle.layouts.specs.Grids.{plain_order}
 use Rattle.layouts.specs.declared.arrangement.Turned.{Turned}
 use Rattle.layouts.specs.declared.arrangement.Turned.TheVariants as sideways
 use Rattle.layouts.specs.declared.setting.Setting.{Setting}
-use Rattle.arranged_sheets.specs.declared.poster.Poster.{Poster}
+use Rattle.row_sheets.specs.declared.poster.Poster.{Poster}
 use Rattle.preview.specs.declared.naming.Edge.{Edge}
 use Rattle.preview.specs.declared.naming.Edge.TheVariants.{Short, Long}
 use Rattle.preview.specs.declared.naming.Sides.{Sides}
@@ -18,7 +18,7 @@ use Rattle.row_runs.specs.declared.asked.Laying.TheVariants as laying
 
 -- ---- edges
 
--- a side of the sheet as one reads it: if what stands on the pages lies on its side, it is the other one
+-- a side of the sheet as one reads it: if what is on the pages lies on its side, it is the other one
 abbrev pub side_read : Turned → (side other : ℕ) → ℕ
 side_read sideways.Upright side other = side
 side_read sideways.Left side other = other

@@ -1,5 +1,5 @@
 -- What the answers of a run on a row mean.
-use Rattle.std.specs.Prelude.{◌≡◌, ◌⊎◌, ℕ, ◌+◌, List, length, Option, IsOk, Ok}
+use Rattle.std.specs.Prelude.{◌≡◌, ◌⊎◌, ⊤, ℕ, ◌+◌, List, length, Option, IsOk, Ok}
 use Rattle.std.specs.Io.KnownBytes.{Appends, Keeps}
 use Rattle.rules.specs.Parts.{pages}
 use Rattle.made_sheets.specs.Made.{MadeSheet}
@@ -7,11 +7,11 @@ use Rattle.made_sheets.specs.MadePlans.{made_plan_of}
 use Rattle.sheet_plan.specs.MadeRefusals.{RefusesMade}
 use Rattle.sheet_writer.specs.Sinks.{SinkView}
 use Rattle.imposer.specs.declared.outcome.Report.{Report}
-use Rattle.sheet_runs.specs.Runs.{ReportsOn, WroteStart, told_output}
+use Rattle.row_runs.specs.SheetsRuns.{ReportsOn, WroteStart, told_output}
 use Rattle.row_runs.specs.Sheets.{AreAsked, WhyNotLaid, row_chosen}
 use Rattle.row_runs.specs.Sheets as sheets
 use Rattle.row_runs.specs.Marked.{strokes_in}
-use Rattle.marks.specs.declared.strokes.Stroke.{Stroke}
+use Rattle.dressing.specs.declared.strokes.Stroke.{Stroke}
 use Rattle.row_runs.specs.Standing.{StandAsLaid}
 use Rattle.row_runs.specs.declared.run.RowJob.{RowJob}
 use Rattle.row_runs.specs.declared.error.AskedError.{AskedError}
@@ -21,7 +21,7 @@ use Rattle.row_runs.specs.declared.error.AskedError.TheVariants as error
 abbrev pub page_count : RowJob → ℕ
 page_count j = length (pages j.document.now)
 
--- these sheets are asked for, their pages stand as they are to be laid, and they can be planned
+-- these sheets are asked for, their pages lie as they are to be laid, and they can be planned
 pub record ArePlanned (j : RowJob) (made : List MadeSheet) : Type 0 where
   pub asked : AreAsked (page_count j) j.papers.now j.asked made
   pub stand : StandAsLaid j.asked.laying made
@@ -67,6 +67,10 @@ RefusesRun j (error.Write written) = (made : List MadeSheet) × ArePlanned j mad
 -- the first bytes of the output of the sheets that are asked for were written, so many, and nothing else
 abbrev pub WrotePart : RowJob → (old new : SinkView) → (written : ℕ) → Type 0
 WrotePart j old new written = (made : List MadeSheet) × ArePlanned j made × WroteStart (output_on j made) old new written
+
+-- nothing was written, and no write failed
+abbrev pub IsUnwritten : AskedError → Type 0
+IsUnwritten e = AfterError e ⊤ (λ written. written ≡ 0) (λ written. ⊥)
 
 abbrev pub WroteWith : RowJob → (old new : SinkView) → AskedError → Type 0
 WroteWith j old new e = AfterError e (Keeps old.bytes new.bytes)

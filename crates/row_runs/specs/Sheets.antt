@@ -13,14 +13,14 @@ use Rattle.rows.specs.Choices.{choice_of}
 use Rattle.rows.specs.Sewing.{MayBeSewn, signing_of}
 use Rattle.rows.specs.Refusals.{RefusesRow}
 use Rattle.row_sheets.specs.RowSheets.{selected}
-use Rattle.arranged_sheets.specs.Filled.{card_sheets, duplex_sheets, grid_sheets, stack_sheets}
-use Rattle.arranged_sheets.specs.Creep.{AreHalves, IsRefusedCreeping, creeping_sheets}
-use Rattle.arranged_sheets.specs.Shapes.{IsRefusedFor, filling}
-use Rattle.arranged_sheets.specs.Posters.{AllMayBePosters, IsNoPosterFor, most_tiles, row_tiles}
-use Rattle.arranged_sheets.specs.Standing.{AllFit, AllFitOnLeaves}
+use Rattle.row_sheets.specs.Filled.{card_sheets, duplex_sheets, grid_sheets, stack_sheets}
+use Rattle.row_sheets.specs.Creep.{AreHalves, IsRefusedCreeping, creeping_sheets}
+use Rattle.row_sheets.specs.Shapes.{IsRefusedFor, filling}
+use Rattle.row_sheets.specs.Posters.{AllMayBePosters, IsNoPosterFor, most_tiles, row_tiles}
+use Rattle.row_sheets.specs.Standing.{AllFit, AllFitOnLeaves}
 use Rattle.sheet_plan.specs.MadeRefusals.{RefusesMade}
 use Rattle.sheet_plan.specs.declared.error.MadeError.{MadeError}
-use Rattle.arranged_sheets.specs.declared.poster.PosterError.{PosterError}
+use Rattle.row_sheets.specs.declared.poster.PosterError.{PosterError}
 use Rattle.row_runs.specs.Evened.{WhyNotEven, evened_if}
 use Rattle.row_runs.specs.declared.asked.Asked.{Asked}
 use Rattle.row_runs.specs.declared.asked.Laying.{Laying}
@@ -39,7 +39,7 @@ MayBeLaid (laying.Leaves setting) = ⊤
 MayBeLaid (laying.Booklet setting turned_backs creep) = AreHalves setting
 MayBeLaid (laying.Poster poster) = (poster.rows * poster.columns ≤ most_tiles) × (poster.edge ≤ 10_000_000_000)
 
--- each page stands whole on a sheet
+-- each page is whole on a sheet
 abbrev pub IsWhole : Laying → Type 0
 IsWhole (laying.Poster poster) = ⊥
 IsWhole other = ⊤
@@ -67,7 +67,7 @@ sheets_laid (laying.Booklet setting turned_backs creep) leaves papers row =
     creeping_sheets (filling setting papers) turned_backs creep leaves row
 sheets_laid (laying.Poster poster) leaves papers row = row_tiles poster papers row
 
--- why it can't be laid: out of memory, or a page that can't stand in its cell
+-- why it can't be laid: out of memory, or a page that doesn't fit its cell
 abbrev pub WhyNotLaid : Laying → (leaves : ℕ) → List Paper → Row → ArrangementError → Type 0
 WhyNotLaid (laying.AsTheyAre blank) leaves papers row e = e ≡ why.NoMemory
 WhyNotLaid (laying.Grid setting cells) leaves papers row e = IsRefusedFor (filling setting papers) row e
@@ -104,7 +104,7 @@ HaveSpace other papers row = ⊥
 abbrev pub WhyNoPlan : Laying → (leaves : ℕ) → List Paper → Row → MadeError → Type 0
 WhyNoPlan l leaves papers row e = (pages : ℕ) → pages ≤ most_pages → RefusesMade pages (sheets_laid l leaves papers row) e
 
--- a refusal tells why; a limit that is passed, only if all pages have their places
+-- a refusal says why; a limit that is passed, only if all pages have their places
 abbrev pub RefusesLaying : Laying → (leaves : ℕ) → List Paper → Row → AskedError → Type 0
 RefusesLaying l leaves papers row (error.Arrangement e) = WhyNotLaid l leaves papers row e
 RefusesLaying l leaves papers row (error.Poster e) = WhyNoPosters l papers row e
@@ -135,7 +135,7 @@ pub record AreAsked (pages : ℕ) (papers : List Paper) (a : Asked) (made : List
   pub are_laid : made ≡ sheets_laid (laying_for a papers row) (leaves_in (sewn a) row) papers (signed (sewn a) row)
   pub fits : FitAsLaid (laying_for a papers row) (leaves_in (sewn a) row) papers (signed (sewn a) row)
 
--- a refusal tells the fault of the row, or, if there is one, why it can't be laid
+-- a refusal names the fault of the row, or, if there is one, why it can't be laid
 abbrev pub RefusesAsked : (pages : ℕ) → List Paper → Asked → AskedError → Type 0
 RefusesAsked pages papers a (error.Row e) = RefusesRow (row_chosen pages a) e
 RefusesAsked pages papers a (error.Arrangement e) = (row : Row) × (row_chosen pages a ≡ Ok row)

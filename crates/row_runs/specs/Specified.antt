@@ -9,7 +9,7 @@ use Rattle.layouts.specs.declared.setting.Setting.{Setting}
 use Rattle.layouts.specs.Fitted.{setting_of, binding_setting_of}
 use Rattle.layouts.specs.Grids.{arranged, bound, count_of}
 use Rattle.layouts.specs.Refusals.{why_not_arranged, why_not_bound}
-use Rattle.arranged_sheets.specs.Filled.{Filling, grid_sheets, booklet_sheets}
+use Rattle.row_sheets.specs.Filled.{Filling, grid_sheets, booklet_sheets}
 use Rattle.row_sheets.specs.BySpec.{by_spec}
 
 -- cells that are filled with pages of this paper alone

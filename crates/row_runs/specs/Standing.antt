@@ -1,10 +1,10 @@
--- How the pages of the sheets that are asked for stand.
+-- How the pages of the sheets that are asked for lie.
 use Rattle.std.specs.Prelude.{◌≡◌, ⊤, List, [], ◌∷◌, All}
 use Rattle.rules.specs.Papers.{Paper}
 use Rattle.made_sheets.specs.Made.{MadeSlot, Blank, Placed, MadeSheet}
 use Rattle.layouts.specs.Placed.{bare}
 use Rattle.row_sheets.specs.RowSheets.{as_it_is}
-use Rattle.arranged_sheets.specs.Standing.{AllStand, LeavesStand, StandsIn}
+use Rattle.row_sheets.specs.Standing.{AllStand, LeavesStand, StandsIn}
 use Rattle.row_runs.specs.declared.asked.Laying.{Laying}
 use Rattle.row_runs.specs.declared.asked.Laying.TheVariants as laying
 
@@ -22,7 +22,7 @@ pub record StandsAlone (sheet : MadeSheet) : Type 0 where
   pub stands : StandsIn (bare sheet.paper) sheet
 
 -- the sheets of a laying: in cells each page lies on what the margin leaves of its sheet, and each two of a sheet are apart
--- by the gap; on leaves nothing crosses the fold; as they are, each stands alone. What stands on the tiles of a poster is
+-- by the gap; on leaves nothing crosses the fold; as they are, each lies alone. What is on the tiles of a poster is
 -- said by laws of their own
 abbrev pub StandAsLaid : Laying → List MadeSheet → Type 0
 StandAsLaid (laying.AsTheyAre blank) made = All StandsAlone made

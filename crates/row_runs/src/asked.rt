@@ -15,13 +15,12 @@ ghost use Rattle.row_runs.specs.Standing.{StandAsLaid, StandsAlone};
 use crate::error::AskedError;
 use crate::evened::evened_if;
 use crate::limits::limit_in;
-use arranged_sheets::{
-    Creep, Poster, PosterError, card_sheets, check_cells, check_posters, creeping_booklet_sheets,
-    grid_sheets, leaf_sheets, poster_row_sheets, stack_sheets,
-};
 use layouts::{ArrangementError, Setting};
 use lengths::Paper;
-use row_sheets::select;
+use row_sheets::{
+    Creep, Poster, PosterError, card_sheets, check_cells, check_posters, creeping_booklet_sheets,
+    grid_sheets, leaf_sheets, poster_row_sheets, select, stack_sheets,
+};
 use rows::{Choice, RowError, Signing, chosen_row, signed_row};
 use sheet_plan::{MadeError, MadeSheets};
 use std::alloc::Global;
@@ -76,8 +75,8 @@ pub struct Asked<'t> {
     pub same_scale: bool,
 }
 
-/// The sheets that are asked for of a document with so many pages, whose papers stand in their order. A page whose paper
-/// isn't told has the sheet's. What is wrong with the row is refused first, then a page that can't stand in a cell, or be
+/// The sheets that are asked for of a document with so many pages, whose papers are in their order. A page whose paper
+/// isn't known has the sheet's. What is wrong with the row is refused first, then a page that fits no cell, or can't be
 /// a poster, then cards and posters that pass a limit of a plan: none of their sheets is made.
 pub fn asked_sheets(
     alloc: Global,
@@ -185,7 +184,7 @@ fn laid(
     }
 }
 
-/// Why a row isn't laid whose sheets would pass this limit. A page that has no place is told before it.
+/// Why a row isn't laid whose sheets would pass this limit. A page that has no place is reported before it.
 fn passing(laying: &Laying, papers: &[Paper], row: &[Option<u32>], limit: MadeError) -> AskedError
     requires laid { MayBeLaid laying.now }
     requires passed { limit_of_laying laying.now (length row.now) ≡ Some limit }
@@ -204,7 +203,7 @@ fn passing(laying: &Laying, papers: &[Paper], row: &[Option<u32>], limit: MadeEr
     }
 }
 
-/// A row of which each page stands whole on a sheet.
+/// A row of which each page is whole on a sheet.
 fn laid_whole(
     alloc: Global,
     laying: &Laying,

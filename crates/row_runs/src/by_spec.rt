@@ -11,6 +11,7 @@ use crate::asked::row_error;
 use crate::error::AskedError;
 use crate::look::plan_error;
 use crate::run::sheets_error;
+use crate::sheets_run::{SheetJob, impose_sheets};
 use dsc::Document;
 use imposer::{Gate, Report, Sink, Workers};
 use lengths::{Grains, Paper};
@@ -18,7 +19,6 @@ use pagespec::Spec;
 use row_sheets::{SpecOnRow, spec_sheets};
 use rows::{Choice, Signing, chosen_row, signed_row};
 use sheet_plan::MadeSheets;
-use sheet_runs::{SheetJob, impose_sheets};
 use std::alloc::Global;
 use std::sync::Wait;
 use std::thread::Threads;
@@ -38,8 +38,37 @@ pub struct SpecJob<'j, 'd> {
     pub workers: Workers,
 }
 
+impl<'j, 'd> SpecJob<'j, 'd> {
+    /// The sheets of the specification on the row. What is wrong with the row is refused first, then a limit that they pass.
+    /// Whoever creates an output plans them before: `PlannedSheets::of_job` refuses what is left.
+    pub fn lay(&self, alloc: Global) -> Result<MadeSheets, AskedError>
+        requires { IfSome self.now.signing MayBeSewn }
+        ensures made { IfOk result (AreBySpec self.now) }
+        ensures refused { IfErr result (RefusesSheetsBySpec self.now) }
+    {
+        let row = match chosen_row(alloc, self.document.pages(), &self.choice) {
+            Ok(row) => row,
+            Err(error) => return Err(row_error(error)),
+        };
+        let printed = match signed_row(alloc, row, self.signing) {
+            Ok(printed) => printed,
+            Err(_) => return Err(AskedError::NoMemory { written: 0 }),
+        };
+        let on = SpecOnRow {
+            spec: self.spec,
+            row: printed.as_slice(),
+            sheet: self.sheet,
+            page: self.page,
+        };
+        match spec_sheets(alloc, &on) {
+            Ok(sheets) => Ok(sheets),
+            Err(error) => Err(plan_error(error)),
+        }
+    }
+}
+
 /// Hands the sink the sheets of the specification on the row: the places that its items name are entries of the row, and
-/// the lines by which they tell their papers. What is wrong with the row is refused first, then sheets that can't be
+/// the lines that report their papers. What is wrong with the row is refused first, then sheets that can't be
 /// planned; nothing is written then. After `NoMemory` and `Write` the sink has taken the first `written` bytes of the
 /// output. The sink isn't flushed.
 pub fn impose_spec_row<R: Threads + Wait + Sync, G: Gate + Sync, S: Sink>(
@@ -63,7 +92,7 @@ pub fn impose_spec_row<R: Threads + Wait + Sync, G: Gate + Sync, S: Sink>(
     ensures steady { OnOk result ((S.seen sink.new).failures ≡ (S.seen sink.old).failures) }
     ensures failed { IfErr result (λ e. FailedWith e (S.seen sink.old) (S.seen sink.new)) }
 {
-    let sheets = match sheets_by_spec(alloc, job) {
+    let sheets = match job.lay(alloc) {
         Ok(sheets) => sheets,
         Err(error) => return Err(error),
     };
@@ -77,31 +106,5 @@ pub fn impose_spec_row<R: Threads + Wait + Sync, G: Gate + Sync, S: Sink>(
     match impose_sheets(rt, alloc, &made, gate, sink) {
         Ok(report) => Ok(report),
         Err(error) => Err(sheets_error(error)),
-    }
-}
-
-/// The sheets of the specification on the row.
-fn sheets_by_spec(alloc: Global, job: &SpecJob<'_, '_>) -> Result<MadeSheets, AskedError>
-    requires { IfSome job.now.signing MayBeSewn }
-    ensures made { IfOk result (AreBySpec job.now) }
-    ensures refused { IfErr result (RefusesSheetsBySpec job.now) }
-{
-    let row = match chosen_row(alloc, job.document.pages(), &job.choice) {
-        Ok(row) => row,
-        Err(error) => return Err(row_error(error)),
-    };
-    let printed = match signed_row(alloc, row, job.signing) {
-        Ok(printed) => printed,
-        Err(_) => return Err(AskedError::NoMemory { written: 0 }),
-    };
-    let on = SpecOnRow {
-        spec: job.spec,
-        row: printed.as_slice(),
-        sheet: job.sheet,
-        page: job.page,
-    };
-    match spec_sheets(alloc, &on) {
-        Ok(sheets) => Ok(sheets),
-        Err(error) => Err(plan_error(error)),
     }
 }

@@ -1,6 +1,6 @@
 //! Why a row wasn't imposed.
-use arranged_sheets::PosterError;
 use layouts::ArrangementError;
+use row_sheets::PosterError;
 use rows::RowError;
 use sheet_plan::MadeError;
 use thiserror::Error;
@@ -11,7 +11,7 @@ pub enum AskedError {
     /// There is no such row, never for memory. Nothing was written.
     #[error(transparent)]
     Row(RowError),
-    /// A page of the row can't stand in a cell, never for memory. Nothing was written.
+    /// A page of the row can't be placed in a cell, never for memory. Nothing was written.
     #[error(transparent)]
     Arrangement(ArrangementError),
     /// A page of the row can't be such a poster, never for memory. Nothing was written.

@@ -5,9 +5,9 @@ ghost use Rattle.row_runs.specs.Evened.{setting_in as setting_of, with_setting a
 ghost use Rattle.row_runs.specs.Sheets.{MayBeLaid};
 
 use crate::asked::Laying;
-use arranged_sheets::at_one_scale;
 use layouts::{ArrangementError, Setting};
 use lengths::Paper;
+use row_sheets::at_one_scale;
 
 /// The laying, with one scale for all pages of the row if that is asked for.
 pub(crate) fn evened_if(

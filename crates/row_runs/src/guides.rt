@@ -10,11 +10,11 @@ ghost use Rattle.row_runs.specs.Sheets.{MayBeLaid};
 
 use crate::asked::Laying;
 use crate::marked::ruled_if;
-use arranged_sheets::Poster;
+use dressing::{Marks, Stroke, gap_at};
 use layouts::{Grid, Room, Setting};
 use lengths::{Grains, Paper};
-use marks::{Marks, Stroke, gap_at};
 use preview::{Guide, GuideKind};
+use row_sheets::Poster;
 use std::alloc::{AllocError, Global};
 
 /// The lines of a laying: its margin, where sheets are cut between their cells, and where the leaves of a booklet are
@@ -221,7 +221,7 @@ fn level_line(kind: GuideKind, room: &Room, parts: u32, k: u32) -> Guide
     level(kind, &room.paper, y)
 }
 
-/// A line that stands so far from the left edge.
+/// A line that is so far from the left edge.
 fn upright(kind: GuideKind, paper: &Paper, x: Grains) -> Guide
     ensures { result ≡ upright_of kind paper.now x }
 {

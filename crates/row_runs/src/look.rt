@@ -14,7 +14,7 @@ use crate::error::AskedError;
 use crate::guides::guides_of;
 use crate::reading::{reading_of, sides_of};
 use crate::run::RowJob;
-use marks::Marks;
+use dressing::Marks;
 use preview::{plan_text, preview_text};
 use sheet_plan::{MadeError, MadeSheets, Plan};
 use std::alloc::{AllocError, Global};

@@ -3,12 +3,12 @@ ghost use Rattle.std.specs.Prelude.{◌≡◌, ◌++◌, IfOk};
 ghost use Rattle.row_runs.specs.Marked.{cut_if as cut_of, fold_if as fold_of, outer_cut_if as outer_cut_of, ruled_if as ruled_of, strokes_in};
 
 use crate::asked::Laying;
+use dressing::{Marks, Stroke, cut_marks, fold_marks, note_lines, outer_cut_marks};
 use layouts::Setting;
-use marks::{Marks, Stroke, cut_marks, fold_marks, note_lines, outer_cut_marks};
 use std::alloc::{AllocError, Global};
 
 /// The strokes on each sheet of a laying, of the marks that are asked for. A laying that isn't folded has no fold marks,
-/// and one that isn't cut no cut marks; pages as they are and posters have none. Lines for notes stand on sheets whose cells
+/// and one that isn't cut no cut marks; pages as they are and posters have none. Lines for notes are on sheets whose cells
 /// are filled in turn.
 pub(crate) fn strokes_of(
     alloc: Global,
@@ -42,7 +42,7 @@ fn booklet_strokes(
     Ok(strokes)
 }
 
-/// The cut marks, and behind them the lines for notes.
+/// The cut marks, and then the lines for notes.
 fn cut_and_ruled(alloc: Global, marks: Marks, setting: &Setting) -> Result<Vec<Stroke>, AllocError>
     ensures { IfOk result (λ strokes. strokes.items ≡ cut_of marks.cut setting.now ++ ruled_of marks.ruled setting.now) }
 {

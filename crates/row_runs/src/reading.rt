@@ -9,12 +9,12 @@ ghost use Rattle.row_runs.specs.Readings.{edge_at_side as edge_of, height_read, 
 ghost use Rattle.row_runs.specs.Readings.{tiles_in, width_read};
 
 use crate::asked::Laying;
-use arranged_sheets::Poster;
 use layouts::{Grid, Order, Run, Setting, Turned};
 use lengths::{Grains, Paper};
 use preview::{Edge, Places, Reading, Sides};
+use row_sheets::Poster;
 
-/// On which sides the sheets of a laying are printed, and where their places stand.
+/// On which sides the sheets of a laying are printed, and where their places are.
 pub(crate) fn reading_of(laying: &Laying) -> Reading
     ensures { result ≡ reading_in laying.now }
 {
@@ -91,7 +91,7 @@ fn side(side: Grains) -> u64
     side.get() as u64
 }
 
-/// The cells in which places stand; or the tiles of a poster.
+/// The cells in which places are; or the tiles of a poster.
 fn places_of(laying: &Laying) -> Places
     ensures { result ≡ places_in laying.now }
 {

@@ -82,7 +82,7 @@ slots_kept sheet page (x ∷ xs) =
 pub slots_counted : (spec : Spec) (sheet page : Paper) (row : Row) → sum_by slot_count (by_spec spec sheet page row) ≡ blocks spec.modulo (length row) * sum_by length spec.groups
 slots_counted spec sheet page row = slots_kept sheet page (sheets_of_row spec row) ∙ place_count spec (length row) (entry_of row)
 
--- what the fields of a specification and the row tell of the sheets
+-- what the fields of a specification and the row say of the sheets
 pub record IsCounted (spec : Spec) (sheet page : Paper) (row : Row) (many : ℕ) (groups : List (Vec PageItem Global)) : Type 0 where
   pub blocks_are : many ≡ blocks spec.modulo (length row)
   pub some_groups : 0 < length groups

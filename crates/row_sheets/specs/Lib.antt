@@ -1,3 +1,12 @@
--- Read in this order: sheets of a row, and those of a specification.
+-- Read in this order: sheets of a row, and those of a specification; sheets whose cells are filled from a row, and how; one
+-- scale for all; leaves that creep; how sheets are laid out, how booklets are read, and what is kept of how pages lay; posters.
 pub mod RowSheets
 pub mod BySpec
+pub mod Filled
+pub mod Shapes
+pub mod SameScale
+pub mod Creep
+pub mod Standing
+pub mod Bound
+pub mod Kept
+pub mod Posters

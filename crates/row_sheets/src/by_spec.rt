@@ -76,7 +76,7 @@ fn slots_in_block(groups: &[Vec<Item>]) -> u128
     slots
 }
 
-/// Puts the sheets of a block behind the others.
+/// Puts the sheets of a block after the others.
 fn push_block(
     alloc: Global,
     made: &mut MadeSheets,

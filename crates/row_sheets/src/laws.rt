@@ -1,7 +1,124 @@
-//! Laws of the sheets of a row. The functions do nothing.
+//! Laws of the definitions. The functions do nothing.
 ghost use Rattle.row_sheets.specs.BySpec.{BySpecOnAll};
+ghost use Rattle.row_sheets.specs.Filled.{GridRunsOn, StackRunsOn, DuplexRunsOn, BehindIsMirror};
+ghost use Rattle.row_sheets.specs.Filled.{FilledIsInside, FilledIsApart, SidesAreInside, SidesAreApart, BookletIsGrid, BookletKeepsFold};
+ghost use Rattle.row_sheets.specs.Creep.{CreepMoves, CreepGrows, CreepKeepsSides, NoCreepIsPlain};
+ghost use Rattle.row_sheets.specs.Bound.{BookletIsRead};
+ghost use Rattle.row_sheets.specs.Posters.{PosterCovers, PosterHasTiles, RowIsShown, TilesOverlap};
+ghost use Rattle.row_sheets.specs.SameScale.{HaveOneScale, OneScaleStands};
+ghost use Rattle.row_sheets.specs.Standing.{FilledStandsInCells};
 
 /// Of all pages, in signatures or not, the sheets of a specification on their row are those of the rules.
 pub fn by_spec_on_all()
     ensures { BySpecOnAll }
+{}
+
+/// The cells of the sheets of a grid, sheet by sheet, are the row.
+pub fn grid_runs_on()
+    ensures { GridRunsOn }
+{}
+
+/// The sheets of a stack, cut and laid, are the row.
+pub fn stack_runs_on()
+    ensures { StackRunsOn }
+{}
+
+/// The leaves of a stack that is printed on both sides, cut and laid, and read front and back, are the row.
+pub fn duplex_runs_on()
+    ensures { DuplexRunsOn }
+{}
+
+/// What is behind a cell is in its row, and as far from the other side.
+pub fn behind_is_mirror()
+    ensures { BehindIsMirror }
+{}
+
+/// Each placed page lies on what the margin leaves of its sheet, whatever its paper.
+pub fn filled_is_inside()
+    ensures { FilledIsInside }
+{}
+
+/// Two placed pages of a sheet are apart by the gap, whatever their papers.
+pub fn filled_is_apart()
+    ensures { FilledIsApart }
+{}
+
+/// The same of sheets that are turned by half: each placed page lies on what the margin leaves of its sheet.
+pub fn sides_are_inside()
+    ensures { SidesAreInside }
+{}
+
+/// And two placed pages are apart by the gap.
+pub fn sides_are_apart()
+    ensures { SidesAreApart }
+{}
+
+/// Nothing on the sides of a booklet's leaves crosses the fold, whatever the papers: it is one line for all of them.
+pub fn booklet_keeps_fold()
+    ensures { BookletKeepsFold }
+{}
+
+/// The sides of a booklet of which no back is turned are a grid with two cells.
+pub fn booklet_is_grid()
+    ensures { BookletIsGrid }
+{}
+
+/// A page of a leaf that creeps lies where it would, moved towards the fold.
+pub fn creep_moves()
+    ensures { CreepMoves }
+{}
+
+/// The outermost leaf stays, the innermost is moved by the whole creep, and each one no farther than the next one in.
+pub fn creep_grows()
+    ensures { CreepGrows }
+{}
+
+/// As long as there is room for it, no leaf that creeps crosses its fold.
+pub fn creep_keeps_sides()
+    ensures { CreepKeepsSides }
+{}
+
+/// A booklet whose leaves don't creep is the plain one.
+pub fn no_creep_is_plain()
+    ensures { NoCreepIsPlain }
+{}
+
+/// A booklet whose leaves are folded, put into one another and bound at either side is read in the order of its row.
+pub fn booklet_is_read()
+    ensures { BookletIsRead }
+{}
+
+/// Each point of a poster's page is shown on a tile.
+pub fn poster_covers()
+    ensures { PosterCovers }
+{}
+
+/// Neighbouring tiles of a poster share exactly the overlap.
+pub fn tiles_overlap()
+    ensures { TilesOverlap }
+{}
+
+/// A poster that isn't refused has tiles, which are longer than they overlap.
+pub fn poster_has_tiles()
+    ensures { PosterHasTiles }
+{}
+
+/// So each point of each page of a row of posters is shown on one of its sheets.
+pub fn row_is_shown()
+    ensures { RowIsShown }
+{}
+
+/// Pages that have their places are each fitted into its cell, and read in order.
+pub fn filled_stands_in_cells()
+    ensures { FilledStandsInCells }
+{}
+
+/// With one scale for a row all its pages have that of the largest paper, the least of their own.
+pub fn have_one_scale()
+    ensures { HaveOneScale }
+{}
+
+/// And each lies in its cell then.
+pub fn one_scale_stands()
+    ensures { OneScaleStands }
 {}

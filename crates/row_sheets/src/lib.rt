@@ -1,9 +1,22 @@
-//! Sheets of a row: each entry on a sheet of its own, each page on its own paper; or those of a specification.
+//! Sheets of rows: each entry on its own, in cells, on leaves, as posters, or by a specification.
 #![tactic(auto)]
 
 mod by_spec;
+mod checked;
+mod creep;
+mod fill;
+mod fitter;
 pub mod laws;
+mod poster;
+mod poster_rows;
+mod same_scale;
 mod selecting;
 
 pub use by_spec::{SpecOnRow, spec_sheets};
+pub use checked::{check_cells, check_posters};
+pub use creep::{Creep, creeping_booklet_sheets};
+pub use fill::{booklet_sheets, card_sheets, grid_sheets, leaf_sheets, stack_sheets};
+pub use poster::{Poster, PosterError, check_poster, poster_sheets};
+pub use poster_rows::poster_row_sheets;
+pub use same_scale::at_one_scale;
 pub use selecting::select;

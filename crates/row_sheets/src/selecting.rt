@@ -24,7 +24,7 @@ pub fn select(
     Ok(made)
 }
 
-/// Puts a sheet with this entry behind the others.
+/// Puts a sheet with this entry after the others.
 fn push_entry(
     made: &mut MadeSheets,
     entry: Option<u32>,
@@ -62,7 +62,7 @@ fn paper_or(papers: &[Paper], page: u32, other: &Paper) -> Paper
     }
 }
 
-/// The item by which a page stands as it is.
+/// The item by which a page is placed as it is.
 fn as_it_is() -> Item
     ensures { item_of result ≡ item_as_it_is }
 {

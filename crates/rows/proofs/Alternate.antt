@@ -11,7 +11,7 @@ odd_cons : (x : Option ℕ) (rest : Row) → odd_part (x ∷ rest) ≡ x ∷ odd
 odd_cons x [] = refl
 odd_cons x (y ∷ rest) = refl
 
--- the even part is the odd part from the second entry on
+-- the even part is the odd part of what follows the first entry
 pub even_is : (row : Row) → even_part row ≡ odd_part (drop 1 row)
 even_is [] = refl
 even_is (x ∷ []) = refl
@@ -27,12 +27,12 @@ part_more part row at lt =
     ∙ ap (λ rest. entry_of row at ∷ odd_part rest) (drop-drop 1 (suc at) row ∙ ap (λ k. drop k row) next) in
     append_assoc part (entry_of row at ∷ []) (odd_part (drop (at + 2) row)) ∙ ap (λ t. part ++ t) (sym here)
 
--- behind the row's end nothing is left
+-- after the row's end nothing is left
 pub part_all : (part row whole : Row) (at : ℕ) → length row ≤ at → part ++ odd_part (drop at row) ≡ whole → part ≡ whole
 part_all part row whole at le is =
     sym (append-nil part) ∙ ap (λ rest. part ++ odd_part rest) (sym (drop_of_length-le row le)) ∙ is
 
--- how long the parts are
+-- the lengths of the parts
 pub odd_length : (row : Row) → (length row ≤ length (odd_part row) * 2) × (length (odd_part row) * 2 ≤ length row + 1)
 odd_length [] = (omega arith, omega arith)
 odd_length (x ∷ []) = (omega arith, omega arith)

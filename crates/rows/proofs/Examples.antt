@@ -1,4 +1,4 @@
--- Worked examples: which entries stay, how leaves are sewn, and what refusals tell.
+-- Worked examples: which entries stay, how leaves are sewn, and what refusals report.
 use Rattle.std.proofs.Common.{◌≡◌, ℕ, [], ◌∷◌, refl}
 use Rattle.std.specs.Prelude.{Some, Err}
 use Rattle.made_sheets.specs.Rows.{all_pages}
@@ -17,7 +17,8 @@ odd_entries = refl
 even_entries : part_of (part_named part.Even) (all_pages 5) ≡ Some 1 ∷ Some 3 ∷ []
 even_entries = refl
 
--- 68 pages: in one signature, in signatures of 16 sides, and by themselves in three of six leaves each
+-- 68 pages: in one signature, in signatures of 16 sides, and, with automatic signatures, in three of six leaves
+-- each
 in_one : sides_for (signing_of sewn.InOne) 68 ≡ 68
 in_one = refl
 
@@ -27,10 +28,10 @@ of_sixteen = refl
 by_themselves : sides_for (signing_of sewn.Auto) 68 ≡ 24
 by_themselves = refl
 
--- a range that the document hasn't is told by the byte at which it begins
+-- a range that the document lacks is reported by the byte at which it begins
 told_at_its_byte : (at told : ℕ) → RefusesRow (Err (NotInDocument at)) (error.NotInDocument told) → at ≡ told
 told_at_its_byte at told is = cc is
 
--- that no entry is left isn't told as too many of them
+-- a row without entries isn't reported as too many entries
 none_is_not_too_many : (told : ℕ) → RefusesRow (Err NoEntries) (error.TooManyEntries told) → ⊥
 none_is_not_too_many told is = cc is

@@ -1,4 +1,4 @@
--- Faults, and what comes of them.
+-- Faults, and their consequences.
 use Rattle.std.proofs.Common.{◌≡◌, ◌≤◌, ◌∙◌, ap, arith, length, true, false, Bool, ℕ}
 use Rattle.std.specs.Prelude.{Result}
 use Rattle.std.proofs.lemmas.List.{length-reverse}
@@ -30,7 +30,7 @@ part_few All row = omega arith
 part_few Odd row = let l = odd_length row in omega (arith, l.0, l.1)
 part_few Even row = let l = even_length row in omega (arith, l.0, l.1)
 
--- nothing comes to a row
+-- a row without entries
 pub chosen_few : (backwards : Bool) (p : Part) (row new : Row) (n most : ℕ) → new ≡ reversed_if backwards (part_of p row) → n ≡ length row → n ≤ most → length new ≤ most
 chosen_few true p row new n most is len few =
     let same : length new ≡ length (part_of p row) = ap (λ (r : Row). length r) is ∙ length-reverse (part_of p row) in

@@ -1,4 +1,4 @@
--- A row in signatures, one behind the other.
+-- A row in signatures, one after the other.
 use Rattle.std.proofs.Common.{ℕ, zero, suc, ◌+◌, ◌-◌, ◌*◌, ◌/◌, ◌%◌, ◌<◌, ◌≤◌, ◌≡◌, ◌∙◌, ap, sym, arith, [], ◌∷◌, ◌++◌, map, min}
 use Rattle.std.specs.Prelude.{flat_map}
 use Rattle.std.specs.List.{range_with_len}

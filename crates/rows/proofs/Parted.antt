@@ -1,4 +1,4 @@
--- A text that is cut at the first of a byte.
+-- A text that is cut at the first occurrence of a byte.
 use Rattle.std.proofs.Common.{ℕ, ◌+◌, ◌<◌, ◌≤◌, ◌≡◌, ◌∙◌, Some, None, List, [], ◌∷◌, ◌==◌, Bool, true, false, arith, ap, sym, refl, length, take, drop, drop-drop, nat_lt}
 use Rattle.std.specs.Prelude.{if◌then◌else◌}
 use Rattle.std.specs.Prelude.{position}

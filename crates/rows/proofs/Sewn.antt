@@ -1,4 +1,4 @@
--- A row that is signed is read in order.
+-- A signed row is read in order.
 use Rattle.std.proofs.Common.{◌≡◌, ◌*◌, ◌/◌, ℕ, subst, arith, length, map}
 use Rattle.std.specs.Prelude.{flat_map}
 use Rattle.std.specs.List.{range_with_len}

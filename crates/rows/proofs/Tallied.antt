@@ -96,8 +96,8 @@ over_stays most pages at n (s ∷ all) h =
     ∙ over_stays most pages at n all (sym (ap (λ b. if b then first_missing pages all else Some s.at) is) ∙ h))
     (λ isnt. absurd (cc (sym (ap (λ b. if b then first_missing pages all else Some s.at) isnt) ∙ h)))
 
--- what is counted of all: the first range that is missing, and else the first one by which there are too many entries,
--- and else how many entries there are
+-- the result of counting: the first range that is missing; if none is, the first that exceeds the limit of entries;
+-- if none does, the number of entries
 pub record IsCount (most pages n : ℕ) (all : List Standing) (t : Tally) : Type 0 where
   missing : t.missing ≡ first_missing pages all
   over : first_missing pages all ≡ None → t.over ≡ first_over most n pages all
@@ -126,7 +126,7 @@ count_missing most pages n s all isnt =
       entries = λ e o. absurd (cc (sym first ∙ e));
     }
 
--- with the first range there are too many entries
+-- with the first range the limit of entries is exceeded
 count_over : (most pages n : ℕ) (s : Standing) (all : List Standing) → has_range pages s.range ≡ true → nat_lt most (n + length (entries_of pages s.range)) ≡ true
     → IsCount most pages n (s ∷ all) (tally_all most pages all (tally_of None (Some s.at) n))
 count_over most pages n s all is many =
@@ -213,7 +213,7 @@ is_row pages at (piece ∷ pieces) = row_step pages at piece pieces (range_at pi
 
 -- ---- what the count says of the row
 
--- what is asked for, by the ranges that stand there
+-- what is asked for, by the ranges that are there
 abbrev pub asked : (most pages : ℕ) → Result (List Standing) RowFault → Result Row RowFault
 asked most pages standing = standing >>= row_standing most pages
 

@@ -14,7 +14,7 @@ abbrev pub bytes_left : Option (Bor (List ℕ)) → ℕ
 bytes_left None = 0
 bytes_left (Some rest) = length rest.now + 1
 
--- what is counted in the end of what is left of a text of so many bytes
+-- the final count for the rest of a text of this many bytes
 abbrev pub tally_left : (most pages whole : ℕ) → Option (Bor (List ℕ)) → Tally → Result Tally ℕ
 tally_left most pages whole None t = Ok t
 tally_left most pages whole (Some rest) t = tally_from most pages (whole - length rest.now) (parts_left 44 (Some rest)) t
@@ -37,7 +37,7 @@ left_is most pages whole rest piece (Some r) u within len =
     let same : whole - length r.now ≡ whole - length rest + length piece + 1 = omega (arith, within, len) in
     ap (λ at. tally_from most pages at (parts_left 44 (Some r)) u) same
 
--- one piece more is counted
+-- one more piece is counted
 pub tally_step : (most pages whole : ℕ) (rest piece : List ℕ) (behind : Option (Bor (List ℕ))) (range : Found) (t u : Tally)
     → slice_split (λ b. b == 44) rest ≡ piece ∷ parts_left 44 behind → IfSome behind (λ r. length rest ≡ length piece + 1 + length r.now) → length rest ≤ whole
     → Some range ≡ option_map (found_in pages) (range_at piece) → u ≡ counted most (whole - length rest) range t

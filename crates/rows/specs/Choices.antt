@@ -1,4 +1,4 @@
--- What is chosen, as the code has it.
+-- The row that is chosen, in terms of the code.
 use Rattle.std.specs.Prelude.{ℕ, List, Option, Some, None}
 use Rattle.std.specs.Borrow.{Bor}
 use Rattle.made_sheets.specs.Rows.{Row, all_pages}

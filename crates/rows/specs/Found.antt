@@ -1,5 +1,5 @@
--- What texts name in a document of so many pages, as the code keeps it: pages by their numbers from 1, and 0 for a page
--- that the document hasn't.
+-- What texts name in a document of this many pages, as the code keeps it: pages by their numbers from 1, and 0 for
+-- a page that the document lacks.
 use Rattle.std.specs.Prelude.{ℕ, ◌-◌, Bool, false, ◌||◌, ◌==◌, if◌then◌else◌, List, [], ◌∷◌, map, flat_map}
 use Rattle.std.specs.Prelude.{Option, Some, None, option_map}
 use Rattle.std.specs.Borrow.{Bor}
@@ -9,7 +9,7 @@ use Rattle.rows.specs.declared.found_ranges.Found.TheVariants as found
 use Rattle.made_sheets.specs.Rows.{Row}
 use Rattle.made_sheets.specs.Ranges.{Place, Range, BlankPage, FromTo, number_in, has_place, from_to, pieces_of, range_at}
 
--- the parts of what stands behind a byte at which a text was cut
+-- the parts of what follows a byte at which a text was cut
 abbrev pub parts_left : ℕ → Option (Bor (List ℕ)) → List (List ℕ)
 parts_left byte None = []
 parts_left byte (Some rest) = slice_split (λ b. b == byte) rest.now
@@ -41,7 +41,7 @@ abbrev pub entries_if : Option code.Found → Row
 entries_if None = []
 entries_if (Some range) = entries_found range
 
--- the entries of a piece of a text, if it stands for a range that the document has
+-- the entries of a piece of a text, if it means a range that the document has
 abbrev pub piece_found : (pages : ℕ) → List ℕ → Row
 piece_found pages piece = entries_if (option_map (found_in pages) (range_at piece))
 

@@ -1,5 +1,5 @@
--- Read in this order: what is found in a document of so many pages; how ranges are counted; what refusals say; choices;
--- how rows are sewn, and read.
+-- Read in this order: what is found in a document of this many pages; how ranges are counted; what refusals say;
+-- choices; how rows are sewn, and read.
 pub mod Found
 pub mod Tallies
 pub mod Refusals

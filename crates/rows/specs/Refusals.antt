@@ -5,7 +5,7 @@ use Rattle.made_sheets.specs.Choice.{RowFault, NotARange, NotInDocument, TooMany
 use Rattle.rows.specs.declared.error.RowError.{RowError}
 use Rattle.rows.specs.declared.error.RowError.TheVariants as error
 
--- what each refusal says of what is asked for: the first fault; or, at NoMemory, that there is none
+-- what each refusal says of the row asked for: its first fault, or, at NoMemory, that there is none
 abbrev pub RefusesRow : Result Row RowFault → RowError → Type 0
 RefusesRow asked (error.NotARange at) = asked ≡ Err (NotARange at)
 RefusesRow asked (error.NotInDocument at) = asked ≡ Err (NotInDocument at)
@@ -13,7 +13,7 @@ RefusesRow asked (error.TooManyEntries at) = asked ≡ Err (TooManyEntries at)
 RefusesRow asked error.NoEntries = asked ≡ Err NoEntries
 RefusesRow asked error.NoMemory = IsOk asked
 
--- the same of what takes no memory
+-- the same of a call that takes no memory
 abbrev pub IsFault : Result Row RowFault → RowError → Type 0
 IsFault asked (error.NotARange at) = asked ≡ Err (NotARange at)
 IsFault asked (error.NotInDocument at) = asked ≡ Err (NotInDocument at)

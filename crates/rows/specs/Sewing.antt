@@ -1,4 +1,4 @@
--- How a booklet is sewn, as the code has it; and what is read of it.
+-- How a booklet is sewn, in terms of the code, and what is read from it.
 use Rattle.std.specs.Prelude.{⊤, ◌≡◌, ◌*◌, ◌/◌, length, map, flat_map, Some}
 use Rattle.std.specs.List.{range_with_len}
 use Rattle.rules.specs.Sheets.{blocks}
@@ -19,8 +19,8 @@ abbrev pub MayBeSewn : code.Signing → Type 0
 MayBeSewn (sewn.OfSides sides) = AreSides sides
 MayBeSewn how = ⊤
 
--- a row that is signed, laid on leaves, folded and read, signature by signature, is read in its order; behind its end are
--- the blanks that fill up the last signature
+-- if a signed row is laid on leaves, folded and read signature by signature, it is read in its order. The blanks
+-- that fill up the last signature follow it
 abbrev pub SignedIsRead : Type 0
 SignedIsRead = (how : Signing) (row : Row) → AreSides (sides_for how (length row)) →
     (let sides = sides_for how (length row) in

@@ -12,7 +12,7 @@ tally_of missing over entries = record { missing = missing; over = over; entries
 abbrev pub no_tally : Tally
 no_tally = tally_of None None 0
 
--- with one range more, which begins at this byte, if there may be so many entries
+-- with one more range, which begins at this byte, under this limit of entries
 abbrev pub counted : (most at : ℕ) → Found → Tally → Tally
 counted most at range t =
     let n = t.entries + length (entries_found range) in
@@ -25,7 +25,8 @@ abbrev pub tally_piece : (most pages at : ℕ) → Option Range → Tally → Re
 tally_piece most pages at None t = Err at
 tally_piece most pages at (Some range) t = Ok (counted most at (found_in pages range) t)
 
--- with the ranges of these pieces, of which the first begins at this byte; or where the first piece begins that is none
+-- with the ranges of these pieces, the first of which begins at this byte; or where the first piece begins that is
+-- not a range
 abbrev pub tally_from : (most pages at : ℕ) → List (List ℕ) → Tally → Result Tally ℕ
 tally_from most pages at [] t = Ok t
 tally_from most pages at (piece ∷ pieces) t =

@@ -19,7 +19,7 @@ pub enum Part {
     Even,
 }
 
-/// Ranges, if some are named, and else all pages; of these a part; and that backwards if so asked.
+/// The ranges that are named, or else all pages; a part of these; and that backwards on request.
 #[derive(Clone, Copy)]
 pub struct Choice<'t> {
     pub ranges: Option<&'t [u8]>,
@@ -27,7 +27,7 @@ pub struct Choice<'t> {
     pub backwards: bool,
 }
 
-/// The row that is chosen of a document of so many pages. A refusal takes no memory.
+/// The row that is chosen from a document of this many pages. A refusal takes no memory.
 pub fn chosen_row(
     alloc: Global,
     pages: u32,
@@ -52,7 +52,7 @@ pub fn chosen_row(
     }
 }
 
-/// How many entries the row has of which a part is taken, or why there is no row.
+/// The number of entries of the row before a part is taken, or why there is no row.
 fn named_count(pages: u32, ranges: Option<&[u8]>) -> Result<usize, RowError>
     requires { pages ≤ most_entries }
     ensures row { IfOk result (λ n. named_row pages (ranges_in ranges.entry) ≡ Ok (named_found pages ranges.entry)) }
@@ -66,7 +66,7 @@ fn named_count(pages: u32, ranges: Option<&[u8]>) -> Result<usize, RowError>
     }
 }
 
-/// How many entries a part of a row of so many has.
+/// The number of entries in a part of a row with this many.
 fn part_count(part: Part, entries: usize) -> usize
     ensures { (row : Row) → length row ≡ entries → length (part_of (part_named part) row) ≡ result }
 {
@@ -77,7 +77,7 @@ fn part_count(part: Part, entries: usize) -> usize
     }
 }
 
-/// The row that is chosen, of so many entries before a part is taken.
+/// The row that is chosen, if there are this many entries before a part is taken.
 fn made_row(
     alloc: Global,
     pages: u32,
@@ -96,7 +96,7 @@ fn made_row(
     Ok(row)
 }
 
-/// The row of which a part is taken.
+/// The row before a part is taken.
 fn found_row(
     alloc: Global,
     pages: u32,

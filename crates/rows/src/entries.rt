@@ -2,7 +2,7 @@
 ghost use Rattle.std.specs.Prelude.{◌≡◌};
 ghost use Rattle.rules.specs.Signatures.{entry_of};
 
-/// An entry of the row; behind its end all is blank.
+/// An entry of the row; after its end all is blank.
 pub fn entry_at(row: &[Option<u32>], entry: usize) -> Option<u32>
     ensures { result ≡ entry_of row.now entry }
 {

@@ -1,14 +1,15 @@
 //! Why there is no row.
 use thiserror::Error;
 
-/// Why there is no row. The faults are looked for in this order, before any memory is asked for: the whole text is read
-/// first, then all pages are looked for, then entries are counted. A range is told by its first byte in the text.
+/// Why there is no row. The faults are looked for in this order, before any memory is asked for: the whole text is
+/// read first, then all pages are looked up, then entries are counted. A fault has the place of its range's first
+/// byte in the text.
 #[derive(Clone, Copy, Debug, PartialEq, Eq, Error)]
 pub enum RowError {
-    /// What begins here is no range.
+    /// What begins here is not a range.
     #[error("pages: no range at byte {0}")]
     NotARange(usize),
-    /// The document doesn't have both ends of this range.
+    /// The document lacks an end of this range.
     #[error("pages: no such page at byte {0}")]
     NotInDocument(usize),
     /// With this range there are over 1,000,000 entries.
@@ -17,7 +18,7 @@ pub enum RowError {
     /// Nothing is left to be imposed.
     #[error("pages: no page is left")]
     NoEntries,
-    /// No memory was left.
+    /// There was not enough memory.
     #[error("out of memory")]
     NoMemory,
 }

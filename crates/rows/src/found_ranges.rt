@@ -6,8 +6,8 @@ ghost use Rattle.rows.specs.Found.{found_in, is_missing, entries_found, range_fo
 use crate::cutting::cut;
 use crate::places::{read_last_place, read_place};
 
-/// A range in a document: a blank, or the numbers of its first and its last page, of which 0 is one that the document
-/// hasn't.
+/// A range in a document: a blank, or the numbers of its first and its last page; 0 is a page that the document
+/// lacks.
 #[derive(Clone, Copy)]
 pub enum Found {
     Blank,
@@ -15,7 +15,7 @@ pub enum Found {
 }
 
 impl Found {
-    /// Whether the document hasn't both ends.
+    /// Whether the document lacks an end of it.
     pub(crate) fn is_missing(self) -> bool
         ensures { result ≡ is_missing self }
     {
@@ -25,7 +25,7 @@ impl Found {
         }
     }
 
-    /// How many entries it has.
+    /// The number of its entries.
     pub(crate) fn entries(self) -> u64
         ensures value { result ≡ length (entries_found self) }
         ensures few { result ≤ 2 ^ 32 }
@@ -43,7 +43,7 @@ impl Found {
     }
 }
 
-/// How many pages there are from one number to another, up or down.
+/// The number of pages from one number to another, up or down.
 fn pages_between(first: u32, last: u32) -> u64
     ensures value { result ≡ length (pages_from_to first last) }
     ensures few { result ≤ 2 ^ 32 }
@@ -55,7 +55,7 @@ fn pages_between(first: u32, last: u32) -> u64
     }
 }
 
-/// The range that a text stands for, in a document of so many pages.
+/// The range that a text means, in a document of this many pages.
 pub(crate) fn read_range(pages: u32, text: &[u8]) -> Option<Found>
     ensures { result ≡ option_map (found_in pages) (range_at text.now) }
 {
@@ -74,7 +74,7 @@ pub(crate) fn read_range(pages: u32, text: &[u8]) -> Option<Found>
     }
 }
 
-/// Whether a text stands for a blank.
+/// Whether a text means a blank.
 fn is_blank(text: &[u8]) -> bool
     ensures { result ≡ is_blank_page text.now }
 {
@@ -91,7 +91,7 @@ fn one_page(page: Option<u32>) -> Option<Found>
     }
 }
 
-/// The pages from one to another, if both are some.
+/// The pages from one to another, if there are both.
 fn from_to(first: Option<u32>, last: Option<u32>) -> Option<Found>
     ensures { result ≡ option_and_then (λ n. option_map (range_found n) last) first }
 {

@@ -1,7 +1,7 @@
 //! Laws of rows. The functions do nothing.
 ghost use Rattle.rows.specs.Sewing.{SignedIsRead};
 
-/// Laid on leaves, folded and read, a signed row is read in order.
+/// If a signed row is laid on leaves, folded and read, it is read in order.
 pub fn signed_is_read()
     ensures { SignedIsRead }
 {}

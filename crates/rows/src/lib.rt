@@ -1,5 +1,5 @@
-//! Rows: which pages are imposed, and in which order. A row is a list of pages, counted from 0, and blanks, which are
-//! None; each step makes a row of a row.
+//! Rows: which pages are imposed, and in which order. A row is a list of pages, counted from 0, and blanks, which
+//! are None; each step makes a row from a row.
 #![tactic(auto)]
 
 mod choices;

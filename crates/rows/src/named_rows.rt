@@ -9,10 +9,10 @@ use crate::filling::append_text;
 use crate::tallies::entry_count;
 use std::alloc::{AllocError, Global};
 
-/// The row that a text names in a document of so many pages.
+/// The row that a text names in a document of this many pages.
 ///
-/// The text is ranges with commas between them: `3`, `4-7`, `9-5`, `5-` to the last page, `_2` the last but one, `last`,
-/// and `blank` or `_` for a blank page. A refused text takes no memory.
+/// The text is ranges with commas between them: `3`, `4-7`, `9-5`, `5-` to the last page, `_2` the last but one,
+/// `last`, and `blank` or `_` for a blank page. A refused text takes no memory.
 pub fn read_row(alloc: Global, pages: u32, text: &[u8]) -> Result<Vec<Option<u32>>, RowError>
     ensures row { IfOk result (λ row. row_of_text pages text.now ≡ Ok row.items) }
     ensures refused { IfErr result (RefusesRow (row_of_text pages text.now)) }
@@ -27,7 +27,7 @@ pub fn read_row(alloc: Global, pages: u32, text: &[u8]) -> Result<Vec<Option<u32
     }
 }
 
-/// The entries of all ranges of a text, so many.
+/// The entries of all ranges of a text, which are this many.
 pub(crate) fn text_row(
     alloc: Global,
     pages: u32,

@@ -5,7 +5,7 @@ ghost use Rattle.made_sheets.specs.Rows.{all_pages as all, odd_part as odd, even
 use crate::entries::entry_at;
 use std::alloc::{AllocError, Global};
 
-/// All pages of a document, in their order.
+/// All pages of a document, in order.
 pub fn all_pages(alloc: Global, pages: u32) -> Result<Vec<Option<u32>>, AllocError>
     ensures { IfOk result (λ row. row.items ≡ all pages) }
 {
@@ -30,7 +30,7 @@ pub fn even_part(alloc: Global, row: &[Option<u32>]) -> Result<Vec<Option<u32>>,
     every_other(alloc, row, 1)
 }
 
-/// The entry in this place, counted from 0, and from there on every other.
+/// The entry in this place, counted from 0, and every second one after it.
 fn every_other(
     alloc: Global,
     row: &[Option<u32>],

@@ -6,8 +6,8 @@ ghost use Rattle.rules.specs.Numbers.{number_of};
 ghost use Rattle.made_sheets.specs.Ranges.{FromStart, FromEnd, by_digits, is_number as is_number_text, place_at, last_place_at};
 ghost use Rattle.rows.specs.Found.{number_found};
 
-/// The number of the page that a text stands for, in a document of so many, counted from 1; 0 if it hasn't this page,
-/// None if the text stands for no page.
+/// The number, counted from 1, of the page that a text means in a document of this many; 0 if the document lacks
+/// it; None if the text means no page.
 pub(crate) fn read_place(pages: u32, text: &[u8]) -> Option<u32>
     ensures { result ≡ option_map (number_found pages) (place_at text.now) }
 {
@@ -20,7 +20,7 @@ pub(crate) fn read_place(pages: u32, text: &[u8]) -> Option<u32>
     }
 }
 
-/// The same; and the last page, if nothing is written.
+/// The same; if nothing is written, the last page.
 pub(crate) fn read_last_place(pages: u32, text: &[u8]) -> Option<u32>
     ensures { result ≡ option_map (number_found pages) (last_place_at text.now) }
 {
@@ -51,7 +51,7 @@ fn from_end(pages: u32, digits: &[u8]) -> Option<u32>
     }
 }
 
-/// This number, if the document has it, else 0.
+/// This number if the document has it, or else 0.
 fn start_number(pages: u32, number: usize) -> u32
     ensures { result ≡ number_found pages (FromStart number) }
 {
@@ -62,7 +62,7 @@ fn start_number(pages: u32, number: usize) -> u32
     }
 }
 
-/// This number from the end, if the document has it, else 0.
+/// This number from the end if the document has it, or else 0.
 fn end_number(pages: u32, number: usize) -> u32
     ensures { result ≡ number_found pages (FromEnd number) }
 {
@@ -73,7 +73,7 @@ fn end_number(pages: u32, number: usize) -> u32
     }
 }
 
-/// The number that digits stand for, or the greatest one; None if there is none, or a byte that is no digit.
+/// The value of digits, or the greatest number; None if there are no digits, or a byte is not a digit.
 fn number_in(text: &[u8]) -> Option<usize>
     ensures { MatchOption result (is_number_text text.now ≡ false) (λ n.
         (is_number_text text.now ≡ true) × (n ≡ min (number_of text.now) usize.MAX)) }
@@ -84,7 +84,7 @@ fn number_in(text: &[u8]) -> Option<usize>
     count_in(text)
 }
 
-/// The same; 0 if there are none.
+/// The same; 0 if there are no digits.
 fn count_in(text: &[u8]) -> Option<usize>
     ensures { MatchOption result (list_all is_ascii_digit text.now ≡ false) (λ n.
         (list_all is_ascii_digit text.now ≡ true) × (n ≡ min (number_of text.now) usize.MAX)) }

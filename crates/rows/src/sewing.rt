@@ -15,8 +15,8 @@ use std::alloc::{AllocError, Global};
 
 const MOST_LEAVES: usize = 8;
 
-/// How a booklet is sewn: in one signature of all pages, in signatures of so many sides, or in as few as are easy to
-/// fold.
+/// How a booklet is sewn: in one signature of all pages, in signatures of this many sides, or in as few as are easy
+/// to fold.
 #[derive(Clone, Copy, Debug, PartialEq, Eq)]
 pub enum Signing {
     InOne,
@@ -25,7 +25,7 @@ pub enum Signing {
 }
 
 impl Signing {
-    /// How many sides a signature has, for a row of so many entries.
+    /// The number of sides of a signature, for a row of this many entries.
     pub fn sides(self, entries: usize) -> u32
         requires sides { MayBeSewn self }
         requires some { 0 < entries }
@@ -41,8 +41,8 @@ impl Signing {
     }
 }
 
-/// How many sides signatures have of which none has over eight leaves, as few as that and all alike, for so many
-/// entries.
+/// The number of sides of a signature for this many entries: the signatures are all alike, as few as possible, and
+/// none has over eight leaves.
 pub fn auto_sides(entries: usize) -> u32
     requires some { 0 < entries }
     requires few { entries ≤ most_entries }
@@ -54,7 +54,7 @@ pub fn auto_sides(entries: usize) -> u32
     leaves.div_ceil(signatures) as u32 * 4
 }
 
-/// How many leaves carry so many entries, four each.
+/// The number of leaves for this many entries, four each.
 fn leaves_for(entries: usize) -> u32
     requires some { 0 < entries }
     requires few { entries ≤ most_entries }
@@ -64,7 +64,7 @@ fn leaves_for(entries: usize) -> u32
     entries.div_ceil(4) as u32
 }
 
-/// The row in signatures, if there are to be some.
+/// The row in signatures, if any are wanted.
 pub fn signed_row(
     alloc: Global,
     row: Vec<Option<u32>>,
@@ -95,7 +95,7 @@ fn sewn_row(
     in_signatures(alloc, row, how.sides(row.len()))
 }
 
-/// The row of what is imposed of a document of so many pages: what is chosen, in signatures if there are to be some.
+/// The row that is imposed from a document of this many pages: what is chosen, in signatures if any are wanted.
 pub fn imposed_row(
     alloc: Global,
     pages: u32,

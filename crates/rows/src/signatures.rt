@@ -7,8 +7,8 @@ ghost use Rattle.made_sheets.specs.Rows.{in_signatures as signed};
 use crate::entries::entry_at;
 use std::alloc::{AllocError, Global};
 
-/// The row in signatures of so many sides, one behind the other, in the order in which they are printed on leaves that
-/// are folded once, put into one another and bound. The last one is filled up with blanks.
+/// The row in signatures of this many sides, one after the other. The order is that of printing on leaves that are
+/// folded once, put into one another and bound. The last one is filled up with blanks.
 pub fn in_signatures(
     alloc: Global,
     row: &[Option<u32>],

@@ -12,8 +12,8 @@ use crate::found_ranges::{Found, read_range};
 
 const MOST_ENTRIES: u64 = 1_000_000;
 
-/// Where the first range begins that the document hasn't; where the first one begins by which there are too many
-/// entries; and how many entries there are, as long as there are neither.
+/// Where the first range begins that the document lacks, where the first one begins that exceeds the limit of
+/// entries, and, if there is neither, the number of entries.
 #[derive(Clone, Copy)]
 pub struct Tally {
     pub missing: Option<usize>,
@@ -21,7 +21,7 @@ pub struct Tally {
     pub entries: u64,
 }
 
-/// How many entries the row of a text has, or why it has no row.
+/// The number of entries of a text's row, or why it has no row.
 pub(crate) fn entry_count(pages: u32, text: &[u8]) -> Result<usize, RowError>
     ensures row { IfOk result (λ n. row_of_text pages text.now ≡ Ok (row_found pages text.now)) }
     ensures count { IfOk result (λ n. n ≡ length (row_found pages text.now)) }
@@ -42,7 +42,7 @@ pub(crate) fn entry_count(pages: u32, text: &[u8]) -> Result<usize, RowError>
     }
 }
 
-/// What is known of all ranges, or where the first one begins that is none.
+/// What is known of all ranges, or where the first piece begins that is not a range.
 fn tally_ranges(pages: u32, text: &[u8]) -> Result<Tally, usize>
     ensures value { result ≡ tally_from most_entries pages 0 (pieces_of text.now) no_tally }
     ensures few { IfOk result (λ t. t.entries ≤ most_entries) }
@@ -65,7 +65,7 @@ fn tally_ranges(pages: u32, text: &[u8]) -> Result<Tally, usize>
     Ok(tally)
 }
 
-/// What is known with one range more, which begins at this byte.
+/// What is known with one more range, which begins at this byte.
 fn counted(tally: Tally, at: usize, range: Found) -> Tally
     requires { tally.entries ≤ most_entries }
     ensures value { result ≡ counted most_entries at range tally }

@@ -1,4 +1,4 @@
--- How many sheets there are, and how many places on them; and what stands where in rows of equal length.
+-- How many sheets there are, and how many places on them; and what is where in rows of equal length.
 use Rattle.std.proofs.Common.{arith, ◌≡◌, ℕ, zero, suc, ◌+◌, ◌*◌, ◌<◌, List, [], ◌∷◌, ◌++◌, get_or, refl, sym, ap, ◌∙◌, length, map, length-append}
 use Rattle.std.specs.Prelude.{flat_map, sum_by, Option}
 use Rattle.std.specs.List.{range_with_len}

@@ -1,4 +1,4 @@
--- The first faulty block of a text is what its cut is refused for.
+-- The cut of a text is refused for its first faulty block.
 use Rattle.std.proofs.Common.{arith, ◌≡◌, ℕ, zero, suc, ◌+◌, ◌<◌, ◌≤◌, List, [], ◌∷◌, refl, sym, subst, ◌∙◌, ap, length, drop, length-drop, drop-drop}
 use Rattle.std.specs.Prelude.{Result, Ok, Err}
 use Rattle.rules.specs.Units.{TextUnit, BlockFault, FaultyBlock, BeginsWith, IsFirstFault, CutFaults, first_unit, cut_from, at_byte, ◌>>=◌}
@@ -16,7 +16,7 @@ behind : (us : List TextUnit) (text rest : List ℕ) → BeginsWith us text rest
 behind [] text rest h = h
 behind (u ∷ us) text rest (some, e, m) = behind us (drop (length u.bytes) text) rest m ∙ drop-drop (size us) (length u.bytes) text
 
--- what a cut that is refused has found: units, and a faulty block behind them
+-- what a refused cut has found: units, and a faulty block after them
 record Found (at : ℕ) (text : List ℕ) (block : FaultyBlock) : Type 0 where
   units : List TextUnit
   rest : List ℕ

@@ -1,4 +1,4 @@
--- The units that a text is cut into are its units.
+-- The units that a text is cut into are the units of the text.
 use Rattle.std.proofs.Common.{arith, ◌≡◌, ℕ, zero, suc, ◌+◌, ◌<◌, ◌≤◌, List, [], ◌∷◌, Bool, true, false, not, refl, sym, subst, true≢false, ◌∙◌, ap, length, take, drop, length-drop}
 use Rattle.std.specs.Prelude.{Result, Ok, Err, if◌then◌else◌, ◌==◌, ◌&&◌, nat_eq, cond}
 use Rattle.std.specs.List.{starts_with, prefix_len}
@@ -52,7 +52,7 @@ unit_some b bs u e =
 pub shorter : (n k : ℕ) (text : List ℕ) → 0 < n → length text ≤ suc k → length (drop n text) ≤ k
 shorter n k text l e = omega (arith, l, e, length-drop n text)
 
--- the rest, cut behind the first unit
+-- the rest, cut after the first unit
 abbrev with_first : TextUnit → Result (List TextUnit) FaultyBlock → Result (List TextUnit) FaultyBlock
 with_first u rest = rest >>= λ us. Ok (u ∷ us)
 

@@ -1,4 +1,4 @@
--- Rows of decimal digits: the number that they stand for, and the decimal of a number.
+-- Rows of decimal digits: the number that they write, and the decimal of a number.
 use Rattle.std.proofs.Common.{arith, ◌≡◌, ◌≢◌, ℕ, suc, ◌+◌, ◌-◌, ◌*◌, ◌/◌, ◌%◌, ◌^◌, ◌<◌, ◌≤◌, List, [], ◌∷◌, ◌++◌, true, refl, sym, ap, ◌∙◌, length, take, get_or}
 use Rattle.std.specs.Prelude.{decimal, fold}
 use Rattle.std.specs.List.{AllPass}
@@ -31,7 +31,7 @@ grows : (n : ℕ) (ds : List ℕ) → n ≤ fold with_digit n ds
 grows n [] = omega arith
 grows n (d ∷ ds) = omega (arith, grows (with_digit n d) ds)
 
--- the value of digits behind a number
+-- the value of digits that follow those of a number
 pub number_behind : (ds : List ℕ) (n : ℕ) → fold with_digit n ds ≡ n * 10 ^ length ds + number_of ds
 number_behind [] n = omega arith
 number_behind (d ∷ ds) n =
@@ -42,7 +42,7 @@ number_behind (d ∷ ds) n =
     products : (a x t v q w : ℕ) → q ≡ a * (10 * t) → w ≡ (0 + x) * t + v → (a * 10 + x) * t + v ≡ q + w
     products a x t v q w e f = omega (arith, e, f)
 
--- so many digits stand for a number below that power of ten
+-- this many digits write a number below that power of ten
 pub number_below : (ds : List ℕ) → AllPass is_ascii_digit ds → number_of ds < 10 ^ length ds
 number_below [] pass = omega arith
 number_below (d ∷ ds) pass =
@@ -50,7 +50,7 @@ number_below (d ∷ ds) pass =
     let most : (0 * 10 + (d - 48)) * 10 ^ length ds ≤ 9 * 10 ^ length ds = mul-le-mul_right (10 ^ length ds) (omega arith) in
     omega (arith, pow-succ' 10 (length ds), number_behind ds (0 * 10 + (d - 48)), most, number_below ds (All-tail IsDigit d ds pass))
 
--- a row of digits that stands for this number
+-- a row of digits that writes this number
 pub record Writes (n : ℕ) (ds : List ℕ) : Type 0 where
   pub pass : AllPass is_ascii_digit ds
   pub value : number_of ds ≡ n
@@ -81,7 +81,7 @@ more_digits n ds h w = record {
 pub decimal_writes : (n : ℕ) → n < 10 ^ 64 → Writes n (decimal n)
 decimal_writes n h = decimal_by_steps_wide Writes one_digit more_digits n h
 
--- digits behind a number above zero are those that its decimal goes on with
+-- the digits after those of a number above zero are the ones with which its decimal continues
 pub decimal_goes_on : (n : ℕ) (ds : List ℕ) → 0 < n → AllPass is_ascii_digit ds → fold with_digit n ds < 10 ^ 64 → decimal (fold with_digit n ds) ≡ decimal n ++ ds
 decimal_goes_on n [] some pass small = sym (append-nil (decimal n))
 decimal_goes_on n (d ∷ ds) some pass small =
@@ -93,7 +93,7 @@ decimal_goes_on n (d ∷ ds) some pass small =
     ∙ ap (λ x. x ++ ds) (decimal_step_wide m (omega arith) (omega (arith, grows m ds)) ∙ (ap (λ x. decimal x ++ ((48 + m % 10) ∷ [])) front ∙ ap (λ x. decimal n ++ (x ∷ [])) last))
     ∙ append_assoc (decimal n) (d ∷ []) ds
 
--- digits with no zero before them but a lone one are the decimal of their number
+-- digits without a leading zero, or a lone zero, are the decimal of their number
 pub decimal_of : (ds : List ℕ) → AllPass is_ascii_digit ds → 0 < length ds → (1 < length ds → take 1 ds ≢ 48 ∷ []) → number_of ds < 10 ^ 64 → decimal (number_of ds) ≡ ds
 decimal_of [] pass some lead small = absurd (omega arith)
 decimal_of (d ∷ []) pass some lead small =

@@ -1,4 +1,4 @@
--- Zeros at the end of a row of digits: left out, and filled in up to a length.
+-- Trailing zeros of a row of digits: left out, and filled in up to a length.
 use Rattle.std.proofs.Common.{arith, ◌≡◌, ℕ, zero, suc, ◌+◌, ◌-◌, ◌≤◌, List, [], ◌∷◌, ◌++◌, Bool, true, false, refl, sym, ap, ◌∙◌, length, take}
 use Rattle.std.specs.Prelude.{if◌then◌else◌, replicate, ◌==◌, ◌&&◌}
 use Rattle.std.specs.List.{AllPass}
@@ -9,7 +9,7 @@ use Rattle.std.proofs.lemmas.List.Elements.{All-nil, All-cons, All-head, All-tai
 use Rattle.rules.specs.Numbers.{without_last_zeros}
 use Rattle.rules.proofs.Digits.{IsDigit}
 
--- zeros that were left out at the end are filled in again
+-- trailing zeros that were left out are filled in again
 pub padded : (ds : List ℕ) (k : ℕ) → length ds ≤ k → take (length ds) (without_last_zeros ds ++ replicate k 48) ≡ ds
 padded [] k h = refl
 padded (d ∷ ds) zero h = absurd (omega arith)
@@ -23,7 +23,7 @@ padded (d ∷ ds) (suc k) h = by_case ((length (without_last_zeros ds) == 0) && 
         ap (λ x. x ∷ take (length ds) (replicate k 48)) (sym zero_now) ∙ ap (λ x. d ∷ x) (ap (λ w. take (length ds) (w ++ replicate k 48)) (sym none) ∙ short)
     by_case false e short long = ap (λ x. d ∷ x) long
 
--- what is left after zeros at the end are left out are digits
+-- what is left without trailing zeros are digits
 pub stripped_pass : (ds : List ℕ) → AllPass is_ascii_digit ds → AllPass is_ascii_digit (without_last_zeros ds)
 stripped_pass [] h = All-nil IsDigit
 stripped_pass (d ∷ ds) h = by_case ((length (without_last_zeros ds) == 0) && (d == 48)) (stripped_pass ds (All-tail IsDigit d ds h))

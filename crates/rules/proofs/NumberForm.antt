@@ -15,7 +15,7 @@ use Rattle.rules.proofs.Printed.{decimals_pass, decimals_few, decimals_read}
 use Rattle.rules.proofs.OnePrinted.{decimals_same}
 use Rattle.rules.proofs.WithoutZero.{above_zero}
 
--- what a whole part before these decimals is
+-- the whole part before these decimals
 record IsWhole (n : ℕ) (ds whole : List ℕ) : Type 0 where
   pub digits : AllPass is_ascii_digit whole
   pub some : 0 < length whole + length ds
@@ -44,7 +44,7 @@ whole_is zero (d ∷ ds) h = record { digits = All-nil IsDigit; some = omega ari
 whole_is (suc n) [] h = not_zero (suc n) [] (omega arith) h
 whole_is (suc n) (d ∷ ds) h = subst (λ b. IsWhole (suc n) (d ∷ ds) (if b then [] else decimal (suc n))) (sym (above_zero n)) (not_zero (suc n) (d ∷ ds) (omega arith) h)
 
--- and there is one such whole part
+-- there is only one such whole part
 no_zero_first : (w : ℕ) (ws ds : List ℕ) → 0 < length ws + length ds → (take 1 (w ∷ ws) ≡ 48 ∷ [] → (w ∷ ws) ++ ds ≡ 48 ∷ []) → w ≢ 48
 no_zero_first w [] [] more alone e = omega arith
 no_zero_first w [] (d ∷ ds) more alone e = let one = alone (ap (λ b. b ∷ []) e) in omega (arith, ap length one)

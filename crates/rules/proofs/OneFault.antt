@@ -1,11 +1,11 @@
--- A text has one answer at most: what it comes to, or one fault.
+-- A text has at most one answer: its result, or one fault.
 use Rattle.std.proofs.Common.{arith, ◌≡◌, ℕ, List, refl, sym, ap, ◌∙◌, Option, Some, None, length, Bool, true, false, true≢false, inl, inr}
 use Rattle.std.specs.Prelude.{◌<◌, ◌≤◌, ◌⊎◌, Ok, Err}
 use Rattle.rules.specs.Specification.{WrittenSpec, IsSpec, Spec, settled}
 use Rattle.rules.specs.Admissible.{Fault, TooLong, Syntax, TooLarge, ModuloZero, PageOutOfBlock, ScaleZero, Repeated, TooManySlots, TooManyGroups, fault_of, Takes, Refuses, OneAnswer}
 use Rattle.rules.proofs.OneSpec.{one_reading}
 
--- the fault of a text that stands for something
+-- the fault of a text that has a meaning
 abbrev HasFault : ℕ → List ℕ → Fault → Type 0
 HasFault most text fault = (length text ≤ 65_536) × (spec : WrittenSpec) × IsSpec text spec × (fault_of most spec ≡ Some fault)
 

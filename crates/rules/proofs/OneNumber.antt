@@ -1,4 +1,4 @@
--- A number is determined by the text behind which no digit and no dot stands.
+-- A number is determined by its text if neither a digit nor a dot follows.
 use Rattle.std.proofs.Common.{◌≡◌, ℕ, List, [], ◌∷◌, ◌++◌, Bool, true, false, not, ◌&&◌, refl, sym, subst, true≢false, ◌∙◌, append_assoc}
 use Rattle.std.specs.Prelude.{ℤ, ◌==◌}
 use Rattle.std.specs.List.{AllPass}
@@ -27,7 +27,7 @@ fraction_tail_ends (x ∷ p) d r (f, g) e = rw f refl
 no_dot : (x : ℕ) (p r : List ℕ) → x ≡ 46 → r ≡ x ∷ p → ends_number r ≡ true → ⊥
 no_dot x p r e f u = true≢false (sym (subst (λ z. ends_number (z ∷ p) ≡ true) e (subst (λ z. ends_number z ≡ true) f u)))
 
--- fraction and follower are determined
+-- a fraction and what follows it are determined
 same_tail_fraction : (p q d f r s : List ℕ) → IsFraction p d → IsFraction q f → AllPass is_ascii_digit d → AllPass is_ascii_digit f
     → ends_number r ≡ true → ends_number s ≡ true → p ++ r ≡ q ++ s → (p ≡ q) × (d ≡ f) × (r ≡ s)
 same_tail_fraction [] [] d f r s a b da fa u v e = (refl, a ∙ sym b, e)
@@ -47,7 +47,7 @@ same_appended s s' w w' p p' e f g = rw e (rw f (rw g refl))
 regroup : (t s w p r : List ℕ) → t ≡ s ++ w ++ p → t ++ r ≡ s ++ (w ++ (p ++ r))
 regroup t s w p r e = rw e (append_assoc (s ++ w) p r ∙ append_assoc s w (p ++ r))
 
--- a number text, its value and what follows it are determined by the whole
+-- a number text, its value and what follows it are determined by the whole text
 pub one_number : (t u r q : List ℕ) (v w : ℤ) → IsNumber t v → IsNumber u w → ends_number r ≡ true → ends_number q ≡ true → t ++ r ≡ u ++ q
     → (t ≡ u) × (v ≡ w) × (r ≡ q)
 one_number t u r q v w (n, s, whole, p, d, e, sg, ds, fr, dd, ne, val) (n', s', whole', p', d', e', sg', ds', fr', dd', ne', val') er eq e'' =

@@ -1,4 +1,4 @@
--- A text of the printed form is the printed one.
+-- A text of the printed form is the printed text.
 use Rattle.std.proofs.Common.{arith, ◌≡◌, ◌≢◌, ℕ, ◌+◌, ◌-◌, ◌/◌, ◌%◌, ◌^◌, ◌<◌, ◌≤◌, List, [], ◌∷◌, ◌++◌, refl, sym, ap, subst, ◌∙◌, length, drop, get_or}
 use Rattle.std.specs.Prelude.{ℤ, nat_abs, decimal, replicate}
 use Rattle.std.specs.List.{AllPass}
@@ -14,7 +14,7 @@ use Rattle.rules.proofs.Printed.{fits, printed_is_printed}
 one_first : (b : ℕ) → b ≡ 49 → b ∷ [] ≢ 48 ∷ []
 one_first b one e = let first : b ≡ 48 = ap (λ xs. get_or xs 0 0) e in omega arith
 
--- decimals with no zero at their end are those that are printed of their value
+-- decimals with no zero at their end are those that are printed for their value
 pub decimals_same : (e : ℕ) (ds : List ℕ) → e < 64 → AllPass is_ascii_digit ds → length ds ≤ e → without_last_zeros ds ≡ ds
     → (decimals_value e ds < 10 ^ e) × (decimals_of e (decimals_value e ds) ≡ ds)
 decimals_same e ds small pass few stripped =
@@ -28,7 +28,7 @@ decimals_same e ds small pass few stripped =
     ap decimal behind_one ∙ decimal_of (49 ∷ row) (All-cons IsDigit 49 row refl digits) (omega arith) (λ h. one_first 49 refl) (omega (arith, behind_one, fits e (number_of row) below small, value)) in
     (omega (arith, value, below), ap (λ xs. without_last_zeros (drop 1 xs)) text ∙ (without_last_zeros-filled ds (e - length ds) ∙ stripped))
 
--- a text of the printed form is the printed one
+-- a text of the printed form is the printed text
 one_printed : (e : ℕ) (v : ℤ) (text : List ℕ) → e < 64 → nat_abs v / 10 ^ e < 10 ^ 64 → IsPrinted e v text → printed e v ≡ text
 one_printed e v text small h p =
     let (below, same) = decimals_same e p.decimals small p.decimal_digits p.few_decimals p.no_last_zero in

@@ -1,4 +1,4 @@
--- A text stands for one specification at most.
+-- A text has the meaning of at most one specification.
 use Rattle.std.proofs.Common.{arith, ◌≡◌, ℕ, suc, ◌+◌, List, [], ◌∷◌, ◌++◌, Bool, true, false, not, ◌||◌, ◌&&◌, refl, sym, subst, true≢false, ◌∙◌, ap, append_assoc, append-nil, inl, inr, length}
 use Rattle.std.specs.Prelude.{ℤ, ◌==◌, ◌⊎◌, if◌then◌else◌, ◌<◌}
 use Rattle.std.specs.Char.{is_ascii_digit}
@@ -16,7 +16,7 @@ IsUnit text u = (text ≡ unit_name u) ⊎ ((text ≡ []) × (u ≡ Pt))
 abbrev EndsMeasure : List ℕ → Type 0
 EndsMeasure r = (b : ℕ) × (rest : List ℕ) × (r ≡ b ∷ rest) × ((b ≡ 44) ⊎ (b ≡ 41))
 
--- the unit that these bytes begin with, and how long it is
+-- the unit that these bytes begin with, and its length
 abbrev unit_read : List ℕ → LengthUnit
 unit_read [] = Pt
 unit_read (b ∷ bs) = if b == 99 then Cm else (if b == 109 then Mm else (if b == 105 then In else (if b == 119 then Width else (if b == 104 then Height else Pt))))
@@ -52,7 +52,7 @@ nothing_long n e = omega (arith, e)
 same_length : (m n : ℕ) → suc m ≡ suc n → m ≡ n
 same_length m n e = omega (arith, e)
 
--- fronts of one length are one
+-- beginnings of the same length are the same
 same_front : (xs ys p q : List ℕ) → length xs ≡ length ys → xs ++ p ≡ ys ++ q → p ≡ q
 same_front [] [] p q l e = e
 same_front [] (y ∷ ys) p q l e = absurd (nothing_long (length ys) l)
@@ -165,7 +165,7 @@ kind_is_four b = 4 ≡ b
 apart_kinds : kind_is_four 5 → ⊥
 apart_kinds e = omega (arith, e)
 
--- a modifier and what follows it are determined, where that begins with no digit and no dot
+-- a modifier and what follows it are determined, if that begins with neither a digit nor a dot
 one_modifier : (t u r q : List ℕ) (m k : Modifier) → IsModifier t m → IsModifier u k → ends_number r ≡ true → ends_number q ≡ true → t ++ r ≡ u ++ q → (m ≡ k) × (r ≡ q)
 unfolding moved_text
 one_modifier t u r q (Quarters n) (Quarters l) h g er eq e =
@@ -197,14 +197,14 @@ item_end_ends : (r : List ℕ) → ends_item r ≡ true → ends_number r ≡ tr
 item_end_ends [] e = refl
 item_end_ends (b ∷ r) e = follower_ends b e
 
--- what follows the digits of an item's number, or a modifier, begins with no digit and no dot
+-- what follows the digits of an item's number, or a modifier, begins with neither a digit nor a dot
 pub modifiers_end : (t r : List ℕ) (ms : List Modifier) → AreModifiers t ms → ends_item r ≡ true → ends_number (t ++ r) ≡ true
 modifiers_end t r [] e u = subst (λ z. ends_number (z ++ r) ≡ true) (sym e) (item_end_ends r u)
 modifiers_end t r (m ∷ ms) (front, rest, e, h, g) u =
     let a = modifier_told front m h in
     subst (λ z. ends_number (z ++ r) ≡ true) (sym e) (subst (λ z. ends_number (z ++ rest ++ r) ≡ true) (sym a.parts) a.ends)
 
--- a modifier is no end of an item
+-- no modifier ends an item
 no_modifier : (r t q : List ℕ) (m : Modifier) → ends_item r ≡ true → IsModifier t m → r ≡ t ++ q → ⊥
 no_modifier r t q m u h e =
     let a = modifier_told t m h in

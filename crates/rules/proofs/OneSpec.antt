@@ -1,4 +1,4 @@
--- A text stands for one specification at most: items, groups, the whole.
+-- A text has the meaning of at most one specification: items, groups, the whole.
 use Rattle.std.proofs.Common.{◌≡◌, ℕ, List, [], ◌∷◌, ◌++◌, Bool, true, false, ◌||◌, refl, sym, subst, true≢false, ◌∙◌, ap, append_assoc, append-nil, inl, inr}
 use Rattle.std.specs.Prelude.{◌==◌}
 use Rattle.std.specs.Char.{is_ascii_digit}
@@ -18,7 +18,7 @@ rw_item b b' p p' ms ms' e f g = rw e (rw f (rw g refl))
 minus_is_no_digit : (x : ℕ) → is_ascii_digit x ≡ true → 45 ≡ x → ⊥
 minus_is_no_digit x d e = true≢false (sym (subst (λ z. is_ascii_digit z ≡ true) (sym e) d))
 
--- digits are there, so no minus begins them
+-- there are digits, so the text doesn't begin with a minus
 digits_no_minus : (digits r more : List ℕ) (n : ℕ) → IsDigits digits n → 45 ∷ more ≡ digits ++ r → ⊥
 digits_no_minus [] r more n (all, some, value) e = some refl
 digits_no_minus (x ∷ digits) r more n (all, some, value) e = minus_is_no_digit x (head_passes x digits all) (same_head 45 x more (digits ++ r) e)
@@ -46,7 +46,7 @@ same_signed false true p p' ms ms' r q d rest d' rest' n g n' g' er eq e = absur
 regroup : (t s w p r : List ℕ) → t ≡ s ++ w ++ p → t ++ r ≡ s ++ (w ++ (p ++ r))
 regroup t s w p r e = rw e (append_assoc (s ++ w) p r ∙ append_assoc s w (p ++ r))
 
--- the relation and what follows determine what a text stands for, and where it ends
+-- the relation and what follows determine the meaning of a text, and where it ends
 abbrev pub Decides : {X : Type 0} → (List ℕ → X → Type 0) → (List ℕ → Bool) → Type 0
 Decides {X} R ends = (t u r q : List ℕ) (x y : X) → R t x → R u y → ends r ≡ true → ends q ≡ true → t ++ r ≡ u ++ q → (x ≡ y) × (r ≡ q)
 
@@ -122,7 +122,7 @@ first_told x more (m ∷ ms) (front, rest, e, h, g) =
     let f = same_head a.first x (a.more ++ rest) more (sym (e ∙ ap (λ z. z ++ rest) a.parts)) in
     record { no_digit = subst (λ z. is_ascii_digit z ≡ false) f a.no_digit; no_minus = subst (λ z. (z == 45) ≡ false) f a.no_minus; no_colon = subst (λ z. (z == 58) ≡ false) f a.no_colon }
 
--- a text that begins with an item: what stands behind it is nothing or a separator
+-- a text that begins with an item, followed by nothing or a separator
 pub record BeginsWithItem (text : List ℕ) : Type 0 where
   pub from_end : Bool
   pub page : ℕ
@@ -159,7 +159,7 @@ numbered_no_row [] more t n ms (all, some, value) g e = some refl
 numbered_no_row (x ∷ d) more t n ms (all, some, value) g e =
     clash (is_ascii_digit x) (head_passes x d all) (first_told x (d ++ more) ms (subst (λ z. AreModifiers z ms) e g)).no_digit
 
--- a minus begins no modifiers
+-- modifiers don't begin with a minus
 minus_no_row : (more t : List ℕ) (ms : List Modifier) → AreModifiers t ms → t ≡ 45 ∷ more → ⊥
 minus_no_row more t ms g e = true≢false ((first_told 45 more ms (subst (λ z. AreModifiers z ms) e g)).no_minus)
 
@@ -193,7 +193,7 @@ one_groups text gs hs (inl h) (inr (j, f, g)) = absurd (bare_no_groups text gs j
 one_groups text gs hs (inr (i, e, h)) (inl g) = absurd (bare_no_groups text hs i g h)
 one_groups text gs hs (inr (i, e, h)) (inr (j, f, g)) = e ∙ (ap (λ z. (z ∷ []) ∷ []) (one_bare text i j h g) ∙ sym f)
 
--- behind an item's number there is no colon
+-- no colon follows an item's number
 colon_behind : (rest tail more : List ℕ) (ms : List Modifier) → AreModifiers rest ms → ends_item tail ≡ true → rest ++ tail ≡ 58 ∷ more → ⊥
 colon_behind [] tail more ms g u e = true≢false (sym (subst (λ z. ends_item z ≡ true) e u))
 colon_behind (x ∷ rest) tail more ms g u e =
@@ -223,7 +223,7 @@ spec modulo groups = record { modulo = modulo; groups = groups }
 rw_spec : (m n : ℕ) (gs hs : List (List WrittenItem)) → m ≡ n → gs ≡ hs → spec m gs ≡ spec n hs
 rw_spec m n gs hs e f = rw e (rw f refl)
 
--- a text stands for one specification at most
+-- a text has the meaning of at most one specification
 pub one_reading : OneReading
 one_reading text a b (inl (m, h)) (inl (n, g)) = rw_spec a.modulo b.modulo a.groups b.groups (m ∙ sym n) (one_groups text a.groups b.groups h g)
 one_reading text a b (inl (m, h)) (inr (d, rest, e, n, g)) = absurd (no_modulo_apart text d rest b.modulo a.groups h n e)

@@ -28,7 +28,7 @@ ends_digits (b ∷ bs) = not (is_ascii_digit b)
 not_both : (b : ℕ) → is_ascii_digit b ≡ true → not (is_ascii_digit b) ≡ true → ⊥
 not_both b e f = true≢false (sym (subst (λ x. not x ≡ true) e f))
 
--- digits in front, up to what is no digit, are determined by the text
+-- digits at the front, up to the first other byte, are determined by the text
 pub same_digits : (xs ys p q : List ℕ) → AllPass is_ascii_digit xs → AllPass is_ascii_digit ys → ends_digits p ≡ true → ends_digits q ≡ true
     → xs ++ p ≡ ys ++ q → (xs ≡ ys) × (p ≡ q)
 same_digits [] [] p q a b c d e = (refl, e)
@@ -38,7 +38,7 @@ same_digits (x ∷ xs) (y ∷ ys) p q a b c d e =
     let h = same_digits xs ys p q (tail_passes x xs a) (tail_passes y ys b) c d (same_tail x y _ _ e) in
     (same_cons x y xs ys (same_head x y _ _ e) h.0, h.1)
 
--- a number behind its sign begins with a digit or a dot
+-- a number after its sign begins with a digit or a dot
 abbrev pub begins_unsigned : List ℕ → Bool
 begins_unsigned [] = false
 begins_unsigned (b ∷ bs) = is_ascii_digit b || (b == 46)
@@ -77,7 +77,7 @@ sign_told false false b s t = refl
 sign_told true false b (s, s') (t, t') = absurd (no_sign (sym s' ∙ t'))
 sign_told false true b (s, s') (t, t') = absurd (no_sign (sym t' ∙ s'))
 
--- the sign, and what stands behind it, are determined by the text
+-- the sign, and what follows it, are determined by the text
 pub same_sign : (s t r q : List ℕ) (n m : Bool) → IsSign s n → IsSign t m → begins_unsigned r ≡ true → begins_unsigned q ≡ true → s ++ r ≡ t ++ q → (n ≡ m) × (s ≡ t) × (r ≡ q)
 same_sign [] [] r q n m a b c d e = (a ∙ sym b, refl, e)
 same_sign [] (y ∷ []) r q n m a b c d e = absurd (sign_apart m y q r e b c)

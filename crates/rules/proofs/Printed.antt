@@ -13,7 +13,7 @@ use Rattle.rules.specs.Numbers.{number_of, decimals_value, printed, decimals_of,
 use Rattle.rules.proofs.Digits.{IsDigit, Writes, is_digit, number_of-last, decimal_writes}
 use Rattle.rules.proofs.LastZeros.{padded, stripped_pass, stripped_length, stripped_again}
 
--- the row of decimals behind the one that was put before them
+-- the row of decimals after the one that was put before them
 pub record IsRow (e part : ℕ) (ds : List ℕ) : Type 0 where
   pub text : decimal (10 ^ e + part) ≡ 49 ∷ ds
   pub long : length ds ≡ e
@@ -47,7 +47,7 @@ row (suc e) part h small =
       },
     )
 
--- the decimals that are printed are read as their part, each zero at the end filled in again
+-- the printed decimals are read as their part, with each trailing zero filled in again
 pub decimals_read : (e part : ℕ) → part < 10 ^ e → e < 64 → decimals_value e (decimals_of e part) ≡ part
 decimals_read e part h small =
     let (ds, r) = row e part h small in
@@ -55,7 +55,7 @@ decimals_read e part h small =
     ap (λ xs. number_of (take e (without_last_zeros xs ++ replicate e 48))) same
     ∙ (ap (λ k. number_of (take k (without_last_zeros ds ++ replicate e 48))) (sym r.long) ∙ (ap number_of (padded ds e (omega (arith, r.long))) ∙ r.value))
 
--- the decimals that are printed are digits, no more than there is room for
+-- the printed decimals are digits, no more than there is room for
 pub decimals_pass : (e part : ℕ) → part < 10 ^ e → e < 64 → AllPass is_ascii_digit (decimals_of e part)
 decimals_pass e part h small =
     let (ds, r) = row e part h small in

@@ -23,7 +23,7 @@ by_side P a b c d (suc (suc zero)) lt = c
 by_side P a b c d (suc (suc (suc zero))) lt = d
 by_side P a b c d (suc (suc (suc (suc r)))) lt = absurd (omega arith)
 
--- so many leaves
+-- this many leaves
 leaves : (s : ℕ) → AreSides s → s ≡ s / 4 * 4
 leaves s sides = let e = div-add-mod' s 4 in let z = sides.1 in omega arith
 
@@ -59,7 +59,8 @@ position_once s sides i k li lk h =
     let second = same.1 in
     omega arith
 
--- where a page stands: in the first half of the pages on the second or third side of a leaf, else on the first or fourth
+-- where a page is: in the first half of the pages on the second or third side of a leaf, otherwise on the first or
+-- fourth
 abbrev Stands : (s p : ℕ) → Type 0
 Stands s p = (i : ℕ) × (i < s) × (page_in_signature s i ≡ p)
 
@@ -113,7 +114,8 @@ page_named n p q e = grind (arith, nat_tests)
 abbrev pub page_of_entry : (s e : ℕ) → ℕ
 page_of_entry s e = e / s * s + page_in_signature s (e % s)
 
--- an entry has the page that it names, or is blank where there is no such page; so are those behind the end of the row
+-- an entry has the page that it names, or is blank where there is no such page; entries after the end of the row
+-- are blank too
 pub entry_at : (s n e : ℕ) → 0 < s → entry_of (signature_row s n) e ≡ page_at n (page_of_entry s e)
 entry_at s n e some =
     elim (cases_lt (e / s) (blocks s n)) [

@@ -13,7 +13,7 @@ times_neg m (negsuc n) = sym (neg_ℤ-neg_ℤ (m *ℤ pos (suc n))) ∙ ap neg_�
 neg_times : (s x : ℤ) → neg_ℤ s *ℤ x ≡ neg_ℤ (s *ℤ x)
 neg_times s x = *ℤ_comm (neg_ℤ s) x ∙ (times_neg x s ∙ ap neg_ℤ (*ℤ_comm x s))
 
--- one coordinate, of which the other factor is 0
+-- one coordinate, whose other factor is 0
 front : (t s x y : ℤ) → t +ℤ pos 127 *ℤ (s *ℤ x +ℤ pos 0 *ℤ y) ≡ pos 127 *ℤ (s *ℤ x) +ℤ t
 front t s x y = rw (zero-*ℤ y) (rw (+ℤ_idr (s *ℤ x)) (+ℤ_comm t (pos 127 *ℤ (s *ℤ x))))
 

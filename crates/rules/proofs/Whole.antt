@@ -1,4 +1,4 @@
--- Nothing of a text is lost or made by cutting it: its units, and its parts, are the text.
+-- Cutting a text neither loses nor adds anything: its units, and its parts, are the text.
 use Rattle.std.proofs.Common.{arith, ◌≡◌, ℕ, zero, suc, ◌+◌, List, [], ◌∷◌, ◌++◌, append_assoc, Bool, true, false, not, cond, refl, sym, ◌∙◌, ap, length, take, drop}
 use Rattle.std.specs.Prelude.{Result, Ok, Err, flat_map, map, if◌then◌else◌}
 use Rattle.std.specs.List.{prefix_len}
@@ -44,7 +44,7 @@ nested_bytes : (d : ℕ) (us : List TextUnit) → bytes_of (nested_from d us) �
 nested_bytes d [] = refl
 nested_bytes d (u ∷ us) = ap (λ z. u.bytes ++ z) (nested_bytes (depth_after d u) us)
 
--- what stands before a place and from it on
+-- what comes before a place, and what follows from there on
 halves : (p : NestedUnit → Bool) (us : List NestedUnit) → bytes_of (up_to p us) ++ bytes_of (starting_at p us) ≡ bytes_of us
 halves p us =
     let n = prefix_len (λ u. not (p u)) us in
@@ -64,7 +64,7 @@ starting_cons p u us = split (p u)
     split true = refl
     split false = ap (λ k. drop k (u ∷ us)) (let e : 1 + prefix_len (λ v. not (p v)) us ≡ suc (prefix_len (λ v. not (p v)) us) = omega arith in e)
 
--- the pages of a row are all that stands from the first page's line on
+-- the pages of a row are all from the first page's line on
 pages_bytes : (us : List NestedUnit) → flat_map (λ page. page) (map bytes_of (split_pages us)) ≡ bytes_of (starting_at begins_page us)
 pages_bytes [] = refl
 pages_bytes (u ∷ us) = turn (begins_page u) (pages_bytes us) ∙ ap bytes_of (sym (starting_cons begins_page u us))

@@ -14,7 +14,7 @@ no_zero b h = grind (arith, common_steps)
 pub above_zero : (n : ℕ) → (suc n == 0) ≡ false
 above_zero n = grind (arith, common_steps)
 
--- nothing is lost of digits that begin with another one
+-- digits that begin with another one lose nothing
 stays : (ds rest : List ℕ) → 0 < length ds → 48 < get_or ds 0 0 → without_zero (ds ++ rest) ≡ ds ++ rest
 stays [] rest some lead = absurd (omega arith)
 stays (d ∷ ds) rest some lead = rw (no_zero d lead) refl
@@ -22,7 +22,7 @@ stays (d ∷ ds) rest some lead = rw (no_zero d lead) refl
 decimal_stays : (n : ℕ) (rest : List ℕ) → 0 < n → n < 10 ^ 64 → without_zero (decimal n ++ rest) ≡ decimal n ++ rest
 decimal_stays n rest some h = let w : Writes n (decimal n) = decimal_writes n h in stays (decimal n) rest w.some (w.no_lead some)
 
--- the unsigned part: a whole part of 0 is lost before decimals, and stays without them
+-- the unsigned part: a whole part of 0 is dropped before decimals, and stays without them
 unsigned_text : (n : ℕ) (ds : List ℕ) → n < 10 ^ 64 → whole_text n ds ++ fraction_text ds ≡ without_zero (decimal n ++ fraction_text ds)
 unsigned_text zero [] h = let one_zero : decimal 0 ≡ 48 ∷ [] = decimal_digit 0 (omega arith) in rw one_zero refl
 unsigned_text zero (d ∷ ds) h = ap (λ whole. without_zero (whole ++ 46 ∷ d ∷ ds)) (sym (decimal_digit 0 (omega arith)))

@@ -1,6 +1,6 @@
 -- Which specifications are taken, and the first fault of the others.
--- From pstops(1), DESCRIPTION: a modulo above 0, and page numbers from 0 to modulo - 1. The other checks, their order
--- and their limits are this project's own rules.
+-- From pstops(1), DESCRIPTION: a modulo above 0, and page numbers from 0 to modulo - 1. The other checks, their
+-- order and their limits are rules of this project.
 use Rattle.std.specs.Prelude.{◌≡◌, ℕ, ◌<◌, ◌≤◌, pos, int_le, Bool, true, false, ◌||◌, ◌==◌, nat_lt, nat_le}
 use Rattle.std.specs.Prelude.{if◌then◌else◌, List, length, position, count_by, flat_map, Option, Some, None, Result, Ok}
 use Rattle.std.specs.Prelude.{Err}
@@ -9,7 +9,7 @@ use Rattle.rules.specs.Numbers.{greatest_whole, is_large}
 use Rattle.rules.specs.Specification.{WrittenItem, WrittenSpec, Modifier, Quarters, Scaled, Moved, IsSpec, Spec}
 use Rattle.rules.specs.Specification.{settled}
 
--- the limits: a page specification has at most so many bytes and groups, and a group at most so many items
+-- the limits: the most bytes and groups of a page specification, and the most items of a group
 abbrev pub most_spec_bytes : ℕ
 most_spec_bytes = 65_536
 
@@ -19,7 +19,7 @@ most_groups = 10_000
 abbrev pub most_slots : ℕ
 most_slots = 4_096
 
--- why a text is refused; the first two are of the text, and the others of what it stands for
+-- why a text is refused; the first two are faults of the text, the others of its meaning
 pub data Fault : Type 0 where
   TooLong : Fault
   Syntax : Fault
@@ -31,11 +31,11 @@ pub data Fault : Type 0 where
   TooManySlots : (group : ℕ) → Fault
   TooManyGroups : Fault
 
--- the items of all groups in one row: by it they are counted, from 0
+-- the items of all groups in one row, in which they are counted from 0
 abbrev pub items : WrittenSpec → List WrittenItem
 items spec = flat_map (λ g. g) spec.groups
 
--- a number of it has a whole part above 99,999
+-- a number in it has a whole part above 99,999
 abbrev pub has_large : Modifier → Bool
 has_large (Quarters n) = false
 has_large (Scaled v) = is_large v
@@ -75,13 +75,13 @@ else_first (Some f) later = Some f
 abbrev pub only_if : Bool → Fault → Option Fault
 only_if b f = if b then Some f else None
 
--- the fault of the lowest place that was found
+-- the fault of the lowest place that was found, if any
 abbrev pub at_lowest : Option ℕ → (ℕ → Fault) → Option Fault
 at_lowest None f = None
 at_lowest (Some i) f = Some (f i)
 
--- the first check that fails, each made over the whole specification, at the lowest item or group; a group has at most
--- so many items
+-- the first check that fails, at the lowest item or group. Each check goes over the whole specification. A group
+-- has at most this many items
 abbrev pub fault_of : (most : ℕ) → WrittenSpec → Option Fault
 fault_of most spec =
     else_first (only_if (any_too_large spec) TooLarge)
@@ -99,27 +99,28 @@ Refuses most text Syntax = (length text ≤ most_spec_bytes) × ((spec : Written
 Refuses most text fault = (length text ≤ most_spec_bytes) × (spec : WrittenSpec) × IsSpec text spec
     × (fault_of most spec ≡ Some fault)
 
--- the text is taken, and comes to this
+-- the text is taken, with this result
 abbrev pub Takes : (most : ℕ) → List ℕ → Spec → Type 0
 Takes most text spec =
     (length text ≤ most_spec_bytes) × (written : WrittenSpec) × IsSpec text written
     × (fault_of most written ≡ None) × (spec ≡ settled written)
 
--- some text is taken that comes to this
+-- a text is taken with this result
 pub record IsAdmissible (most : ℕ) (spec : Spec) : Type 0 where
   pub text : List ℕ
   pub taken : Takes most text spec
 
--- a text stands for one specification at most: a law. By it the fault that `Refuses` names is the only one
+-- a law: a text has the meaning of at most one specification. So the fault that `Refuses` names is the only one
 abbrev pub OneReading : Type 0
 OneReading = (text : List ℕ) (one other : WrittenSpec) → IsSpec text one → IsSpec text other → one ≡ other
 
--- what a reader of specifications has to answer: what the text comes to, or its fault
+-- the answer of a reader of specifications: the result, or the fault
 abbrev pub IsAnswer : (most : ℕ) → List ℕ → Result Spec Fault → Type 0
 IsAnswer most text (Ok spec) = Takes most text spec
 IsAnswer most text (Err fault) = Refuses most text fault
 
--- a text has one answer at most: a law. By it a text that is taken is not refused, and the other way round
+-- a law: a text has at most one answer. So a text that is taken is not refused, and one that is refused is not
+-- taken
 abbrev pub OneAnswer : Type 0
 OneAnswer = (most : ℕ) (text : List ℕ) (one other : Result Spec Fault) → IsAnswer most text one
     → IsAnswer most text other → one ≡ other

@@ -40,6 +40,6 @@ colon = 58
 abbrev pub at_sign : ℕ
 at_sign = 64
 
--- a line of the output: its end is a line feed, whatever the input's lines end in (this project's own rules)
+-- a line of the output: it ends in a line feed, whatever ends the lines of the input (a rule of this project)
 abbrev pub line : List ℕ → List ℕ
 line text = text ++ line_feed ∷ []

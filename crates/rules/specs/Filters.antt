@@ -1,7 +1,7 @@
--- What is kept of a preamble, a page and a trailer. The rule is this project's own rules: dropped are the comments of
--- DSC that speak of the pages or the size of the whole document, which imposition changes (General Header Comments,
--- %%DocumentMedia, and %%HiResBoundingBox, which came after DSC 3.0), and of a page the comments on that page (General
--- Page Comments).
+-- What is kept of a preamble, a page and a trailer, which is a rule of this project. Comments of DSC are dropped if
+-- they describe the pages or the size of the whole document, which imposition changes (General Header Comments,
+-- %%DocumentMedia, and %%HiResBoundingBox, which came after DSC 3.0). Of a page, the comments on that page are
+-- dropped too (General Page Comments).
 use Rattle.std.specs.Prelude.{ℕ, Bool, true, false, not, ◌&&◌, ◌||◌, nat_eq, if◌then◌else◌, List, [], ◌∷◌, ◌++◌, codes}
 use Rattle.std.specs.Prelude.{decimal, Result, Ok}
 use Rattle.std.specs.List.{starts_with}
@@ -31,19 +31,19 @@ drops_in_header content =
     ∷ codes "%%DocumentMedia" ∷ codes "%%Orientation" ∷ [])
     content
 
--- dropped from a page: each key that begins with %%Page, and the lines round a page's setup
+-- dropped from a page: each key that begins with %%Page, and the lines around a page's setup
 abbrev pub drops_in_page : List ℕ → Bool
 drops_in_page content =
     starts_with nat_eq (key content) (codes "%%Page")
     || has_key (codes "%%BeginPageSetup" ∷ codes "%%EndPageSetup" ∷ []) content
 
--- the bytes, with a line feed behind them if there are some and they end in no line end
+-- the bytes, with a line feed after them unless there are none or they end in a line end
 abbrev pub ended : List ℕ → List ℕ
 ended [] = []
 ended (b ∷ []) = if is_end b then b ∷ [] else b ∷ line_feed ∷ []
 ended (b ∷ c ∷ bs) = b ∷ ended (c ∷ bs)
 
--- the count of sheets, %%Pages of DSC, General Header Comments, is put behind the first line
+-- the number of sheets, %%Pages of DSC, General Header Comments, is put after the first line
 abbrev pub with_count : (sheets : ℕ) → List NestedUnit → List ℕ
 with_count sheets [] = []
 with_count sheets (first ∷ us) = first.unit.bytes ++ line (codes "%%Pages: " ++ decimal sheets) ++ bytes_of us
@@ -54,6 +54,6 @@ preamble_text sheets us = ended (with_count sheets (kept drops_in_header (preamb
 abbrev pub trailer_text : List NestedUnit → List ℕ
 trailer_text us = bytes_of (kept drops_in_header (trailer us))
 
--- the prepared body of a page: the page is cut as a text of its own, and may be faulty as one
+-- the prepared body of a page. The page is cut as a text of its own, and may be faulty as one
 abbrev pub prepared : List ℕ → Result (List ℕ) FaultyBlock
 prepared page = cut page >>= λ us. Ok (ended (bytes_of (kept drops_in_page (nested us))))

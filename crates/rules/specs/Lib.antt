@@ -1,7 +1,7 @@
--- Read in this order: bytes, numbers and papers; what a specification says; which pages stand on which sheets and
--- where; how a document is cut and what is kept of it; what is written; what is refused. The sources are pstops(1) of
--- psutils 1, the Document Structuring Conventions 3.0 (DSC below) and the PostScript Language Reference. Each file says
--- first what it takes from them; the rest is this project's own rules.
+-- Read in this order: bytes, numbers and papers; what a specification says; which pages are on which sheets and
+-- where; how a document is cut and what is kept of it; what is written; what is refused. The sources are pstops(1)
+-- of psutils 1, the Document Structuring Conventions 3.0 (DSC below) and the PostScript Language Reference. Each
+-- file first says what it takes from them; the rest are rules of this project.
 pub mod Bytes
 pub mod Numbers
 pub mod Papers

@@ -1,5 +1,5 @@
--- What a run writes, if specification, document and plan are accepted. The texts are this project's own rules; their
--- operators (save, restore, concat, clip, showpage) are of the PostScript Language Reference, and the clipping path and
+-- What a run writes, if specification, document and plan are accepted. The texts are rules of this project. Their
+-- operators (save, restore, concat, clip, showpage) are of the PostScript Language Reference. The clipping path and
 -- the border, which are placed with the page, are of pstops(1), options -w, -h, -p and -d.
 use Rattle.std.specs.Prelude.{ℕ, ◌+◌, List, [], ◌++◌, length, flat_map, codes, decimal, Option, Some, None, ℤ}
 use Rattle.std.specs.Prelude.{slice_index_or, Result, Ok, Err}
@@ -15,12 +15,12 @@ use Rattle.rules.specs.Units.{FaultyBlock}
 use Rattle.rules.specs.Parts.{NestedUnit, pages}
 use Rattle.rules.specs.Filters.{preamble_text, trailer_text, prepared}
 
--- the paper, and how wide a border is drawn round each placed page, if there is one, in grains
+-- the paper, and the width in grains of the border around each placed page, if there is one
 pub record Frame : Type 0 where
   pub paper : Paper
   pub border : Option ℤ
 
--- a path round the paper
+-- a path around the paper
 abbrev pub edge_text : Paper → List ℕ
 edge_text paper =
     let w = points_text paper.width in
@@ -34,7 +34,7 @@ border_text paper None = []
 border_text paper (Some width) =
     line (codes "gsave " ++ points_text width ++ codes " setlinewidth " ++ edge_text paper ++ codes " stroke grestore")
 
--- before a placed page: what it changes will be restored, its showpage does nothing, and it is placed and clipped
+-- before a placed page: its changes will be restored, its showpage does nothing, and it is placed and clipped
 abbrev pub opening_text : Frame → Item → List ℕ
 opening_text frame item =
     line (codes "userdict /ImposeSave save put")
@@ -43,7 +43,7 @@ opening_text frame item =
     ++ line (edge_text frame.paper ++ codes " clip newpath")
     ++ border_text frame.paper frame.border
 
--- behind a placed page
+-- after a placed page
 abbrev pub closing_text : List ℕ
 closing_text = line (codes "ImposeSave restore")
 
@@ -52,13 +52,13 @@ abbrev pub body_text : Result (List ℕ) FaultyBlock → List ℕ
 body_text (Ok body) = body
 body_text (Err fault) = []
 
--- a slot, of a document with these pages; a blank one writes nothing
+-- a slot, of a document with these pages; for a blank nothing is written
 abbrev pub slot_text : Frame → List (List ℕ) → Option ℕ → Item → List ℕ
 slot_text frame pages None item = []
 slot_text frame pages (Some p) item =
     opening_text frame item ++ body_text (prepared (slice_index_or pages p [])) ++ closing_text
 
--- sheet s: its page line, in which sheets are counted from 1, its placed pages, and the showpage that prints it
+-- sheet s: its page line, which counts sheets from 1, its placed pages, and the showpage that prints it
 abbrev pub sheet_text : Frame → List (List ℕ) → (s : ℕ) → List Slot → List ℕ
 sheet_text frame pages s slots =
     line (codes "%%Page: " ++ decimal (s + 1) ++ codes " " ++ decimal (s + 1))

@@ -1,7 +1,6 @@
--- Units of length and papers. A length is a whole number of grains; 127,000,000,000 of them are a point.
--- cm, in, w and h are the units of pstops(1), DESCRIPTION; a point is 1/72 inch (PostScript Language Reference, default
--- user space). pt, mm, the grain, the papers' sizes in whole points and the greatest side are this project's own
--- rules.
+-- Units of length and papers. A length is a whole number of grains; 127,000,000,000 of them are a point. cm, in, w
+-- and h are the units of pstops(1), DESCRIPTION; a point is 1/72 inch (PostScript Language Reference, default user
+-- space). pt, mm, the grain, the papers' sizes in whole points and the greatest side are rules of this project.
 use Rattle.std.specs.Prelude.{ℕ, ◌+◌, ◌^◌, ℤ, pos, ◌*ℤ◌, int_le, Bool, ◌&&◌, nat_le, if◌then◌else◌, List, [], ◌∷◌, map}
 use Rattle.std.specs.Prelude.{codes, Option, Some, None}
 use Rattle.std.specs.Str.{bytes_eq}
@@ -21,7 +20,7 @@ pub record Paper : Type 0 where
   pub width : ℤ
   pub height : ℤ
 
--- the length, in grains, of a value in 10^-9 of a unit: exact, but for parts of a paper, which are rounded
+-- the length, in grains, of a value in 10^-9 of a unit: exact, except that parts of a paper are rounded
 abbrev pub grains : Paper → ℤ → LengthUnit → ℤ
 grains paper v Pt = v *ℤ pos 127
 grains paper v Cm = v *ℤ pos 3_600
@@ -34,7 +33,7 @@ grains paper v Height = rounded (v *ℤ paper.height) (10 ^ 9)
 abbrev pub longest_side : ℕ
 longest_side = 914_399_999_999_990_856
 
--- a side that a paper may have: from one grain on
+-- a side that a paper may have: one grain or more
 abbrev pub is_side : ℤ → Bool
 is_side g = int_le (pos 1) g && int_le g (pos longest_side)
 
@@ -49,7 +48,7 @@ pub record NamedPaper : Type 0 where
   pub name : List ℕ
   pub paper : Paper
 
--- the papers that have a name, a part of those of pstops(1), option -p
+-- the papers that have a name: some of those of pstops(1), option -p
 abbrev pub papers : List NamedPaper
 papers =
     record { name = codes "a3"; paper = points 842 1_191 }
@@ -62,7 +61,7 @@ papers =
     ∷ record { name = codes "10x14"; paper = points 720 1_008 }
     ∷ []
 
--- a letter from A to Z as a small one, and any other byte as it is
+-- a letter from A to Z as a small letter, and any other byte unchanged
 abbrev pub small : ℕ → ℕ
 small b = if nat_le 65 b && nat_le b 90 then b + 32 else b
 

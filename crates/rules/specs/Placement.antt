@@ -1,7 +1,7 @@
--- Where a page stands on its sheet, in grains, and the matrix that is written for it.
+-- Where a page is on its sheet, in grains, and the matrix that is written for it.
 -- The effect on a page is of pstops(1), DESCRIPTION: scaled from the lower left corner, then turned about it, then
--- moved. What a matrix does to a point, and its text, are of the PostScript Language Reference, coordinate systems and
--- transformations.
+-- moved. What a matrix does to a point, and its text, are of the PostScript Language Reference, coordinate systems
+-- and transformations.
 use Rattle.std.specs.Prelude.{◌≡◌, ℕ, ℤ, pos, ◌+ℤ◌, ◌*ℤ◌, neg_ℤ, List, [], ◌∷◌, ◌++◌, codes}
 use Rattle.rules.specs.Bytes.{space}
 use Rattle.rules.specs.Numbers.{points_text, scale_text}
@@ -27,7 +27,7 @@ turned Left p = quarter p
 turned Half p = quarter (quarter p)
 turned Right p = quarter (quarter (quarter p))
 
--- a whole point by a scale in 10^-9 comes to grains: 127 of them are 10^-9 of a point
+-- a whole point by a scale in 10^-9, in grains: 127 of them are 10^-9 of a point
 abbrev pub scaled : ℤ → Point → Point
 scaled s p = record { x = pos 127 *ℤ (s *ℤ p.x); y = pos 127 *ℤ (s *ℤ p.y) }
 
@@ -64,7 +64,7 @@ matrix Right s by = record { a = pos 0; b = neg_ℤ s; c = s; d = pos 0; tx = by
 abbrev pub matrix_of : Paper → Item → Matrix
 matrix_of paper item = matrix item.turn item.scale (offset paper item)
 
--- a matrix sends each whole point where its item puts it: the law that the contracts of the matrix carry
+-- a law, which the contracts of the matrix carry: a matrix sends each whole point where its item puts it
 abbrev pub MatrixPuts : Type 0
 MatrixPuts = (paper : Paper) (item : Item) (p : Point) → applied (matrix_of paper item) p ≡ put paper item p
 

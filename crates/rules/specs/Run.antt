@@ -1,5 +1,5 @@
--- Which documents and plans are taken, and the first fault of the others. The limits and the order of the checks are
--- this project's own rules; that a PostScript text begins with %! is of DSC, General Header Comments, %!PS-Adobe.
+-- Which documents and plans are taken, and the first fault of the others. The limits and the order of the checks
+-- are rules of this project. A PostScript text begins with %! by DSC, General Header Comments, %!PS-Adobe.
 use Rattle.std.specs.Prelude.{ℕ, ◌==◌, nat_lt, not, Bool, if◌then◌else◌, List, length, sum_by, codes, nat_eq, Option}
 use Rattle.std.specs.Prelude.{Result, Ok, Err}
 use Rattle.std.specs.List.{starts_with}
@@ -9,8 +9,8 @@ use Rattle.rules.specs.Signatures.{row_len, sheets_in}
 use Rattle.rules.specs.Units.{cut, FaultyBlock, ◌>>=◌}
 use Rattle.rules.specs.Parts.{NestedUnit, nested, pages}
 
--- the limits: an input has at most so many bytes; a document, and the row of a plan, at most so many pages; and a plan
--- at most so many sheets, and so many slots in all
+-- the limits: the most bytes of an input; the most pages of a document, and of the row of a plan; the most sheets
+-- of a plan, and the most slots in all
 abbrev pub most_input_bytes : ℕ
 most_input_bytes = 1_073_741_824
 
@@ -36,11 +36,11 @@ abbrev pub of_block : {A : Type 0} → Result A FaultyBlock → Result A Documen
 of_block (Ok x) = Ok x
 of_block (Err block) = Err (BadBlock block)
 
--- the fault if the test is met, and else what follows
+-- the fault if the test is met, and otherwise what follows
 abbrev pub refuse_if : {A E : Type 0} → Bool → E → Result A E → Result A E
 refuse_if b fault next = if b then Err fault else next
 
--- the units, if there are pages, and not too many
+-- the units, if there are pages and not too many
 abbrev pub with_pages : List NestedUnit → Result (List NestedUnit) DocumentFault
 with_pages us = refuse_if (nat_lt most_pages (length (pages us))) InputTooManyPages
     (refuse_if (length (pages us) == 0) NoPages (Ok us))
@@ -58,7 +58,7 @@ pub data PlanFault : Type 0 where
   TooManySheets : PlanFault
   TooManyPlaces : PlanFault
 
--- the sheets of a row of this many entries, if no limit is passed
+-- the sheets of a row with this many entries, if they are within the limits
 abbrev pub within_limits : (entries : ℕ) → List (List Slot) → Result (List (List Slot)) PlanFault
 within_limits entries all =
     refuse_if (nat_lt most_pages entries) PlanTooManyPages
@@ -69,6 +69,6 @@ within_limits entries all =
 abbrev pub plan_of : Spec → (pages : ℕ) → Result (List (List Slot)) PlanFault
 plan_of spec pages = within_limits pages (sheets spec pages)
 
--- the same, in signatures if a number of sides is given: the blanks that fill up the last signature are counted too
+-- the same, in signatures if a number of sides is given; the blanks that fill up the last signature count too
 abbrev pub plan_in : (sides : Option ℕ) → Spec → (pages : ℕ) → Result (List (List Slot)) PlanFault
 plan_in sides spec pages = within_limits (row_len sides pages) (sheets_in sides spec pages)

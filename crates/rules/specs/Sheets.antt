@@ -1,6 +1,6 @@
--- Which pages stand on which sheets. Pages, sheets, items and slots are counted from 0.
--- Blocks, and pages counted from the end of the document by a minus, are of pstops(1), DESCRIPTION and EXAMPLES. That
--- the last block is filled with blanks before pages are counted from the end is this project's own rules.
+-- Which pages are on which sheets. Pages, sheets, items and slots are counted from 0. Blocks, and the minus that
+-- counts pages from the end of the document, are of pstops(1), DESCRIPTION and EXAMPLES. It is a rule of this
+-- project that the last block is filled with blanks before pages are counted from the end.
 use Rattle.std.specs.Prelude.{◌≡◌, ℕ, ◌+◌, ◌-◌, ◌*◌, ◌/◌, nat_lt, if◌then◌else◌, List, map, flat_map, Option, Some}
 use Rattle.std.specs.Prelude.{None, length}
 use Rattle.std.specs.List.{range_with_len}
@@ -10,8 +10,8 @@ use Rattle.rules.specs.Specification.{Item, Spec}
 abbrev pub blocks : (m n : ℕ) → ℕ
 blocks m n = (n + (m - 1)) / m
 
--- the place that an item names in a block. With a minus the blocks are counted from the end of the filled row, and the
--- places inside a block from its start all the same
+-- the place that an item names in a block. With a minus, blocks are counted from the end of the filled row; places
+-- inside a block are counted from its start in either case
 abbrev pub place : (m n block : ℕ) → Item → ℕ
 place m n block item = if item.from_end then m * blocks m n - (block + 1) * m + item.page else block * m + item.page
 
@@ -19,13 +19,13 @@ place m n block item = if item.from_end then m * blocks m n - (block + 1) * m + 
 abbrev pub page_at : (n place : ℕ) → Option ℕ
 page_at n place = if nat_lt place n then Some place else None
 
--- one place on a sheet: a page or a blank, and the item that says how it stands there
+-- one place on a sheet: a page or a blank, and the item that says how it is placed
 pub record Slot : Type 0 where
   pub page : Option ℕ
   pub item : Item
 
--- the sheets of a specification on a row of so many entries, each of which is a page or a blank: one sheet for each
--- group of each block, block by block
+-- the sheets of a specification on a row of this many entries, each of which is a page or a blank. There is one
+-- sheet for each group of each block, block by block
 abbrev pub sheets_over : Spec → (entries : ℕ) → (entry : ℕ → Option ℕ) → List (List Slot)
 sheets_over spec entries entry =
     flat_map (λ b. map (λ g.
@@ -36,7 +36,7 @@ sheets_over spec entries entry =
 abbrev pub sheets : Spec → ℕ → List (List Slot)
 sheets spec n = sheets_over spec n (page_at n)
 
--- there is a sheet for each group in each block: a law
+-- a law: there is a sheet for each group in each block
 abbrev pub SheetCount : Type 0
 SheetCount = (spec : Spec) (entries : ℕ) (entry : ℕ → Option ℕ)
     → length (sheets_over spec entries entry) ≡ blocks spec.modulo entries * length spec.groups

@@ -1,7 +1,7 @@
--- Texts of specifications and what they stand for.
--- The grammar is that of pstops(1), DESCRIPTION (pagespecs, specs, spec), without the flips H and V. Modifiers in any
--- order, small letters for turns, the units pt and mm, turns that add up, one scale and one offset at most, and the
--- canonical text are this project's own rules.
+-- Texts of specifications and their meaning.
+-- The grammar is that of pstops(1), DESCRIPTION (pagespecs, specs, spec), without the flips H and V. Rules of this
+-- project are: modifiers in any order, small letters for turns, the units pt and mm, turns that add up, at most one
+-- scale and one offset, and the canonical text.
 use Rattle.std.specs.Prelude.{◌≡◌, ◌≢◌, ℕ, ◌+◌, ◌%◌, ℤ, pos, negsuc, nat_abs, Bool, true, false, ◌&&◌, ◌==◌}
 use Rattle.std.specs.Prelude.{if◌then◌else◌, List, [], ◌∷◌, ◌++◌, map, ◌⊎◌, codes, decimal}
 use Rattle.std.specs.List.{AllPass}
@@ -15,7 +15,7 @@ pub record Measure : Type 0 where
   pub number : ℤ
   pub unit : LengthUnit
 
--- what may stand behind a page number: a turn of so many quarters to the left, a scale in 10^-9, or an offset
+-- what may follow a page number: a turn by this many quarters to the left, a scale in 10^-9, or an offset
 pub data Modifier : Type 0 where
   Quarters : ℕ → Modifier
   Scaled : ℤ → Modifier
@@ -27,19 +27,19 @@ pub record WrittenItem : Type 0 where
   pub page : ℕ
   pub modifiers : List Modifier
 
--- a specification as it is written: how many pages are a block, and a group for each sheet of a block
+-- a specification as it is written: the number of pages of a block, and a group for each sheet of a block
 pub record WrittenSpec : Type 0 where
   pub modulo : ℕ
   pub groups : List (List WrittenItem)
 
--- the text is these parts with this byte between them; there is one at least
+-- the text is these parts, at least one, with this byte between them
 abbrev pub IsJoined : {X : Type 0} → ℕ → (List ℕ → X → Type 0) → List ℕ → List X → Type 0
 IsJoined c R text [] = ⊥
 IsJoined c R text (x ∷ []) = R text x
 IsJoined c R text (x ∷ y ∷ xs) = (front rest : List ℕ) × (text ≡ front ++ c ∷ rest) × R front x
     × IsJoined c R rest (y ∷ xs)
 
--- one digit or more, which are read by their value
+-- one digit or more, of which only the value counts
 abbrev pub IsDigits : List ℕ → ℕ → Type 0
 IsDigits text n = AllPass is_ascii_digit text × (text ≢ []) × (n ≡ number_of text)
 
@@ -56,13 +56,13 @@ abbrev pub IsMeasure : List ℕ → Measure → Type 0
 IsMeasure text m = (number unit : List ℕ) × (text ≡ number ++ unit) × IsNumber number m.number
     × ((unit ≡ unit_name m.unit) ⊎ ((unit ≡ []) × (m.unit ≡ Pt)))
 
--- so many quarters to the left, by the letter: left, upside down, right
+-- this many quarters to the left, by the letter: left, upside down, right
 abbrev pub IsTurn : List ℕ → ℕ → Type 0
 IsTurn text n =
     ((n ≡ 1) × ((text ≡ codes "L") ⊎ (text ≡ codes "l")))
     ⊎ (((n ≡ 2) × ((text ≡ codes "U") ⊎ (text ≡ codes "u"))) ⊎ ((n ≡ 3) × ((text ≡ codes "R") ⊎ (text ≡ codes "r"))))
 
--- a letter; a scale behind `@`; or an offset in parentheses, with a comma in it
+-- a letter; a scale after `@`; or an offset in parentheses, with a comma between its two lengths
 abbrev pub IsModifier : List ℕ → Modifier → Type 0
 IsModifier text (Quarters n) = IsTurn text n
 IsModifier text (Scaled v) = (number : List ℕ) × (text ≡ at_sign ∷ number) × IsNumber number v
@@ -83,7 +83,7 @@ IsItem text i =
     (digits rest : List ℕ) × (text ≡ minus_text i.from_end ++ digits ++ rest) × IsDigits digits i.page
     × AreModifiers rest i.modifiers
 
--- an item without a page number, which stands for page 0: a minus or a modifier must stand there
+-- an item without a page number, which means page 0: it has a minus or a modifier
 abbrev pub IsBareItem : List ℕ → WrittenItem → Type 0
 IsBareItem text i =
     (rest : List ℕ) × (text ≡ minus_text i.from_end ++ rest) × (i.page ≡ 0) × (text ≢ [])
@@ -95,7 +95,7 @@ abbrev pub AreGroups : List ℕ → List (List WrittenItem) → Type 0
 AreGroups text groups = IsJoined comma (IsJoined plus_sign IsItem) text groups
     ⊎ ((i : WrittenItem) × (groups ≡ (i ∷ []) ∷ []) × IsBareItem text i)
 
--- the text stands for this; a modulo that isn't written is 1
+-- the text means this; a modulo that isn't written is 1
 abbrev pub IsSpec : List ℕ → WrittenSpec → Type 0
 IsSpec text spec =
     ((spec.modulo ≡ 1) × AreGroups text spec.groups)
@@ -109,7 +109,7 @@ pub data Turn : Type 0 where
   Half : Turn
   Right : Turn
 
--- what an item comes to: one turn, one scale in 10^-9, one offset
+-- the result of an item: one turn, one scale in 10^-9, one offset
 pub record Item : Type 0 where
   pub page : ℕ
   pub from_end : Bool
@@ -123,14 +123,14 @@ pub record Spec : Type 0 where
   pub modulo : ℕ
   pub groups : List (List Item)
 
--- all quarters together
+-- the sum of all quarters
 abbrev pub quarters : List Modifier → ℕ
 quarters [] = 0
 quarters (Quarters n ∷ ms) = n + quarters ms
 quarters (Scaled v ∷ ms) = quarters ms
 quarters (Moved x y ∷ ms) = quarters ms
 
--- the turn by so many quarters to the left; four of them are none
+-- the turn by this many quarters to the left; four of them are none
 abbrev pub turn_of : ℕ → Turn
 turn_of n = if n % 4 == 0 then Upright else (if n % 4 == 1 then Left else (if n % 4 == 2 then Half else Right))
 
@@ -167,7 +167,7 @@ settled_item i = record {
   y = offset_y i.modifiers;
 }
 
--- what a written specification comes to
+-- the result of a written specification
 abbrev pub settled : WrittenSpec → Spec
 settled spec = record { modulo = spec.modulo; groups = map (λ g. map settled_item g) spec.groups }
 
@@ -225,7 +225,7 @@ joined_by c (text ∷ next ∷ more) = text ++ c ∷ joined_by c (next ∷ more)
 abbrev pub modulo_text : ℕ → List ℕ
 modulo_text m = if m == 1 then [] else decimal m ++ colon ∷ []
 
--- the canonical text of a specification: the one that is written for it
+-- the canonical text of a specification, which is the one that is written for it
 abbrev pub canonical : Spec → List ℕ
 canonical spec = modulo_text spec.modulo
     ++ joined_by comma (map (λ g. joined_by plus_sign (map item_text g)) spec.groups)

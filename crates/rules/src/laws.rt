@@ -7,12 +7,12 @@ ghost use Rattle.rules.specs.Sheets.{SheetCount};
 ghost use Rattle.rules.specs.Signatures.{EachPageOnce, IsPermutation, WholeSignatures, WithoutSides};
 ghost use Rattle.rules.specs.Units.{CutFaults, CutIsUnits, UnitsMakeText};
 
-/// What is printed of a number is the one text of the printed form with its value.
+/// The printed text of a number is the only text of the printed form with that value.
 pub fn printed_is_printed()
     ensures { PrintedIsPrinted }
 {}
 
-/// What is printed of a number in a specification is the one text of its printed form with its value.
+/// The printed text of a number in a specification is the only text of its printed form with that value.
 pub fn number_is_printed()
     ensures { NumberIsPrinted }
 {}
@@ -22,12 +22,12 @@ pub fn number_without_zero()
     ensures { NumberWithoutZero }
 {}
 
-/// A text stands for one specification at most.
+/// A text has the meaning of at most one specification.
 pub fn one_reading()
     ensures { OneReading }
 {}
 
-/// A text is taken as one specification at most, or refused with one fault, and never both.
+/// A text is taken as one specification or refused with one fault, never both and never two.
 pub fn one_answer()
     ensures { OneAnswer }
 {}
@@ -37,7 +37,7 @@ pub fn sheet_count()
     ensures { SheetCount }
 {}
 
-/// Without signatures the sheets are those of the pages in their order.
+/// Without signatures the sheets are those of the pages in order.
 pub fn without_sides()
     ensures { WithoutSides }
 {}
@@ -52,7 +52,7 @@ pub fn is_permutation()
     ensures { IsPermutation }
 {}
 
-/// Each page stands in exactly one entry of the row of signatures.
+/// Each page is in exactly one entry of the row of signatures.
 pub fn each_page_once()
     ensures { EachPageOnce }
 {}
@@ -62,7 +62,7 @@ pub fn matrix_puts()
     ensures { MatrixPuts }
 {}
 
-/// What a text is cut into are its units, and nothing else is.
+/// A text is cut into its units, and only into these.
 pub fn cut_is_units()
     ensures { CutIsUnits }
 {}
@@ -72,12 +72,12 @@ pub fn cut_faults()
     ensures { CutFaults }
 {}
 
-/// The units of a text, one behind the other, are the text.
+/// The units of a text, one after the other, are the text.
 pub fn units_make_text()
     ensures { UnitsMakeText }
 {}
 
-/// Preamble, pages and trailer, one behind the other, are the text.
+/// Preamble, pages and trailer, one after the other, are the text.
 pub fn parts_make_text()
     ensures { PartsMakeText }
 {}

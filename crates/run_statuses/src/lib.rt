@@ -1,4 +1,4 @@
-//! With which exit status a program ends whose run failed.
+//! The exit status of a program whose run failed.
 #![tactic(auto)]
 
 mod statuses;

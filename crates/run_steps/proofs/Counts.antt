@@ -78,7 +78,7 @@ none_in s k q r j (x ∷ xs) h =
     let t = none_in s k q r (suc j) xs (λ j' le. h j' (omega arith)) in
     omega arith
 
--- whether page q stands there
+-- whether page q is there
 abbrev held : ℕ → Option (Option ℕ) → ℕ
 held q None = 0
 held q (Some x) = if has_page q x then 1 else 0

@@ -69,7 +69,7 @@ abbrev pub AreAllPut : Layout → List Entry → List Move → Type 0
 AreAllPut layout log moves =
     (s : ℕ) → s < length layout.sheets → IsComplete layout log s → times s (sheets_put moves) ≡ 1
 
--- behind a gathering each page of a sheet is found, at one index for good
+-- after a gathering each page of a sheet is found, at one index for good
 abbrev pub GatheredAreFound : Type 0
 GatheredAreFound = (seat : SeatView) (s k p : ℕ) → IsSeat seat → IsGathered seat.key seat.front
     → s < length seat.key.sheets → Holds seat.key s k p

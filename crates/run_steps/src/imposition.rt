@@ -37,7 +37,7 @@ pub enum ImposeError {
     NotShown,
 }
 
-/// Makes the text of a complete sheet, counted from 0, of the pages that stand on the shelf. The text is that of
+/// Makes the text of a complete sheet, counted from 0, of the pages that lie on the shelf. The text is that of
 /// `sheet_text`. The table is one for the job's plan, and the seat has seen the sheet complete: a look that was
 /// answered 0 shows it. Each page of the sheet is looked up in slot order. After a refusal some of the first were, and
 /// at `NotShown` one at least.
@@ -75,11 +75,11 @@ pub fn impose<'d>(
     Ok(Imposed { sheet, text })
 }
 
-/// What sheets are imposed of: a job, the table of its plan, and the shelf on which the pages stand. The texts of the
+/// What sheets are imposed of: a job, the table of its plan, and the shelf on which the pages lie. The texts of the
 /// sheets have long bodies in them that stay on the shelf.
 #[derive(Drop)]
-pub struct Imposition<'s, 'r, 'j, 't, 'd> {
-    pub job: &'s Job<'j, 'd>,
+pub struct Imposition<'s, 'r, 't, 'd> {
+    pub job: &'s Job<'r, 'd>,
     pub table: &'s GatherTable<'t>,
     pub shelf: &'r Shelf<'d>,
     /// Whether the shelf is that of the job's document. Then a page that was put as its own isn't compared with it.
@@ -88,7 +88,7 @@ pub struct Imposition<'s, 'r, 'j, 't, 'd> {
     ghost same_plan: { table.now.layout ≡ layout job.now.plan },
 }
 
-impl<'s, 'r, 'j, 't, 'd> Imposition<'s, 'r, 'j, 't, 'd> {
+impl<'s, 'r, 't, 'd> Imposition<'s, 'r, 't, 'd> {
     /// Does what `impose` does, with texts before placed pages that were kept from other sheets, and in the memory of
     /// this text. What it had before is gone.
     pub fn impose(
@@ -174,7 +174,7 @@ impl<'s, 'r, 'j, 't, 'd> Imposition<'s, 'r, 'j, 't, 'd> {
             return Ok(());
         };
 
-        // The seat tells that its front is a legal history, in which the pages of a complete sheet have an index.
+        // The seat shows that its front is a legal history, in which the pages of a complete sheet have an index.
         seat.share();
         let shown = match self.find_shelved(seat, page) {
             Ok(shown) => shown,
@@ -209,7 +209,7 @@ impl<'s, 'r, 'j, 't, 'd> Imposition<'s, 'r, 'j, 't, 'd> {
         Ok(found.page)
     }
 
-    /// Whether this is a page of the document, with this number. It is told by its bytes, unless it was put as the
+    /// Whether this is a page of the document, with this number. Its bytes are compared, unless it was put as the
     /// document's own.
     fn is_page(&self, found: &Shelved<'_, 'd>, page: u32) -> bool
         requires in_document { page < length (pages self.now.job.now.units) }
@@ -228,7 +228,7 @@ impl<'s, 'r, 'j, 't, 'd> Imposition<'s, 'r, 'j, 't, 'd> {
     }
 }
 
-/// Looks once, and tells whether that shows the sheet complete: no slot of it is missing, or, if it is wide, no group of it
+/// Looks once, and answers whether that shows the sheet complete: no slot of it is missing, or, if it is wide, no group of it
 /// is open.
 pub fn is_complete(seat: &mut Seat, table: &GatherTable<'_>, sheet: u32) -> bool
     requires seat { IsSeatOf table.now seat.old }

@@ -20,7 +20,7 @@ pub fn gathers_all()
     ensures { GathersAll }
 {}
 
-/// Whoever calls behind a gathering finds each page of a sheet, at one index for good.
+/// Whoever calls after a gathering finds each page of a sheet, at one index for good.
 pub fn gathered_are_found()
     ensures { GatheredAreFound }
 {}
@@ -35,7 +35,7 @@ pub fn deliveries_close()
     ensures { DeliveriesClose }
 {}
 
-/// A sheet stands as often among those that calls completed as there are calls that completed it.
+/// A sheet is as often among those that calls completed as there are calls that completed it.
 pub fn completed_are_counted()
     ensures { CompletedAreCounted }
 {}

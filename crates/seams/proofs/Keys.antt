@@ -14,7 +14,7 @@ or_none false e = e
 pub key_is : (name content : List ℕ) → has_key (name ∷ []) content ≡ true → key content ≡ name
 key_is name content h = (bytes_eq-Decides (key content) name).0 (or_none (bytes_eq (key content) name) h)
 
--- a test of the key that fails there
+-- where a test of the key fails
 pub not_key : (name content : List ℕ) (p : List ℕ → Bool) → p (key content) ≡ true → p name ≡ false → has_key (name ∷ []) content ≡ false
 not_key name content p h n = by_test (has_key (name ∷ []) content)
     (λ is. clash (p (key content)) h (ap p (key_is name content is) ∙ n))

@@ -1,4 +1,4 @@
--- How long a line is, by its first byte; and what it hangs on of the bytes behind a text.
+-- The length of a line, by its first byte, and how it depends on the bytes after a text.
 use mathlib.Core.Logic.{◌⊎◌, inl, inr}
 use Rattle.std.specs.Prelude.{Option, Some, None, not, option_map, if◌then◌else◌}
 use Rattle.std.proofs.Common.{Bool, true, false, cond, ◌==◌, ◌&&◌, ◌≡◌, ℕ, zero, suc, ◌+◌, ◌<◌, ◌≤◌, List, [], ◌∷◌, ◌++◌, length, drop, refl, ap, arith, length-drop, sym, ◌∙◌, subst, true≢false}
@@ -53,7 +53,8 @@ end_same : (b : ℕ) (bs r s : List ℕ) → end_len (b ∷ (bs ++ r)) ≤ suc (
 end_same b (c ∷ bs) r s h j = refl
 end_same b [] r s h j = one_or_two (b == 13) (lf r) (lf s) h j
 
--- a line that ends within a text is the same before other bytes, where these don't begin with a line feed, or the first ones did too
+-- a line that ends within a text stays the same before other bytes, if these begin with no line feed, or the first
+-- ones did too
 pub line_same : (x r s : List ℕ) → line_len (x ++ r) ≤ length x → (lf s ≡ true → lf r ≡ true) → (r ≡ [] → ends x ≡ true)
     → (content_of (x ++ s) ≡ content_of (x ++ r)) × (line_len (x ++ s) ≡ line_len (x ++ r))
 line_same [] [] s h j k = absurd (true≢false (sym (k refl)))
@@ -110,7 +111,7 @@ feed_content (b ∷ bs) ys = by_test (is_end b)
     (λ is. stop_content b (bs ++ 10 ∷ ys) is ∙ sym (stop_content b bs is))
     (λ isnt. go_content b (bs ++ 10 ∷ ys) isnt ∙ ap (λ c. b ∷ c) (feed_content bs ys) ∙ sym (go_content b bs isnt))
 
--- the line is the same, or is all of the text and takes the line feed too
+-- the line stays the same, or it is the whole text and takes the line feed too
 abbrev pub Fed : (old new most : ℕ) → Type 0
 Fed old new most = (new ≡ old) ⊎ ((old ≡ most) × (new ≡ suc most))
 

@@ -78,7 +78,7 @@ no_ends_points g = no_ends_printed 5 (rounded g 1_270_000)
 pub no_ends_scale : (v : ℤ) → no_ends (scale_text v) ≡ true
 no_ends_scale v = no_ends_printed 9 v
 
--- A record, so that the text is found from the fact.
+-- A record, so that the prover finds the text from the fact.
 pub record Whole (text : List ℕ) : Type 0 where
   pub is : no_ends text ≡ true
 

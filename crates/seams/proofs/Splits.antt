@@ -87,7 +87,7 @@ split t d (u ∷ us) = by_test (t (at_depth d u))
       opens = s.opens;
     })
 
--- none passes the test, at whatever depth they stand
+-- none passes the test, at any depth
 abbrev pub Through : (NestedUnit → Bool) → List TextUnit → Type 0
 Through t us = (d : ℕ) → (e : ℕ) × (passes t d us ≡ Some e)
 

@@ -1,4 +1,4 @@
--- Units put one behind the other.
+-- Units one after the other.
 use Rattle.std.specs.Prelude.{Ok, flat_map, map}
 use Rattle.std.proofs.lemmas.Bool.{eqb-true}
 use Rattle.std.proofs.lemmas.Grind.{flat_map-append}
@@ -30,7 +30,7 @@ some_unit (b ∷ bs) u l e = unit_some b bs u e
 pub rest_of : (a b r : List ℕ) → drop (length a) ((a ++ b) ++ r) ≡ b ++ r
 rest_of a b r = ap (drop (length a)) (append_assoc a b r) ∙ drop-append_seam a (b ++ r)
 
--- units stay before another text, where it doesn't begin with a line feed, or the first one did
+-- units stay before another text, if it begins with no line feed, or the first one did
 pub stay_before : (us : List TextUnit) (r s : List ℕ) (vs ws : List TextUnit) → AreUnits (joined us ++ r) (us ++ vs) → (lf s ≡ true → lf r ≡ true)
     → (r ≡ [] → 0 < length (joined us) → ends (joined us) ≡ true) → AreUnits s ws → AreUnits (joined us ++ s) (us ++ ws)
 stay_before [] r s vs ws h j k m = m
@@ -47,7 +47,7 @@ stay_before (u ∷ us) r s vs ws h j k m =
       subst (λ t. AreUnits t (us ++ ws)) (sym (rest_of u.bytes (joined us) s)) (stay_before us r s vs ws tail j last m),
     )
 
--- a text that ends with a line end, and another behind it
+-- a text that ends with a line end, followed by another
 pub units_join : (a b : List ℕ) (us vs : List TextUnit) → AreUnits a us → (0 < length a → ends a ≡ true) → lf b ≡ false → AreUnits b vs → AreUnits (a ++ b) (us ++ vs)
 units_join a b us vs h e f m =
     let whole : joined us ≡ a = joined_is a us h in
@@ -55,7 +55,7 @@ units_join a b us vs h e f m =
     subst (λ t. AreUnits (t ++ b) (us ++ vs)) whole
     (stay_before us [] b [] vs alone (λ t. clash (lf b) t f) (λ _ l. subst (λ t. ends t ≡ true) (sym whole) (e (subst (λ t. 0 < length t) whole l))) m)
 
--- the text has these units, whatever stands behind it
+-- the text has these units, whatever follows it
 abbrev pub Goes : List ℕ → List TextUnit → Type 0
 Goes text us = (r : List ℕ) (vs : List TextUnit) → AreUnits r vs → AreUnits (text ++ r) (us ++ vs)
 
@@ -71,7 +71,7 @@ pub goes_lines : (cs : List (List ℕ)) → AreLines cs → Goes (flat_map line 
 goes_lines [] h r vs m = m
 goes_lines (c ∷ cs) h r vs m = goes_append (line c) (flat_map line cs) (line_unit c ∷ []) (map line_unit cs) (goes_line c h.0) (goes_lines cs h.1) r vs m
 
--- Lines put in.
+-- Inserted lines.
 
 begins_other : (c r : List ℕ) → 0 < length c → no_ends c ≡ true → lf (c ++ r) ≡ false
 begins_other [] r l h = absurd (omega (arith, l))

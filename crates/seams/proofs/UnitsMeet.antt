@@ -1,4 +1,4 @@
--- What a unit hangs on of the bytes behind it.
+-- How a unit depends on the bytes after it.
 use mathlib.Core.Logic.{◌⊎◌, inl, inr}
 use Rattle.std.specs.Prelude.{Result, Ok, Err, Option, Some, None, not, if◌then◌else◌}
 use Rattle.std.specs.List.{list_all}
@@ -115,8 +115,8 @@ chosen_same true x r s content n fs u within e h j k =
 chosen_same false x r s content n fs u within e h j k =
     ap (λ bs. Ok (record { content = content; bytes = bs; is_block = false })) (take-append-le n x s within ∙ sym (take-append-le n x r within)) ∙ e
 
--- a unit that ends within x is the same before other bytes, where these don't begin with a line feed or the first ones did too;
--- with nothing behind x at first, x has to end with a line end
+-- a unit that ends within x stays the same before other bytes, if these begin with no line feed or the first ones
+-- did too. If nothing followed x at first, x has to end with a line end
 pub unit_same : (x r s : List ℕ) (u : TextUnit) → first_unit (x ++ r) ≡ Ok u → length u.bytes ≤ length x → (lf s ≡ true → lf r ≡ true) → (r ≡ [] → ends x ≡ true) → first_unit (x ++ s) ≡ Ok u
 unit_same x r s u e h j k =
     let content : List ℕ = content_of (x ++ r) in
@@ -150,7 +150,7 @@ fed_data content x ys (f ∷ fs) m e = by_test (list_all is_ascii_digit f)
     (λ is. rw is (fed_counted (counts_lines content (f ∷ fs)) (number_of f) x ys m (rw is at e)))
     (λ not. let e = (rw not at e) in cc)
 
--- no data are there whatever follows
+-- there are no data, whatever follows
 counted_none : (in_lines : Bool) (n : ℕ) (ys : List ℕ) (m : ℕ) → counted in_lines n [] ≡ Ok m → counted in_lines n ys ≡ Ok 0
 counted_none true n ys m e =
     let least = lines_len-least n [] m (short_some _ m e) in
@@ -168,7 +168,7 @@ data_none content ys (f ∷ fs) m e = by_test (list_all is_ascii_digit f)
     (λ is. rw is (counted_none (counts_lines content (f ∷ fs)) (number_of f) ys m (rw is at e)))
     (λ not. let e = (rw not at e) in cc)
 
--- the unit that the text is, with the line feed behind it
+-- the unit that the text is, followed by the line feed
 abbrev pub fed : TextUnit → TextUnit
 fed u = record { content = u.content; bytes = u.bytes ++ 10 ∷ []; is_block = u.is_block }
 
@@ -250,7 +250,7 @@ fed_unit x ys u e b =
     subst (FedUnit u) (sym (unit_is text ∙ ap (λ c. unit_with text c (line_len text)) (feed_content x ys)))
     (fed_chosen (begins_block content) x ys content (line_len x) (line_len text) (fields content) u (line_len-within x) (fed_line x ys) is b)
 
--- A line with a line feed behind it.
+-- A line followed by a line feed.
 
 whole_content : (c : List ℕ) → no_ends c ≡ true → content_of c ≡ c
 whole_content [] h = refl
@@ -260,7 +260,7 @@ end_behind : (c r : List ℕ) → no_ends c ≡ true → line_len (c ++ 10 ∷ r
 end_behind [] r h = stop_line 10 r refl
 end_behind (b ∷ bs) r h = go_line b (bs ++ 10 ∷ r) (not_end (is_end b) (no_ends bs) h) ∙ ap suc (end_behind bs r (and_second (not (is_end b)) (no_ends bs) h))
 
--- it is a unit, whatever stands behind it
+-- it is a unit, whatever follows it
 pub first_line : (c r : List ℕ) → IsLine c → first_unit (line c ++ r) ≡ Ok (line_unit c)
 first_line c r h =
     let text : List ℕ = c ++ 10 ∷ r in

@@ -1,5 +1,5 @@
-//! Texts put one behind the other, and what units they are cut into: definitions, laws and lemmas for whoever says what
-//! a text is cut into that was made of parts of other texts.
+//! The units of texts that are joined one after the other: definitions, laws and lemmas for statements about the
+//! units of a text that is made of parts of other texts.
 #![tactic(auto)]
 
 pub mod laws;

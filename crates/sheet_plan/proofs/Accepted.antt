@@ -239,7 +239,7 @@ sound_made pages all e =
 pub of_made : (pages : ℕ) (all : List MadeSheet) → made_plan_of pages all ≡ Ok all → IsOfSheets (made_plan pages all)
 of_made pages all e = record { all = all; accepted = e; same = refl }
 
--- ---- what is read of it
+-- ---- what is read from it
 pub row_len : (pages : ℕ) (all : List MadeSheet) (s : ℕ) → length (pages_on (made_plan pages all) s) ≡ length (slots_at all s)
 row_len pages all s = ap length (pages_are pages all s) ∙ length-map (slots_at all s) page_of
 

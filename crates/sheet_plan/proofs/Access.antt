@@ -52,12 +52,12 @@ sound_of sides modulo n groups plan is a = subst IsSound is (sound sides (spec_o
 pub of_spec_of : (sides : Option ℕ) (modulo n : ℕ) (groups : List (Vec PageItem Global)) (plan : Plan) → planned_in sides (spec_of modulo groups) n ≡ plan → IsAccepted sides (spec_of modulo groups) n → IsOfSpec plan
 of_spec_of sides modulo n groups plan is a = subst IsOfSpec is (of_spec sides (spec_of modulo groups) n a)
 
--- how many sheets there are
+-- the number of sheets
 pub sheets_of : (sides : Option ℕ) (modulo n : ℕ) (groups : List (Vec PageItem Global)) (plan : Plan) → planned_in sides (spec_of modulo groups) n ≡ plan → blocks modulo (row_len sides n) * length groups ≡ length plan.sheets
 sheets_of sides modulo n groups plan is =
     ap (λ k. blocks modulo (row_len sides n) * k) (sym (length-map groups (λ g. map item_of g.items))) ∙ sym (sheet_count (spec_of modulo groups) (row_len sides n) (entry_in sides n)) ∙ ap (λ (p : Plan). length p.sheets) is
 
--- an item's page lies in its block
+-- an item's page is in its block
 pub paged_item : (sides : Option ℕ) (spec : Spec) (n : ℕ) → IsAccepted sides spec n → (g k : ℕ) → g < length spec.groups → (item : Item) → slice_get (get_or spec.groups g []) k ≡ Some item → item.page < spec.modulo
 paged_item sides spec n a g k lt item e =
     let b = bounded spec a.admissible in
@@ -73,7 +73,7 @@ page_shown sides spec n count plan s k item at page here e place_is page_is =
     ∙ ap (λ p. Some (entry_in sides n p)) (sym place_is)
     ∙ ap Some (sym page_is)
 
--- the places of a block lie in the filled row
+-- the places of a block are in the filled row
 pub entry_few : (sides : Option ℕ) (spec : Spec) (n block at : ℕ) (item : Item) → IsAccepted sides spec n → block < blocks spec.modulo (row_len sides n) → item.page < spec.modulo
     → at ≡ place spec.modulo (row_len sides n) block item → at < 1_100_000
 entry_few sides spec n block at item a lt page is =
@@ -84,7 +84,7 @@ entry_few sides spec n block at item a lt page is =
     let low = place_below spec.modulo (row_len sides n) block item lt page in
     omega arith
 
--- a block has at most so many slots
+-- a block has at most this many slots
 pub few_in_block : (spec : Spec) → IsBounded spec → sum_by length spec.groups ≤ most_groups * most_slots
 few_in_block spec b =
     let s = sum_by-le length most_slots spec.groups b.few_slots in

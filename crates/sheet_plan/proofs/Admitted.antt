@@ -43,7 +43,7 @@ none_passes p xs e k d lt = fails_before_first p xs k d (past (position_or_len p
     past : (n m k : ℕ) → (if nat_lt n m then Some n else None) ≡ None → k < m → k < n
     past n m k e lt = grind (arith, nat_tests)
 
--- what holds of all items holds in each group
+-- a property of all items holds in each group
 of_flat : {X : Type 0} (P : X → Type 0) (gs : List (List X)) → All P (flat_map (λ g. g) gs) → All (λ g. All P g) gs
 of_flat P [] h = All-nil (λ g. All P g)
 of_flat P (g ∷ gs) h =

@@ -32,7 +32,7 @@ page_breaks (suc k) p (Some q ∷ xs) e = refl
 abbrev bit_of : List (Option ℕ) → ℕ → ℕ
 bit_of xs k = if is_page (slice_get xs k) then 1 else 0
 
--- the slots from the first one of a group up to k are told by the bits, and no other bits are set
+-- the bits say which slots from the first of a group up to k have a page, and no other bits are set
 pub record IsMarked (xs : List (Option ℕ)) (first k word : ℕ) : Type 0 where
   pub begun : first ≤ k
   pub told : (j : ℕ) → first + j < k → bit_at word j ≡ bit_of xs (first + j)

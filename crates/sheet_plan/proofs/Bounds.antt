@@ -43,7 +43,7 @@ blocks_times n m pos =
     let e : m * blocks m n ≡ blocks m n * m = grind arith in
     omega arith
 
--- a place of a block lies in the filled row
+-- a place of a block is in the filled row
 pub place_below : (m entries block : ℕ) (item : Item) → block < blocks m entries → item.page < m → place m entries block item < m * blocks m entries
 place_below m entries block item lt page = by_end item.from_end (blocks m entries) item.page lt page
   where

@@ -7,7 +7,7 @@ use Rattle.rules.specs.Sheets.{Layout}
 use Rattle.sheet_plan.specs.Places.{has_page, places_in, places_from, places_of, is_blank, born_complete}
 use Rattle.sheet_plan.specs.Laws.{IsAmong, Ascend, IsLower, ArePlaces, PlacesAreExact, AreWithoutPages, BornCompleteAreWithoutPages}
 
--- ---- rows behind one another
+-- ---- rows one after another
 among_either : {X : Type 0} (x : X) (xs ys : List X) → IsAmong x (xs ++ ys) → IsAmong x xs ⊎ IsAmong x ys
 among_either x [] ys h = inr h
 among_either x (y ∷ xs) ys (inl e) = inl (inl e)
@@ -67,7 +67,7 @@ stands_in p s k (suc i) (x ∷ xs) e =
     among_behind (s, k + suc i) (here (has_page p x) (s, k)) (places_in p s (suc k) xs)
     (subst (λ j. IsAmong (s, j) (places_in p s (suc k) xs)) (omega arith) (stands_in p s (suc k) i xs e))
 
--- they are of this sheet, and in no slot below
+-- they are on this sheet, and in no slot below
 abbrev IsFrom : (s k : ℕ) → ℕ × ℕ → Type 0
 IsFrom s k place = (place.0 ≡ s) × (k ≤ place.1)
 
@@ -156,7 +156,7 @@ all_blank [] none = refl
 all_blank (None ∷ xs) none = all_blank xs (λ p k found. none p (suc k) found)
 all_blank (Some q ∷ xs) none = absurd (none q 0 refl)
 
--- what passes a test, of numbers in a row
+-- the numbers of a range that pass a test
 passing_pass : (test : ℕ → Bool) (a n s : ℕ) → IsAmong s (filter test (range_with_len a n)) → (test s ≡ true) × (a ≤ s) × (s < a + n)
 passing_pass test a zero s h = absurd h
 passing_pass test a (suc n) s h = by_test (test a) refl (λ r. passing_pass test (a + 1) n s r) h

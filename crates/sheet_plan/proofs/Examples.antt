@@ -1,4 +1,5 @@
--- Two pages on three sheets, the second of which is blank; and sheets on both sides of a slot group's end.
+-- Two pages on three sheets, the second of which is blank; and sheets that end just before and just after the end
+-- of a slot group.
 use Rattle.std.proofs.Common.{◌≡◌, ℕ, [], ◌∷◌, Option, Some, None, refl, true, false}
 use Rattle.std.specs.Prelude.{pos, replicate}
 use Rattle.rules.specs.Specification.{Item, Upright, zero_points}
@@ -9,14 +10,14 @@ use Rattle.sheet_plan.specs.Places.{places_of, is_blank, born_complete}
 abbrev three_sheets : Layout
 three_sheets = record { pages = 2; sheets = (Some 1 ∷ None ∷ Some 1 ∷ []) ∷ (None ∷ None ∷ []) ∷ (Some 0 ∷ Some 1 ∷ []) ∷ [] }
 
--- page 1 stands in slots 0 and 2 of sheet 0 and in slot 1 of sheet 2
+-- page 1 is in slots 0 and 2 of sheet 0 and in slot 1 of sheet 2
 page_1 : places_of three_sheets 1 ≡ (0, 0) ∷ (0, 2) ∷ (2, 1) ∷ []
 page_1 = refl
 
 page_0 : places_of three_sheets 0 ≡ (2, 0) ∷ []
 page_0 = refl
 
--- a page that stands nowhere has no place
+-- a page that is on no sheet has no place
 page_2 : places_of three_sheets 2 ≡ []
 page_2 = refl
 

@@ -1,4 +1,4 @@
--- The first limit that is passed.
+-- The first limit that is exceeded.
 use Rattle.std.proofs.Common.{arith, ◌≡◌, ℕ, ◌+◌, ◌*◌, ◌/◌, ◌%◌, ◌<◌, ◌≤◌, List, length, map, refl, sym, ap, ◌∙◌, subst, min, Bool, true, false, Result, Ok, Err, Option}
 use Rattle.std.specs.Prelude.{sum_by, nat_lt, All}
 use Rattle.std.specs.declared.vec.Vec.{Vec}
@@ -56,7 +56,7 @@ too_many_places sides spec n le few lt = past_pages sides spec n le ∙ past_she
 pub accepted : (sides : Option ℕ) (spec : Spec) (n : ℕ) → row_len sides n ≤ 1_000_000 → length (sheets_in sides spec n) ≤ 1_000_000 → sum_by length (sheets_in sides spec n) ≤ 4_000_000 → plan_in sides spec n ≡ Ok (sheets_in sides spec n)
 accepted sides spec n le few fit = past_pages sides spec n le ∙ past_sheets sides spec n few ∙ passed (nat_lt 4_000_000 (sum_by length (sheets_in sides spec n))) TooManyPlaces (Ok (sheets_in sides spec n)) (within 4_000_000 (sum_by length (sheets_in sides spec n)) fit)
 
--- what the fields tell of the sheets of a specification
+-- what the fields say of the sheets of a specification
 pub record IsCounted (sides : Option ℕ) (spec : Spec) (n modulo many : ℕ) (groups : List (Vec PageItem Global)) : Type 0 where
   pub positive : 0 < modulo
   pub same : spec_of modulo groups ≡ spec

@@ -19,7 +19,7 @@ first = record { paper = points 842 595; slots = Placed 1 turned (points 420 595
 abbrev second : MadeSheet
 second = record { paper = points 595 842; slots = Blank ∷ [] }
 
--- the page of an item means nothing: page 1 stands where the slot says so
+-- the page of an item has no meaning: page 1 is where the slot says so
 pages_of_slots : (layout (made_plan 2 (first ∷ second ∷ []))).sheets ≡ (Some 1 ∷ None ∷ Some 0 ∷ []) ∷ (None ∷ []) ∷ []
 pages_of_slots = refl
 

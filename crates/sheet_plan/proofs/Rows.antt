@@ -19,7 +19,7 @@ map_id (x ∷ xs) = ap (λ ys. x ∷ ys) (map_id xs)
 abbrev slot_of : (sides : Option ℕ) → Spec → (n b : ℕ) → Item → Slot
 slot_of sides spec n b i = record { page = entry_in sides n (place spec.modulo (row_len sides n) b i); item = i }
 
--- where a sheet stands: its block and its group
+-- where a sheet is: its block and its group
 pub record IsSheet (sides : Option ℕ) (spec : Spec) (n s : ℕ) : Type 0 where
   pub some : 0 < length spec.groups
   pub block : s / length spec.groups < blocks spec.modulo (row_len sides n)

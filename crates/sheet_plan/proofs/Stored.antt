@@ -1,4 +1,4 @@
--- Sheets that are kept stay as they are while slots and placings are added, and one more stands behind them.
+-- Sheets that are kept stay as they are while slots and placings are added, and while one more is added after them.
 use Rattle.std.proofs.Common.{arith, ◌≡◌, ℕ, zero, suc, ◌+◌, ◌-◌, ◌<◌, ◌≤◌, List, [], ◌∷◌, ◌++◌, length, map, get_or, take, drop, refl, sym, ap, ◌∙◌, subst, Bool, true, false, Option, Some, None, Result, Ok, Err}
 use Rattle.std.specs.Prelude.{if◌then◌else◌, slice_get, slice_range, option_map, sum_by, All, OnErr}
 use Rattle.std.proofs.Math.Seq.{take-length, drop-length, take-append_seam, drop-append_seam}
@@ -101,7 +101,7 @@ sheets_same old new slots slots_new n a (s ∷ ss) b e named h =
     one : (p q : Paper) (xs ys : List MadeSlot) (us vs : List MadeSheet) → p ≡ q → xs ≡ ys → us ≡ vs → record { paper = p; slots = xs } ∷ us ≡ record { paper = q; slots = ys } ∷ vs
     one p q xs ys us vs pq xy uv = cc
 
--- what is added behind the last sheet changes none
+-- what is added after the last sheet changes none
 pub record IsStill (old new : List Placing) (slots slots_new : List KeptSlot) (sheets : List KeptSheet) : Type 0 where
   pub kept : AreKept new slots_new sheets
   pub same : sheets_from new slots_new 0 sheets ≡ sheets_from old slots 0 sheets
@@ -155,7 +155,7 @@ grown_then p q r xs ys zs g h = record {
 pub grown_placings : (p q : List Placing) (slots : List KeptSlot) → Begins p q → IsGrown p q slots slots
 grown_placings p q slots b = record { placings_begin = b; slots_begin = take-length slots; named = named_more p q slots b }
 
--- ---- what is read
+-- ---- what is read back
 pub sheet_total : (placings : List Placing) (slots : List KeptSlot) (a n : ℕ) (ss : List KeptSheet) → n ≤ length slots → AreInOrder (length placings) n a ss → sum_by slot_count (sheets_from placings slots a ss) + a ≡ end_of a ss
 sheet_total placings slots a n [] le h = omega arith
 sheet_total placings slots a n (s ∷ ss) le h =
@@ -239,7 +239,7 @@ end_last a (suc k) (x ∷ y ∷ ys) s e at = end_last x.end k (y ∷ ys) s (omeg
 pub start_before : (ss : List KeptSheet) (k j : ℕ) (s : KeptSheet) → k ≡ suc j → j < length ss → s ≡ get_or ss j s → s.end ≡ start_of 0 ss k
 start_before ss k j s e lt is = ap (λ (t : KeptSheet). t.end) is ∙ sym (start_next 0 j ss s lt) ∙ ap (start_of 0 ss) (sym e)
 
--- ---- what was read of what is kept
+-- ---- what was read back
 pub read_sheet : (placings : List Placing) (slots : List KeptSlot) (sheets : List KeptSheet) (k : ℕ) (s : KeptSheet) → AreKept placings slots sheets → slice_get sheets k ≡ Some s → IsSheetAt placings slots 0 sheets k s
 read_sheet placings slots sheets k s kept at =
     subst (IsSheetAt placings slots 0 sheets k) (get_or_from_slice_get sheets k s s at)
@@ -261,7 +261,7 @@ some_sheet placings slots sheets k kept lt = found (slice_get sheets k) refl
 pub sheet_there : (placings : List Placing) (slots : List KeptSlot) (sheets : List KeptSheet) (all : List MadeSheet) → sheets_from placings slots 0 sheets ≡ all → length all ≡ length sheets
 sheet_there placings slots sheets all view = ap length (sym view) ∙ sheets_len placings slots 0 sheets
 
--- a slot of a sheet lies within the block
+-- a slot of a sheet is in the block
 pub slot_there : (placings : List Placing) (slots : List KeptSlot) (sheets : List KeptSheet) (all : List MadeSheet) (k j : ℕ) → AreKept placings slots sheets → sheets_from placings slots 0 sheets ≡ all → k < length all
     → j < length (slots_at all k) → start_of 0 sheets k + j < length slots
 slot_there placings slots sheets all k j kept view lt lj =
@@ -333,7 +333,7 @@ added_more p q xs ys zs row more g named b first next =
     ∙ ap (λ t. t ++ map (slot_kept q) (drop m zs)) (slots_same p q (drop n ys) g.placings_begin (All-drop (is_named (length p)) n ys named) ∙ first)
     ∙ ap (λ t. row ++ t) next
 
--- ---- a sheet is put behind the others, or not
+-- ---- a sheet is added after the others, or isn't
 pub cut_named : (placings : List Placing) (slots : List KeptSlot) (sheets : List KeptSheet) (n : ℕ) → AreKept placings slots sheets → All (is_named (length placings)) (take n slots)
 cut_named placings slots sheets n kept = All-take (is_named (length placings)) n slots kept.named
 

@@ -1,5 +1,5 @@
--- Read in this order: what is read off a plan, which plans are taken, where the pages stand, what holds of that, how
--- the code lists them.
+-- Read in this order: what is read from a plan, which plans are accepted, where the pages are, what holds of that,
+-- how the code lists them.
 pub mod Plans
 pub mod Refusals
 pub mod Places

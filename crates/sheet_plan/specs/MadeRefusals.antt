@@ -1,11 +1,11 @@
--- Which sheets that are made are planned, and why the others are refused.
+-- Which made sheets are planned, and why the others are refused.
 use Rattle.std.specs.Prelude.{◌≡◌, ℕ, List, Ok, Err}
 use Rattle.made_sheets.specs.Made.{MadeSheet}
 use Rattle.made_sheets.specs.MadePlans.{made_plan_of, MadeTooManyPages, MadeTooManySheets, MadeSlotsOutOfRange, MadeTooManyPlaces, MadeNoSuchPage}
 use Rattle.sheet_plan.specs.declared.error.MadeError.{MadeError}
 use Rattle.sheet_plan.specs.declared.error.MadeError.TheVariants as error
 
--- what each refusal says of these sheets over so many pages: the first fault, or, at NoMemory, that there is none
+-- what each refusal says of these sheets over this many pages: the first fault, or, at NoMemory, that there is none
 abbrev pub RefusesMade : (pages : ℕ) → List MadeSheet → MadeError → Type 0
 RefusesMade pages all error.TooManyPages = made_plan_of pages all ≡ Err MadeTooManyPages
 RefusesMade pages all error.TooManySheets = made_plan_of pages all ≡ Err MadeTooManySheets

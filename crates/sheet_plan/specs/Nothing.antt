@@ -1,4 +1,4 @@
--- What the plan of a blank slot that was made names as its item, which places nothing.
+-- The item that the plan of made sheets has for a blank slot. It places nothing.
 use Rattle.std.specs.Prelude.{false, pos}
 use Rattle.rules.specs.Specification.{Item, Upright, zero_points}
 

@@ -10,7 +10,7 @@ use Rattle.sheet_plan.specs.declared.made.MadeSlot.TheVariants as made
 use Rattle.sheet_plan.specs.declared.made.PlacedSlot.{PlacedSlot}
 use Rattle.sheet_plan.specs.Nothing.{nothing}
 
--- what a slot of the code stands for
+-- the meaning of a slot of the code
 abbrev pub slot_of : code.MadeSlot → MadeSlot
 slot_of made.Blank = Blank
 slot_of (made.Placed page item paper) = Placed page (item_of item) paper
@@ -30,11 +30,11 @@ item_in (Placed page item paper) = item
 abbrev pub slot_in : MadeSlot → Slot
 slot_in slot = record { page = page_of slot; item = item_in slot }
 
--- the plan of made sheets, over so many pages
+-- the plan of made sheets, over this many pages
 abbrev pub made_plan : (pages : ℕ) → List MadeSheet → Plan
 made_plan pages all = record { pages = pages; sheets = map (λ sheet. map slot_in sheet.slots) all }
 
--- accepted sheets that were made are those of the plan
+-- accepted made sheets are those of the plan
 pub record IsOfSheets (plan : Plan) : Type 0 where
   pub all : List MadeSheet
   pub accepted : made_plan_of plan.pages all ≡ Ok all

@@ -1,4 +1,4 @@
--- Where the pages of a plan stand, and which of its sheets have none.
+-- Where the pages of a plan are, and which of its sheets have none.
 use Rattle.std.specs.Prelude.{ℕ, suc, ◌==◌, Bool, false, if◌then◌else◌, List, [], ◌∷◌, ◌++◌, length, Option, Some, None}
 use Rattle.std.specs.Prelude.{is_none, slice_index_or, filter}
 use Rattle.std.specs.List.{list_all, range_with_len}

@@ -1,4 +1,4 @@
--- What is read off a plan, and what every plan keeps to.
+-- What is read from a plan, and what every plan keeps to.
 use Rattle.std.specs.Prelude.{◌≡◌, ℕ, ◌+◌, ◌/◌, ◌<◌, ◌≤◌, Bool, true, false, List, [], length, map, Option, Some, None}
 use Rattle.std.specs.Prelude.{slice_get, slice_index_or, sum_by}
 use Rattle.rules.specs.Specification.{Spec, Item}
@@ -15,7 +15,7 @@ planned spec n = record { pages = n; sheets = sheets spec n }
 abbrev pub planned_in : (sides : Option ℕ) → Spec → ℕ → Plan
 planned_in sides spec n = record { pages = n; sheets = sheets_in sides spec n }
 
--- the slots of a sheet, each with its page, or None if it is blank
+-- the slots of a sheet, each with its page, or None for a blank
 abbrev pub pages_on : Plan → ℕ → List (Option ℕ)
 pages_on plan s = slice_index_or (layout plan).sheets s []
 
@@ -23,7 +23,7 @@ pages_on plan s = slice_index_or (layout plan).sheets s []
 abbrev pub items_on : Plan → ℕ → List Item
 items_on plan s = map (λ slot. slot.item) (slice_index_or plan.sheets s [])
 
--- how many slot groups a sheet has: one for each 64 slots, and a last one for those that are left
+-- the number of slot groups of a sheet: one for each 64 slots, and one for the rest
 abbrev pub slot_groups : Plan → ℕ → ℕ
 slot_groups plan s = (length (pages_on plan s) + 63) / 64
 
@@ -32,7 +32,7 @@ is_page None = false
 is_page (Some None) = false
 is_page (Some (Some p)) = true
 
--- slot k of a sheet is there and isn't blank
+-- the sheet has a slot k, which isn't blank
 abbrev pub needs_page : Plan → (sheet k : ℕ) → Bool
 needs_page plan s k = is_page (slice_get (pages_on plan s) k)
 

@@ -8,8 +8,8 @@ use Rattle.rules.specs.Run as rules
 use Rattle.sheet_plan.specs.declared.error.PlanError.{PlanError}
 use Rattle.sheet_plan.specs.declared.error.PlanError.TheVariants.{TooManyPages, TooManySheets, TooManyPlaces, NoMemory}
 
--- what each refusal says of a specification on n pages, in signatures if a number of sides is given: the first limit
--- that is passed, or, at NoMemory, that none is
+-- what each refusal says of a specification on n pages, in signatures if a number of sides is given: the first
+-- limit that is exceeded, or, at NoMemory, that none is
 abbrev pub RefusesIn : (sides : Option ℕ) → Spec → ℕ → PlanError → Type 0
 RefusesIn sides spec n TooManyPages = plan_in sides spec n ≡ Err PlanTooManyPages
 RefusesIn sides spec n TooManySheets = plan_in sides spec n ≡ Err rules.TooManySheets

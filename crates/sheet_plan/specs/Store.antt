@@ -1,4 +1,4 @@
--- How sheets that are made are kept: slots behind one another in one block, each by the number of its placing.
+-- How made sheets are kept: slots one after another in one block, each with the number of its placing.
 use Rattle.std.specs.Prelude.{◌≡◌, ℕ, zero, suc, ◌<◌, ◌≤◌, List, [], ◌∷◌, length, map, take, drop, slice_get, All}
 use Rattle.std.specs.Prelude.{slice_range, Option, Some, None}
 use Rattle.rules.specs.Papers.{Paper, points}
@@ -43,7 +43,7 @@ start_of start [] k = start
 start_of start (s ∷ ss) zero = start
 start_of start (s ∷ ss) (suc k) = start_of s.end ss k
 
--- each ends behind the one before it, the last of them within so many slots, and its paper is one of so many
+-- each ends after the one before it, the last within this many slots, and its paper is one of this many
 abbrev pub AreInOrder : (placings slots start : ℕ) → List KeptSheet → Type 0
 AreInOrder placings slots start [] = start ≤ slots
 AreInOrder placings slots start (s ∷ ss) = (start ≤ s.end) × (s.paper < placings) × AreInOrder placings slots s.end ss
@@ -55,7 +55,7 @@ pub record AreKept (placings : List Placing) (slots : List KeptSlot) (sheets : L
   pub named : All (is_named (length placings)) slots
   pub ordered : AreInOrder (length placings) (length slots) 0 sheets
 
--- nothing was changed, and something may have been added
+-- nothing was changed, though something may have been added
 abbrev pub Begins : {X : Type 0} → List X → List X → Type 0
 Begins old new = take (length old) new ≡ old
 

@@ -11,10 +11,10 @@ pub enum PlanError {
     /// There are over 1,000,000 sheets.
     #[error("plan: too many sheets")]
     TooManySheets,
-    /// The sheets have over 4,000,000 slots in all, blank ones counted.
+    /// The sheets have over 4,000,000 slots in all, including blank ones.
     #[error("plan: too many places")]
     TooManyPlaces,
-    /// No memory was left.
+    /// There was not enough memory.
     #[error("out of memory")]
     NoMemory,
 }
@@ -32,13 +32,13 @@ pub enum MadeError {
     /// This sheet has no slot, or over 4,096.
     #[error("sheets: no places or too many on sheet {0}")]
     SlotsOutOfRange(u32),
-    /// The sheets have over 4,000,000 slots in all, blank ones counted.
+    /// The sheets have over 4,000,000 slots in all, including blank ones.
     #[error("sheets: too many places")]
     TooManyPlaces,
-    /// On this sheet a page stands that the document doesn't have.
+    /// This sheet has a page that the document lacks.
     #[error("sheets: no such page on sheet {0}")]
     NoSuchPage(u32),
-    /// No memory was left.
+    /// There was not enough memory.
     #[error("out of memory")]
     NoMemory,
 }

@@ -1,4 +1,4 @@
-//! The sheets of a plan. Nothing of the sheets of a specification is stored: each slot is computed.
+//! The sheets of a plan. The sheets of a specification are not stored: each slot is computed.
 ghost use Rattle.std.specs.Prelude.{◌≡◌, ◌≢◌, ◌<◌, ◌≤◌, ◌⊎◌, length, Some, Ok, Err, OnOk, IfOk, IfErr, slice_get};
 ghost use Rattle.rules.specs.Admissible.{most_slots};
 ghost use Rattle.rules.specs.Run.{plan_in};
@@ -14,7 +14,7 @@ use crate::error::{MadeError, PlanError};
 use crate::made::MadeSheets;
 use crate::made_expansion::MadeExpansion;
 use crate::row::Row;
-use crate::source::Source;
+use crate::source::PlanSource;
 use crate::spec_expansion::SpecExpansion;
 use pagespec::{Item, Spec};
 use std::marker::Model;
@@ -22,7 +22,7 @@ use std::marker::Model;
 /// The sheets of a specification, or sheets that were made. A contract sees the plan that they make.
 #[derive(Drop)]
 pub struct Expansion<'s> {
-    source: Source<'s>,
+    source: PlanSource<'s>,
 }
 
 impl<'s> Model for Expansion<'s> {
@@ -45,13 +45,13 @@ impl<'s> Expansion<'s> {
     {
         match SpecExpansion::new(spec, row) {
             Ok(expansion) => Ok(Expansion {
-                source: Source::Spec(expansion),
+                source: PlanSource::Spec(expansion),
             }),
             Err(error) => Err(error),
         }
     }
 
-    /// Sheets that were made. The limits are tested, and that each page is there.
+    /// Sheets that were made. The limits are tested, and that the document has each page.
     pub fn of_sheets(pages: u32, made: &'s MadeSheets) -> Result<Expansion<'s>, MadeError>
         ensures value { IfOk result (λ e. e ≡ made_plan pages made.now) }
         ensures accepted { OnOk result (made_plan_of pages made.now ≡ Ok made.now) }
@@ -60,7 +60,7 @@ impl<'s> Expansion<'s> {
     {
         match MadeExpansion::new(pages, made) {
             Ok(expansion) => Ok(Expansion {
-                source: Source::Made(expansion),
+                source: PlanSource::Made(expansion),
             }),
             Err(error) => Err(error),
         }
@@ -72,8 +72,8 @@ impl<'s> Expansion<'s> {
         ensures origin { IsOfSpec self.now ⊎ IsOfSheets self.now }
     {
         match &self.source {
-            Source::Spec(expansion) => expansion.pages(),
-            Source::Made(expansion) => expansion.pages(),
+            PlanSource::Spec(expansion) => expansion.pages(),
+            PlanSource::Made(expansion) => expansion.pages(),
         }
     }
 
@@ -82,8 +82,8 @@ impl<'s> Expansion<'s> {
         ensures sound { IsSound self.now }
     {
         match &self.source {
-            Source::Spec(expansion) => expansion.sheets(),
-            Source::Made(expansion) => expansion.sheets(),
+            PlanSource::Spec(expansion) => expansion.sheets(),
+            PlanSource::Made(expansion) => expansion.sheets(),
         }
     }
 
@@ -94,8 +94,8 @@ impl<'s> Expansion<'s> {
         ensures few { result ≤ most_slots }
     {
         match &self.source {
-            Source::Spec(expansion) => expansion.slots(sheet),
-            Source::Made(expansion) => expansion.slots(sheet),
+            PlanSource::Spec(expansion) => expansion.slots(sheet),
+            PlanSource::Made(expansion) => expansion.slots(sheet),
         }
     }
 
@@ -105,8 +105,8 @@ impl<'s> Expansion<'s> {
         ensures value { slice_get (items_on self.now sheet) slot ≡ Some (item_of result.now) }
     {
         match &self.source {
-            Source::Spec(expansion) => expansion.item_of(sheet, slot),
-            Source::Made(expansion) => expansion.item_of(sheet, slot),
+            PlanSource::Spec(expansion) => expansion.item_of(sheet, slot),
+            PlanSource::Made(expansion) => expansion.item_of(sheet, slot),
         }
     }
 
@@ -116,8 +116,8 @@ impl<'s> Expansion<'s> {
         ensures value { slice_get (pages_on self.now sheet) slot ≡ Some result }
     {
         match &self.source {
-            Source::Spec(expansion) => expansion.page_of(sheet, slot),
-            Source::Made(expansion) => expansion.page_of(sheet, slot),
+            PlanSource::Spec(expansion) => expansion.page_of(sheet, slot),
+            PlanSource::Made(expansion) => expansion.page_of(sheet, slot),
         }
     }
 }

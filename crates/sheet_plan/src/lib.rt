@@ -1,4 +1,4 @@
-//! Plans: which pages stand on which sheets, and where on them, for a page specification and a number of pages.
+//! Plans: which pages are on which sheets, and where on them, for a page specification and a number of pages.
 #![tactic(auto)]
 
 mod blank_sheets;

@@ -1,4 +1,4 @@
-//! Sheets that are made, in whatever way, and how they are kept.
+//! Sheets that are made in any way, and how they are kept.
 ghost use Rattle.std.specs.Prelude.{◌≡◌, ◌+◌, ◌<◌, ◌≤◌, ◌++◌, ◌∷◌, [], length, map, sum_by, All, OnOk, OnErr, IfOk};
 ghost use Rattle.std.specs.Prelude.{IfSome, Some, slice_get, true};
 ghost use Rattle.made_sheets.specs.MadePlans.{slot_count};
@@ -12,7 +12,7 @@ use pagespec::{Item, Measure, Turn};
 use std::alloc::{AllocError, Global};
 use std::marker::Model;
 
-/// How many placings are looked at before a new one is kept.
+/// The number of placings that are looked at before a new one is kept.
 const FEW: u32 = 64;
 
 /// The item of a blank slot, which places nothing.
@@ -24,15 +24,15 @@ const NOTHING: Item = Item {
     offset: (Measure::ZERO, Measure::ZERO),
 };
 
-/// What stands in a place of a sheet: nothing; or a page of the document, by an item, whose own page number means
-/// nothing here, and with the paper by which the page is clipped and bordered.
+/// A place of a sheet: blank, or a page of the document with its item and its paper. The item's own page number has
+/// no meaning here. The paper clips the page and gives it its border.
 #[derive(Clone, Copy)]
 pub enum MadeSlot {
     Blank,
     Placed { page: u32, item: Item, paper: Paper },
 }
 
-/// A page that stands in a place of a sheet.
+/// A page in a place of a sheet.
 #[derive(Clone, Copy)]
 pub struct PlacedSlot<'m> {
     pub page: u32,
@@ -40,7 +40,7 @@ pub struct PlacedSlot<'m> {
     pub paper: &'m Paper,
 }
 
-/// How a page stands on a sheet. Sheets repeat them, so each is kept once.
+/// How a page is placed on a sheet. Sheets repeat placings, so each is kept once.
 #[derive(Clone, Copy)]
 pub struct Placing {
     pub item: Item,
@@ -61,8 +61,8 @@ pub struct KeptSheet {
     pub paper: u32,
 }
 
-/// Sheets with their slots, each sheet with a paper of its own. They take 8 bytes a slot and 8 bytes a sheet, and
-/// memory for each way in which a page stands on one.
+/// Sheets with their slots, each sheet with its own paper. They take 8 bytes a slot and 8 bytes a sheet, and memory
+/// for each different placing.
 #[derive(Drop)]
 pub struct MadeSheets {
     sheets: Vec<KeptSheet>,
@@ -99,7 +99,7 @@ impl MadeSheets {
         }
     }
 
-    /// The same, with room for so many sheets and slots.
+    /// The same, with room for this many sheets and slots.
     pub fn with_room(alloc: Global, sheets: usize, slots: usize) -> Result<MadeSheets, AllocError>
         ensures { IfOk result (λ made. made ≡ []) }
     {
@@ -111,7 +111,7 @@ impl MadeSheets {
         })
     }
 
-    /// Puts a sheet behind the others. Nothing is added if memory is refused, or if there would be 2^32 slots or more.
+    /// Adds a sheet at the end. Nothing is added if memory is refused, or if there would be 2^32 slots or more.
     pub fn push(&mut self, paper: &Paper, slots: &[MadeSlot]) -> Result<(), AllocError>
         ensures pushed { OnOk result (self.new ≡ self.old
             ++ record { paper = paper.now; slots = map slot_of slots.now } ∷ []) }
@@ -127,7 +127,7 @@ impl MadeSheets {
         Ok(())
     }
 
-    /// How many sheets there are.
+    /// The number of sheets.
     pub fn len(&self) -> usize
         ensures { result ≡ length self.now }
     {
@@ -135,7 +135,7 @@ impl MadeSheets {
         sheets.len()
     }
 
-    /// How many slots there are in all.
+    /// The number of slots in all.
     pub fn places(&self) -> u32
         ensures { result ≡ sum_by slot_count self.now }
     {
@@ -143,7 +143,7 @@ impl MadeSheets {
         last_end(sheets)
     }
 
-    /// How many slots a sheet has.
+    /// The number of slots of a sheet.
     pub fn slots(&self, sheet: u32) -> u32
         requires { sheet < length self.now }
         ensures { result ≡ length (slots_at self.now sheet) }
@@ -166,7 +166,7 @@ impl MadeSheets {
         &placing.paper
     }
 
-    /// What stands in a slot; None is a blank.
+    /// The page in a slot with its placing; None is a blank.
     pub fn placed(&self, sheet: u32, slot: u32) -> Option<PlacedSlot<'_>>
         requires sheet { sheet < length self.now }
         requires slot { slot < length (slots_at self.now sheet) }
@@ -219,7 +219,7 @@ fn start_at(sheets: &[KeptSheet], sheet: u32) -> u32
     before.end
 }
 
-/// This sheet. A call, so that a proof has its value by name; so it is with the next two.
+/// This sheet. A function of its own, which gives a proof a name for the value, like the next two.
 fn sheet_at(sheets: &[KeptSheet], k: u32) -> KeptSheet
     requires { k < length sheets.now }
     ensures { slice_get sheets.now k ≡ Some result }
@@ -241,7 +241,7 @@ fn placing_at(placings: &[Placing], k: u32) -> &Placing
     &placings[k as usize]
 }
 
-/// A count that is kept in few bytes.
+/// A count in four bytes.
 fn count_of(count: usize) -> Result<u32, AllocError>
     ensures { IfOk result (λ n. n ≡ count) }
 {
@@ -251,7 +251,7 @@ fn count_of(count: usize) -> Result<u32, AllocError>
     }
 }
 
-/// Adds slots, and their placings, if these aren't kept yet.
+/// Adds slots, and their placings unless these are kept already.
 fn keep_slots(
     placings: &mut Vec<Placing>,
     slots: &mut Vec<KeptSlot>,
@@ -295,7 +295,7 @@ fn keep_slot(
     Ok(())
 }
 
-/// The place behind that of the last slot's placing: sheets that are laid out alike take one after the other.
+/// The place after that of the last slot's placing: sheets with the same layout take placings one after the other.
 fn number_behind(slots: &[KeptSlot]) -> u32 {
     match slots.last() {
         Some(slot) => slot.placing,
@@ -303,7 +303,7 @@ fn number_behind(slots: &[KeptSlot]) -> u32 {
     }
 }
 
-/// The place of a placing, which is added if it isn't found soon.
+/// The place of a placing, which is added if it isn't found nearby.
 fn keep(
     placings: &mut Vec<Placing>,
     near: u32,
@@ -340,7 +340,7 @@ fn find(placings: &[Placing], near: u32, item: &Item, paper: &Paper) -> Option<u
     None
 }
 
-/// This place, if the placing stands there.
+/// This place, if it has the placing.
 fn find_at(placings: &[Placing], place: u32, item: &Item, paper: &Paper) -> Option<u32>
     ensures { IfSome result (λ k. slice_get placings.now k ≡ Some (record { item = item.now; paper = paper.now })) }
 {

@@ -1,4 +1,4 @@
-//! Sheets that are made, as the sheets of a plan.
+//! Made sheets as the sheets of a plan.
 ghost use Rattle.std.specs.Prelude.{◌≡◌, ◌≢◌, ◌<◌, ◌≤◌, length, not, position, Some, Ok, Err, OnOk, IfOk, IfErr, slice_get};
 ghost use Rattle.std.specs.List.{list_any};
 ghost use Rattle.rules.specs.Admissible.{most_slots};
@@ -23,7 +23,7 @@ const MOST_SLOTS: u32 = 4_096;
 
 const MOST_PLACES: u32 = 4_000_000;
 
-/// Made sheets that keep to the limits of a plan over so many pages. A contract sees the plan that they make.
+/// Made sheets within the limits of a plan over this many pages. A contract sees the plan that they make.
 #[derive(Drop)]
 pub struct MadeExpansion<'s> {
     pages: u32,
@@ -44,7 +44,7 @@ impl<'s> Model for MadeExpansion<'s> {
 }
 
 impl<'s> MadeExpansion<'s> {
-    /// Tests the limits of a plan, and that each page is there.
+    /// Tests the limits of a plan, and that the document has each page.
     pub fn new(pages: u32, made: &'s MadeSheets) -> Result<MadeExpansion<'s>, MadeError>
         ensures value { IfOk result (λ e. e ≡ made_plan pages made.now) }
         ensures accepted { OnOk result (made_plan_of pages made.now ≡ Ok made.now) }
@@ -139,14 +139,14 @@ fn is_uneven(made: &MadeSheets, sheet: u32) -> bool
     !is_slot_count(slots)
 }
 
-/// Whether a sheet may have so many slots.
+/// Whether a sheet may have this many slots.
 fn is_slot_count(slots: u32) -> bool
     ensures { result ≡ is_slot_count slots }
 {
     1 <= slots && slots <= MOST_SLOTS
 }
 
-/// The first sheet on which a page stands that isn't there.
+/// The first sheet with a page that the document lacks.
 fn first_missing(pages: u32, made: &MadeSheets) -> Option<u32>
     requires { length made.now ≤ most_sheets }
     ensures { result ≡ position (λ sheet. list_any (is_missing pages) sheet.slots) made.now }
@@ -159,7 +159,7 @@ fn first_missing(pages: u32, made: &MadeSheets) -> Option<u32>
     None
 }
 
-/// Whether a page stands on this sheet that isn't there.
+/// Whether this sheet has a page that the document lacks.
 fn is_page_missing(pages: u32, made: &MadeSheets, sheet: u32) -> bool
     requires { sheet < length made.now }
     ensures { result ≡ list_any (is_missing pages) (slots_at made.now sheet) }
@@ -172,7 +172,7 @@ fn is_page_missing(pages: u32, made: &MadeSheets, sheet: u32) -> bool
     false
 }
 
-/// Whether a page stands in this slot that isn't there.
+/// Whether this slot has a page that the document lacks.
 fn is_missing_in(pages: u32, made: &MadeSheets, sheet: u32, slot: u32) -> bool
     requires sheet { sheet < length made.now }
     requires slot { slot < length (slots_at made.now sheet) }

@@ -1,4 +1,4 @@
-//! The pages that stand on the sheets, listed sheet by sheet and slot by slot.
+//! The pages on the sheets, listed sheet by sheet and slot by slot.
 ghost use Rattle.std.specs.Prelude.{◌≡◌, ◌<◌, ◌++◌, length, OnOk, IfOk};
 ghost use Rattle.rules.specs.Sheets.{layout};
 ghost use Rattle.sheet_plan.specs.Plans.{pages_on};

@@ -29,14 +29,14 @@ use std::alloc::{AllocError, Global};
 use std::fmt;
 use std::marker::Model;
 
-/// Which page stands in which slot of which sheet, and by which item; and the other way round, where each page stands.
+/// Which page is in which slot of which sheet, and by which item; and, the other way round, where each page is.
 /// Pages, sheets and slots are counted from 0. With n pages, modulo m and G groups there are `M = m * ceil(n / m)`
-/// places and `G * M / m` sheets. Sheet `b * G + g` is group g in block b. An item with number p names place
-/// `b * m + p`, and with a minus place `M - (b + 1) * m + p`. A place at or above n is blank.
+/// places and `G * M / m` sheets. Sheet `b * G + g` is group g in block b. An item with number p names place `b * m
+/// + p`, and with a minus place `M - (b + 1) * m + p`. A place at or above n is blank.
 ///
-/// In signatures of s sides the pages are first put into psbook's order. The row then has `s * ceil(n / s)` entries, of
-/// which those at or above page n are blank. It takes the place of the n pages: M is counted over it, and a place is an
-/// entry of it.
+/// In signatures of s sides the pages are first put into psbook's order. The row then has `s * ceil(n / s)`
+/// entries, and those for page n and above are blank. This row replaces the n pages: M is counted over it, and a
+/// place is one of its entries.
 #[derive(Drop)]
 pub struct Plan<'s> {
     expansion: Expansion<'s>,
@@ -71,8 +71,8 @@ impl<'s> Plan<'s> {
         Plan::over(alloc, spec, Row { pages, sides: None })
     }
 
-    /// The same for pages in signatures of so many sides each, a positive multiple of four. Of the limits, that of
-    /// pages is tested on the length of the row, in which the last signature is filled up.
+    /// The same for pages in signatures of this many sides each, a positive multiple of four. The limit of pages is
+    /// tested on the length of the row, in which the last signature is filled up.
     pub fn with_signatures(
         alloc: Global,
         spec: &'s Spec,
@@ -95,8 +95,8 @@ impl<'s> Plan<'s> {
         )
     }
 
-    /// Plans sheets that were made, on so many pages. The faults are looked for in the order of `MadeError`, before any
-    /// memory is asked for.
+    /// Plans sheets that were made, on this many pages. The faults are looked for in the order of `MadeError`,
+    /// before any memory is asked for.
     pub fn of_sheets(
         alloc: Global,
         pages: u32,
@@ -133,7 +133,7 @@ impl<'s> Plan<'s> {
         })
     }
 
-    /// How many pages there are.
+    /// The number of pages.
     pub fn pages(&self) -> u32
         ensures value { result ≡ self.now.pages }
         ensures sound { IsSound self.now }
@@ -142,7 +142,7 @@ impl<'s> Plan<'s> {
         self.expansion.pages()
     }
 
-    /// How many sheets there are.
+    /// The number of sheets.
     pub fn sheets(&self) -> u32
         ensures value { result ≡ length self.now.sheets }
         ensures sound { IsSound self.now }
@@ -150,7 +150,7 @@ impl<'s> Plan<'s> {
         self.expansion.sheets()
     }
 
-    /// How many slots a sheet has, blank ones counted: 1 to 4,096.
+    /// The number of slots of a sheet, including blank ones: 1 to 4,096.
     pub fn slots(&self, sheet: u32) -> u16
         requires { sheet < length self.now.sheets }
         ensures value { result ≡ length (pages_on self.now sheet) }
@@ -169,7 +169,7 @@ impl<'s> Plan<'s> {
         self.expansion.page_of(sheet, slot)
     }
 
-    /// The item that a slot was made by.
+    /// The item of a slot.
     pub fn item_of(&self, sheet: u32, slot: u16) -> &'s Item
         requires sheet { sheet < length self.now.sheets }
         requires slot { slot < length (pages_on self.now sheet) }
@@ -178,8 +178,8 @@ impl<'s> Plan<'s> {
         self.expansion.item_of(sheet, slot)
     }
 
-    /// The slots of a slot group that aren't blank: bit j is set for slot `64 * group + j`. A sheet has a slot group
-    /// for each 64 slots, and a last one for those that are left; so one of up to 64 slots has group 0 alone.
+    /// The slots of a slot group that aren't blank: bit j is set for slot `64 * group + j`. A sheet has a slot
+    /// group for each 64 slots, and one for the rest; so a sheet of up to 64 slots has only group 0.
     pub fn missing_at_start(&self, sheet: u32, group: u8) -> u64
         requires sheet { sheet < length self.now.sheets }
         requires group { group < slot_groups self.now sheet }
@@ -215,7 +215,7 @@ impl<'s> Plan<'s> {
     }
 }
 
-/// The places of each page, and the sheets that have none.
+/// The places of each page, and the sheets without pages.
 fn listed(alloc: Global, expansion: &Expansion) -> Result<(PageIndex, Vec<u32>), AllocError>
     ensures index { IfOk result (λ x.
         x.0 ≡ map (places_of (layout expansion.now)) (range_with_len 0 expansion.now.pages)) }

@@ -4,7 +4,7 @@ ghost use Rattle.rules.specs.Signatures.{AreSides, AreSidesIfGiven, entry_in, ro
 
 const MOST_SIDES: u32 = 1_000_000;
 
-/// Tests that a signature may have so many sides: a positive multiple of four, as each leaf has four, and at most
+/// Tests that a signature may have this many sides: a positive multiple of four, as each leaf has four, and at most
 /// 1,000,000.
 pub fn are_sides(sides: u32) -> bool
     ensures { IsTrue result ↔ AreSides sides }
@@ -12,7 +12,7 @@ pub fn are_sides(sides: u32) -> bool
     sides > 0 && sides % 4 == 0 && sides <= MOST_SIDES
 }
 
-/// Pages in their order, or in signatures of so many sides, of which the last one is filled up with blanks.
+/// Pages in order, or in signatures of this many sides, the last of which is filled up with blanks.
 #[derive(Clone, Copy)]
 pub struct Row {
     pub pages: u32,
@@ -20,7 +20,7 @@ pub struct Row {
 }
 
 impl Row {
-    /// How many entries the row has.
+    /// The number of entries of the row.
     pub fn len(self) -> u64
         requires { AreSidesIfGiven self.sides }
         ensures { result ≡ row_len self.sides self.pages }
@@ -31,7 +31,7 @@ impl Row {
         }
     }
 
-    /// The page at an entry; None is a blank, and so is all behind the end of the row.
+    /// The page at an entry; None is a blank, and so is everything after the end of the row.
     pub fn page_at(self, entry: u32) -> Option<u32>
         requires sides { AreSidesIfGiven self.sides }
         requires few { entry < 2 ^ 31 }
@@ -45,7 +45,7 @@ impl Row {
     }
 }
 
-/// How many entries whole signatures have.
+/// The number of entries of whole signatures.
 fn filled_len(pages: u32, sides: u32) -> u64
     requires { AreSides sides }
     ensures { result ≡ row_len (Some sides) pages }
@@ -53,7 +53,8 @@ fn filled_len(pages: u32, sides: u32) -> u64
     u64::from(pages.div_ceil(sides)) * u64::from(sides)
 }
 
-/// The page that an entry of the row of signatures names, which may be a blank behind the last one.
+/// The page that an entry of the row of signatures names; entries after the last page name no page that the
+/// document has.
 fn page_of_entry(sides: u32, entry: u32) -> u32
     requires sides { AreSides sides }
     requires few { entry < 2 ^ 31 }

@@ -4,7 +4,7 @@ use crate::spec_expansion::SpecExpansion;
 
 /// A specification, or sheets that were made.
 #[derive(Drop)]
-pub enum Source<'s> {
+pub enum PlanSource<'s> {
     Spec(SpecExpansion<'s>),
     Made(MadeExpansion<'s>),
 }

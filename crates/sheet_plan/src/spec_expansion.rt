@@ -1,5 +1,4 @@
-//! A specification expanded over a row of pages, from either end. Nothing of the sheets is stored: each slot is
-//! computed.
+//! A specification expanded over a row of pages, from either end. The sheets are not stored: each slot is computed.
 ghost use Rattle.std.specs.Prelude.{◌≡◌, ◌≢◌, ℕ, ◌+◌, ◌-◌, ◌*◌, ◌^◌, ◌<◌, ◌≤◌, length, map, Some, Err, IfOk, IfErr};
 ghost use Rattle.std.specs.Prelude.{slice_get, slice_index_or, sum_by, [], ◌%◌};
 ghost use Rattle.rules.specs.Admissible.{most_groups, most_slots};
@@ -51,7 +50,7 @@ impl<'s> Model for SpecExpansion<'s> {
         × (e.blocks ≡ blocks_of e.modulo (row_len e.row.sides e.row.pages)) };
 }
 
-/// How many slots one block has.
+/// The number of slots of one block.
 fn slots_in_block(groups: &[Vec<Item>]) -> u64
     requires { sum_by length (groups_of groups.now) < 2 ^ 64 }
     ensures { result ≡ sum_by length (groups_of groups.now) }

@@ -1,4 +1,4 @@
--- What the words of a set stay when it changes.
+-- What holds of the words of a set when it changes.
 use Rattle.std.proofs.Common.{◌≡◌, ◌≢◌, ℕ, ◌+◌, ◌-◌, ◌*◌, ◌/◌, ◌%◌, ◌<◌, ◌≤◌, Bool, true, false, cond, not, ◌&&◌, ◌||◌, ◌==◌, ◌⊎◌, inl, inr, List, [], length, get_or, refl, sym, ap, ◌∙◌, subst, arith, eq-eqb, ne_eqb, true≢false, w64, min}
 use Rattle.std.specs.Int.{bit_at, trailing_zeros}
 use Rattle.std.specs.Ordering.{nat_cmp}
@@ -11,7 +11,7 @@ use Rattle.std.proofs.lemmas.Nat.Bits.{bit_at-zero, bit_at-trailing_zeros}
 use Rattle.sheet_set.specs.Numbers.{has_bit, numbers, AreCounted, IsFirst, HasNoneBelow}
 use Rattle.sheet_set.proofs.Passing.{few, member, same_numbers, one_more, one_less}
 
--- no word is there at first
+-- there are no words at first
 pub none_yet : AreCounted [] 0 0
 none_yet = record { few = omega arith; blank = λ k lt. absurd (omega arith); counted = sym (len-empty nat_cmp) }
 
@@ -147,7 +147,7 @@ filled words first count bits a read there some fits =
     let more : 0 < bits = omega (arith, some) in
     subst (λ (b : ℕ). IsFirst (numbers words) (first * 64 + trailing_zeros w64 b)) (sym e) (lowest words first count a (omega (arith, more, e)) (omega (arith, fits, e)))
 
--- a read word that is 0
+-- a word that was read and is 0
 pub blank_word : (words : List ℕ) (first bits : ℕ) → bits ≡ get_or words first bits → first < length words → bits ≡ 0 → get_or words first 0 ≡ 0
 blank_word words first bits read there none = sym (read ∙ get_or_default_zero words first bits there) ∙ none
 

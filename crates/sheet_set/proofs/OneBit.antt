@@ -1,4 +1,4 @@
--- One bit of a row of words set or cleared.
+-- Setting or clearing one bit of a row of words.
 use Rattle.std.proofs.Common.{◌≡◌, ◌≢◌, ℕ, ◌-◌, ◌*◌, ◌/◌, ◌%◌, ◌<◌, ◌^◌, Bool, not, ◌&&◌, ◌||◌, ◌==◌, ◌⊎◌, inl, inr, List, length, get_or, sym, ap, ◌∙◌, arith, eq-eqb, ne_eqb, w64, bit_or, bit_and, slice_set}
 use Rattle.std.specs.Int.{bit_at}
 use Rattle.std.proofs.lemmas.Bool.{cases_eq}
@@ -29,7 +29,7 @@ module _ (words : List ℕ) (n k : ℕ) (within : n / 64 < length words) where
       ∙ ap (λ (i : ℕ). test (get_or words i 0) k) (sym here)
       ∙ sym (ap (λ b. b || has_bit words k) (ne_eqb k n (beside n k apart)))
 
-  -- one bit more
+  -- one more bit
   pub set_one : has_bit (slice_set words (n / 64) (bit_or (get_or words (n / 64) 0) (1 * 2 ^ (n % 64) % 18446744073709551616))) k ≡ ((k == n) || has_bit words k)
   set_one = by_word (cases_eq (k / 64) (n / 64))
     where
@@ -49,7 +49,7 @@ module _ (words : List ℕ) (n k : ℕ) (within : n / 64 < length words) where
       ∙ ap (λ (i : ℕ). test (get_or words i 0) k) (sym here)
       ∙ sym (ap (λ b. not b && has_bit words k) (ne_eqb k n (beside n k apart)))
 
-  -- one bit less
+  -- one bit fewer
   pub clear_one : has_bit (slice_set words (n / 64) (bit_and (get_or words (n / 64) 0) (18446744073709551615 - 1 * 2 ^ (n % 64) % 18446744073709551616))) k ≡ (not (k == n) && has_bit words k)
   clear_one = by_word (cases_eq (k / 64) (n / 64))
     where

@@ -70,7 +70,7 @@ one_less old new n h =
     same_set nat_cmp_total nat_cmp-IsAntisymmetric _ _
     (λ k. member new k ∙ h k ∙ ap (λ b. not (k == n) && b) (sym (member old k)) ∙ sym (has_removed (numbers old) n k))
 
--- a number that is in the set is there once more as it was
+-- adding a number that is in the set changes nothing
 pub there_already : (words : List ℕ) (n : ℕ) → has_bit words n ≡ true → insert (numbers words) n ≡ numbers words
 there_already words n is = same_set nat_cmp_total nat_cmp-IsAntisymmetric _ _ (λ k. has_inserted (numbers words) n k ∙ by k (cases_eq k n))
   where

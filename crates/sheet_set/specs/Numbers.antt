@@ -13,7 +13,7 @@ pub record IsFirst (s : FinSet nat_cmp) (n : ℕ) : Type 0 where
 abbrev pub HasNoneBelow : FinSet nat_cmp → ℕ → Type 0
 HasNoneBelow s n = (k : ℕ) → contains s k ≡ true → n ≤ k
 
--- the bit of the number 64 k + b is bit b of word k; behind the last word no bit is set
+-- the bit of the number 64 k + b is bit b of word k; after the last word no bit is set
 abbrev pub has_bit : List ℕ → ℕ → Bool
 has_bit words n = bit_at (get_or words (n / 64) 0) (n % 64) == 1
 
@@ -26,7 +26,7 @@ passing p (suc n) = cond (p n) (insert (passing p n) n) (passing p n)
 abbrev pub numbers : List ℕ → FinSet nat_cmp
 numbers words = passing (has_bit words) (64 * length words)
 
--- words with bits for 2^32 numbers at most; none is set before this word, and so many are in all
+-- words with bits for at most 2^32 numbers; none is set before this word, and this many are set in all
 pub record AreCounted (words : List ℕ) (first amount : ℕ) : Type 0 where
   pub few : length words ≤ 67108864
   pub blank : (k : ℕ) → k < 64 * first → has_bit words k ≡ false

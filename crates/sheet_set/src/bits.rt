@@ -4,7 +4,7 @@ ghost use Rattle.sheet_set.specs.Numbers.{has_bit as bit};
 
 use std::alloc::AllocError;
 
-/// How many bits a word has.
+/// The number of bits of a word.
 pub(crate) const BITS: usize = 64;
 
 /// Whether the number's bit is set.
@@ -34,7 +34,7 @@ pub(crate) fn clear_bit(words: &mut Vec<u64>, number: u32)
     words[number as usize / BITS] &= !(1u64 << (number % 64));
 }
 
-/// Puts blank words behind the last one, if the number has no bit yet.
+/// Appends words of 0 if the number has no bit yet.
 pub(crate) fn cover(words: &mut Vec<u64>, number: u32) -> Result<(), AllocError>
     ensures covered { OnOk result (number / 64 < length words.new.items) }
     ensures same { (k : ℕ) → bit words.new.items k ≡ bit words.old.items k }
@@ -47,7 +47,7 @@ pub(crate) fn cover(words: &mut Vec<u64>, number: u32) -> Result<(), AllocError>
     Ok(())
 }
 
-/// The first word from this one on in which a bit is set. If no word up to the one of `end` has any, one behind these.
+/// The first word from this one on with a set bit. If no word up to that of `end` has one, the word after it.
 pub(crate) fn next_filled(words: &[u64], from: usize, end: u32) -> usize
     ensures forward { from ≤ result }
     ensures blank { (k : ℕ) → 64 * from ≤ k → k < 64 * result → bit words.now k ≡ false }

@@ -1,4 +1,4 @@
-//! A set of sheet numbers, in a bit each.
+//! A set of sheet numbers, with one bit for each.
 #![tactic(auto)]
 
 mod bits;

@@ -9,13 +9,14 @@ use crate::bits::{BITS, clear_bit, cover, has_bit, next_filled, set_bit};
 use std::alloc::{AllocError, Global};
 use std::marker::Model;
 
-/// A set of sheet numbers. A number takes a bit, and so does each smaller one, whether it is in the set or not.
+/// A set of sheet numbers. It has a bit for each number up to the greatest, whether the number is in the set or
+/// not.
 #[derive(Drop)]
 pub struct SheetSet {
     words: Vec<u64>,
     /// No bit is set before this word.
     first: usize,
-    /// How many bits are set.
+    /// The number of bits that are set.
     count: u64,
 }
 
@@ -48,7 +49,7 @@ impl SheetSet {
         self.count == 0
     }
 
-    /// Puts a number into the set. If there is no memory for it, the set is unchanged.
+    /// Adds a number to the set. If there is no memory for it, the set is unchanged.
     pub fn insert(&mut self, sheet: u32) -> Result<(), AllocError>
         ensures inserted { OnOk result (self.new ≡ set.insert self.old sheet) }
         ensures refused { OnErr result (self.new ≡ self.old) }
@@ -62,7 +63,7 @@ impl SheetSet {
         Ok(())
     }
 
-    /// Takes the smallest number out of the set, if it is below this end. Else the set is unchanged.
+    /// Removes the smallest number from the set, if it is below this end. Otherwise the set is unchanged.
     pub fn take_first_before(&mut self, end: u32) -> Option<u32>
         ensures first { IfSome result (IsFirst self.old) }
         ensures before { IfSome result (λ sheet. sheet < end) }

@@ -69,7 +69,7 @@ slot_in paper (slot ∷ slots) zero page item paged by =
     ∙ ap (λ i. Some (made_slot paper page i)) (same_Some slot.item item by)
 slot_in paper (slot ∷ slots) (suc k) page item paged by = slot_in paper slots k page item paged by
 
--- what stands in a slot
+-- what is in a slot
 pub slot_at : (paper : Paper) (plan : Plan) (s k : ℕ) (page : Option ℕ) (item : Item) → slice_get (pages_on plan s) k ≡ Some page → slice_get (items_on plan s) k ≡ Some item
     → slice_get (slice_index_or (dressed_sheets undressed (made_of paper plan.sheets)) s no_sheet).slots k ≡ Some (made_slot paper page item)
 slot_at paper plan s k page item paged by =

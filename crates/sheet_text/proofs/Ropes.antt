@@ -32,7 +32,7 @@ woven_more from last own (s ∷ ss) more end h =
     ∙ ap (λ x. take (s.at - from) own ++ s.bytes.now ++ x) (woven_more s.at last (drop (s.at - from) own) ss more rest_end h.2)
     ∙ simp append_assoc
 
--- one slice more, behind all
+-- one slice more, after all
 pub in_place_more : (first last : ℕ) (ss : List Placed) (s : Placed) → s.at ≡ last → 0 < length s.bytes.now → AreInPlace first last ss → AreInPlace first last (ss ++ s ∷ [])
 in_place_more first last [] s at some h = (omega (arith, at, h), some, omega (arith, at))
 in_place_more first last (r ∷ rs) s at some h = (h.0, h.1, in_place_more r.at last rs s at some h.2)
@@ -94,7 +94,7 @@ pub appended : {E : Type 0} (r : Result (Unit {0}) E) (own : List ℕ) (ss : Lis
 appended (Ok u) own ss value new more view is placed = woven_grown own ss value new more view is placed
 appended (Err e) own ss value new more view is placed = tt
 
--- a slice was put behind all that was there
+-- a slice was put after all that was there
 pub put_behind : (own : List ℕ) (ss new : List Placed) (s : Placed) (value : List ℕ) → woven 0 own ss ≡ value → new ≡ ss ++ s ∷ [] → s.at ≡ length own
     → AreInPlace 0 (length own) ss → woven 0 own new ≡ value ++ s.bytes.now
 put_behind own ss new s value view is at placed =

@@ -1,4 +1,4 @@
--- Texts that stand in the same memory: what adding one does, and which can be written together.
+-- Texts that lie in the same memory: what adding one does, and which can be written together.
 use Rattle.std.proofs.Common.{ℕ, zero, suc, List, [], ◌∷◌, ◌+◌, ◌-◌, ◌<◌, ◌≤◌, ◌++◌, ◌≡◌, ap, sym, subst, refl, ◌∙◌, length, take, drop, arith, length-append, length-drop, slice_index_or, take-add, drop-drop, Bool, true}
 use Rattle.std.specs.Prelude.{slice_get, Some, ◌==◌}
 use Rattle.std.proofs.lemmas.Option.{slice_get_read, same_Some}
@@ -11,7 +11,7 @@ use Rattle.sheet_text.specs.declared.rope.Placed.{Placed}
 use Rattle.sheet_text.specs.Ropes.{woven, AreInPlace}
 use Rattle.sheet_text.specs.Texts.{text_in, texts_in, IsIn, AreIn, joined}
 
--- more bytes behind those of a part
+-- more bytes after those of a part
 pub text_more : (own more : List ℕ) (p : Part) → IsIn own p → text_in (own ++ more) p ≡ text_in own p
 text_more own more p h =
     let rest_len : length (drop p.start own) ≡ length own - p.start = length-drop p.start own in
@@ -34,7 +34,7 @@ pub are_in_with : (own : List ℕ) (ps : List Part) (p : Part) → AreIn own ps 
 are_in_with own [] p h one = (one, tt)
 are_in_with own (q ∷ qs) p h one = (h.0, are_in_with own qs p h.1 one)
 
--- the part of the bytes that come behind all
+-- the part of the bytes that come after all
 pub text_behind : (own more : List ℕ) (p : Part) → p.start ≡ length own → p.end ≡ length (own ++ more) → text_in (own ++ more) p ≡ woven 0 more p.slices.items
 text_behind own more p start end =
     let len = length-append own more in
@@ -82,7 +82,7 @@ text_at own n [] d lt = absurd (omega (arith, lt))
 text_at own zero (p ∷ ps) d lt = refl
 text_at own (suc n) (p ∷ ps) d lt = text_at own n ps d (omega (arith, lt))
 
--- the bytes between two places, and those behind them
+-- the bytes between two places, and those after them
 pub bytes_behind : (own : List ℕ) (start end next : ℕ) → start ≤ end → end ≤ next → next ≤ length own
     → take (end - start) (drop start own) ++ take (next - end) (drop end own) ≡ take (next - start) (drop start own)
 bytes_behind own start end next up more within =
@@ -113,7 +113,7 @@ one_is_bytes own ps n p lt h is no_slices =
           ∙ ap (λ ss. woven 0 (take (p.end - p.start) (drop p.start own)) ss) no_slices;
     }
 
--- and one more right behind them, without slices
+-- and one more right after them, without slices
 pub more_are_bytes : (own : List ℕ) (ps : List Part) (n count start end next : ℕ) (p : Part) → next < length ps → n + count ≡ next → AreIn own ps
     → AreBytes own ps n count start end → p ≡ slice_index_or ps next p → p.start ≡ end → p.slices.items ≡ []
     → AreBytes own ps n (count + 1) start p.end
@@ -136,14 +136,14 @@ more_are_bytes own ps n count start end next p lt comes h before is at no_slices
           ∙ bytes_behind own start end p.end before.up (omega (arith, at, fits.0)) fits.1;
     }
 
--- what stands at an index, and what an empty list of slices has
+-- what is at an index, and what an empty list of slices has
 pub at_index : (ps : List Part) (n : ℕ) (p : Part) → n < length ps → p ≡ slice_index_or ps n p → slice_get ps n ≡ Some p
 at_index ps n p lt is = slice_get_read ps (length ps) n p refl lt is
 
 pub nil_told : (ss : List Placed) (b : Bool) → b ≡ (length ss == 0) → b ≡ true → ss ≡ []
 nil_told ss b is told = nil_from_length ss (same_byte (length ss) 0 (sym is ∙ told))
 
--- the part that stands there has no slices
+-- the part that is there has no slices
 pub no_slices_at : (items ps : List Part) (n : ℕ) (p part : Part) → items ≡ ps → n < length ps → p ≡ slice_index_or ps n p → p.slices.items ≡ []
     → slice_get items n ≡ Some part → part.slices.items ≡ []
 no_slices_at items ps n p part same lt is nil at =

@@ -50,7 +50,7 @@ sheet_of job s = slice_index_or job.sheets s no_sheet
 abbrev pub slots_of : JobView → ℕ → List MadeSlot
 slots_of job s = (sheet_of job s).slots
 
--- the texts of slots, one behind the other
+-- the texts of slots, one after the other
 abbrev pub slots_text : JobView → List MadeSlot → List ℕ
 slots_text job slots = flat_map (made_slot_text job.border (pages job.units)) slots
 

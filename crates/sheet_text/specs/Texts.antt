@@ -1,4 +1,4 @@
--- Texts that stand in the same memory.
+-- Texts that lie in the same memory.
 use Rattle.std.specs.Prelude.{ℕ, ◌-◌, ◌≤◌, List, length, take, drop, map, flat_map, ⊤, [], ◌∷◌}
 use Rattle.sheet_text.specs.Ropes.{woven, AreInPlace}
 use Rattle.sheet_text.specs.declared.texts.Part.{Part}
@@ -20,6 +20,6 @@ abbrev pub AreIn : List ℕ → List Part → Type 0
 AreIn own [] = ⊤
 AreIn own (part ∷ parts) = IsIn own part × AreIn own parts
 
--- one text behind the other
+-- one text after the other
 abbrev pub joined : List (List ℕ) → List ℕ
 joined texts = flat_map (λ text. text) texts

@@ -35,7 +35,7 @@ impl Lines {
         }
     }
 
-    /// Puts a line behind the others; it has no LF in it. If memory is refused, nothing is added.
+    /// Puts a line after the others; it has no LF in it. If memory is refused, nothing is added.
     pub fn push(&mut self, line: &[u8]) -> Result<(), AllocError>
         requires { IsTrue (is_line line.now) }
         ensures pushed { OnOk result (self.new ≡ self.old ++ line.now ∷ []) }
@@ -69,14 +69,14 @@ fn append_line(text: &mut Vec<u8>, line: &[u8]) -> Result<(), AllocError>
     Ok(())
 }
 
-/// The lines of a sheet: at its start, behind its page line, and at its end, before its `showpage`.
+/// The lines of a sheet: at its start, after its page line, and at its end, before its `showpage`.
 #[derive(Drop)]
 pub struct SheetLines {
     pub start: Lines,
     pub finish: Lines,
 }
 
-/// The lines of an output: those of its header, behind the count of sheets, and those of its sheets. Sheets that have
+/// The lines of an output: those of its header, after the count of sheets, and those of its sheets. Sheets that have
 /// the same lines share them.
 #[derive(Drop)]
 pub struct Dress {
@@ -109,7 +109,7 @@ impl Dress {
         }
     }
 
-    /// Puts a sheet with these lines behind the others. If memory is refused, nothing is added.
+    /// Puts a sheet with these lines after the others. If memory is refused, nothing is added.
     pub fn push(&mut self, lines: SheetLines) -> Result<(), AllocError>
         ensures pushed { OnOk result (self.new ≡ record {
           header = self.old.header;
@@ -126,7 +126,7 @@ impl Dress {
         Ok(())
     }
 
-    /// Puts a sheet behind the others that has the same lines as an earlier one. If memory is refused, nothing is added.
+    /// Puts a sheet after the others, with the same lines as an earlier one. If memory is refused, nothing is added.
     pub fn push_like(&mut self, sheet: u32) -> Result<(), AllocError>
         requires { sheet < length self.old.hems }
         ensures pushed { OnOk result ((hem : Hem) → slice_get self.old.hems sheet ≡ Some hem → self.new ≡ record {

@@ -166,7 +166,7 @@ impl<'j, 'd> Job<'j, 'd> {
         }
     }
 
-    /// What stands in a slot; None is a blank.
+    /// What is in a slot; None is a blank.
     pub(crate) fn placed(&self, sheet: u32, slot: u16) -> Option<PlacedSlot<'_>>
         requires sheet { sheet < length self.now.plan.sheets }
         requires slot { slot < length (pages_on self.now.plan sheet) }

@@ -32,7 +32,7 @@ impl Model for Openings {
     ghost invariant = { λ o. vec_len o.kept ≤ 64 };
 }
 
-/// What stands before a page that is placed by this item on this paper, with a border of this width if there is one.
+/// What is written before a page that is placed by this item on this paper, with a border of this width if there is one.
 #[derive(Drop)]
 struct Opening {
     item: Item,
@@ -54,7 +54,7 @@ impl Openings {
         }
     }
 
-    /// Appends what stands before a page that this item places, which is made for this paper.
+    /// Appends what is written before a page that this item places, which is made for this paper.
     pub(crate) fn append(
         &mut self,
         job: &Job<'_, '_>,
@@ -74,7 +74,7 @@ impl Openings {
         Ok(())
     }
 
-    /// Appends the text if it is kept, or nothing, and tells which.
+    /// Appends the text if it is kept, or nothing, and reports which.
     fn append_kept(
         &self,
         job: &Job<'_, '_>,

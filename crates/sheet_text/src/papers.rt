@@ -1,4 +1,4 @@
-//! What the pages of a job stand on.
+//! The papers of a job's pages.
 use crate::dress::Dress;
 use lengths::Paper;
 use sheet_plan::MadeSheets;

@@ -17,7 +17,7 @@ pub struct Rope<'r> {
     pub(crate) slices: Vec<Placed<'r>>,
 }
 
-/// A slice that stands before the byte `at` of a rope's own bytes, or behind all of them.
+/// A slice that comes before the byte `at` of a rope's own bytes, or after all of them.
 #[derive(Clone, Copy)]
 pub(crate) struct Placed<'r> {
     pub(crate) at: usize,
@@ -86,7 +86,7 @@ impl<'r> Rope<'r> {
         Ok(())
     }
 
-    /// Appends what stands behind a placed page. If memory is refused, nothing is appended.
+    /// Appends what is written after a placed page. If memory is refused, nothing is appended.
     pub(crate) fn append_closing(&mut self) -> Result<(), AllocError>
         ensures { OnOk result (self.new ≡ self.old ++ closing) }
     {
@@ -146,7 +146,7 @@ impl<'p, 'r> Model for Pieces<'p, 'r> {
 }
 
 impl<'p, 'r> Pieces<'p, 'r> {
-    /// How many bytes they have. None if there are more than a number can count: one slice may stand among them often.
+    /// How many bytes they have. None if there are more than a number can count: one slice may be among them often.
     pub fn len(&self) -> Option<usize>
         ensures counted { IfSome result (λ count. count ≡ length self.now) }
         ensures uncounted { IsNone result → usize.MAX < length self.now }

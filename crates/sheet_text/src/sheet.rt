@@ -30,7 +30,7 @@ pub fn sheet_text(alloc: Global, job: &Job<'_, '_>, sheet: u32) -> Result<Vec<u8
 }
 
 /// The same text in pieces.
-pub fn sheet_rope<'r>(alloc: Global, job: &Job<'_, '_>, sheet: u32) -> Result<Rope<'r>, AllocError>
+pub fn sheet_rope<'r>(alloc: Global, job: &Job<'r, '_>, sheet: u32) -> Result<Rope<'r>, AllocError>
     requires { sheet < length job.now.plan.sheets }
     ensures { IfOk result (λ text. text ≡ text_of job.now sheet) }
 {
@@ -57,13 +57,14 @@ pub fn begin_sheet(text: &mut Rope<'_>, job: &Job<'_, '_>, sheet: u32) -> Result
     Ok(())
 }
 
-/// Appends the lines at the end of a sheet, and the line that ends it and prints it.
-pub fn end_sheet(text: &mut Rope<'_>, job: &Job<'_, '_>, sheet: u32) -> Result<(), AllocError>
+/// Appends the lines at the end of a sheet, and the line that ends it and prints it. The lines aren't copied if they have
+/// 4,096 bytes or more: many sheets may have the same.
+pub fn end_sheet<'r>(text: &mut Rope<'r>, job: &Job<'r, '_>, sheet: u32) -> Result<(), AllocError>
     requires { sheet < length job.now.plan.sheets }
     ensures { OnOk result (text.new ≡
         text.old ++ (lines_text (sheet_of job.now sheet).finish ++ line (codes "showpage"))) }
 {
-    text.append(job.finish(sheet))?;
+    text.append_borrowed(job.finish(sheet))?;
     text.append(b"showpage\n")?;
     Ok(())
 }
@@ -74,10 +75,8 @@ fn likely_len(job: &Job<'_, '_>, sheet: u32) -> usize
     requires { sheet < length job.now.plan.sheets }
     ensures { result ≤ most_room job.now sheet }
 {
-    let lines = job
-        .start(sheet)
-        .len()
-        .saturating_add(job.finish(sheet).len());
+    let finish = copied_len(job.finish(sheet));
+    let lines = job.start(sheet).len().saturating_add(finish);
     let mut len = lines.saturating_add(64);
     for slot in 0..job.plan().slots(sheet) {
         len = len.saturating_add(likely_slot_len(job, sheet, slot));
@@ -96,9 +95,19 @@ fn likely_slot_len(job: &Job<'_, '_>, sheet: u32, slot: u16) -> usize
     let Some(placed) = job.placed(sheet, slot) else {
         return 0;
     };
-    let body = job.document().page(placed.page).len();
-    let copied = if body < LEAST_BORROWED { body } else { 0 };
-    copied.saturating_add(256)
+    let body = job.document().page(placed.page);
+    copied_len(body).saturating_add(256)
+}
+
+/// How many of these bytes are copied, if they may be borrowed.
+fn copied_len(bytes: &[u8]) -> usize
+    ensures { result ≤ length bytes.now }
+{
+    if bytes.len() < LEAST_BORROWED {
+        bytes.len()
+    } else {
+        0
+    }
 }
 
 /// Appends the line that begins a sheet. Sheets are counted from 0, and from 1 in the text.

@@ -8,7 +8,7 @@ use std::alloc::{AllocError, Global};
 use std::marker::Model;
 use std::mem;
 
-/// Texts in pieces whose own bytes stand one behind the other in the same memory. A contract sees the list of them.
+/// Texts in pieces whose own bytes lie one after the other in the same memory. A contract sees the list of them.
 #[derive(Drop)]
 pub struct Texts<'r> {
     alloc: Global,
@@ -36,7 +36,7 @@ impl<'r> Model for Texts<'r> {
     ghost invariant = { λ t. AreIn t.own.items t.parts.items };
 }
 
-/// Some texts, one behind the other.
+/// Some texts, one after the other.
 #[derive(Drop)]
 pub struct Joined<'p, 'r> {
     /// How many texts they are.
@@ -101,7 +101,7 @@ impl<'r> Texts<'r> {
         self.parts.len()
     }
 
-    /// This text, counted from 0, and those behind it that can be written with it, so many at most.
+    /// This text, counted from 0, and those after it that can be written with it, so many at most.
     pub fn joined(&self, nth: usize, most: usize) -> Joined<'_, 'r>
         requires nth { nth < length self.now }
         requires most { 0 < most }
@@ -133,7 +133,7 @@ impl<'r> Texts<'r> {
     }
 }
 
-/// How many texts stand right behind each other from this one on, none of which has slices, so many at most, and their
+/// How many texts come right after each other from this one on, none of which has slices, so many at most, and their
 /// bytes.
 fn plain<'p>(own: &'p [u8], parts: &[Part<'_>], nth: usize, most: usize) -> (usize, &'p [u8])
     requires nth { nth < length parts.now }

@@ -1,4 +1,4 @@
--- How the steps of writing make the output.
+-- How the steps of writing produce the output.
 use Rattle.std.proofs.Common.{ℕ, zero, suc, ◌+◌, ◌≤◌, ◌≡◌, ◌∙◌, refl, ap, sym, subst, List, [], ◌∷◌, ◌++◌, length, take, drop, Option, Some, None, slice_get, true, true≢false, ◌⊎◌, inl, inr, ⊎_elim, slice_set, arith, append_assoc, append-nil}
 use Rattle.std.specs.Prelude.{flat_map, is_some}
 use Rattle.std.specs.List.{range_with_len}
@@ -18,7 +18,7 @@ use Rattle.sheet_writer.specs.declared.writing.Halt.TheVariants.{Failed, NoMemor
 use Rattle.sheet_writer.specs.declared.writing.Progress.{Progress}
 use Rattle.sheet_writer.proofs.Sheets.{job_sheet_more, output_is}
 
--- the header and the first sheets begin the output
+-- the output begins with the header and the first sheets
 front_begins : (job : JobView) (n : ℕ) → (rest : List ℕ) × (front_text job n ++ rest ≡ output_of job)
 front_begins job n =
     let row = range_with_len 0 (length job.plan.sheets) in
@@ -30,14 +30,14 @@ front_begins job n =
           ∙ ap (λ t. t ++ trailer_text job.units) (append_assoc header (flat_map text (take n row)) (flat_map text (drop n row)) ∙ ap (λ t. header ++ t) whole),
     )
 
--- a first part of a whole, and some bytes behind it
+-- a first part of a whole, and some bytes after it
 part_behind : (front text rest whole : List ℕ) (k : ℕ) → (front ++ text) ++ rest ≡ whole → k ≤ length text → (length front + k ≤ length whole) × (take (length front + k) whole ≡ front ++ take k text)
 part_behind front text rest whole k is within =
     let seam : front ++ (text ++ rest) ≡ whole = sym (append_assoc front text rest) ∙ is in
     let sizes : length front + (length text + length rest) ≡ length whole = ap (λ n. length front + n) (sym (length-append text rest)) ∙ sym (length-append front (text ++ rest)) ∙ ap (λ t. length t) seam in
     (omega (arith, sizes), ap (λ t. take (length front + k) t) (sym seam) ∙ take-append-add front (text ++ rest) k ∙ ap (λ t. front ++ t) (take-append-le k text rest within))
 
--- so far the front was written, and some bytes behind it: these are the first bytes of the whole
+-- so far the front was written, and some bytes after it: these are the first bytes of the whole
 wrote_behind : (job : JobView) (start old new : SinkView) (front text rest : List ℕ) (k : ℕ) → (front ++ text) ++ rest ≡ output_of job → k ≤ length text
     → Appends start.bytes old.bytes front → Appends old.bytes new.bytes (take k text) → WroteFirst job start new (length front + k)
 wrote_behind job start old new front text rest k is within so_far next =
@@ -59,7 +59,7 @@ by_halt None Goes Fails Starves Goes' Fails' Starves' goes fails starves is = go
 by_halt (Some Failed) Goes Fails Starves Goes' Fails' Starves' goes fails starves is = fails is
 by_halt (Some NoMemory) Goes Fails Starves Goes' Fails' Starves' goes fails starves is = starves is
 
--- what follows of a text that was handed to the sink
+-- the consequences of giving a text to the sink
 after_handed : (job : JobView) (start old new : SinkView) (p q : Progress) (text : List ℕ) (Goes : Type 0)
     → ((q.written ≡ p.written + length text) × Took old new text → Goes)
     → ((k : ℕ) × (k ≤ length text) × (q.written ≡ p.written + k) × FailedBehind old new (take k text) → WroteFirst job start new q.written × (new.failures ≡ start.failures + 1))
@@ -84,7 +84,7 @@ pub if_starved : (job : JobView) (old new : SinkView) (p : Progress) (Goes : Typ
 if_starved job old new p Goes starved is =
     subst (λ h. AfterHalt h Goes (WroteFirst job old new p.written × (new.failures ≡ old.failures + 1)) (WroteFirst job old new p.written × (new.failures ≡ old.failures))) starved is
 
--- a text that makes the front of n sheets that of m
+-- a text that makes the front of m sheets from that of n
 handed_behind : (job : JobView) (start old new : SinkView) (p q : Progress) (text : List ℕ)
     → front_text job p.next ++ text ≡ front_text job q.next → q.next ≤ length job.plan.sheets → p.halted ≡ None
     → Handed text old new p q → Stands job start old p → Stands job start new q
@@ -106,7 +106,7 @@ handed_behind job start old new p q text grown within none handed stands =
     (λ (more, same). (subst (WroteFirst job start new) (sym (more ∙ was.1)) (wrote_front job start old new p.next was.2.0 same.0), same.1 ∙ was.2.1))
     handed
 
--- some sheets more
+-- some more sheets
 front_more : (job : JobView) (n count : ℕ) → n + count ≤ length job.plan.sheets → front_text job n ++ texts_from job n count ≡ front_text job (n + count)
 front_more job n zero within = append-nil (front_text job n) ∙ ap (front_text job) (omega arith)
 front_more job n (suc count) within =
@@ -115,7 +115,7 @@ front_more job n (suc count) within =
     ∙ ap (λ t. t ++ texts_from job (n + 1) count) (job_sheet_more job header n (omega (arith, within)))
     ∙ front_more job (n + 1) count (omega (arith, within)) ∙ ap (front_text job) (omega arith)
 
--- the next sheets were handed to the sink
+-- the next sheets were given to the sink
 pub sheets_handed : (job : JobView) (start old new : SinkView) (p q : Progress) (text : List ℕ) (count : ℕ)
     → q.next ≡ p.next + count → p.next + count ≤ length job.plan.sheets → text ≡ texts_from job p.next count → p.halted ≡ None
     → Handed text old new p q → Stands job start old p → Stands job start new q
@@ -124,7 +124,7 @@ sheets_handed job start old new p q text count next within is =
     (ap (λ t. front_text job p.next ++ t) is ∙ front_more job p.next count within ∙ ap (front_text job) (sym next))
     (omega (arith, next, within))
 
--- the header was handed to it, before anything else
+-- the header was given to it, before anything else
 pub header_handed : (job : JobView) (old new : SinkView) (p q : Progress) (text : List ℕ)
     → p.written ≡ 0 → q.next ≡ 0 → text ≡ dressed_preamble (length job.plan.sheets) job.header job.units
     → Handed text old new p q → Stands job old new q
@@ -173,7 +173,7 @@ early_filled job places j new is early k m at = ⊎_elim
     (λ p. early k m p)
     (found_after places j k (Some new) (Some m) at)
 
--- nothing more is written for want of memory
+-- nothing more is written for lack of memory
 pub starved : (job : JobView) (start now : SinkView) (p : Progress) (n : ℕ) → p.halted ≡ None → Stands job start now p
     → Ends job start now (record { next = n; written = p.written; halted = Some NoMemory })
 starved job start now p n none stands =
@@ -194,11 +194,11 @@ halted_ends job start now p some stands = halts p.halted _ _ _ _ some stands
     halts (Some Failed) Goes Goes' Fails Starves some is = is
     halts (Some NoMemory) Goes Goes' Fails Starves some is = is
 
--- the trailer behind all sheets makes the output
+-- the trailer after all sheets makes the output
 whole_output : (job : JobView) (n : ℕ) (text : List ℕ) → n ≡ length job.plan.sheets → text ≡ trailer_text job.units → front_text job n ++ text ≡ output_of job
 whole_output job n text all is = output_is job (length job.plan.sheets) n _ _ _ refl all refl is refl
 
--- the trailer was handed to the sink, behind all sheets
+-- the trailer was handed to the sink, after all sheets
 pub trailer_handed : (job : JobView) (start old new : SinkView) (p q : Progress) (text : List ℕ)
     → p.next ≡ length job.plan.sheets → text ≡ trailer_text job.units → p.halted ≡ None
     → Handed text old new p q → Stands job start old p → Ends job start new q

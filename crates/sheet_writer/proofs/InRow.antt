@@ -1,4 +1,4 @@
--- Sheets that follow each other, and which of some is the last.
+-- Consecutive sheets, and which of them is the last.
 use Rattle.std.proofs.Common.{ℕ, zero, suc, ◌+◌, ◌<◌, ◌≤◌, ◌++◌, ◌≡◌, ◌∙◌, sym, ap, refl, List, [], ◌∷◌, length, take, drop, max, arith, slice_index_or, take-add, drop-drop, take-take}
 use Rattle.std.specs.Prelude.{map, flat_map, slice_get, Some}
 use Rattle.std.specs.List.{range_with_len}
@@ -13,7 +13,7 @@ use Rattle.sheet_writer.specs.Places.{last_of}
 pub number_first : (n : ℕ) (xs : List ℕ) → n < length xs → drop n xs ≡ slice_index_or xs n 0 ∷ drop (n + 1) xs
 number_first n xs h = let next : suc n ≡ n + 1 = omega arith in drop-cons xs n 0 h ∙ ap (λ k. slice_index_or xs n 0 ∷ drop k xs) next
 
--- one number more is looked at
+-- one more number is looked at
 pub last_next : (n : ℕ) (xs : List ℕ) (last next all : ℕ) → n < length xs → next ≡ max (slice_index_or xs n 0) last → max last (last_of (drop n xs)) ≡ all
     → max next (last_of (drop (n + 1) xs)) ≡ all
 last_next n xs last next all h is before =
@@ -26,7 +26,7 @@ last_found n xs ys last h same before =
     let all : last_of xs ≡ last_of ys = ap last_of same in
     omega (arith, none, before, all)
 
--- one number more in a row
+-- one more number in a row
 row_last : (first n : ℕ) → range_with_len first (suc n) ≡ range_with_len first n ++ (first + n) ∷ []
 row_last first zero = ap (λ k. k ∷ []) (omega arith)
 row_last first (suc n) = ap (λ xs. first ∷ xs) (row_last (first + 1) n ∙ ap (λ k. range_with_len (first + 1) n ++ k ∷ []) (omega arith))
@@ -49,7 +49,7 @@ pub row_from : (xs : List ℕ) (nth count first sheet : ℕ) → first ≡ slice
     → take count (drop nth xs) ≡ range_with_len first count → take count (drop nth xs) ≡ range_with_len sheet count
 row_from xs nth count first sheet is at row = row ∙ ap (λ k. range_with_len k count) (is ∙ get_or_from_slice_get xs nth sheet 0 at)
 
--- fewer of a row
+-- fewer numbers of a row
 row_less : (first k n : ℕ) → k ≤ n → take k (range_with_len first n) ≡ range_with_len first k
 row_less first zero n le = refl
 row_less first (suc k) zero le = absurd (omega (arith, le))

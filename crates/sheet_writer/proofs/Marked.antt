@@ -1,4 +1,4 @@
--- The places of sheets that came together say where each of them lies.
+-- The places of sheets that came together say where each of them is.
 use Rattle.std.proofs.Common.{ℕ, zero, suc, ◌+◌, ◌%◌, ◌<◌, ◌≡◌, ◌∙◌, sym, ap, subst, refl, true, false, below_more, ne_eqb}
 use Rattle.std.proofs.Common.{slice_set, slice_index_or, List, [], ◌∷◌, Option, Some, None, length}
 use Rattle.std.specs.Prelude.{◌≢◌, All, slice_get}
@@ -9,12 +9,12 @@ use Rattle.sheet_writer.specs.declared.early.Early.{Early}
 use Rattle.sheet_writer.specs.Places.{place_of, HavePlacesOfTheirOwn, is_number, is_nth, is_there, has_come}
 use Rattle.sheet_writer.proofs.Places.{length_filled, get_filled, number_is}
 
--- the places of the first n of these sheets say that each lies in this group
+-- the places of the first n of these sheets say that each is in this group
 abbrev pub AreMarked : Early → List ℕ → (group n : ℕ) → List Place → Type 0
 AreMarked early sheets group n places = HavePlacesOfTheirOwn early sheets → (k : ℕ) → k < n → (one : ℕ) → slice_get sheets k ≡ Some one
     → slice_get places (place_of early one) ≡ Some (record { group = group; nth = k })
 
--- one sheet more
+-- one more sheet
 pub marked_more : (early : Early) (sheets : List ℕ) (group n sheet place : ℕ) (old new : List Place)
     → slice_get sheets n ≡ Some sheet → place ≡ place_of early sheet
     → (place < length early.places.items → slice_get new place ≡ Some (record { group = group; nth = n }))
@@ -33,14 +33,14 @@ marked_more early sheets group n sheet place old new at is here others before ow
     subst (λ p. slice_get new p ≡ Some (record { group = group; nth = n })) (is ∙ ap (λ s. place_of early s) (same_Some sheet one (sym at ∙ found)))
     (here (subst (λ p. p < length early.places.items) its (own.0 n 0 within))))
 
--- this place is none of those of these sheets, and so not that of this one
+-- this place belongs to none of these sheets, so it isn't that of this one
 pub not_its_place : (early : Early) (sheets : List ℕ) (n sheet place k : ℕ) → slice_get sheets n ≡ Some sheet → place ≡ place_of early sheet
     → All (λ one. k ≢ place_of early one) sheets → k ≢ place
 not_its_place early sheets n sheet place k at is none same =
     none n 0 (slice_get_within sheets n sheet at)
     (same ∙ is ∙ ap (λ s. place_of early s) (sym (get_or_from_slice_get sheets n sheet 0 at)))
 
--- whether a sheet came, when this group was put at its place
+-- whether a sheet came, once this group is put at its place
 come_by : (groups before : List (Option FinishedSheets)) (group sheet : ℕ) (x : Option FinishedSheets) (places : List Place) → groups ≡ before
     → is_there sheet (slice_set groups group x) (slice_get places (sheet % length (slice_set groups group x)))
     ≡ is_there sheet (slice_set before group x) (slice_get places (sheet % length before))
@@ -48,7 +48,7 @@ come_by groups before group sheet x places same =
     ap (λ gs. is_there sheet (slice_set gs group x) (slice_get places (sheet % length (slice_set gs group x)))) same
     ∙ ap (λ n. is_there sheet (slice_set before group x) (slice_get places (sheet % n))) (length_filled before group x)
 
--- each sheet of a group has come when their places are marked and the group is put
+-- each sheet of a group has come once their places are marked and the group is put
 pub have_come : (early : Early) (finished : FinishedSheets) (sheets : List ℕ) (group : ℕ) (groups : List (Option FinishedSheets)) (places : List Place)
     → groups ≡ early.groups.items → group < length early.groups.items → sheets ≡ finished.sheets.items
     → ((nth sheet : ℕ) → slice_get sheets nth ≡ Some sheet → slice_get places (place_of early sheet) ≡ Some (record { group = group; nth = nth }))
@@ -63,7 +63,7 @@ have_come early finished sheets group groups places same lt those marked k d wit
     ∙ ap (λ x. is_nth sheet k x) (get_filled early.groups.items group (Some finished) lt)
     ∙ number_is sheet (slice_get finished.sheets.items k) at
 
--- one that isn't the group's is there as before when the group is put at a place that was free
+-- a sheet outside the group stays there when the group is put at a free place
 there_as_before : (finished : FinishedSheets) (sheet nth : ℕ) → is_number sheet (slice_get finished.sheets.items nth) ≡ false
     → (groups : List (Option FinishedSheets)) (group k : ℕ) → slice_get groups group ≡ Some None
     → is_nth sheet nth (slice_get (slice_set groups group (Some finished)) k) ≡ is_nth sheet nth (slice_get groups k)
@@ -73,7 +73,7 @@ there_as_before finished sheet nth other (g ∷ groups) zero (suc k) free = refl
 there_as_before finished sheet nth other (g ∷ groups) (suc group) zero free = refl
 there_as_before finished sheet nth other (g ∷ groups) (suc group) (suc k) free = there_as_before finished sheet nth other groups group k free
 
--- whether another sheet has come is as before
+-- whether another sheet has come doesn't change
 pub come_as_before : (early : Early) (finished : FinishedSheets) (group : ℕ) (groups : List (Option FinishedSheets)) (places : List Place) (sheet : ℕ)
     → groups ≡ early.groups.items → slice_get early.groups.items group ≡ Some None
     → slice_get places (place_of early sheet) ≡ slice_get early.places.items (place_of early sheet)

@@ -1,4 +1,4 @@
--- What lies in a sheet's place.
+-- What is in a sheet's place.
 use Rattle.std.proofs.Common.{ℕ, suc, ◌+◌, ◌-◌, ◌<◌, ◌≤◌, ◌≡◌, ◌∙◌, sym, ap, subst, refl, Bool}
 use Rattle.std.proofs.Common.{if◌then◌else◌, arith, zero, ◌%◌, true, false, true≢false, slice_set, [], ◌∷◌, List, Option, Some, None, length, slice_index_or, eq-eqb, ne_eqb}
 use Rattle.std.specs.Prelude.{All, slice_get, is_some, IfSome, IsNone, MatchOption}
@@ -9,7 +9,7 @@ use Rattle.sheet_writer.specs.Places.{place_of, in_place, is_number, is_nth, is_
 use Rattle.sheet_writer.specs.declared.early.Early.{Early}
 use Rattle.sheet_writer.specs.Places.{has_come, not_come}
 
--- one sheet more of those that didn't come
+-- one more sheet that didn't come
 abbrev one_without : Bool → ℕ
 one_without b = if b then 0 else 1
 
@@ -21,12 +21,12 @@ count_next early first sheet counted le is =
     let e : suc (sheet - first) ≡ sheet + 1 - first = omega (arith, le) in
     subst (λ k. counted + one_without (has_come early sheet) ≡ not_come early first k) e (omega (arith, one, is))
 
--- what lies at this place
+-- what is at this place
 pub lies_at : (groups : List (Option FinishedSheets)) (k : ℕ) (o : Option FinishedSheets) (finished : FinishedSheets) → k < length groups → o ≡ slice_index_or groups k o
     → o ≡ Some finished → slice_get groups k ≡ Some (Some finished)
 lies_at groups k o finished lt is holds = slice_get_read groups (length groups) k o refl lt is ∙ ap (λ x. Some x) holds
 
--- whether the sheet came, if these are its place and what lies there
+-- whether the sheet came, if this is its place and what is there
 pub comes_by : (early : Early) (sheet place : ℕ) (p : Place) (o : Option FinishedSheets) (finished : FinishedSheets)
     → place ≡ place_of early sheet → place < length early.places.items → p ≡ slice_index_or early.places.items place p
     → p.group < length early.groups.items → o ≡ slice_index_or early.groups.items p.group o → o ≡ Some finished
@@ -44,13 +44,13 @@ number_is_not : (sheet : ℕ) (at : Option ℕ) → (at ≡ Some sheet → ⊥) 
 number_is_not sheet None other = refl
 number_is_not sheet (Some number) other = ne_eqb number sheet (λ same. other (ap (λ x. Some x) same))
 
--- the answer tells whether it came
+-- the answer says whether it came
 pub told_by : {X : Type 0} (o : Option X) (come : Bool) (sheet : ℕ) (at : Option ℕ) → come ≡ is_number sheet at
     → IfSome o (λ x. at ≡ Some sheet) → (IsNone o → at ≡ Some sheet → ⊥) → MatchOption o (come ≡ false) (λ x. come ≡ true)
 told_by None come sheet at is found none = is ∙ number_is_not sheet at (none refl)
 told_by (Some x) come sheet at is found none = is ∙ number_is sheet at found
 
--- what lies in the place of a sheet that is free, or not
+-- what is in the place of a sheet, if that is free, or if it isn't
 pub free_place : (early : Early) (sheet place : ℕ) (o : Option FinishedSheets) → place ≡ place_of early sheet → place < length early.groups.items
     → o ≡ slice_index_or early.groups.items place o → in_place early sheet ≡ Some o
 free_place early sheet place o at lt is =
@@ -90,7 +90,7 @@ pub none_there : (o : Option FinishedSheets) (other : FinishedSheets) → is_som
 none_there None other none there = cc (there)
 none_there (Some x) other none there = true≢false none
 
--- this place is there, and nothing lies in it
+-- this place exists, and is empty
 pub is_free : (groups : List (Option FinishedSheets)) (k : ℕ) (o : Option FinishedSheets) → k < length groups → o ≡ slice_index_or groups k o
     → is_some o ≡ false → slice_get groups k ≡ Some None
 is_free groups k None lt is none = slice_get_read groups (length groups) k None refl lt is

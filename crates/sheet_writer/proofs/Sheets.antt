@@ -10,7 +10,7 @@ use Rattle.rules.specs.Filters.{trailer_text}
 use Rattle.made_sheets.specs.MadeOutput.{dressed_preamble}
 use Rattle.sheet_text.specs.Jobs.{JobView, text_of, output_of}
 
--- the texts of the first n of so many sheets
+-- the texts of the first n of this many sheets
 abbrev pub sheets_text : JobView → (many n : ℕ) → List ℕ
 sheets_text job many n = flat_map (text_of job) (take n (range_with_len 0 many))
 
@@ -40,7 +40,7 @@ output_is job count done before last whole count_is done_is before_is last_is wh
     ∙ ap (λ t. (dressed_preamble count job.header us ++ flat_map (text_of job) (range_with_len 0 count)) ++ t) last_is
     ∙ ap (λ n. (dressed_preamble n job.header us ++ flat_map (text_of job) (range_with_len 0 n)) ++ trailer_text us) count_is
 
--- a sheet of the job more
+-- one more sheet of the job
 pub job_sheet_more : (job : JobView) (front : List ℕ) (n : ℕ) → n < length job.plan.sheets
     → (front ++ sheets_text job (length job.plan.sheets) n) ++ text_of job n ≡ front ++ sheets_text job (length job.plan.sheets) (n + 1)
 job_sheet_more job front n h = sheet_more job front (length job.plan.sheets) n h

@@ -3,10 +3,10 @@ use Rattle.std.specs.Prelude.{◌≡◌, ℕ, ◌-◌, ◌++◌, List, length, m
 
 pub record MemoryState : Type 0 where
   pub bytes : List ℕ
-  -- for how many bytes in all
+  -- the number of bytes in all
   pub room : ℕ
   pub per_call : ℕ
-  -- how many more calls it answers with Ok
+  -- the number of calls that it will still answer with Ok
   pub calls : ℕ
   pub failures : ℕ
 

@@ -19,7 +19,7 @@ abbrev pub HavePlacesOfTheirOwn : Early → List ℕ → Type 0
 HavePlacesOfTheirOwn early sheets = All (λ sheet. place_of early sheet < length early.places.items) sheets
     × AllPairs (λ one other. place_of early one ≢ place_of early other) sheets
 
--- what lies at the place of this sheet, if there is such a place
+-- what is at the place of this sheet, if there is such a place
 abbrev pub in_place : Early → ℕ → Option (Option FinishedSheets)
 in_place early sheet = slice_get early.groups.items (place_of early sheet)
 
@@ -28,22 +28,22 @@ abbrev pub is_number : ℕ → Option ℕ → Bool
 is_number sheet None = false
 is_number sheet (Some number) = number == sheet
 
--- among these sheets it is the one with this index
+-- in this group of sheets it is the one with this index
 abbrev pub is_nth : ℕ → ℕ → Option (Option FinishedSheets) → Bool
 is_nth sheet nth None = false
 is_nth sheet nth (Some None) = false
 is_nth sheet nth (Some (Some finished)) = is_number sheet (slice_get finished.sheets.items nth)
 
--- it lies where its place says
+-- it is where its place says
 abbrev pub is_there : ℕ → List (Option FinishedSheets) → Option Place → Bool
 is_there sheet groups None = false
 is_there sheet groups (Some place) = is_nth sheet place.nth (slice_get groups place.group)
 
--- the sheet came, and not all that came with it are written
+-- the sheet came, and some sheet that came with it isn't written
 abbrev pub has_come : Early → ℕ → Bool
 has_come early sheet = is_there sheet early.groups.items (slice_get early.places.items (place_of early sheet))
 
--- how many of n sheets, from the first one on, didn't come
+-- the number of sheets that didn't come, among n from the first one on
 abbrev pub not_come : Early → (first n : ℕ) → ℕ
 not_come early first zero = 0
 not_come early first (suc n) = not_come early first n + (if has_come early (first + n) then 0 else 1)

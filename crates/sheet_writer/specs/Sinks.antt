@@ -3,12 +3,12 @@ use Rattle.std.specs.Prelude.{◌≡◌, ℕ, ◌+◌, ◌<◌, List, Option}
 use Rattle.std.specs.Io.KnownBytes.{Appends, Keeps}
 use Rattle.std.below.core.specs.declared.int.u64.TheConstants.{MAX as most_failures}
 
--- which bytes it has taken, if it tells them, and how many calls it has refused
+-- which bytes it has taken, if it reports them, and how many calls it has refused
 pub record SinkView : Type 0 where
   pub bytes : Option (List ℕ)
   pub failures : ℕ
 
--- one that tells these bytes and hasn't failed
+-- one that reports these bytes and hasn't failed
 abbrev pub fresh_sink : Option (List ℕ) → SinkView
 fresh_sink bytes = record { bytes = bytes; failures = 0 }
 

@@ -16,7 +16,7 @@ front_text job n =
     dressed_preamble (length job.plan.sheets) job.header job.units
     ++ flat_map (text_of job) (take n (range_with_len 0 (length job.plan.sheets)))
 
--- the texts of so many sheets, from this one on
+-- the texts of this many sheets, from this one on
 abbrev pub texts_from : JobView → (first count : ℕ) → List ℕ
 texts_from job first count = flat_map (text_of job) (range_with_len first count)
 
@@ -24,20 +24,21 @@ texts_from job first count = flat_map (text_of job) (range_with_len first count)
 abbrev pub WroteFirst : JobView → (old new : SinkView) → ℕ → Type 0
 WroteFirst job old new n = (n ≤ length (output_of job)) × Appends old.bytes new.bytes (take n (output_of job))
 
--- what holds while nothing halted; if the sink failed; and if memory was refused
+-- the three cases: nothing halted; the sink failed; memory was refused
 abbrev pub AfterHalt : Option Halt → Type 0 → Type 0 → Type 0 → Type 0
 AfterHalt None Goes Fails Starves = Goes
 AfterHalt (Some Failed) Goes Fails Starves = Fails
 AfterHalt (Some NoMemory) Goes Fails Starves = Starves
 
--- what became of a text that was handed to a sink
+-- the result of giving a text to a sink
 abbrev pub Handed : List ℕ → (old new : SinkView) → Progress → Progress → Type 0
 Handed text old new p q = AfterHalt q.halted
     ((q.written ≡ p.written + length text) × Took old new text)
     ((k : ℕ) × (k ≤ length text) × (q.written ≡ p.written + k) × FailedBehind old new (take k text))
     ((q.written ≡ p.written) × IsUntouched old new)
 
--- this, or some first part of the output was written, and then no more: the sink failed only if the halt says so
+-- this holds, or some beginning of the output was written and then no more; the sink failed only if the halt says
+-- so
 abbrev pub Halts : JobView → (old new : SinkView) → Progress → Type 0 → Type 0
 Halts job old new p Goes = AfterHalt p.halted Goes
     (WroteFirst job old new p.written × (new.failures ≡ old.failures + 1))
@@ -48,11 +49,11 @@ abbrev pub HasFront : JobView → (old new : SinkView) → Progress → Type 0
 HasFront job old new p = (p.next ≤ length job.plan.sheets) × (p.written ≡ length (front_text job p.next))
     × Took old new (front_text job p.next)
 
--- so far they were, or it halted
+-- they are written so far, or it halted
 abbrev pub Stands : JobView → (old new : SinkView) → Progress → Type 0
 Stands job old new p = Halts job old new p (HasFront job old new p)
 
--- wherever the writing began, it still stands right
+-- wherever the writing began, it is still right
 abbrev pub GoesOn : JobView → (old new : SinkView) → Progress → Progress → Type 0
 GoesOn job old new p q = (start : SinkView) → Stands job start old p → Stands job start new q
 
@@ -60,15 +61,15 @@ GoesOn job old new p q = (start : SinkView) → Stands job start old p → Stand
 abbrev pub HasAll : JobView → (old new : SinkView) → Progress → Type 0
 HasAll job old new p = (p.written ≡ length (output_of job)) × Took old new (output_of job)
 
--- it was, or it halted
+-- the whole output was written, or it halted
 abbrev pub Ends : JobView → (old new : SinkView) → Progress → Type 0
 Ends job old new p = Halts job old new p (HasAll job old new p)
 
--- wherever the writing began, it ended right
+-- wherever the writing began, its end is correct
 abbrev pub EndsAfter : JobView → (old new : SinkView) → Progress → Progress → Type 0
 EndsAfter job old new p q = (start : SinkView) → Stands job start old p → Ends job start new q
 
--- each of these sheets has the text that is its own
+-- each of these sheets has its own text
 abbrev pub HaveTexts : (text : ℕ → List ℕ) → FinishedSheets → Type 0
 HaveTexts text m = m.texts ≡ map text m.sheets.items
 

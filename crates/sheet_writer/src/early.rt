@@ -29,7 +29,7 @@ impl<'r> FinishedSheets<'r> {
         }
     }
 
-    /// None yet, with memory for so many sheets and so many bytes of text, which it keeps.
+    /// None yet, with memory for this many sheets and this many bytes of text, which it keeps.
     pub fn with_room(alloc: Global, sheets: u32, bytes: usize) -> Result<Self, AllocError>
         ensures sheets { IfOk result (λ finished. finished.sheets.items ≡ []) }
         ensures texts { IfOk result (λ finished. finished.texts ≡ []) }
@@ -40,7 +40,7 @@ impl<'r> FinishedSheets<'r> {
         })
     }
 
-    /// Lets all of them go. Their memory is kept.
+    /// Drops all of them. Their memory is kept.
     pub fn clear(&mut self)
         ensures sheets { self.new.sheets.items ≡ [] }
         ensures texts { self.new.texts ≡ [] }
@@ -49,8 +49,8 @@ impl<'r> FinishedSheets<'r> {
         self.texts.clear();
     }
 
-    /// Adds a sheet with its text, and leaves an empty text, which keeps its memory. If memory is refused, nothing is
-    /// added.
+    /// Adds a sheet with its text, and leaves an empty text in its place, which keeps its memory. If memory is
+    /// refused, nothing is added.
     pub fn push(&mut self, sheet: u32, text: &mut Rope<'r>) -> Result<(), AllocError>
         ensures sheet { OnOk result (self.new.sheets.items ≡ self.old.sheets.items ++ sheet ∷ []) }
         ensures text { OnOk result (self.new.texts ≡ self.old.texts ++ text.old ∷ []) }
@@ -76,22 +76,22 @@ impl<'r> FinishedSheets<'r> {
     }
 }
 
-/// Takes sheets that were written, whose memory may be used again.
+/// Takes sheets that were written. Their memory may be used again.
 pub trait Spent<'r> {
-    /// Takes sheets whose texts nobody needs any more.
+    /// Takes sheets whose texts are no longer needed.
     fn give_back(&mut self, sheets: FinishedSheets<'r>);
 }
 
-/// Where a sheet lies: among which sheets, and at which index there.
+/// Where a sheet is: in which group of sheets, and at which index there.
 #[derive(Clone, Copy)]
 pub struct Place {
     pub group: usize,
     pub nth: usize,
 }
 
-/// Places for sheets that wait for their turn. A sheet has the place that its number leaves when it is divided by
-/// their count, so the sheets of one window have places of their own. Sheets that came together lie at the place of the
-/// last of them: when it is written, all of them are.
+/// Places for sheets that wait for their turn. A sheet's place is its number modulo the count of places, so the
+/// sheets of one window have different places. Sheets that came together are at the place of the last of them: when
+/// that one is written, all of them are.
 #[derive(Drop)]
 pub struct Early<'r> {
     pub places: Vec<Place>,
@@ -99,7 +99,7 @@ pub struct Early<'r> {
 }
 
 impl<'r> Early<'r> {
-    /// So many places, and no sheet yet.
+    /// This many places, and no sheet yet.
     pub fn new(alloc: Global, count: u32) -> Result<Self, AllocError>
         ensures early { IfOk result (λ early. (job : JobView) → AreEarly job early.groups.items) }
         ensures places { IfOk result (λ early. length early.places.items ≡ count) }
@@ -115,9 +115,9 @@ impl<'r> Early<'r> {
         Ok(Early { places, groups })
     }
 
-    /// Puts sheets in their places, where each is found if no two of them have the same one. Another sheet whose place
-    /// they take is as if it had never come. If others lie where these are to lie, these are dropped: a sheet that never
-    /// came is made anew.
+    /// Puts sheets in their places. Each can be found if no two of them have the same place. If this replaces
+    /// another sheet, it is as if that one had never come. If other sheets are already where these belong, these
+    /// are dropped; a sheet that never came is made again.
     pub fn put(&mut self, finished: FinishedSheets<'r>)
         ensures early { (job : JobView) → HaveTexts (text_of job) finished.entry
             → AreEarly job self.old.groups.items → AreEarly job self.new.groups.items }
@@ -143,7 +143,7 @@ impl<'r> Early<'r> {
         self.groups[group] = Some(finished);
     }
 
-    /// Notes where each of the sheets lies that came together.
+    /// Records where each of the sheets is that came together.
     fn mark_all(&mut self, sheets: &[u32], group: usize)
         ensures groups { self.new.groups ≡ self.old.groups }
         ensures count { length self.new.places.items ≡ length self.old.places.items }
@@ -159,7 +159,7 @@ impl<'r> Early<'r> {
         }
     }
 
-    /// Notes where a sheet lies.
+    /// Records where a sheet is.
     fn mark(&mut self, sheet: u32, at: Place)
         ensures groups { self.new.groups ≡ self.old.groups }
         ensures count { length self.new.places.items ≡ length self.old.places.items }
@@ -181,7 +181,7 @@ impl<'r> Early<'r> {
         sheet as usize % self.groups.len().max(1)
     }
 
-    /// The text of a sheet, if it came, and those of the sheets behind it that can be written with it, so many at most.
+    /// The text of a sheet, if it came, and those of the sheets after it that can be written with it, so many at most.
     pub fn joined(&self, sheet: u32, most: u32) -> Option<Joined<'_, 'r>>
         requires most { 0 < most }
         ensures count { IfSome result (λ j. (0 < j.count) × (j.count ≤ most)) }
@@ -204,7 +204,7 @@ impl<'r> Early<'r> {
         finished.joined(sheet, nth, most)
     }
 
-    /// The sheets that are all written when this one is, if there are such. Their place is free then.
+    /// The sheets that are all written once this one is, if there are any. Their place is free then.
     pub fn take_written(&mut self, sheet: u32) -> Option<FinishedSheets<'r>>
         ensures early { (job : JobView) → AreEarly job self.old.groups.items → AreEarly job self.new.groups.items }
         ensures places { self.new.places ≡ self.old.places }
@@ -230,7 +230,7 @@ impl<'r> Early<'r> {
 }
 
 impl<'r> FinishedSheets<'r> {
-    /// The text of a sheet, if it has this index, and those of the sheets behind it that can be written with it, so many
+    /// The text of a sheet, if it has this index, and those of the sheets after it that can be written with it, so many
     /// at most.
     fn joined(&self, sheet: u32, nth: usize, most: u32) -> Option<Joined<'_, 'r>>
         requires most { 0 < most }
@@ -250,7 +250,7 @@ impl<'r> FinishedSheets<'r> {
     }
 }
 
-/// How many sheets follow each other from this one on, so many at most.
+/// The number of consecutive sheets from this one on, at most this many.
 fn count_in_row(sheets: &[u32], nth: usize, most: u32) -> usize
     requires nth { nth < length sheets.now }
     requires most { 0 < most }

@@ -16,7 +16,7 @@ pub struct SinkFault;
 
 /// Takes bytes in order, as many of a call's as it likes.
 pub trait Sink {
-    // Which bytes it has taken, if it tells them, and how many calls it has refused.
+    // Which bytes it has taken, if it reports them, and how many calls it has refused.
     ghost seen: { Self → SinkView };
 
     /// Takes the first of the bytes, at least one, and answers how many.
@@ -36,7 +36,7 @@ pub(crate) struct Stopped {
     pub(crate) written: usize,
 }
 
-/// Hands the sink all the bytes, in as many calls as it takes.
+/// Gives the sink all the bytes, in as many calls as are needed.
 pub(crate) fn write_all<S: Sink>(sink: &mut S, bytes: &[u8]) -> Result<(), Stopped>
     requires countable { IsCountable (S.seen sink.old) }
     ensures whole { OnOk result (Appends (S.seen sink.old).bytes (S.seen sink.new).bytes bytes.now) }
@@ -55,7 +55,7 @@ pub(crate) fn write_all<S: Sink>(sink: &mut S, bytes: &[u8]) -> Result<(), Stopp
     Ok(())
 }
 
-/// Hands the sink all pieces of a text, in order.
+/// Gives the sink all pieces of a text, in order.
 pub(crate) fn write_pieces<S: Sink>(sink: &mut S, text: Pieces<'_, '_>) -> Result<(), Stopped>
     requires countable { IsCountable (S.seen sink.old) }
     requires counted { length text ≤ u64.MAX }
@@ -80,7 +80,7 @@ pub(crate) fn write_pieces<S: Sink>(sink: &mut S, text: Pieces<'_, '_>) -> Resul
     Ok(())
 }
 
-/// A writer as a sink. An error of the writer, an interrupted write too, and an accepted count of 0 are failures.
+/// A writer as a sink. An error of the writer, even an interrupted write, and an accepted count of 0 are failures.
 #[derive(Drop)]
 pub struct WriteSink<T: io::Write> {
     writer: T,
@@ -120,8 +120,8 @@ impl<T: io::Write> Sink for WriteSink<T> {
     }
 }
 
-/// A list of bytes as a sink. It has room for `room` bytes, takes at most `per_call` a call, and answers at most
-/// `calls` calls with Ok.
+/// A list of bytes as a sink. It has room for `room` bytes, takes at most `per_call` in a call, and returns Ok from
+/// at most `calls` calls.
 #[derive(Drop)]
 pub struct MemorySink {
     bytes: Vec<u8>,
@@ -182,9 +182,9 @@ impl Sink for MemorySink {
         requires countable { self.old.failures < u64.MAX }
         ensures within { IfOk result (λ k. (0 < k) × (k ≤ length bytes.now)) }
         ensures taken { IfOk result (λ k. self.new ≡ after_taking self.old (take k bytes.now)) }
-        // An Ok needs a call left.
+        // For an Ok a call must be left.
         ensures answers { OnOk result (0 < self.old.calls) }
-        // It takes as much as the slice, the room left and the size of a call allow.
+        // It takes as much as the slice, the room left and the limit per call allow.
         ensures most { IfOk result (λ k. k ≡ acceptable self.old (length bytes.now)) }
         ensures refused { OnErr result (IsSpent self.old (length bytes.now)) }
         ensures kept { OnErr result (self.new ≡ record self.old { failures = self.old.failures + 1 }) }

@@ -1,4 +1,4 @@
-//! Writes the output of a job: each sheet when its turn has come, and at the end what is left.
+//! Writes the output of a job: each sheet when its turn comes, and at the end what is left.
 ghost use Rattle.std.specs.Prelude.{◌≡◌, ◌≢◌, ℕ, ◌+◌, ◌-◌, ◌<◌, ◌≤◌, ◌⊎◌, None, Some, IfOk, IfErr, OnOk, length};
 ghost use Rattle.std.specs.Prelude.{if◌then◌else◌, false};
 ghost use Rattle.sheet_text.specs.Jobs.{text_of};
@@ -30,7 +30,7 @@ pub struct Progress {
     pub halted: Option<Halt>,
 }
 
-/// Hands the sink a text, and counts its bytes.
+/// Gives the sink a text, and counts its bytes.
 pub fn write_text<S: Sink>(sink: &mut S, progress: Progress, text: &[u8]) -> Progress
     requires countable { IsCountable (S.seen sink.old) }
     ensures handed { Handed text.now (S.seen sink.old) (S.seen sink.new) progress result }
@@ -42,7 +42,7 @@ pub fn write_text<S: Sink>(sink: &mut S, progress: Progress, text: &[u8]) -> Pro
     counted(progress, total, write_all(sink, text))
 }
 
-/// Hands the sink a text in pieces, and counts its bytes.
+/// Gives the sink a text in pieces, and counts its bytes.
 pub fn write_in_pieces<S: Sink>(sink: &mut S, progress: Progress, text: Pieces<'_, '_>) -> Progress
     requires countable { IsCountable (S.seen sink.old) }
     ensures handed { Handed text.entry (S.seen sink.old) (S.seen sink.new) progress result }
@@ -57,7 +57,8 @@ pub fn write_in_pieces<S: Sink>(sink: &mut S, progress: Progress, text: Pieces<'
     }
 }
 
-/// How far the output was written when a text was handed to the sink with which it would come to so many bytes.
+/// How far the output is written after a text was given to the sink; with the whole text it would have this many
+/// bytes.
 fn counted(progress: Progress, total: u64, handed: Result<(), Stopped>) -> Progress
     requires { IfErr handed (λ e. progress.written + e.written ≤ total) }
     ensures written { OnOk handed (result ≡ record { next = progress.next; written = total; halted = None }) }
@@ -91,7 +92,7 @@ fn halted(progress: Progress, written: u64, why: Halt) -> Progress
     }
 }
 
-/// Writes the texts of the next sheets, of which there are so many.
+/// Writes the texts of the next sheets, which are this many.
 fn write_sheets<S: Sink>(
     job: &Job<'_, '_>,
     sink: &mut S,
@@ -115,7 +116,7 @@ fn write_sheets<S: Sink>(
     }
 }
 
-/// Writes the sheets that came before their turn and whose turn it is now, and gives back those that were all written.
+/// Writes the early sheets whose turn has come, and gives back those that are all written.
 pub fn write_early<'r, S: Sink, B: Spent<'r>>(
     job: &Job<'_, '_>,
     sink: &mut S,
@@ -127,7 +128,7 @@ pub fn write_early<'r, S: Sink, B: Spent<'r>>(
     requires going { progress.halted ≡ None }
     requires early { AreEarly job.now early.old.groups.items }
     ensures goes_on { GoesOn job.now (S.seen sink.old) (S.seen sink.new) progress result }
-    // It goes on until all sheets are written, or the next one hasn't come.
+    // It continues until all sheets are written, or the next one hasn't come.
     ensures far { result.halted ≡ None
         → (length job.now.plan.sheets ≤ result.next) ⊎ (has_come early.new result.next ≡ false) }
     ensures early { AreEarly job.now early.new.groups.items }
@@ -149,15 +150,15 @@ pub fn write_early<'r, S: Sink, B: Spent<'r>>(
     progress
 }
 
-/// How a run ended, and how many sheets no worker had imposed.
+/// How a run ended, and how many sheets no worker imposed.
 #[derive(Clone, Copy, Debug)]
 pub struct Rest {
     pub progress: Progress,
     pub swept: u32,
 }
 
-/// Writes what is left when all workers have ended: the other sheets in order, each made anew if it never came, and
-/// the trailer. After a halt nothing more is written.
+/// Writes what is left when all workers have ended: the other sheets in order, each made again if it never came,
+/// and the trailer. After a halt nothing more is written.
 pub fn write_rest<S: Sink>(
     alloc: Global,
     job: &Job<'_, '_>,
@@ -173,7 +174,7 @@ pub fn write_rest<S: Sink>(
     ensures ended { EndsAfter job.now (S.seen sink.old) (S.seen sink.new) progress result.progress }
     ensures swept { result.swept ≤ length job.now.plan.sheets }
 
-    // At the end those are counted that hadn't come, and no others.
+    // At the end exactly those sheets are counted that hadn't come.
     ensures counted { result.progress.halted ≡ None → result.swept
         ≡ not_come early.now progress.next (length job.now.plan.sheets - progress.next) }
 {
@@ -194,7 +195,7 @@ pub fn write_rest<S: Sink>(
     }
 }
 
-/// Writes the next sheet. One that never came is made anew, and counted.
+/// Writes the next sheet. If it never came, it is made again and counted.
 fn write_next<S: Sink>(
     alloc: Global,
     job: &Job<'_, '_>,

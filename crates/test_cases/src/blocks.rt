@@ -10,7 +10,7 @@ pub struct Block<'a> {
     pub body: Vec<&'a str>,
 }
 
-/// The blocks of a text. Lines that begin with `#` are none.
+/// The blocks of a text. Lines that begin with `#` belong to none.
 pub fn blocks(alloc: Global, text: &str) -> Result<Vec<Block<'_>>, AllocError> {
     let mut blocks = Vec::new(alloc);
     let mut empty_lines: usize = 0;
@@ -38,7 +38,7 @@ fn block_of(alloc: Global, index: usize, head: &str) -> Block<'_> {
     }
 }
 
-/// Adds a line to the last block, behind so many empty ones. Without a block it is one without a head.
+/// Adds a line to the last block, after this many empty ones. If there is no block, it becomes one without a head.
 fn add_line<'a>(
     alloc: Global,
     blocks: &mut Vec<Block<'a>>,

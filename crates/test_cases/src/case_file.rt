@@ -1,6 +1,6 @@
 //! What a case file holds.
 
-/// Documents and cases, and the lines that are none.
+/// Documents and cases, and the lines that are neither.
 #[derive(Drop)]
 pub struct CaseFile {
     pub documents: Vec<Document>,
@@ -22,7 +22,7 @@ pub struct BadLine {
     pub text: String,
 }
 
-/// A command, what surrounds it, and what it has to give.
+/// A command with its setting and its expected results.
 #[derive(Drop)]
 pub struct Case {
     /// The line of the command, counted from 1.
@@ -38,35 +38,35 @@ pub struct Case {
     pub files: Vec<WantedFile>,
 }
 
-/// A file that can be read, or standard input, which is `-`; and which of the documents it holds, by its index.
+/// A file that can be read, or standard input, which is `-`; and the index of the document that it holds.
 #[derive(Drop)]
 pub struct Input {
     pub name: String,
     pub document: Option<usize>,
 }
 
-/// What surrounds a run.
+/// A setting of a run.
 #[derive(Drop)]
 pub struct Setting {
     pub key: String,
     pub value: String,
 }
 
-/// A file that is there afterwards, with this text, or that isn't.
+/// A file that must be there afterwards with this text, or must not be there.
 #[derive(Drop)]
 pub struct WantedFile {
     pub name: String,
     pub text: Option<WantedText>,
 }
 
-/// A text that is wanted: parts between which any lines may stand, each of them lines with their ends.
+/// An expected text: parts between which there may be any lines. A part is lines with their ends.
 #[derive(Drop)]
 pub struct WantedText {
     pub parts: Vec<Vec<Vec<u8>>>,
     pub digest: Option<Digest>,
 }
 
-/// How many bytes and lines a text has, and the first 16 digits of its SHA-256.
+/// The number of bytes and lines of a text, and the first 16 digits of its SHA-256.
 #[derive(Drop)]
 pub struct Digest {
     pub bytes: usize,

@@ -1,4 +1,4 @@
-//! What differs between what is wanted and what was found.
+//! Differences between what is expected and what was found.
 use crate::case_file::{Case, Digest, WantedFile, WantedText};
 use crate::tally::{Found, FoundFile};
 use sha2::{Digest as _, Sha256};
@@ -71,7 +71,7 @@ fn add(
     Ok(())
 }
 
-/// How a file that is wanted differs.
+/// How a file differs from the expected one.
 fn differing_file(
     alloc: Global,
     wanted: &WantedFile,
@@ -169,7 +169,7 @@ fn differing_digest(
     }))
 }
 
-/// Whether lines that are wanted all and alone are found.
+/// How a text differs from exactly the expected lines.
 fn whole_differs(
     alloc: Global,
     wanted: &[Vec<u8>],
@@ -200,7 +200,7 @@ fn line_at(
     })
 }
 
-/// A line as it is shown: without its end, and in words if there is none.
+/// A line for display: without its end, or in words if there is none.
 fn shown(alloc: Global, line: Option<&[u8]>) -> Result<String, AllocError> {
     match line {
         None => String::from_str(alloc, "(no further line)"),
@@ -214,7 +214,7 @@ fn shown(alloc: Global, line: Option<&[u8]>) -> Result<String, AllocError> {
     }
 }
 
-/// How lines differ from parts between which any lines may stand.
+/// How lines differ from parts between which there may be any lines.
 fn parts_differ(
     alloc: Global,
     first: &[Vec<u8>],
@@ -239,7 +239,7 @@ fn parts_differ(
     whole_differs(alloc, last.as_slice(), back)
 }
 
-/// What stands behind these lines where they are found first.
+/// What follows the first occurrence of these lines.
 fn behind<'a, 'b>(wanted: &[Vec<u8>], found: &'b [&'a [u8]]) -> Option<&'b [&'a [u8]]> {
     let count = wanted.len();
     for start in 0..found.len() {
@@ -261,7 +261,7 @@ fn are_same(wanted: &[Vec<u8>], found: &[&[u8]]) -> bool {
         .all(|(line, other)| line.as_slice() == *other)
 }
 
-/// Lines that are nowhere.
+/// Lines that occur nowhere.
 fn missing(alloc: Global, part: &[Vec<u8>]) -> Result<Line, AllocError> {
     let wanted = part.first().map(|line| line.as_slice());
     Ok(Line {

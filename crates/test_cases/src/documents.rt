@@ -4,7 +4,7 @@ use crate::case_file::Document;
 use crate::words::push_unescaped;
 use std::alloc::{AllocError, Global};
 
-/// The document that a block gives, if its head is one: `document NAME`, and behind it `escaped` or `repeated N`.
+/// The document of a block, if its head is `document NAME`, which `escaped` or `repeated N` may follow.
 pub fn document_of(
     alloc: Global,
     block: &Block<'_>,
@@ -33,7 +33,7 @@ pub fn document_of(
     Ok(Some(Document { name, bytes }))
 }
 
-/// The document of that name, by its index: the last one.
+/// The index of the document of that name: the last one counts.
 pub fn index_of(documents: &[Document], name: &str) -> Option<usize> {
     documents
         .iter()
@@ -61,7 +61,7 @@ fn push_lines(
     Ok(true)
 }
 
-/// Adds a line with its end; a backslash alone takes the end before it away.
+/// Adds a line with its end; a backslash alone removes the end before it.
 fn push_line(bytes: &mut Vec<u8>, line: &str) -> Result<(), AllocError> {
     if line == "\\" {
         bytes.pop();
@@ -90,7 +90,7 @@ fn push_document(
     }
 }
 
-/// Adds lines so many times: `{}` is the number of the time, from 1, and `{0}` the same from 0.
+/// Adds lines this many times. `{}` is the number of the repetition, from 1, and `{0}` the same from 0.
 fn push_repeated(
     alloc: Global,
     bytes: &mut Vec<u8>,

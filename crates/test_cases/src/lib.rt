@@ -1,4 +1,4 @@
-//! Case files: documents, and commands with what each has to give. And what differs in what was found.
+//! Case files: documents, and commands with their expected results; and how what was found differs.
 #![tactic(auto)]
 
 mod blocks;

@@ -26,7 +26,7 @@ pub fn read_case_file(alloc: Global, text: &str) -> Result<CaseFile, AllocError>
     Ok(file)
 }
 
-/// Takes a block: a document, a command, or what belongs to the last command. Whether it is one of them.
+/// Takes a block: a document, a command, or a part of the last command's case. Returns whether it is one of them.
 fn take_block(alloc: Global, file: &mut CaseFile, block: &Block<'_>) -> Result<bool, AllocError> {
     if let Some(document) = document_of(alloc, block, file.documents.as_slice())? {
         file.documents.push(document)?;
@@ -63,7 +63,7 @@ fn take_block(alloc: Global, file: &mut CaseFile, block: &Block<'_>) -> Result<b
     Ok(true)
 }
 
-/// A case of which nothing but the command is known.
+/// A case with only its command.
 fn case_of(alloc: Global, line: usize, command: &str) -> Result<Case, AllocError> {
     Ok(Case {
         line,
@@ -114,7 +114,7 @@ fn setting_of(alloc: Global, rest: &str) -> Result<Setting, AllocError> {
     })
 }
 
-/// Takes a text that is wanted, which may be `escaped`.
+/// Takes an expected text, which may be `escaped`.
 fn take_text(
     alloc: Global,
     wanted: &mut WantedText,
@@ -129,7 +129,7 @@ fn take_text(
     Ok(true)
 }
 
-/// Takes a file that is wanted: `NAME`, `NAME escaped` or `NAME absent`.
+/// Takes an expected file: `NAME`, `NAME escaped` or `NAME absent`.
 fn take_file(
     alloc: Global,
     case: &mut Case,
@@ -151,7 +151,7 @@ fn take_file(
     Ok(true)
 }
 
-/// Adds lines to what is wanted.
+/// Adds lines to the expected text.
 fn push_wanted(
     alloc: Global,
     wanted: &mut WantedText,
@@ -197,7 +197,7 @@ fn push_line(wanted: &mut WantedText, line: Vec<u8>) -> Result<(), AllocError> {
     Ok(())
 }
 
-/// The last line has no end.
+/// Removes the end of the last line.
 fn drop_last_end(wanted: &mut WantedText) {
     if let Some(part) = wanted.parts.last_mut()
         && let Some(line) = part.last_mut()

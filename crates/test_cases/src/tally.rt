@@ -1,4 +1,4 @@
-//! Counts of cases, and what is printed of those that differ.
+//! Counts of cases, and the report of those that differ.
 use crate::case_file::{Case, CaseFile};
 use crate::compared::differences;
 use crate::reading::read_case_file;
@@ -22,14 +22,14 @@ pub struct FoundFile {
     pub bytes: Vec<u8>,
 }
 
-/// How many cases there were, and how many of them differ.
+/// The number of cases, and of those that differ.
 #[derive(Clone, Copy)]
 pub struct Tally {
     pub cases: usize,
     pub differ: usize,
 }
 
-/// Reads the case file of that name, which lies where the program runs.
+/// Reads the case file of that name from the folder in which the program runs.
 pub fn load(rt: &HostRuntime, name: &str) -> anyhow::Result<CaseFile> {
     let mut bytes = Vec::new(rt.alloc());
     let mut file = File::open(rt, name)?;
@@ -60,7 +60,7 @@ impl Tally {
         Ok(())
     }
 
-    /// Counts a case, and prints what differs, if something does.
+    /// Counts a case, and prints how it differs, if it does.
     pub fn compare(
         &mut self,
         rt: &HostRuntime,

@@ -28,7 +28,7 @@ pub fn words_of(alloc: Global, command: &str) -> Result<Vec<String>, AllocError>
 struct Words {
     alloc: Global,
     words: Vec<String>,
-    /// The word that isn't ended yet, if one is begun.
+    /// The unfinished word, if there is one.
     word: Vec<u8>,
     is_begun: bool,
 }
@@ -70,7 +70,7 @@ impl Words {
     }
 }
 
-/// Adds the bytes that a text with escapes stands for: `\n`, `\r`, `\t`, `\\`, `\'` and `\xNN`.
+/// Adds the bytes of a text with escapes: `\n`, `\r`, `\t`, `\\`, `\'` and `\xNN`.
 pub fn push_unescaped(bytes: &mut Vec<u8>, text: &str) -> Result<(), AllocError> {
     let mut is_plain = true;
     for part in text.split('\\') {
@@ -87,7 +87,7 @@ pub fn push_unescaped(bytes: &mut Vec<u8>, text: &str) -> Result<(), AllocError>
     Ok(())
 }
 
-/// Adds the byte that an escape stands for, and what is behind it.
+/// Adds the byte of an escape, and the text after it.
 fn push_escape(bytes: &mut Vec<u8>, part: &str) -> Result<(), AllocError> {
     if let Some(rest) = part.strip_prefix('n') {
         bytes.push(b'\n')?;
@@ -110,7 +110,7 @@ fn push_escape(bytes: &mut Vec<u8>, part: &str) -> Result<(), AllocError> {
     }
 }
 
-/// The value of a digit of a hexadecimal number; 0 of anything else.
+/// The value of a hexadecimal digit; 0 for anything else.
 fn digit(byte: u8) -> u8
     ensures { result ≤ 15 }
 {

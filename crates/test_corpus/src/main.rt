@@ -1,5 +1,6 @@
-//! Imposes the documents of its folder `data`, which real programs wrote, as a user would. For each it prints how many
-//! pages and sheets it has, how many bytes are written, and their digest. Its `stdout` was made by a separate program.
+//! Imposes the documents in its folder `data`, which real programs wrote, as a user would. For each it prints the
+//! number of pages and of sheets, the number of bytes that are written, and their digest. A separate program made
+//! its `stdout`.
 #![tactic(auto)]
 
 use imposer::MemorySink;

@@ -2,7 +2,7 @@
 use crate::cuts::counted;
 use std::alloc::{AllocError, Global};
 
-/// How many pages the first bytes of a text have, for each number of bytes.
+/// The number of pages in the first bytes of a text, for each number of bytes.
 pub fn every_prefix(alloc: Global, text: &[u8]) -> anyhow::Result<String> {
     let mut answers = Vec::new(alloc);
     answers.push(counted(alloc, b"")?)?;
@@ -14,7 +14,7 @@ pub fn every_prefix(alloc: Global, text: &[u8]) -> anyhow::Result<String> {
     Ok(ranges(alloc, answers.as_slice())?)
 }
 
-/// How many pages a text has with this byte in the place of another one, for each place.
+/// The number of pages of a text in which one byte is replaced by this one, for each place.
 pub fn every_change(alloc: Global, text: &[u8], byte: &str) -> anyhow::Result<String> {
     let mut answers = Vec::new(alloc);
     for place in 0..text.len() {
@@ -27,7 +27,7 @@ pub fn every_change(alloc: Global, text: &[u8], byte: &str) -> anyhow::Result<St
     Ok(ranges(alloc, answers.as_slice())?)
 }
 
-/// Answers by their places, from 0: a line for neighbours that are the same.
+/// Answers by their places, from 0: one line for neighbours with the same answer.
 fn ranges(alloc: Global, answers: &[String]) -> Result<String, AllocError> {
     let mut lines = String::new(alloc);
     let mut first = 0;

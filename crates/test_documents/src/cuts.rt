@@ -3,7 +3,8 @@ use crate::words::quoted;
 use dsc::{Body, Document, DscError, prepare};
 use std::alloc::Global;
 
-/// The filtered preamble for so many sheets, each page with its body, the filtered trailer; or why the text is refused.
+/// The filtered preamble for this many sheets, each page with its body, the filtered trailer; or why the text is
+/// refused.
 pub fn cut(alloc: Global, sheets: u32, text: &[u8]) -> anyhow::Result<String> {
     match Document::read(alloc, text) {
         Ok(document) => parts(alloc, sheets, &document, text),
@@ -34,7 +35,7 @@ fn parts(
     Ok(lines)
 }
 
-/// A page with its body; and what else comes of it when it is prepared by itself, if something does.
+/// A page with its body, and, if it differs, the result of preparing it alone.
 fn page_lines(alloc: Global, page: &[u8], body: &[u8]) -> anyhow::Result<String> {
     let prepared = bodies(alloc, page)?;
     let page = quoted(alloc, page)?;
@@ -64,7 +65,7 @@ pub fn bodies(alloc: Global, page: &[u8]) -> anyhow::Result<String> {
     }
 }
 
-/// How many pages a document has, and how many stand behind its trailer; or why the text is refused.
+/// The numbers of pages of a document and of pages after its trailer; or why the text is refused.
 pub fn counted(alloc: Global, text: &[u8]) -> anyhow::Result<String> {
     let document = match Document::read(alloc, text) {
         Ok(document) => document,

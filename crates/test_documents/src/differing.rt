@@ -1,4 +1,4 @@
-//! A case file of which some cases differ: what is read of it, and what is said of them.
+//! A case file in which some cases differ: what is read from it, and how the differences are reported.
 use crate::words::{quoted, words_of};
 use anyhow::Context;
 use std::alloc::{AllocError, Global};
@@ -7,7 +7,7 @@ use test_cases::{Case, CaseFile, Found, FoundFile, Tally, load};
 /// Its name.
 const DIFFERING: &str = "differing.cases";
 
-/// Prints what differs, and counts it apart.
+/// Prints what differs, and counts it separately.
 pub fn tell_differing(rt: &HostRuntime) -> anyhow::Result<()> {
     let file = load(rt, DIFFERING)?;
     let mut tally = Tally::new();
@@ -19,8 +19,8 @@ pub fn tell_differing(rt: &HostRuntime) -> anyhow::Result<()> {
     tally.end(rt)
 }
 
-/// What the words `found STATUS OUTPUT ERROR`, and behind them a file's `NAME TEXT`, say. Of other words it is what was
-/// read of the case.
+/// What the words `found STATUS OUTPUT ERROR` say, which a file's `NAME TEXT` may follow. For other words it is
+/// what was read of the case.
 fn found(alloc: Global, file: &CaseFile, case: &Case) -> anyhow::Result<Found> {
     let words = words_of(alloc, case)?;
     match words.as_slice() {
@@ -32,7 +32,7 @@ fn found(alloc: Global, file: &CaseFile, case: &Case) -> anyhow::Result<Found> {
     }
 }
 
-/// What a command gave, with the file that it made, if it made one.
+/// The results of a command, with the file that it made, if it made one.
 fn said(
     alloc: Global,
     status: &str,

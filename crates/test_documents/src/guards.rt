@@ -1,9 +1,9 @@
-//! Documents with the guard put in.
+//! Documents with the guard inserted.
 use guard::{guarded, put_guard, put_guard_before};
 use lengths::Paper;
 use std::alloc::{AllocError, Global};
 
-/// The text with the guard put in; and in which other ways of putting it in another text comes of it.
+/// The text with the guard inserted, and the other ways of inserting it that give another text.
 pub fn guard(alloc: Global, text: &[u8], paper: Option<&Paper>) -> Result<String, AllocError> {
     let copy = guarded(alloc, text, paper)?;
     let mut lines = String::from_utf8_lossy(alloc, copy.as_slice())?;
@@ -20,7 +20,7 @@ pub fn guard(alloc: Global, text: &[u8], paper: Option<&Paper>) -> Result<String
     Ok(lines)
 }
 
-/// Puts the guard into a text behind so many bytes, and gives the text that comes of it.
+/// Inserts the guard into a text that follows this many bytes, and returns the result.
 fn put_behind(
     alloc: Global,
     room: usize,

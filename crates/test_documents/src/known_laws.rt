@@ -1,4 +1,4 @@
-//! Laws that hold of all documents: here it is only tried that they can be called.
+//! Laws that hold of all documents. The test is only that they can be called.
 
 /// Calls them.
 pub fn call_laws() {

@@ -1,5 +1,5 @@
-//! Goes through the case files in `data`: calls of libraries, as commands over the documents that stand there, and what
-//! they answer. It prints the cases that differ, and how many there are.
+//! Runs the case files in `data`: calls of libraries, as commands over the documents there, with their answers. It
+//! prints the cases that differ, and the number of cases.
 #![tactic(auto)]
 
 mod changes;
@@ -10,7 +10,7 @@ mod guards;
 mod known_laws;
 mod named_rows;
 mod paper_commands;
-mod papers;
+mod paper_texts;
 mod row_commands;
 mod sheets;
 mod words;
@@ -48,7 +48,7 @@ fn main(rt: HostRuntime) -> anyhow::Result<()> {
     tally.end(&rt)
 }
 
-/// What a command gives: its answer, or why it has none.
+/// The result of a command: its answer, or why it has none.
 fn found(alloc: Global, case: &Case, documents: &[Document]) -> anyhow::Result<Found> {
     let words = words_of(alloc, case)?;
     let (status, text) = match answer(alloc, words.as_slice(), documents) {
@@ -64,7 +64,7 @@ fn found(alloc: Global, case: &Case, documents: &[Document]) -> anyhow::Result<F
     })
 }
 
-/// What the library answers that the command names.
+/// The answer of the library that the command names.
 fn answer(alloc: Global, words: &[&str], documents: &[Document]) -> anyhow::Result<Option<String>> {
     if let Some(text) = answer_of_document(alloc, words, documents)? {
         return Ok(Some(text));

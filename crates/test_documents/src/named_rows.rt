@@ -26,7 +26,7 @@ pub fn chosen(alloc: Global, pages: u32, words: &[&str]) -> anyhow::Result<Strin
     Ok(told(alloc, chosen_row(alloc, pages, &choice_of(words)))?)
 }
 
-/// The row of a choice, in signatures if there are to be some.
+/// The row of a choice, in signatures if any are wanted.
 pub fn imposed(alloc: Global, pages: u32, signing: &str, words: &[&str]) -> anyhow::Result<String> {
     if pages >= TOO_MANY {
         return Ok(String::from_str(alloc, "too many pages\n")?);
@@ -65,7 +65,7 @@ fn choice_of<'w>(words: &[&'w str]) -> Choice<'w> {
     choice
 }
 
-/// How many sides signatures have that are easy to fold.
+/// The number of sides of signatures that are easy to fold.
 pub fn sides_for(alloc: Global, entries: u32) -> Result<String, AllocError> {
     if entries == 0 || entries >= TOO_MANY {
         return String::from_str(alloc, "no row has so many entries\n");
@@ -73,7 +73,7 @@ pub fn sides_for(alloc: Global, entries: u32) -> Result<String, AllocError> {
     format!(in alloc; "{}\n", auto_sides(entries as usize))
 }
 
-/// A row in signatures of so many sides.
+/// A row in signatures of this many sides.
 pub fn sewn(alloc: Global, sides: u32, row: &str) -> anyhow::Result<String> {
     if !are_sides(sides) {
         return Ok(String::from_str(alloc, "no sides of leaves\n")?);
@@ -110,7 +110,7 @@ fn told(alloc: Global, answer: Result<Vec<Option<u32>>, RowError>) -> Result<Str
     }
 }
 
-/// A row as it is read; of a long one three entries at each end, and how many there are.
+/// A row in the order of reading; for a long one three entries at each end, and the number of entries.
 fn row_text(alloc: Global, row: &[Option<u32>]) -> Result<String, AllocError> {
     if row.len() <= FEW {
         return format!(in alloc; "{}\n", entries_text(alloc, row)?);

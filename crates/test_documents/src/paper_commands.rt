@@ -1,5 +1,5 @@
 //! Commands that find papers.
-use crate::papers::{
+use crate::paper_texts::{
     as_one_with, cutting, home_papers, instead_of, told, trailing_box, value_of_title,
 };
 use crate::words::{paper, papers, text_of};

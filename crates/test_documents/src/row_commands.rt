@@ -1,4 +1,4 @@
-//! Commands that make rows, and sheets of rows.
+//! Commands that make rows, and sheets from rows.
 use crate::named_rows::{chosen, imposed, named, sewn, sides_for};
 use crate::sheets::{by_specification, on_their_own};
 use crate::words::number;

@@ -1,6 +1,6 @@
-//! Sheets that are made of rows.
+//! Sheets that are made from rows.
 use crate::named_rows::entries;
-use crate::papers::paper_text;
+use crate::paper_texts::paper_text;
 use crate::words::{number, paper};
 use lengths::Paper;
 use pagespec::{Turn, read_spec};
@@ -36,7 +36,7 @@ pub fn by_specification(alloc: Global, spec: &str, row: &str) -> anyhow::Result<
     }
 }
 
-/// So many pages, and their papers in turn: `5 a4 a3`.
+/// This many pages, and their papers in turn: `5 a4 a3`.
 fn papers_of(alloc: Global, text: &str) -> anyhow::Result<(u32, Vec<Paper>)> {
     let (pages, names) = text.split_once(' ').unwrap_or((text, ""));
     let pages = number(pages)?;
@@ -61,7 +61,7 @@ fn row_of(alloc: Global, pages: u32, row: &str) -> anyhow::Result<Vec<Option<u32
     }
 }
 
-/// A line for each sheet; of many sheets two lines at each end, and how many there are.
+/// A line for each sheet; for many sheets two lines at each end, and the number of sheets.
 fn sheets_text(alloc: Global, made: &MadeSheets) -> Result<String, AllocError> {
     let sheets = made.len();
     let mut lines = String::new(alloc);
@@ -96,7 +96,7 @@ fn sheet_text(alloc: Global, made: &MadeSheets, sheet: usize) -> Result<String, 
     Ok(text)
 }
 
-/// What stands in a slot, as `1 a4 left`: the page's number from 1, its paper, and its turn.
+/// The content of a slot, as `1 a4 left`: the page's number from 1, its paper, and its turn.
 fn slot_text(
     alloc: Global,
     made: &MadeSheets,

@@ -1,4 +1,4 @@
-//! What single words of commands stand for.
+//! What single words of commands mean.
 use anyhow::Context;
 use lengths::{Paper, paper_by_name};
 use std::alloc::{AllocError, Global};

@@ -1,4 +1,4 @@
-//! Outputs that fail behind each number of bytes.
+//! Outputs that fail after each number of bytes.
 use crate::asked::Asked;
 use crate::runs::run;
 use std::alloc::{AllocError, Global};
@@ -7,7 +7,7 @@ use std::thread::Threads;
 use test_cases::{Case, CaseFile, Found};
 use test_world::Takes;
 
-/// Runs a command over and over, into outputs that take no byte, one, and so on up to all that it writes, and tells how
+/// Runs a command over and over, into outputs that take no byte, one, and so on up to all that it writes, and reports how
 /// many runs there were, and how many of them ended otherwise than they should.
 pub fn found_of_cut_offs<R: Threads + Wait + Sync>(
     rt: &R,
@@ -45,13 +45,13 @@ fn written(found: &Found) -> &[u8] {
     }
 }
 
-/// Whether a run ended with a failed write behind these bytes.
+/// Whether a run ended with a failed write after these bytes.
 fn is_cut_off(alloc: Global, found: &Found, first: &[u8]) -> Result<bool, AllocError> {
-    let behind = match first.len() {
+    let after = match first.len() {
         0 => String::new(alloc),
         count => format!(in alloc; " after {count} bytes")?,
     };
-    let said = format!(in alloc; "impose: cannot write out.ps{behind}: no storage space\n")?;
+    let said = format!(in alloc; "impose: cannot write out.ps{after}: no storage space\n")?;
     let is_said = found.error.as_slice() == said.as_str().as_bytes();
     Ok(is_said && found.status == 3 && found.files.len() == 1 && written(found) == first)
 }

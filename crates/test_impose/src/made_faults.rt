@@ -1,10 +1,10 @@
 //! Faults that no small command line brings about, by their names.
-use arranged_sheets::PosterError;
 use dsc::DscError;
 use impose_cli::{CommandFault, Fault};
 use imposer::RunError;
 use layouts::ArrangementError;
 use pagespec::SpecError;
+use row_sheets::PosterError;
 use sheet_plan::{MadeError, PlanError};
 use std::io;
 use std::io::ErrorKind;

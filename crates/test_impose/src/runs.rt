@@ -145,7 +145,7 @@ fn first_text<'a>(file: &'a CaseFile, case: &Case) -> &'a [u8] {
     }
 }
 
-/// A text behind so much room, and the same with the guard for A4 in it.
+/// A text after so much room, and the same with the guard for A4 in it.
 fn guarded(alloc: Global, room: usize, text: &[u8]) -> Result<Found, AllocError> {
     let mut bytes = vec![in alloc; 0u8; room]?;
     bytes.extend_from_slice(text)?;

@@ -36,7 +36,7 @@ fn main(rt: HostRuntime) -> anyhow::Result<()> {
     tally.end(&rt)
 }
 
-/// What comes of a case, by the call that its first word names.
+/// The result of a case, by the call that its first word names.
 fn found<R: Threads + Wait + Sync>(
     rt: &R,
     alloc: Global,

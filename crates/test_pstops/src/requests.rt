@@ -3,7 +3,7 @@ use pstops_cli::{Request, read_command};
 use std::alloc::{AllocError, Global};
 use test_cases::Found;
 
-/// The request that words make, in lines. Status 2 if they make none.
+/// The request in words, as lines. Status 2 if they are no request.
 pub(crate) fn asked(alloc: Global, words: &[String]) -> Result<Found, AllocError> {
     let (status, output) = match read_command(alloc, words) {
         Ok(request) => (0, lines_of(alloc, &request)?),
@@ -17,7 +17,7 @@ pub(crate) fn asked(alloc: Global, words: &[String]) -> Result<Found, AllocError
     })
 }
 
-/// The specification, the workers and the paper, and lines for what else is asked for.
+/// The specification, the workers and the paper, and lines for everything else that is asked for.
 fn lines_of(alloc: Global, request: &Request) -> Result<String, AllocError> {
     let workers = request.options.workers;
     let paper = request.options.paper;

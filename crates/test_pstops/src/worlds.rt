@@ -9,7 +9,7 @@ use test_world::{Folder, GivenFile, Takes, Written};
 /// Room for every output.
 const AMPLE: Takes = Takes::Bytes(1_000_000);
 
-/// Runs the program. Nothing if the case has a setting that there isn't.
+/// Runs the program. None if the case has an unknown setting.
 pub(crate) fn ran<R: Threads + Wait + Sync>(
     rt: &R,
     alloc: Global,

@@ -1,10 +1,10 @@
-//! What a command gives, as text.
+//! The results of commands, as text.
 use std::alloc::Global;
 use std::fmt::{Debug, Display};
 use std::io::Write;
 
-/// What is shown of an answer: all of it, with a refusal by its name; a refusal by its line; or `yes` in place of an
-/// answer that is no refusal.
+/// What is shown of an answer: all of it, with a refusal by its name; a refusal by its line; or `yes` instead of an
+/// answer that isn't a refusal.
 #[derive(Clone, Copy, PartialEq, Eq)]
 pub enum Form {
     Whole,
@@ -33,7 +33,7 @@ impl Answer {
         }
     }
 
-    /// The text, unless memory was lacking.
+    /// The text, unless memory ran out.
     pub fn whole(mut self) -> Option<Vec<u8>> {
         if self.form == Form::Taken && !self.is_refused {
             self.bytes.clear();

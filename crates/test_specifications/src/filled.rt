@@ -5,12 +5,12 @@ ghost use Rattle.layouts.specs.Cells.{size};
 use crate::answer::Answer;
 use crate::planned::page_lists;
 use crate::words::{number, paper, row, word};
-use arranged_sheets::{
+use layouts::{Arrangement, ArrangementError, Cells, Papers, Setting};
+use lengths::{Paper, a4};
+use row_sheets::{
     Poster, card_sheets, check_poster, grid_sheets, leaf_sheets, poster_row_sheets, poster_sheets,
     stack_sheets,
 };
-use layouts::{Arrangement, ArrangementError, Cells, Papers, Setting};
-use lengths::{Paper, a4};
 use sheet_plan::{MadeSheets, Plan};
 
 pub fn run(out: &mut Answer, words: &[String]) -> Option<()> {
@@ -117,7 +117,7 @@ fn two_tiles() -> Poster
     }
 }
 
-/// Such a poster, or with columns, an edge and an overlap that are told behind the page's paper.
+/// Such a poster; or one with the columns, the edge and the overlap that follow the page's paper.
 fn told(words: &[String]) -> Option<Poster> {
     let mut poster = two_tiles();
     if word(words, 2).is_some() {
@@ -155,7 +155,7 @@ fn posters(out: &mut Answer, words: &[String]) -> Option<()> {
     Some(())
 }
 
-/// Where the first page of each sheet is moved, in 10^-9 of a point.
+/// The offset of the first page of each sheet, in 10^-9 of a point.
 fn offsets(out: &mut Answer, made: &MadeSheets) {
     let Ok(sheets) = u32::try_from(made.len()) else {
         return out.text("too many\n");

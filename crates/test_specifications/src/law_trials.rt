@@ -1,4 +1,4 @@
-//! The laws of layouts on printed matrices, by an arithmetic of its own: all numbers of pages on many papers.
+//! The laws of layouts on printed matrices, by arithmetic of the tests' own: all numbers of pages on many papers.
 use crate::answer::Answer;
 use crate::placed::{
     Kept, Placed, are_apart, are_in_order, are_inside, are_like, columns_of, largest, pages_of,
@@ -21,7 +21,7 @@ const PAPERS: [(&str, i64, i64); 8] = [
     ("10x14", 720, 1008),
 ];
 
-/// Some of the numbers of pages from 1 to 1,024.
+/// Some of the numbers of pages from 65 to 1,024.
 const MANY: [u32; 5] = [65, 97, 256, 720, 1_024];
 
 /// Numbers of pages on sheets of other papers.
@@ -65,7 +65,7 @@ fn up_to_64(alloc: Global) -> Option<Vec<u32>> {
 /// A paper by its name, and its sides in points.
 type Named = (&'static str, i64, i64);
 
-/// Tells how many layouts have no fault, or the first that has one.
+/// Prints how many layouts have no fault, or the first that has one.
 fn layouts_tried(out: &mut Answer, numbers: &[u32], on_own_paper: bool, kept: Kept) {
     let mut count = 0u32;
     for page in PAPERS {
@@ -86,7 +86,7 @@ fn layouts_tried(out: &mut Answer, numbers: &[u32], on_own_paper: bool, kept: Ke
     out.line(format_args!("{count} layouts, no fault"));
 }
 
-/// The specification of n pages of the one paper on a sheet of the other.
+/// The specification of n pages of one paper on a sheet of the other.
 fn laid_out(alloc: Global, n: u32, papers: &Papers, kept: Kept) -> Option<Spec> {
     let mut arrangement = Arrangement::plain(Cells::AtLeast(n));
     if kept.margin != 0 {
@@ -103,7 +103,7 @@ fn papers_named(page: &str, sheet: &str) -> Option<Papers> {
     })
 }
 
-/// What is wrong with n pages of the one paper on a sheet of the other.
+/// What is wrong with n pages of one paper on a sheet of the other.
 fn fault_of(alloc: Global, n: u32, page: Named, sheet: Named, kept: Kept) -> &'static str {
     let Some(papers) = papers_named(page.0, sheet.0) else {
         return "no paper";
@@ -121,7 +121,7 @@ fn fault_of(alloc: Global, n: u32, page: Named, sheet: Named, kept: Kept) -> &'s
     }
 }
 
-/// What is wrong with n pages with such sides on a sheet with such sides.
+/// What is wrong with n pages with these sides on a sheet with these sides.
 fn fault_among(
     pages: &[Placed],
     n: u32,
@@ -154,7 +154,7 @@ fn fault_among(
     ""
 }
 
-/// Tells how many booklets have no fault, or the first that has one.
+/// Prints how many booklets have no fault, or the first that has one.
 fn booklets_tried(out: &mut Answer) {
     let mut count = 0u32;
     for page in PAPERS {
@@ -219,7 +219,7 @@ fn fault_of_leaf(front: &[Placed], back: &[Placed], sheet: (i64, i64)) -> &'stat
     ""
 }
 
-/// Calls the laws that are proved.
+/// Calls the proved laws.
 fn laws_called(out: &mut Answer) {
     lengths::laws::printed_scale_is_read();
     lengths::laws::printed_number_is_read();

@@ -1,5 +1,5 @@
-//! Calls what stands between the words of a specification and the sheets, as the case files of `data` tell, and prints
-//! what differs from what they want.
+//! Makes the calls that lead from the words of a specification to the sheets, as the case files of `data` say, and
+//! prints where the results differ from the expected ones.
 #![tactic(auto)]
 
 mod answer;
@@ -53,7 +53,7 @@ fn run_cases(
     Ok(())
 }
 
-/// What was printed, and nothing else.
+/// A result of printed text alone.
 fn found(rt: &HostRuntime, output: Vec<u8>) -> Found {
     Found {
         status: 0,
@@ -63,7 +63,7 @@ fn found(rt: &HostRuntime, output: Vec<u8>) -> Found {
     }
 }
 
-/// What a command gives, if it is one.
+/// The result of a command, if it is one.
 fn answer_of(rt: &HostRuntime, case: &Case) -> Option<Vec<u8>> {
     let mut out = Answer::new(rt.alloc());
     let words = words::without_form(&mut out, case.words.as_slice());
@@ -71,7 +71,7 @@ fn answer_of(rt: &HostRuntime, case: &Case) -> Option<Vec<u8>> {
     out.whole()
 }
 
-/// Runs a command; None if there is none of that name, or its words aren't understood.
+/// Runs a command. None if no command has this name, or its words aren't understood.
 fn run(out: &mut Answer, words: &[String]) -> Option<()> {
     let is_command = measures::run(out, words).is_some()
         || specifications::run(out, words).is_some()

@@ -1,4 +1,4 @@
-//! Matrices, and what stands before and behind a page.
+//! Matrices, and what comes before and after a page.
 use crate::answer::Answer;
 use crate::words::{item, number, paper, word};
 use lengths::{Grains, Paper};
@@ -26,7 +26,7 @@ pub fn run(out: &mut Answer, words: &[String]) -> Option<()> {
     Some(())
 }
 
-/// The item that a text tells.
+/// The item of a text.
 fn placed(alloc: Global, words: &[String]) -> Option<Item> {
     item(alloc, word(words, 1)?)
 }
@@ -51,7 +51,7 @@ fn applied(out: &mut Answer, item: &Item, paper: &Paper, point: (i32, i32)) {
     out.line(format_args!("{x} {y}"));
 }
 
-/// What stands before a page, behind a text, and what stands behind the page.
+/// What comes before a page, appended to a text, and what comes after the page.
 fn page_texts(out: &mut Answer, item: &Item, paper: &Paper, border: Option<Grains>) {
     out.text("% page\n");
     let added = opening_text(item, paper, border, &mut out.bytes);

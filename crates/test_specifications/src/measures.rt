@@ -24,7 +24,7 @@ pub fn run(out: &mut Answer, words: &[String]) -> Option<()> {
     Some(())
 }
 
-/// A number, told in 10^-9.
+/// A number, given in 10^-9.
 fn billionths(words: &[String]) -> Option<Number> {
     Number::new(i64::try_from(number(words, 1)?).ok()?)
 }
@@ -57,7 +57,7 @@ fn unit(words: &[String]) -> Option<Unit> {
     }
 }
 
-/// A number behind a text, in full and as a specification has it.
+/// A number after a text, in full and as a specification has it.
 fn printed(out: &mut Answer, number: Number) {
     out.text("@");
     let added = print_scale(number, &mut out.bytes);

@@ -71,7 +71,7 @@ fn on_a4() -> Papers {
     }
 }
 
-/// Cells, and what is asked for behind them.
+/// Cells, and the options that follow them.
 fn arrangement(words: &[String]) -> Option<Arrangement> {
     let mut arrangement = Arrangement::plain(cells(word(words, 1)?)?);
     for word in words.iter().skip(2) {
@@ -80,7 +80,7 @@ fn arrangement(words: &[String]) -> Option<Arrangement> {
     Some(arrangement)
 }
 
-/// So many cells or more, or `columns x rows`.
+/// This many cells or more, or `columns x rows`.
 fn cells(text: &str) -> Option<Cells> {
     match text.split_once('x') {
         None => Some(Cells::AtLeast(small(text)?)),
@@ -110,7 +110,7 @@ fn ask(arrangement: &mut Arrangement, text: &str) -> Option<()> {
     Some(())
 }
 
-/// So many 10^-5 of a point.
+/// This many 10^-5 of a point.
 fn hundred_thousandths(text: &str) -> Option<Grains> {
     length(text, 1_270_000)
 }

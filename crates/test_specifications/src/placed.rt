@@ -14,7 +14,7 @@ struct Area {
 }
 
 impl Area {
-    /// Whether a strip along a side, as wide as the gap, parts them.
+    /// Whether a strip along a side, as wide as the gap, separates them.
     fn is_apart_from(self, other: Area, gap: i64) -> bool {
         self.right.saturating_add(gap) <= other.left
             || other.right.saturating_add(gap) <= self.left
@@ -23,7 +23,7 @@ impl Area {
     }
 }
 
-/// A placed page, as its printed matrix says: where it stands on the sheet, where as one holds the sheet to read it,
+/// A placed page, by its printed matrix: its place on the sheet, its place on the sheet as it is held for reading,
 /// its scale in 10^-9, and its turn in quarters.
 #[derive(Clone, Copy)]
 pub struct Placed {
@@ -93,7 +93,7 @@ fn sent(numbers: &[i64], x: i64, y: i64) -> Option<(i64, i64)> {
     }
 }
 
-/// A point of the sheet as one holds it, if pages are turned by this many quarters to the left.
+/// A point of the sheet as it is held for reading, if pages are turned by this many quarters to the left.
 fn as_held(quarters: u32, point: (i64, i64)) -> (i64, i64) {
     let (x, y) = point;
     match quarters {
@@ -115,8 +115,8 @@ fn turn_of(numbers: &[i64]) -> Option<(u32, i64)> {
     }
 }
 
-/// The pages of a sheet of a specification, as their printed matrices place them, if there is such a sheet. A page has
-/// these sides, in points.
+/// The pages of a sheet of a specification, as their printed matrices place them, if there is such a sheet. A page
+/// has these sides, in points.
 pub fn pages_of(
     alloc: Global,
     spec: &Spec,
@@ -152,7 +152,7 @@ fn placed_by(numbers: &[i64], sides: (i64, i64)) -> Option<Placed> {
     })
 }
 
-/// Whether all pages lie on a sheet with these sides, in points, and keep the margin, in 10^-9 of a point.
+/// Whether all pages are on a sheet with these sides, in points, and keep the margin, in 10^-9 of a point.
 pub fn are_inside(pages: &[Placed], sides: (i64, i64), margin: i64) -> bool {
     for page in pages {
         let area = page.on_sheet;
@@ -167,7 +167,7 @@ pub fn are_inside(pages: &[Placed], sides: (i64, i64), margin: i64) -> bool {
     true
 }
 
-/// Whether each two pages are apart by the gap, in 10^-9 of a point.
+/// Whether any two pages are apart by the gap, in 10^-9 of a point.
 pub fn are_apart(pages: &[Placed], gap: i64) -> bool {
     for (k, page) in pages.iter().enumerate() {
         for (l, other) in pages.iter().enumerate() {
@@ -179,7 +179,7 @@ pub fn are_apart(pages: &[Placed], gap: i64) -> bool {
     true
 }
 
-/// How many pages stand in the first row: they end as high as the first one does.
+/// The number of pages in the first row: those that end as high as the first one.
 pub fn columns_of(pages: &[Placed]) -> usize {
     let mut columns = 0usize;
     for page in pages {
@@ -192,7 +192,8 @@ pub fn columns_of(pages: &[Placed]) -> usize {
     columns
 }
 
-/// Whether the pages stand in rows of so many columns, row by row and each row from the left, as one holds the sheet.
+/// Whether the pages are in rows of this many columns, row by row and each row from the left, on the sheet as it is
+/// held for reading.
 pub fn are_in_order(pages: &[Placed], columns: usize) -> bool {
     if columns == 0 {
         return false;
@@ -227,11 +228,12 @@ pub struct Kept {
     pub gap: i64,
 }
 
-/// The largest scale, in 10^-9, with which pages fit the exact cells of a grid of so many or more, upright or turned.
+/// The largest scale, in 10^-9, with which pages fit the exact cells of a grid of this many or more, upright or
+/// turned.
 pub fn largest(n: i64, page: (i64, i64), sheet: (i64, i64), kept: Kept) -> i64 {
     let mut best = 0i64;
     for rows in 1..n.saturating_add(1) {
-        // as few columns as are enough
+        // As few columns as are enough.
         let columns = n
             .saturating_add(rows)
             .saturating_sub(1)
@@ -246,7 +248,7 @@ pub fn largest(n: i64, page: (i64, i64), sheet: (i64, i64), kept: Kept) -> i64 {
     best
 }
 
-/// The largest scale, in 10^-9, with which so many sides fit a side of which something is kept free.
+/// The largest scale, in 10^-9, with which this many sides fit a side of which something is kept free.
 fn room(whole: i64, parts: i64, side: i64, kept: Kept) -> i64 {
     let margins = kept.margin.saturating_mul(2);
     let gaps = kept.gap.saturating_mul(parts.saturating_sub(1));

@@ -1,4 +1,4 @@
-//! Plans: which page stands in which slot of which sheet.
+//! Plans: which page is in which slot of which sheet.
 ghost use Rattle.std.specs.Prelude.{◌<◌, length};
 
 use crate::answer::Answer;
@@ -6,7 +6,7 @@ use crate::words::{count, specification, word};
 use pagespec::{Item, Spec};
 use sheet_plan::{Plan, PlanError, are_sides};
 
-/// How many entries of a list are shown before the last one.
+/// The number of entries of a list that are shown before the last one.
 const SHOWN: u32 = 12;
 
 pub fn run(out: &mut Answer, words: &[String]) -> Option<()> {
@@ -23,7 +23,7 @@ pub fn run(out: &mut Answer, words: &[String]) -> Option<()> {
     Some(())
 }
 
-/// The plan of so many pages, in signatures of so many sides if these are told.
+/// The plan of this many pages, in signatures of this many sides if they are given.
 fn planned(out: &mut Answer, spec: &Spec, pages: u32, sides: Option<u32>) -> Option<()> {
     let plan = match sides {
         None => Plan::new(out.alloc, spec, pages),
@@ -69,7 +69,7 @@ enum What {
     Missing,
 }
 
-/// Begins an entry of a list. Whether it is shown: the first ones are, and the last.
+/// Begins an entry of a list. Returns whether it is shown: the first ones are, and the last.
 fn begin(out: &mut Answer, at: u32, count: u32, between: &str) -> bool {
     let is_last = count.saturating_sub(1) <= at;
     if SHOWN < at && !is_last {
@@ -85,7 +85,7 @@ fn begin(out: &mut Answer, at: u32, count: u32, between: &str) -> bool {
     true
 }
 
-/// Ends a list of so many entries.
+/// Ends a list of this many entries.
 fn end(out: &mut Answer, count: u32) {
     out.text(if count == 0 { "none\n" } else { "\n" });
 }
@@ -136,7 +136,7 @@ fn named_page(out: &mut Answer, item: &Item) {
     out.show(item.page);
 }
 
-/// The slots that miss a page, of each group of slots.
+/// The slots without a page, for each group of slots.
 fn missing(out: &mut Answer, plan: &Plan<'_>, sheet: u32)
     requires { sheet < length plan.now.sheets }
 {

@@ -2,11 +2,11 @@
 use crate::answer::Answer;
 use crate::filled::two_columns;
 use crate::words::{count, length, paper, row, word};
-use arranged_sheets::{booklet_sheets, grid_sheets};
 use layouts::{ArrangementError, Setting};
 use lengths::{Grains, Number, Paper};
 use pagespec::{Item, Measure, Turn};
 use preview::{Edge, Guide, GuideKind, Places, Reading, Sides, plan_text, preview_text};
+use row_sheets::{booklet_sheets, grid_sheets};
 use sheet_plan::{MadeSheets, MadeSlot};
 use std::alloc::{AllocError, Global};
 
@@ -45,7 +45,7 @@ fn grid_plan(out: &mut Answer, words: &[String]) -> Option<()> {
     Some(())
 }
 
-/// The row behind so many words.
+/// The row that follows this many words.
 fn row_behind(alloc: Global, words: &[String], first: usize) -> Option<Vec<Option<u32>>> {
     row(alloc, words.get(first..)?)
 }
@@ -58,7 +58,7 @@ fn reading(sides: Sides, setting: &Setting) -> Reading {
     Reading { sides, places }
 }
 
-/// The plan of sheets, of which so many are listed.
+/// The plan of sheets, this many of which are listed.
 fn tell(
     out: &mut Answer,
     made: Result<MadeSheets, ArrangementError>,
@@ -81,7 +81,7 @@ fn add(out: &mut Answer, text: Result<Vec<u8>, AllocError>) {
     }
 }
 
-/// The picture of a sheet of this paper with a page and a blank, which is folded half way up.
+/// The picture of a sheet of this paper with a page and a blank, folded half way up.
 fn folded_sheet(out: &mut Answer, paper: &Paper) -> Option<()> {
     let alloc = out.alloc;
     match one_sheet(alloc, 2, paper) {
@@ -118,7 +118,7 @@ const WHOLE: Item = Item {
     offset: (Measure::ZERO, Measure::ZERO),
 };
 
-/// A sheet of this paper, on which this page stands as it is, and a blank.
+/// A sheet of this paper, with this page unmoved, and a blank.
 fn one_sheet(alloc: Global, page: u32, paper: &Paper) -> Result<MadeSheets, AllocError> {
     let mut sheets = MadeSheets::new(alloc);
     let placed = MadeSlot::Placed {

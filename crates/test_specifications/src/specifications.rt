@@ -57,7 +57,7 @@ pub fn written(out: &mut Answer, spec: &Spec) {
     }
 }
 
-/// Where a text is refused, as the refusal tells and as a slow search finds.
+/// Where a text is refused, by the refusal and by a slow search.
 fn syntax(out: &mut Answer, text: &str) {
     match read_spec(out.alloc, text) {
         Err(SpecError::Syntax(place)) => out.show(place),
@@ -70,7 +70,8 @@ fn syntax(out: &mut Answer, text: &str) {
     }
 }
 
-/// The longest prefix that goes on to a text of the grammar, by trying every prefix with each end that one may want.
+/// The longest prefix that can be continued to a text of the grammar, by trying every prefix with each end that one
+/// may need.
 fn longest_prefix(alloc: Global, text: &str) -> Result<usize, AllocError> {
     let mut longest = 0;
     for k in 0..text.len() + 1 {
@@ -83,7 +84,7 @@ fn longest_prefix(alloc: Global, text: &str) -> Result<usize, AllocError> {
     Ok(longest)
 }
 
-/// Whether there is an end that makes a text of the grammar.
+/// Whether some end completes it to a text of the grammar.
 fn goes_on(alloc: Global, prefix: &str) -> Result<bool, AllocError> {
     for end in [
         "", "0", "0,0)", ",0)", "t,0)", "m,0)", "n,0)", "0)", ")", "t)", "m)", "n)",

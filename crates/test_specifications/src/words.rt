@@ -4,7 +4,7 @@ use lengths::{Grains, Paper, paper_by_name};
 use pagespec::{Item, Spec, read_spec};
 use std::alloc::{AllocError, Global};
 
-/// The words behind `line` or `taken`, which say what is shown of the answer.
+/// The words after `line` or `taken`, which say what is shown of the answer.
 pub fn without_form<'w>(out: &mut Answer, words: &'w [String]) -> &'w [String] {
     let form = match word(words, 0) {
         Some("line") => Form::Line,
@@ -34,12 +34,12 @@ pub fn number_in(text: &str) -> Option<i128> {
     }
 }
 
-/// A number of pages, or of what is as small.
+/// A number of pages, or of something as small.
 pub fn count(words: &[String], at: usize) -> Option<u32> {
     u32::try_from(number(words, at)?).ok()
 }
 
-/// A paper: its name, or its sides as `WxH`, in 10^-5 of a point, or in grains if a `g` stands behind.
+/// A paper: its name, or its sides as `WxH`, in 10^-5 of a point, or in grains if a `g` follows.
 pub fn paper(words: &[String], at: usize) -> Option<Paper> {
     let text = word(words, at)?;
     if let Some(paper) = paper_by_name(text) {
@@ -53,12 +53,12 @@ pub fn paper(words: &[String], at: usize) -> Option<Paper> {
     Paper::new(length(width, unit)?, length(height, unit)?)
 }
 
-/// A length of so many units, each of so many grains.
+/// A length of this many units, each of this many grains.
 pub fn length(text: &str, unit: i128) -> Option<Grains> {
     Grains::new(number_in(text)?.checked_mul(unit)?)
 }
 
-/// A text, which may be told as `repeat N TEXT BETWEEN FRONT BACK`, of which the last three may be left out.
+/// A text, which may be written as `repeat N TEXT BETWEEN FRONT BACK`; the last three may be left out.
 pub fn long_text(alloc: Global, text: &str) -> Option<String> {
     let mut parts = text.split(' ');
     if parts.next() != Some("repeat") {
@@ -72,7 +72,7 @@ pub fn long_text(alloc: Global, text: &str) -> Option<String> {
     repeated(alloc, [front, one, between, back], times).ok()
 }
 
-/// So many times a text with another between them, behind the front and before the back.
+/// This many times a text with another between them, after the front and before the back.
 fn repeated(alloc: Global, parts: [&str; 4], times: i128) -> Result<String, AllocError> {
     let [front, one, between, back] = parts;
     let mut text = String::from_str(alloc, front)?;
@@ -86,7 +86,7 @@ fn repeated(alloc: Global, parts: [&str; 4], times: i128) -> Result<String, Allo
     Ok(text)
 }
 
-/// A specification; what is refused is told.
+/// A specification. If it is refused, the refusal is printed.
 pub fn specification(out: &mut Answer, words: &[String], at: usize) -> Option<Spec> {
     let text = long_text(out.alloc, word(words, at)?)?;
     match read_spec(out.alloc, text.as_str()) {

@@ -1,4 +1,4 @@
-//! Documents of pages that pop their numbers.
+//! Documents whose pages push and pop their numbers.
 use std::alloc::{AllocError, Global};
 
 /// One page: `document_of` has the same.
@@ -18,7 +18,7 @@ pub const TWO_PAGES: &str = "%!PS-Adobe-3.0\n\
     %%Trailer\n\
     %%EOF\n";
 
-/// A document of so many pages, each of which pops its number, counted from 0.
+/// A document of this many pages, each of which pops its number, counted from 0.
 pub fn document_of(alloc: Global, pages: u32) -> Result<String, AllocError> {
     let mut text = String::new(alloc);
     for page in 0..pages {
@@ -30,18 +30,18 @@ pub fn document_of(alloc: Global, pages: u32) -> Result<String, AllocError> {
     document_with(alloc, pages, &text)
 }
 
-/// What stands on a page behind its page line.
+/// The body of a page, after its page line.
 pub fn page_body(alloc: Global, page: u32) -> Result<String, AllocError> {
     format!(in alloc; "({page}) pop\nshowpage\n")
 }
 
-/// A document that tells so many pages, with this text between its preamble and its trailer: pages, or the sheets that
-/// are made of them.
+/// A document with this count of pages, and with this text between its preamble and its trailer: pages, or the
+/// sheets that are made of them.
 pub fn document_with(alloc: Global, pages: u32, text: &str) -> Result<String, AllocError> {
     format!(in alloc; "%!PS-Adobe-3.0\n%%Pages: {pages}\n%%EndComments\n{text}%%Trailer\n%%EOF\n")
 }
 
-/// A document of one page, or its sheet, with so many lines in the page.
+/// A document of one page, or its sheet, with this many lines in the page.
 pub fn with_lines(alloc: Global, text: &str, lines: usize) -> Result<String, AllocError> {
     let mut long = String::new(alloc);
     let (before, behind) = match text.split_once("(0) pop\n") {

@@ -5,7 +5,7 @@ use std::alloc::{AllocError, Global};
 /// Width and height of A4, in points.
 pub const A4_SIDES: (&str, &str) = ("595", "842");
 
-/// The matrix of a page that is left as it is.
+/// The matrix of a page that isn't moved.
 pub const UNMOVED: &str = "1 0 0 1 0 0";
 
 /// The path along the edge of a paper of this width and height.
@@ -15,7 +15,7 @@ fn edge(alloc: Global, (width, height): (&str, &str)) -> Result<String, AllocErr
     )
 }
 
-/// What stands before the body of a page on this paper that is placed by this matrix.
+/// What comes before the body of a page that is placed on this paper by this matrix.
 pub fn opening(alloc: Global, paper: (&str, &str), matrix: &str) -> Result<String, AllocError> {
     let edge = edge(alloc, paper)?;
     format!(in alloc;
@@ -23,13 +23,13 @@ pub fn opening(alloc: Global, paper: (&str, &str), matrix: &str) -> Result<Strin
     )
 }
 
-/// The border of a page on this paper. It stands between opening and body.
+/// The border of a page on this paper, which comes between opening and body.
 pub fn border(alloc: Global, paper: (&str, &str), width: &str) -> Result<String, AllocError> {
     let edge = edge(alloc, paper)?;
     format!(in alloc; "gsave {width} setlinewidth {edge} stroke grestore\n")
 }
 
-/// A page on this paper that is placed by this matrix, with its border, if it has one, before its body.
+/// A page placed on this paper by this matrix, with its border, if it has one, before its body.
 pub fn placed_on(
     alloc: Global,
     paper: (&str, &str),
@@ -45,12 +45,12 @@ pub fn placed(alloc: Global, matrix: &str, body: &str) -> Result<String, AllocEr
     placed_on(alloc, A4_SIDES, matrix, body)
 }
 
-/// The sheet with this number, counted from 1, of placed pages.
+/// The sheet with this number, counted from 1, with these placed pages.
 pub fn sheet(alloc: Global, number: u32, pages: &str) -> Result<String, AllocError> {
     format!(in alloc; "%%Page: {number} {number}\n{pages}showpage\n")
 }
 
-/// The sheet of the one page of `ONE_PAGE` as it is, with this border.
+/// The sheet with the page of `ONE_PAGE`, unmoved, with this border.
 pub fn one_up_sheet(alloc: Global, border: &str) -> Result<String, AllocError> {
     let body = format!(in alloc; "{border}{}", page_body(alloc, 0)?)?;
     sheet(alloc, 1, &placed(alloc, UNMOVED, &body)?)
@@ -61,7 +61,7 @@ pub fn one_up_output(alloc: Global, border: &str) -> Result<String, AllocError> 
     document_with(alloc, 1, &one_up_sheet(alloc, border)?)
 }
 
-/// So many sheets, each of two pages of `document_of`, as `TWO_UP` says.
+/// This many sheets, each of two pages of `document_of`, by `TWO_UP`.
 pub fn two_up_sheets(alloc: Global, sheets: u32) -> Result<String, AllocError> {
     let mut text = String::new(alloc);
     for place in 0..sheets {

@@ -7,7 +7,7 @@ pub const TWO_UP: &str = "2:0L@.7(21cm,0)+1L@.7(21cm,14.85cm)";
 /// A booklet: from the last page and the first towards the middle.
 pub const BOOKLET: &str = "4:-3L@.7(21cm,0)+0L@.7(21cm,14.85cm),1L@.7(21cm,0)+-2L@.7(21cm,14.85cm)";
 
-/// A sheet with this item in each of so many slots.
+/// A sheet with this item in each of this many slots.
 pub fn same_items(alloc: Global, item: &str, slots: u32) -> Result<String, AllocError> {
     let mut text = String::new(alloc);
     for slot in 0..slots {

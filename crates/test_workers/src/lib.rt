@@ -1,4 +1,4 @@
-//! Trials of threads whose work is made up here. There is no code here but tests.
+//! Tests of threads with made-up work. There is no code here except tests.
 #![tactic(auto)]
 
 #[cfg(test)]

@@ -1,4 +1,5 @@
-//! Workers that find no memory: who waits for the collector is told to stop, all threads end, and nothing is handed back.
+//! Workers that find no memory: whoever waits for the collector is told to stop, all threads end, and nothing is
+//! returned.
 ghost use Rattle.std.specs.Prelude.{◌≡◌, ⊤};
 
 mod checks;
@@ -18,7 +19,7 @@ use workers::{Collector, Crew, Imposing, Supplies, Work, gather_by};
 /// How often a wait yields before it runs out.
 const YIELDS: u32 = 20_000_000;
 
-/// How many workers of each kind there are.
+/// The number of workers of each kind.
 const WORKERS: u32 = 3;
 
 /// What a worker holds: shares, and nothing else.
@@ -27,31 +28,31 @@ struct Held {
     shares: u64,
 }
 
-/// By what an imposer would send.
+/// The ticket with which an imposer would send.
 #[derive(Drop)]
 struct Ticket {}
 
-/// What the collector counts: how often it collected.
+/// The number of times that the collector collected.
 #[derive(Drop)]
 struct Collected {
     times: u32,
 }
 
-/// What the threads share. Bit k of `preparers` says that preparer k finds no memory, bit k of `imposers` that the imposer
-/// that begins as the kth does; each other imposer waits until it is told to stop.
+/// What the threads share. Bit k of `preparers` says that preparer k finds no memory, and bit k of `imposers` that
+/// the imposer that begins as the kth finds none. Every other imposer waits until it is told to stop.
 #[derive(Drop)]
 struct Fates<'a, R> {
     rt: &'a R,
     preparers: u32,
     imposers: u32,
-    /// How many preparers, and how many imposers, have begun.
+    /// The number of preparers, and of imposers, that have begun.
     preparing: AtomicU32,
     imposing: AtomicU32,
     /// How often the imposers were told to stop.
     stopped: AtomicU32,
-    /// How many waits ran out.
+    /// The number of waits that ran out.
     run_out: AtomicU32,
-    /// How many collections began when the imposers had been told to stop.
+    /// The number of collections that began after the imposers had been told to stop.
     late: AtomicU32,
 }
 
@@ -69,7 +70,7 @@ impl<'a, R> Fates<'a, R> {
         }
     }
 
-    /// Waits until the word is so high, or any wait ran out.
+    /// Waits until the word has this value or more, or any wait ran out.
     fn wait_for(&self, word: &AtomicU32, height: u32) {
         for _ in 0..YIELDS {
             if word.load(SeqCst) >= height || self.run_out.load(SeqCst) > 0 {
@@ -177,7 +178,8 @@ impl<'a, R> Collector<Collected> for Fates<'a, R> {
     }
 }
 
-/// What came of the workers: how often was collected, what the fates tell, and the shares that were handed back.
+/// The result of a run of workers: how often the collector collected, the final fates, and the shares that were
+/// returned.
 struct Came {
     collected: u32,
     late: u32,
@@ -221,7 +223,7 @@ fn gather<R: Threads + Wait + Abort + Sync>(
     }
 }
 
-/// Whether all workers began, nobody waited in vain, and these shares were handed back.
+/// Whether all workers began, no wait ran out, and these shares were returned.
 fn is_right(came: Came, shares: Option<u64>) -> bool {
     let Came {
         collected,
@@ -242,7 +244,7 @@ fn workers_that_find_memory_hand_back_all(rt: HostRuntime) -> Result<(), Fail> {
     Ok(())
 }
 
-// As many shares are handed back as there were, or none.
+// The returned shares are as many as there were, or none.
 #[test]
 fn a_worker_without_memory_lets_nobody_wait(rt: HostRuntime) -> Result<(), Fail> {
     for preparers in 0..8u32 {

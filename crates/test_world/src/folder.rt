@@ -42,6 +42,10 @@ impl<'a> World for Folder<'a> {
         }
     }
 
+    fn is_file(&self, name: &str) -> bool {
+        self.files.iter().any(|file| file.name == name)
+    }
+
     fn create(self, name: Option<&str>) -> Result<Written, Refused<Folder<'a>>> {
         match Written::new(self.alloc, name, self.takes) {
             Ok(output) => Ok(output),

@@ -1,4 +1,4 @@
-//! A world of files that lies in memory, and tells what is written.
+//! A world of files that lies in memory, and reports what is written.
 ghost use Rattle.std.specs.Prelude.{◌≡◌, IfOk, [], option_map, string_bytes, true};
 ghost use Rattle.world.specs.Outputs.{told_if};
 
@@ -70,6 +70,10 @@ impl<'a> World for InMemory<'a> {
                 _ => Err(io::Error::from(ErrorKind::NotFound)),
             },
         }
+    }
+
+    fn is_file(&self, name: &str) -> bool {
+        name == self.name || (name == "/etc/papersize" && self.home.is_some())
     }
 
     fn create(self, name: Option<&str>) -> Result<Written, Refused<InMemory<'a>>> {

@@ -1,4 +1,4 @@
--- What holds at each place of a list, and of one more at its end.
+-- What holds at each place of a list, and with one more element at its end.
 use Rattle.std.proofs.Common.{◌≡◌, ℕ, zero, suc, ◌+◌, ◌<◌, List, [], ◌∷◌, ◌++◌, length, get_or, arith, sym, subst}
 
 one_more : {A : Type 0} (P : ℕ → A → Type 0) (xs : List A) (y : A) → ((k : ℕ) (d : A) → k < length xs → P k (get_or xs k d)) → P (length xs) y

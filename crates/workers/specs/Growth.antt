@@ -1,18 +1,18 @@
--- How what is gathered grows. `gathered` is a run's `has_gathered`: with what it began, how many preparers there are in
--- all and how many of them are joined, and what is held.
+-- How what is gathered grows. `gathered` is a run's `has_gathered`: what it began with, the number of preparers in
+-- all, the number of those that are joined, and what is held.
 use Rattle.std.specs.Prelude.{ℕ, ◌+◌, Option, IfSome}
 
--- what was gathered before any preparer was joined is still gathered
+-- what was gathered before any preparer was joined remains gathered
 abbrev pub StaysGathered : {H : Type 0} → (H → ℕ → ℕ → H → Type 0) → (old new : H) → Type 0
 StaysGathered gathered old new = (first : _) (count : ℕ) → gathered first count 0 old → gathered first count 0 new
 
--- with the next preparer's part one more is joined
+-- the next preparer's part makes the number of joined preparers one greater
 abbrev pub GainsPreparer : {H : Type 0} → (H → ℕ → ℕ → H → Type 0) → (ℕ → ℕ → H → Type 0)
     → (all theirs new : H) → Type 0
 GainsPreparer gathered prepared all theirs new =
     (first : _) (count k : ℕ) → gathered first count k all → prepared count k theirs → gathered first count (k + 1) new
 
--- with an imposer's part as many are joined
+-- an imposer's part leaves that number as it is
 abbrev pub GainsImposer : {H : Type 0} → (H → ℕ → ℕ → H → Type 0) → (H → Type 0) → (all theirs new : H) → Type 0
 GainsImposer gathered imposed all theirs new =
     (first : _) (count k : ℕ) → gathered first count k all → imposed theirs → gathered first count k new

@@ -1,3 +1,3 @@
--- How what is gathered grows, which the traits' clauses say; and what a thread's handle promises.
+-- How what is gathered grows, for the clauses of the traits; and what a thread's handle promises.
 pub mod Growth
 pub mod Promises

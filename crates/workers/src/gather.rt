@@ -10,7 +10,7 @@ use std::sync::Wait;
 use std::thread;
 use std::thread::{Scope, Threads};
 
-/// How many threads of each kind a run has, and the allocator of the list of them.
+/// The number of threads of each kind in a run, and the allocator for the list of them.
 #[derive(Clone, Copy)]
 pub struct Crew {
     pub alloc: Global,
@@ -18,7 +18,7 @@ pub struct Crew {
     pub imposers: u32,
 }
 
-/// What is given out to a run's threads: shares of what is held, and tickets for sending.
+/// What a run's threads get: shares of what is held, and tickets for sending.
 #[derive(Drop)]
 pub struct Supplies<H, T> {
     pub crew: Crew,
@@ -26,12 +26,12 @@ pub struct Supplies<H, T> {
     pub ticket: T,
 }
 
-/// Starts all threads of a run, collects on the caller's thread while they work, and joins what they hold. Nothing was
-/// collected if a thread was refused; `ended` is None then, and if a worker ran out of memory.
+/// Starts all threads of a run, collects on the caller's thread while they work, and joins what they hold. If a
+/// thread was refused, nothing was collected and `ended` is None; it is also None if a worker ran out of memory.
 ///
-/// What is shared and the collector are two, since the one goes to the threads and the other, which may write to a sink
-/// that no thread may have, doesn't. The state comes back alone: in a pair it would not be known to hold what the
-/// caller lent it.
+/// The shared part and the collector are separate: the shared part goes to the threads, and the collector may write
+/// to a sink that no thread may have. The state comes back alone: inside a pair it would not be known to hold what
+/// the caller lent.
 pub fn gather_by<
     R: Threads + Wait + Sync,
     H: Send + Drop,
@@ -77,7 +77,7 @@ pub fn gather_by<
     state
 }
 
-/// The body of the scope: all threads start, the caller's thread collects, and all are joined.
+/// The body of the scope: all threads are started, the caller's thread collects, and all are joined.
 fn run_workers<
     's,
     E,

@@ -1,4 +1,4 @@
-//! Waits for the threads of a run, and joins what they hand back.
+//! Waits for the threads of a run, and joins what they return.
 ghost use Rattle.std.specs.Prelude.{◌≡◌, ℕ, ◌+◌, ◌<◌, IfOk, IfSome, slice_index_or, vec_len};
 ghost use Rattle.workers.specs.Growth.{GathersAll};
 ghost use Rattle.workers.specs.Promises.{IsPreparer};
@@ -8,7 +8,7 @@ use crate::work::Work;
 use std::alloc::AllocError;
 use std::thread::Threads;
 
-/// Waits for all preparers, and joins what they hand back to what is held. None if one of them ran out of memory.
+/// Waits for all preparers, and joins what they return to what is held. None if one of them ran out of memory.
 pub(crate) fn join_preparers<'s, R: Threads, H: Drop, W: Work<H>>(
     rt: &R,
     shared: &'s W,
@@ -32,7 +32,7 @@ pub(crate) fn join_preparers<'s, R: Threads, H: Drop, W: Work<H>>(
     all
 }
 
-/// Waits for all imposers, and joins what they hand back to what the preparers did. None if one of them ran out of
+/// Waits for all imposers, and joins what they return to what the preparers did. None if one of them ran out of
 /// memory.
 pub(crate) fn join_imposers<'s, R: Threads, H: Drop, W: Work<H>>(
     rt: &R,
@@ -59,7 +59,7 @@ pub(crate) fn join_imposers<'s, R: Threads, H: Drop, W: Work<H>>(
     all
 }
 
-/// Joins what a worker hands back to what was joined before. None if one of the two is missing.
+/// Joins what a worker returns to what was joined before. None if either is missing.
 fn merge<H: Drop, W: Work<H>>(
     shared: &W,
     all: Option<H>,

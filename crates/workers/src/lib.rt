@@ -1,5 +1,5 @@
-//! Starts the threads of a run, and joins them. It knows neither pages nor sheets: what the threads do, and what is
-//! true of it then, lies behind traits.
+//! Starts the threads of a run, and joins them. It knows neither pages nor sheets: traits say what the threads do,
+//! and what is true when they have done it.
 #![tactic(auto)]
 
 mod gather;

@@ -15,8 +15,8 @@ pub(crate) type Preparer<'s, H, W> = PromisedHandle<Result<H, AllocError>, Prepa
 /// An imposer's thread.
 pub(crate) type Imposer<'s, H, W> = PromisedHandle<Result<H, AllocError>, Imposes<'s, W>>;
 
-/// Starts all threads of a run. None if one was refused: those that were started end by themselves. Imposers wait for
-/// all preparers, so none of them is started if a preparer was refused.
+/// Starts all threads of a run. None if one was refused; those that were started end by themselves. Imposers wait
+/// for all preparers, so none of them is started if a preparer was refused.
 pub(crate) fn start<
     's,
     E,

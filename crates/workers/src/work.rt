@@ -1,4 +1,4 @@
-//! The work of the threads of a run, behind type parameters, and what each of them promises.
+//! The work of the threads of a run, by type parameters, and what each thread promises.
 ghost use Rattle.std.specs.Prelude.{◌≡◌, ℕ, ◌+◌, ◌-◌, ◌<◌, IfOk};
 ghost use Rattle.workers.specs.Growth.{StaysGathered, GainsPreparer, GainsImposer};
 
@@ -6,49 +6,48 @@ use std::alloc::AllocError;
 use std::sync::Wait;
 use std::thread::Promise;
 
-/// The work of preparers, on what all threads share. `H` is what a worker holds, and what it hands back when it ends.
-/// What is held has shares: the caller begins with some, gives one away to each worker, and has them again when all are
-/// joined.
+/// The work of preparers, on what all threads share. A worker holds an `H`, and returns it when it ends. An `H` has
+/// shares: the caller begins with some, gives one away to each worker, and has them again when all are joined.
 ///
-/// Neither `H` nor what is shared shows a lifetime to the code that starts and joins threads: with a lifetime there,
+/// Neither `H` nor the shared part shows a lifetime to the code that starts and joins threads. With a lifetime,
 /// what a thread promises couldn't be proved.
 pub trait Work<H> {
-    // It belongs to what is shared.
+    // It belongs to the shared part.
     ghost is_held: { Self → H → Type 0 };
 
-    // How many shares it has.
+    // The number of its shares.
     ghost share: { Self → H → ℕ };
 
-    // It has one share, and nothing was done with it yet.
+    // It has one share, and nothing has been done with it.
     ghost is_new: { Self → H → Type 0 };
 
-    // The same of the preparer of this number, one of `count`: it has what that one needs.
+    // The same for the preparer of this number, one of `count`: it has what that one needs.
     ghost is_new_preparer: { Self → (count number : ℕ) → H → Type 0 };
 
-    // It has what the preparers need, one of `count` each, from this number on.
+    // It has what the preparers from this number on need, of `count` in all.
     ghost is_enough: { Self → (count number : ℕ) → H → Type 0 };
 
     // It has one share, and comes from a worker that has ended.
     ghost is_back: { Self → H → Type 0 };
 
-    // With it the preparer of this number, one of `count`, did its part.
+    // The preparer of this number, one of `count`, did its part with it.
     ghost has_prepared: { Self → (count number : ℕ) → H → Type 0 };
 
-    // With it an imposer did its part.
+    // An imposer did its part with it.
     ghost has_imposed: { Self → H → Type 0 };
 
-    // It is what is left of the first, joined with what this number of preparers, the first of so many, handed back,
-    // and with what any number of imposers did.
+    // It is what is left of the first, joined with what was returned: by this number of preparers, the first of
+    // `count`, and by any number of imposers.
     ghost has_gathered: { Self → (first : H) → (count joined : ℕ) → H → Type 0 };
 
-    /// The work of the preparer with this number, one of `count`.
+    /// The work of the preparer of this number, one of `count`.
     fn prepare<R: Wait>(&self, rt: &R, held: H, number: u32, count: u32) -> Result<H, AllocError>
         requires count { 0 < count }
         requires held { is_new_preparer self.now count number held }
         ensures back { IfOk result (is_back self.now) }
         ensures prepared { IfOk result (has_prepared self.now count number) };
 
-    /// What the preparer with this number holds, one of `count`: a share, of the caller's, and what it needs.
+    /// What the preparer of this number, one of `count`, holds: one of the caller's shares, and what it needs.
     fn split_preparer(&self, held: &mut H, number: u32, count: u32) -> H
         requires held { is_held self.now held.old }
         requires share { 1 < share self.now held.old }
@@ -60,7 +59,7 @@ pub trait Work<H> {
         ensures enough { is_enough self.now count (number + 1) held.new }
         ensures given { is_new_preparer self.now count number result };
 
-    /// What one more worker holds: a share, of the caller's.
+    /// What one more worker holds: one of the caller's shares.
     fn split(&self, held: &mut H) -> H
         requires held { is_held self.now held.old }
         requires share { 1 < share self.now held.old }
@@ -69,7 +68,7 @@ pub trait Work<H> {
         ensures gathered { StaysGathered (has_gathered self.now) held.old held.new }
         ensures given { is_new self.now result };
 
-    /// Joins what a worker hands back to what was joined before.
+    /// Joins what a worker returns to what was joined before.
     fn join(&self, all: H, theirs: H) -> H
         requires all { is_held self.now all }
         requires theirs { is_back self.now theirs }
@@ -79,7 +78,7 @@ pub trait Work<H> {
         ensures imposed { GainsImposer (has_gathered self.now) (has_imposed self.now) all theirs result };
 }
 
-/// The work of imposers besides. `T` is a ticket, by which an imposer sends what it has finished.
+/// The work of imposers. `T` is a ticket, with which an imposer sends what it has finished.
 pub trait Imposing<H, T>: Work<H> {
     // It is a ticket of this channel.
     ghost sends: { Self → T → Type 0 };
@@ -91,10 +90,10 @@ pub trait Imposing<H, T>: Work<H> {
         ensures back { IfOk result (Self.is_back self.now) }
         ensures imposed { IfOk result (Self.has_imposed self.now) };
 
-    /// Nothing more is collected, so no imposer waits for the collector.
+    /// Nothing more is collected, so imposers stop waiting for the collector.
     fn stop(&self);
 
-    /// One ticket more.
+    /// One more ticket.
     fn another(&self, ticket: &mut T) -> T
         requires { sends self.now ticket.old }
         ensures kept { sends self.now ticket.new }
@@ -103,17 +102,17 @@ pub trait Imposing<H, T>: Work<H> {
 
 /// What is done on the caller's thread while the workers run, with a state S.
 pub trait Collector<S> {
-    // The state is as it must be at the start.
+    // The state is as required at the start.
     ghost is_ready_to_collect: { Self → S → Type 0 };
 
-    // What became of the state.
+    // The final state, given the initial one.
     ghost collected: { Self → S → S → Type 0 };
 
-    // The ghost name of the reference that the state holds, or 0: who lent it learns what was written only if it is
-    // known to be the same one.
+    // The ghost name of the reference that the state holds, or 0. Whoever lent it learns what was written only if
+    // it is known to be the same reference.
     ghost reference: { Self → S → ℕ };
 
-    /// Takes what the workers finish until all have ended.
+    /// Takes what the workers finish, until all have ended.
     fn collect<R: Wait>(&self, rt: &R, state: &mut S)
         requires { is_ready_to_collect self.now state.old }
         ensures same_reference { reference self.now state.new ≡ reference self.now state.old }

@@ -1,2 +1,3 @@
--- Read this: what an output tells.
+-- Read this: what an output reports.
 pub mod Outputs
+pub mod Input

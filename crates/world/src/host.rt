@@ -1,8 +1,8 @@
 //! The files and standard streams of the machine.
 use crate::world::{Refused, World};
 use std::fs::{File, Files};
-use std::io;
 use std::io::{Read, Stdin, Stdout, Write};
+use std::{fs, io};
 
 /// The files and standard streams of the machine.
 #[derive(Drop)]
@@ -45,6 +45,13 @@ impl<'a, R: Files> World for Host<'a, R> {
         match name {
             Some(path) => Ok(HostInput::File(File::open(self.files, path)?)),
             None => Ok(HostInput::Standard(self.stdin)),
+        }
+    }
+
+    fn is_file(&self, name: &str) -> bool {
+        match fs::metadata(self.files, name) {
+            Ok(found) => found.is_file(),
+            Err(_) => false,
         }
     }
 

@@ -41,7 +41,7 @@ impl<'n, W: World> Late<'n, W> {
 }
 
 impl<'n, W: World> Write for Late<'n, W> {
-    // Before it is created, that nothing was written to an output of the name; then what the output tells. If it was
+    // Before it is created, that nothing was written to an output of the name; then what the output reports. If it was
     // created although nothing was to be written, nothing is known.
     ghost contents = { λ late. if is_some late.output
         then (if is_bare late.written late.cause then None else option_and_then W.Output.contents late.output)

@@ -1,16 +1,20 @@
-//! What a program does to the files and standard streams around it: it reads one input, and creates at most one output.
+//! What a program sees of its surroundings: files and streams, and how input is read whole.
 #![tactic(auto)]
 
 mod host;
 mod late;
 mod opened;
+mod read;
 mod sink;
+mod source;
 mod told;
 mod world;
 
 pub use host::{Host, HostInput, HostOutput};
 pub use late::Late;
 pub use opened::Opened;
+pub use read::{MOST_BYTES, ReadFault, read_input, read_input_behind};
 pub use sink::{Buffered, abandon, buffered, created_late, write_out};
+pub use source::{ReadSource, Source, SourceFault};
 pub use told::tell;
 pub use world::{Refused, World};

@@ -1,4 +1,4 @@
-//! Where a run writes: an output behind a buffer.
+//! Where a run writes: an output with a buffer before it.
 ghost use Rattle.std.specs.Prelude.{◌≡◌, [], true, option_map, option_and_then, Some, IfOk, IfErr};
 ghost use Rattle.std.specs.Io.KnownBytes.{Keeps};
 ghost use Rattle.world.specs.Outputs.{IsFrontOf, told_if};
@@ -10,11 +10,11 @@ use sheet_writer::{Sink, WriteSink};
 use std::alloc::Global;
 use std::io::{BufWriter, Write};
 
-/// A writer behind a buffer, as a sink.
+/// A writer with a buffer before it, as a sink.
 pub type Buffered<T> = WriteSink<BufWriter<T>>;
 
-/// The output of this name behind a buffer of so many bytes. It is created when its first byte leaves the buffer. If
-/// there is no memory for the buffer the world comes back.
+/// The output of this name, with a buffer of so many bytes before it. It is created when its first byte leaves the
+/// buffer. If there is no memory for the buffer, the world comes back.
 pub fn created_late<'n, W: World>(
     alloc: Global,
     capacity: usize,
@@ -35,7 +35,7 @@ pub fn created_late<'n, W: World>(
     }
 }
 
-/// An output behind a buffer of so many bytes. If there is no memory for the buffer it comes back.
+/// An output with a buffer of so many bytes before it. If there is no memory for the buffer it comes back.
 pub fn buffered<O: Write + Drop>(
     alloc: Global,
     capacity: usize,

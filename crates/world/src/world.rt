@@ -7,7 +7,7 @@ use std::io::{Read, Write};
 
 /// What a program may do to the files and standard streams around it.
 ///
-/// A name is that of a file, and none stands for the standard stream. Creating an output takes the world: so whoever
+/// A name is that of a file, and none is the standard stream. Creating an output takes the world: so whoever
 /// still has it has created none, and nobody creates two.
 pub trait World: Sized + Drop {
     type Input: Read + Drop;
@@ -17,12 +17,15 @@ pub trait World: Sized + Drop {
     // The bytes that an input of this name gives, where they are known.
     ghost gives: { Self → Option (List ℕ) → Option (List ℕ) } = { λ _ _. None };
 
-    // Whether its outputs tell their names and what was written to them.
+    // Whether its outputs report their names and what was written to them.
     ghost tells: { Self → Bool } = { λ _. false };
 
     /// Opens the file of this name, or standard input.
     fn open(&self, name: Option<&str>) -> io::Result<Self::Input>
         ensures given { IfOk result (λ input. Self.Input.remaining input ≡ gives self.now (option_map (λ n. n.now) name.entry)) };
+
+    /// Whether there is a regular file of this name. At anything else opening may wait, and reading may never end.
+    fn is_file(&self, name: &str) -> bool;
 
     /// Creates, or empties, the file of this name; or takes standard output. Nothing was written to it yet.
     fn create(self, name: Option<&str>) -> Result<Self::Output, Refused<Self>>

@@ -34,7 +34,7 @@ units_found (Err e) = []
 abbrev pub us : List NestedUnit
 us = units_found (document_of text)
 
--- behind the preamble
+-- after the preamble
 abbrev pub behind : State
 behind = defined (in_userdict (codes "e") (Procedure (Name (codes "showpage") ∷ []))) (behind_guard paper [])
 

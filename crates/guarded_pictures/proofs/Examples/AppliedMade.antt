@@ -8,7 +8,7 @@ use Rattle.rules.specs.Specification.{Item, Upright}
 use Rattle.made_sheets.specs.Made.{Blank, Placed, MadeSheet}
 use Rattle.dsc.specs.Units.{units_of}
 use Rattle.guard.specs.Guard.{guarded}
-use Rattle.page_papers.specs.Told.{telling}
+use Rattle.papers.specs.Told.{telling}
 use Rattle.pictures.specs.Imposed.{is_comment_line, MadeIsPrinted}
 use Rattle.guarded_pictures.proofs.Imposed.{one_paper_is_told_as_one, made_document_is_shown}
 use Rattle.guarded_pictures.proofs.Examples.Applied.{paper, text, us, behind, preamble_runs, picture, first_page, second_page}
@@ -28,7 +28,7 @@ all =
     record { paper = wide; slots = Placed 1 (stands (pos 0)) own ∷ Placed 0 (stands (pos 200)) own ∷ [] }
     ∷ record { paper = wide; slots = Blank ∷ Placed 0 (stands (pos 200)) own ∷ [] } ∷ []
 
--- the lines by which they tell their paper
+-- the lines by which they report their paper
 told : (telling all).header ≡ codes "%%BoundingBox: 0 0 400 300" ∷ codes "%%DocumentMedia: Plain 400 300 0 () ()" ∷ []
 unfolding digits
 told = refl

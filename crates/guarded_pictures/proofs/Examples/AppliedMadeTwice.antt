@@ -1,11 +1,11 @@
--- The law over two runs on made sheets, at the document of one page: the sheet of the first run stands twice on the one of the second.
+-- The law over two runs on made sheets, at the document of one page: the sheet of the first run is twice on the one of the second.
 use Rattle.std.proofs.Common.{List, [], ◌∷◌, refl, None, arith}
 use Rattle.std.specs.Prelude.{pos}
 use Rattle.std.specs.Fmt.{digits}
 use Rattle.rules.specs.Parts.{NestedUnit, preamble, bytes_of}
 use Rattle.made_sheets.specs.Made.{Placed, MadeSheet}
-use Rattle.page_papers.specs.Told.{telling}
-use Rattle.page_papers.proofs.Tame.{telling_is_tame}
+use Rattle.papers.specs.Told.{telling}
+use Rattle.papers.proofs.Tame.{telling_is_tame}
 use Rattle.pictures.specs.Imposed.{MadeIsPrinted}
 use Rattle.guarded_pictures.specs.Pages.{GuardedPreambleRuns}
 use Rattle.guarded_pictures.specs.TwoMadeRuns.{written_again, made_run_picture}

@@ -29,7 +29,7 @@ text = document_with (codes "/d 1 dict def d /showpage {} put d begin") (stroke 
 abbrev us : List NestedUnit
 us = units_found (document_of text)
 
--- behind the preamble: the dictionary is the fourth thing that was made
+-- after the preamble: the dictionary is the fourth thing that was made
 abbrev behind : State
 behind = record (behind_guard paper []) {
   work = record (behind_guard paper []).work {

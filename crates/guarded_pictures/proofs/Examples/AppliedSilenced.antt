@@ -28,7 +28,7 @@ text = document_with (codes "userdict /e /showpage load put userdict /showpage {
 abbrev us : List NestedUnit
 us = units_found (document_of text)
 
--- behind the preamble
+-- after the preamble
 abbrev behind : State
 behind = record (behind_guard paper []) {
   work = record (behind_guard paper []).work {

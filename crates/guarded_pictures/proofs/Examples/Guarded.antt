@@ -1,5 +1,5 @@
--- Documents with the guard put in, run by the machine: each as the guard is to have it. With each painting stand the
--- operators of its transformation and of its clip; sheets and paintings stand the latest first.
+-- Documents with the guard put in, run by the machine: each as the guard is to have it. With each painting are the
+-- operators of its transformation and of its clip; sheets and paintings are the latest first.
 use Rattle.std.proofs.Common.{◌≡◌, ℕ, false, List, [], ◌∷◌, ◌++◌, refl, Some, None}
 use Rattle.std.specs.Prelude.{codes, Result, Ok, Option, option_map}
 use Rattle.std.specs.Fmt.{digits}
@@ -145,7 +145,7 @@ twice : sheets_with_guard (guarded (Some (points 200 300)) (document_with (codes
 unfolding digits
 twice = refl
 
--- Imposed twice: the sheets are the pages of another document, which gets a guard of its own. Each page stands in its inner
+-- Imposed twice: the sheets are the pages of another document, which gets a guard of its own. Each page is in its inner
 -- place, and with it in the outer one.
 
 abbrev pub imposed_twice : List ℕ → Result (Option (List (List (List (List ℕ) × List (List ℕ))))) DocumentFault
@@ -195,7 +195,7 @@ resets_within_two : imposed_three_times (codes "initgraphics " ++ stroke)
 unfolding digits
 resets_within_two = refl
 
--- What stands before the guard, where another document includes this one.
+-- What comes before the guard, where another document includes this one.
 
 abbrev with_guard_in : List ℕ → List ℕ → Option (List (List (List (List ℕ) × List (List ℕ))))
 with_guard_in before behind = option_map outline (sheets_of (before ++ (guard_text None ++ behind)))

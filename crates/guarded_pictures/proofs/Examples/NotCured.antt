@@ -13,7 +13,7 @@ use Rattle.pictures.proofs.Examples.TwoUp.{lines, sheets_of}
 use Rattle.pictures.proofs.Examples.Premises.{document_with, frame, outline, stroke, placed, not_placed}
 use Rattle.guarded_pictures.proofs.Examples.Guarded.{imposed, sheets_with_guard}
 
--- the operator itself, by systemdict: a sheet more, and what is painted behind it isn't placed
+-- the operator itself, by systemdict: a sheet more, and what is painted after it isn't placed
 takes_the_operator : imposed (codes "/x 1 def") ((stroke ++ codes " systemdict /showpage get exec " ++ stroke) ∷ [])
     ≡ Ok (Some ((not_placed ∷ []) ∷ (placed ∷ []) ∷ []))
 unfolding digits
@@ -28,7 +28,7 @@ restores_prolog : imposed (codes "/s save def") ((codes "s restore " ++ stroke) 
 unfolding digits
 restores_prolog = refl
 
--- a matrix that the setup has set: it is gone behind the first sheet
+-- a matrix that the setup has set: it is gone after the first sheet
 matrix_in_setup : imposed (codes "2 2 scale") (stroke ∷ stroke ∷ [])
     ≡ Ok (Some ((placed ∷ []) ∷ ((codes "concat" ∷ codes "scale" ∷ [], codes "clip" ∷ []) ∷ []) ∷ []))
 unfolding digits

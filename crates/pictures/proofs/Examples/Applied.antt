@@ -1,4 +1,5 @@
--- What an application of the laws to a document needs: its units, the state behind its preamble, its pages' own runs.
+-- What an application of the laws to a document needs: its units, the state after its preamble, its pages' own
+-- runs.
 use Rattle.std.proofs.Common.{◌≡◌, ℕ, List, [], ◌∷◌, refl, ap, Some, None, true}
 use Rattle.std.specs.Prelude.{codes, Result, Ok, Err}
 use Rattle.rules.specs.Parts.{NestedUnit}
@@ -20,7 +21,7 @@ units_of (Err e) = []
 abbrev pub units : List ℕ → List NestedUnit
 units document = units_of (document_of document)
 
--- the state behind a preamble that has set this and defined these names
+-- the state after a preamble that has set this and defined these names
 abbrev pub behind : (settings : List Call) → List Entry → State
 behind settings es = record (started []) {
   work = record { operands = []; dictionaries = 0 ∷ []; entries = es; made = 0 };

@@ -1,5 +1,5 @@
--- Pages on which something stands behind showpage: `restore`, `end`; and one that leaves its save. The law at this
--- document.
+-- Pages on which something follows showpage: `restore`, `end`; and one that leaves its save. The law applied to
+-- this document.
 use Rattle.std.proofs.Common.{ℕ, zero, suc, List, [], ◌∷◌, refl, Some, None}
 use Rattle.std.specs.Prelude.{codes, Option}
 use Rattle.std.specs.Fmt.{digits}
@@ -45,7 +45,7 @@ plain = plain_ground [] [] ground refl refl refl
 preamble_runs : PreambleRuns (bytes_of (preamble us)) ready
 preamble_runs = (refl, (0, refl), refl, refl, refl, ground)
 
--- so far as a machine comes that asks for none of the sheet's names
+-- as far as a machine gets that uses none of the sheet's names
 
 abbrev counted : (State → ℕ) → Option State → ℕ
 counted f None = 0
@@ -99,7 +99,7 @@ first = (
   },
 )
 
--- page 2 at its showpage, with its dictionary open; and behind `end`
+-- page 2 at its showpage, with its dictionary open; and after `end`
 abbrev line : Painting
 line = line_in [] [] [] (codes "40 0 rlineto")
 

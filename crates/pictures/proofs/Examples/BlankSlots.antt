@@ -49,7 +49,7 @@ line = record {
   };
 }
 
--- the one page between two blanks, and behind it a sheet of one blank
+-- the one page between two blanks, and then a sheet of one blank
 one_page_and_three_blanks : prints document None blanks bordered ≡ Ok (Some ((border ∷ line ∷ []) ∷ [] ∷ []))
 unfolding digits
 one_page_and_three_blanks = refl

@@ -1,4 +1,4 @@
--- A border round each placed page: it is painted before the page, with a line of its own width.
+-- A border around each placed page: it is painted before the page, with its own line width.
 use Rattle.std.proofs.Common.{◌≡◌, ℕ, List, [], ◌∷◌, refl, Some, None, false}
 use Rattle.std.specs.Prelude.{codes, Ok, pos}
 use Rattle.std.specs.Fmt.{digits}

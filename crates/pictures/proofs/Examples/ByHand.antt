@@ -1,5 +1,5 @@
--- Pictures written by hand, in the order in which they are painted: each call as PostScript has it, `10 20 moveto`. And
--- what is run to compare with them.
+-- Pictures written by hand, in the order in which they are painted: each call as in PostScript, `10 20 moveto`. And
+-- the runs with which they are compared.
 use Rattle.std.proofs.Common.{ℕ, ◌*◌, List, [], ◌∷◌, map, reverse, Some, None, ◌==◌}
 use Rattle.std.specs.Prelude.{codes, Result, Ok, pos, Option, option_map, if◌then◌else◌}
 use Rattle.rules.specs.Bytes.{space}
@@ -40,14 +40,14 @@ matrix text = call (codes "concat") (Array (map Number (words text)) ∷ [])
 abbrev pub path : List Call → List (List ℕ) → List Segment
 path chain texts = reverse (map (λ text. record { call = says text; chain = chain; settings = [] }) texts)
 
--- a paper of 200 by 300 points, without and with a border of one point
+-- a paper of 200 by 300 points, without a border and with one of one point
 abbrev pub paper : Frame
 paper = record { paper = points 200 300; border = None }
 
 abbrev pub bordered : Frame
 bordered = record { paper = points 200 300; border = Some (pos 127_000_000_000) }
 
--- round that paper
+-- around that paper
 abbrev pub edge : List Call → List Segment
 edge chain = path chain (
     codes "0 0 moveto" ∷ codes "200 0 lineto" ∷ codes "200 300 lineto" ∷ codes "0 300 lineto" ∷ codes "closepath" ∷ [])
@@ -63,10 +63,10 @@ by x y = Moved (measure (pos (x * 1_000_000_000)) Pt) (measure (pos (y * 1_000_0
 abbrev pub in_order : List (List Painting) → List (List Painting)
 in_order sheets = reverse (map reverse sheets)
 
--- what is printed of these bytes
+-- what these bytes print
 abbrev pub printed_of : List ℕ → Option (List (List Painting))
 printed_of text = option_map (λ s. in_order s.sheets) (to_the_end 10_000 (started (tokens text)))
 
--- what is printed of a document's output
+-- what a document's output prints
 abbrev pub prints : List ℕ → (sides : Option ℕ) → Spec → Frame → Result (Option (List (List Painting))) DocumentFault
 prints document sides spec frame = document_of document >>= λ us. Ok (printed_of (output frame sides spec us))

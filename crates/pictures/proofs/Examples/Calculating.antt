@@ -44,7 +44,7 @@ product : left_by (codes "-3 +4 mul neg") ≡ only (number (codes "12"))
 unfolding digits
 product = refl
 
--- other numbers stay what they are calculated of
+-- other numbers stay terms
 
 not_whole : left_by (codes "0.1 .2 add 2 mul") ≡ only (number (codes "0.1 .2 add 2 mul"))
 not_whole = refl
@@ -110,7 +110,7 @@ how_many : left_by (codes "[7 8 9] length") ≡ only (number (codes "3"))
 unfolding digits
 how_many = refl
 
--- and of a procedure, in which another one is one element
+-- and of a procedure, in which an inner one is one element
 how_many_there : left_by (codes "{1 {2 {3} 4} if} length {} length") ≡ Some (map number (codes "0" ∷ codes "3" ∷ []))
 unfolding digits
 how_many_there = refl
@@ -158,11 +158,11 @@ not_found = refl
 of_the_system : left_by (codes "/moveto where") ≡ Some (Truth true ∷ SystemDictionary ∷ [])
 of_the_system = refl
 
--- it doesn't say that there is none, if an interpreter has one
+-- it doesn't answer that there is none, if an interpreter has one
 of_another_system : left_by (codes "/languagelevel where {pop} if") ≡ None
 of_another_system = refl
 
--- a page by itself may not ask for showpage so: the sheet's text has put it in userdict
+-- a page by itself may not look up showpage like this: the sheet's text has put it in userdict
 asks_where : imposed [] (codes "/showpage where {pop} if 0 0 moveto 9 9 lineto stroke" ∷ []) ≡ Ok (Some ((placed ∷ []) ∷ []))
 unfolding digits
 asks_where = refl

@@ -1,5 +1,5 @@
--- A page with `gsave` and `grestore`, `save` and `restore` and a clip within one another: each painting has what was
--- set round it, and the place outside of that.
+-- A page with `gsave` and `grestore`, `save` and `restore` and a clip within one another: each painting has what
+-- was set around it, and outside of that the place.
 use Rattle.std.proofs.Common.{◌≡◌, ℕ, List, [], ◌∷◌, refl, Some, None, false}
 use Rattle.std.specs.Prelude.{codes, Ok}
 use Rattle.std.specs.Fmt.{digits}
@@ -64,7 +64,7 @@ rectangle text chain clip settings = record {
 abbrev triangle : Clip
 triangle = clip_to (path rotated (codes "0 0 moveto" ∷ codes "0 9 lineto" ∷ codes "9 9 lineto" ∷ []))
 
--- the third one stands in a `gsave` that `restore` takes back with its `save`
+-- the third one is in a `gsave` that `restore` undoes with its `save`
 five_rectangles : prints document None moved paper ≡ Ok (Some ((
     rectangle (codes "1 1 2 2 rectfill") rotated (triangle ∷ page_clip) dark
     ∷ rectangle (codes "3 3 4 4 rectfill") twice page_clip dark

@@ -1,5 +1,5 @@
--- Pages that are independent of one another, and pages that aren't: what one page sets or defines, and the next one
--- needs, is there when the document is run, and isn't when the page is placed.
+-- Pages that are independent of one another, and pages that aren't. What one page sets or defines, and the next one
+-- needs, is there when the document is run, and is missing when the page is placed.
 use Rattle.std.proofs.Common.{◌≡◌, ℕ, zero, suc, ◌<◌, List, [], ◌∷◌, refl, ap, subst, Some, None, Bool, true, false}
 use Rattle.std.proofs.Common.{◌&&◌, true≢false, map, length, arith}
 use Rattle.std.specs.Prelude.{codes, Ok, Option, option_map, bytes_eq}
@@ -39,7 +39,7 @@ abbrev end_from : ℕ → State → State
 end_from zero s = s
 end_from (suc n) s = reached s (λ r. end_from n r) (step false s)
 
--- the state behind these tokens, and the last sheet that is printed there
+-- the state after these tokens, and the last sheet that is printed there
 abbrev state_behind : State → List Token → State
 state_behind s ts = end_from 200 (run_of ts s)
 
@@ -50,13 +50,13 @@ last_of (sheet ∷ sheets) = sheet
 abbrev printed_from : State → List Token → List Painting
 printed_from s ts = last_of (state_behind s ts).sheets
 
--- if two pages print the same from two states, they print the same, whatever it is
+-- if two pages print the same picture from two states, it may be any
 same_from :
     (s u : State) (ts : List Token) (known : List Painting) → PrintsSheet s ts known → PrintsSheet u ts known
     → (picture : List Painting) → PrintsSheet s ts picture → PrintsSheet u ts picture
 same_from s u ts known a b picture c = subst (PrintsSheet u ts) (one_picture s ts known picture a c) b
 
--- a document of two pages: what is to be shown is that the second one prints the same behind the first one
+-- a document of two pages: it has to be shown that the second one prints the same after the first one
 two_are_independent :
     (us : List NestedUnit) (s r : State) (known : List Painting) → length (pages us) ≡ 2
     → ComesTo s (pages_before us 1) r → PrintsSheet s (tokens (page_of us 1)) known
@@ -68,7 +68,7 @@ two_are_independent us s r known e come a b (suc zero) u picture h c d =
     (same_from s r (tokens (page_of us 1)) known a b picture d)
 two_are_independent us s r known e come a b (suc (suc p)) u picture h c d = absurd (omega (arith, h, e))
 
--- the second page prints something else behind the first one: the pages aren't independent
+-- the second page prints something else after the first one: the pages aren't independent
 two_hang_together :
     (us : List NestedUnit) (s r : State) (here there : List Painting) → length (pages us) ≡ 2
     → ComesTo s (pages_before us 1) r → PrintsSheet s (tokens (page_of us 1)) here
@@ -76,7 +76,7 @@ two_hang_together :
 two_hang_together us s r here there e come a b same =
     one_picture r (tokens (page_of us 1)) here there (same 1 r here (omega (arith, e)) come a) b
 
--- Met: page 1 sets a grey, which `showpage` takes back.
+-- Met: page 1 sets a grey, which `showpage` resets.
 
 page_behind : ComesTo TwoSheets.ready (pages_before TwoSheets.us 1) (state_behind TwoSheets.ready (pages_before TwoSheets.us 1))
 page_behind = ((count 200 (run_of (pages_before TwoSheets.us 1) TwoSheets.ready), refl), refl)
@@ -107,7 +107,7 @@ printed_and_shown =
     each_prints (suc zero) h = TwoSheets.second
     each_prints (suc (suc p)) h = absurd (omega (arith, h))
 
--- Unmet: page 1 defines a procedure anew, which page 2 uses.
+-- Unmet: page 1 redefines a procedure that page 2 uses.
 
 abbrev painted_by : List Painting → List (List ℕ)
 painted_by ps = map (λ p. p.call.name) ps
@@ -138,8 +138,8 @@ paint_behind = (
   refl,
 )
 
--- the page strokes behind the preamble, and fills behind page 1. So it fills in the document, and strokes in the output:
--- `painted_alike` and `painted_otherwise` of PagesTogether
+-- the page strokes after the preamble, and fills after page 1. So it fills in the document, and strokes in the
+-- output: `painted_alike` and `painted_otherwise` of PagesTogether
 by_stroke : painted_by (printed_from ready (tokens (page_of defining 1))) ≡ codes "stroke" ∷ []
 by_stroke = refl
 

@@ -42,7 +42,7 @@ dictionaries_differ = refl
 same_dictionary : left_by (codes "systemdict systemdict eq") ≡ only (Truth true)
 same_dictionary = refl
 
--- of a name and a string this machine doesn't tell, nor of two procedures
+-- this machine doesn't compare a name with a string, nor two procedures
 not_told : left_by (codes "/a (a) eq") ≡ None
 not_told = refl
 
@@ -54,7 +54,7 @@ not_told_either = refl
 read_only : left_by (codes "systemdict wcheck userdict wcheck") ≡ Some (Truth true ∷ Truth false ∷ [])
 read_only = refl
 
--- whoever has the dictionary, and until what is older is restored
+-- read-only for everyone who has the dictionary, until an older state is restored
 made_read_only : left_by (codes "/d 1 dict def d d readonly pop wcheck") ≡ only (Truth false)
 made_read_only = refl
 
@@ -70,7 +70,7 @@ known_there = refl
 not_written : left_by (codes "systemdict /pop {} put") ≡ None
 not_written = refl
 
--- a name made executable is looked up when it is run, and `forall` only pushes it: there this machine stops
+-- a name made executable is looked up when it is run, and `forall` only pushes it: this machine stops there
 
 run_by_name : left_by (codes "/x {1} def /x cvx exec") ≡ only (number (codes "1"))
 run_by_name = refl
@@ -84,7 +84,7 @@ made_a_procedure = refl
 not_pushed : left_by (codes "[/pop cvx] {} forall") ≡ None
 not_pushed = refl
 
--- a matrix is filled in place: who has it twice has it filled twice
+-- a matrix is filled in place: it changes wherever it is kept
 
 set_again : chain_by (codes "2 2 scale matrix currentmatrix 3 3 scale setmatrix") ≡ Some (scaled (codes "2") ∷ [])
 set_again = refl
@@ -92,7 +92,7 @@ set_again = refl
 filled_in_place : chain_by (codes "/m matrix def /n m currentmatrix def 2 2 scale m currentmatrix pop 3 3 scale n setmatrix") ≡ Some (scaled (codes "2") ∷ [])
 filled_in_place = refl
 
--- restore takes it back
+-- restore undoes it
 filled_before_save : chain_by (codes "/m matrix def m currentmatrix pop save 2 2 scale m currentmatrix pop restore 3 3 scale m setmatrix") ≡ Some []
 filled_before_save = refl
 
@@ -103,7 +103,7 @@ not_filled = refl
 of_two : chain_by (codes "matrix currentmatrix 2 2 scale matrix currentmatrix pop setmatrix") ≡ Some []
 of_two = refl
 
--- `copy` fills one with what another holds; other operands are counted, as ever
+-- `copy` fills one with what another holds; any other operand is a count
 copied : chain_by (codes "matrix currentmatrix 2 2 scale matrix copy setmatrix") ≡ Some []
 copied = refl
 
@@ -123,7 +123,7 @@ by_default = refl
 initial_matrix : chain_by (codes "2 2 scale initmatrix") ≡ Some []
 initial_matrix = refl
 
--- the path's elements, as procedures that make it again
+-- the path's elements, as procedures that draw it again
 
 abbrev traced : List ℕ
 traced = codes "{/moveto cvx} {/lineto cvx} {/curveto cvx} {/closepath cvx} pathforall"
@@ -135,14 +135,14 @@ made_again = refl
 in_their_order : left_by (codes "1 2 moveto 3 4 lineto {(m)} {(l)} {(c)} {(z)} pathforall pop") ≡ left_by (codes "1 2 (m) 3 4")
 in_their_order = refl
 
--- another transformation makes other numbers of them
+-- another transformation gives other numbers
 not_the_same : left_by (codes "1 2 moveto 2 2 scale {} {} {} {} pathforall") ≡ None
 not_the_same = refl
 
 moved_twice : left_by (codes "1 2 moveto 3 4 moveto {} {} {} {} pathforall") ≡ None
 moved_twice = refl
 
--- what is pushed since the last save is gone, and the save stays
+-- what was pushed after the last save is gone, and the save stays
 
 all_popped : chain_by (codes "2 2 scale save gsave 3 3 scale gsave 4 4 scale grestoreall grestoreall pop") ≡ Some (scaled (codes "2") ∷ [])
 all_popped = refl

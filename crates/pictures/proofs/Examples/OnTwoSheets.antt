@@ -1,4 +1,4 @@
--- Each page on two sheets, one behind the other; and the law at this document.
+-- Each page on two sheets, one after the other; and the law applied to this document.
 use Rattle.std.proofs.Common.{◌≡◌, ℕ, zero, suc, List, [], ◌∷◌, refl, Some, None, false}
 use Rattle.std.specs.Prelude.{codes, Ok}
 use Rattle.std.specs.Fmt.{digits}
@@ -81,7 +81,7 @@ pub preamble_runs : PreambleRuns (bytes_of (preamble us)) ready
 unfolding digits
 preamble_runs = (refl, (0, refl), refl, refl, refl, ground)
 
--- what each page prints of itself
+-- what each page prints by itself
 abbrev pub picture : ℕ → List Painting
 picture zero = line_in [] [] gray (codes "0 40 rlineto") ∷ []
 picture (suc p) = line_in [] [] [] (codes "40 0 rlineto") ∷ []

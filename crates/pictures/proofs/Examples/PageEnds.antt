@@ -1,10 +1,10 @@
--- Pages that don't end with the one showpage that prints them, and pages that ask what it means.
+-- Pages that don't end with the one showpage that prints them, and pages that look up its meaning.
 use Rattle.std.proofs.Common.{◌≡◌, [], ◌∷◌, ◌++◌, refl, Some}
 use Rattle.std.specs.Prelude.{codes, Ok}
 use Rattle.std.specs.Fmt.{digits}
 use Rattle.pictures.proofs.Examples.Premises.{own, imposed, stroke, placed, not_placed}
 
--- a page that prints two sheets by itself: imposed they lie one over the other
+-- a page that prints two sheets by itself: imposed, they are on top of each other
 prints_two : own [] ((stroke ++ codes " showpage " ++ stroke) ∷ []) ≡ Some ((not_placed ∷ []) ∷ (not_placed ∷ []) ∷ [])
 prints_two = refl
 
@@ -12,7 +12,7 @@ two_on_one : imposed [] ((stroke ++ codes " showpage " ++ stroke) ∷ []) ≡ Ok
 unfolding digits
 two_on_one = refl
 
--- a page that means something else by showpage prints nothing by itself, but its sheet is printed
+-- a page that redefines showpage prints nothing by itself, but its sheet is printed
 prints_none : own [] ((codes "/showpage {} def " ++ stroke) ∷ []) ≡ Some []
 prints_none = refl
 
@@ -20,7 +20,7 @@ none_on_one : imposed [] ((codes "/showpage {} def " ++ stroke) ∷ []) ≡ Ok (
 unfolding digits
 none_on_one = refl
 
--- a page that asks whether userdict has a showpage: by itself it hasn't, on a sheet it has
+-- a page that looks up showpage in userdict: by itself it isn't there, on a sheet it is
 asks : own [] ((codes "userdict /showpage known {" ++ stroke ++ codes "} if") ∷ []) ≡ Some ([] ∷ [])
 asks = refl
 
@@ -29,7 +29,7 @@ asked : imposed [] ((codes "userdict /showpage known {" ++ stroke ++ codes "} if
 unfolding digits
 asked = refl
 
--- so it is for the name of the save
+-- the same holds for the name of the save
 asks_for_the_save : own [] ((codes "userdict /ImposeSave known {" ++ stroke ++ codes "} if") ∷ []) ≡ Some ([] ∷ [])
 asks_for_the_save = refl
 

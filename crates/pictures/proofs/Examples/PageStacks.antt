@@ -1,4 +1,4 @@
--- Pages that leave something behind, on the stacks or under the sheet's names, and what comes of it.
+-- Pages that leave something on the stacks or under the sheet's names, and the consequences.
 use Rattle.std.proofs.Common.{◌≡◌, ℕ, List, [], ◌∷◌, ◌++◌, refl, Some, None, false, map}
 use Rattle.std.specs.Prelude.{codes, Ok, option_map}
 use Rattle.std.specs.Fmt.{digits}
@@ -10,7 +10,7 @@ use Rattle.pictures.specs.Machine.{Painting}
 use Rattle.pictures.proofs.Examples.ByHand.{says}
 use Rattle.pictures.proofs.Examples.Premises.{own, own_sheets, imposed, sheets_by, stroke, placed, not_placed}
 
--- An operand. The second page takes what the first one left, and the setup's if the first one hasn't run.
+-- An operand. The second page takes the one that the first page left, or the setup's if the first page hasn't run.
 
 abbrev one_operand : List ℕ
 one_operand = codes "3"
@@ -25,7 +25,7 @@ exchanged = settled (written 2 ((item false 1 [] ∷ []) ∷ (item false 0 [] �
 abbrev settings_of : List (List Painting) → List (List (List Call))
 settings_of sheets = map (λ sheet. map (λ p. p.graphics.settings) sheet) sheets
 
--- the sheets here are the latest first
+-- here the latest sheet comes first
 takes_five : option_map settings_of (own_sheets one_operand leaves_and_takes)
     ≡ Some (((says (codes "5 setlinewidth") ∷ []) ∷ []) ∷ ([] ∷ []) ∷ [])
 takes_five = refl
@@ -35,7 +35,7 @@ takes_three : (sheets_by exchanged one_operand leaves_and_takes >>= λ sheets. O
 unfolding digits
 takes_three = refl
 
--- A dictionary among the operands: what is newer than a save may not be there when it is restored, and the machine
+-- A dictionary among the operands: nothing newer than a save may be there when it is restored, so the machine
 -- stops.
 
 leaves_a_dictionary : own [] ((stroke ++ codes " 1 dict") ∷ []) ≡ Some ((not_placed ∷ []) ∷ [])
@@ -54,7 +54,7 @@ left_open : imposed [] ((codes "1 dict begin " ++ stroke) ∷ []) ≡ Ok None
 unfolding digits
 left_open = refl
 
--- Another meaning of restore: the page's save isn't restored, showpage still does nothing, and no sheet is printed.
+-- A redefined restore: the page's save isn't restored, showpage still does nothing, and no sheet is printed.
 
 renames_restore : own [] ((codes "/restore {pop} def " ++ stroke) ∷ []) ≡ Some ((not_placed ∷ []) ∷ [])
 renames_restore = refl
@@ -63,8 +63,8 @@ restore_renamed : imposed [] ((codes "/restore {pop} def " ++ stroke) ∷ []) �
 unfolding digits
 restore_renamed = refl
 
--- A save that is left does no harm if it is no operand: the sheet's own is older, and restoring that takes it back too.
--- (BehindShowpage has the law at such a page.)
+-- A save that is left does no harm unless it is an operand: the sheet's own is older, and restoring that undoes it
+-- too. (BehindShowpage has the law for such a page.)
 
 leaves_a_save : imposed [] ((codes "save pop " ++ stroke) ∷ []) ≡ Ok (Some ((placed ∷ []) ∷ []))
 unfolding digits

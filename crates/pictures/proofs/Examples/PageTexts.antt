@@ -1,4 +1,4 @@
--- Texts that end within a string or a procedure, and lines that are dropped from a string; and texts that end without a
+-- Texts that end within a string or a procedure, lines that are dropped from a string, and texts that end without a
 -- line end.
 use Rattle.std.proofs.Common.{◌≡◌, ℕ, List, [], ◌∷◌, ◌++◌, refl, Some, None, map}
 use Rattle.std.specs.Prelude.{codes, Result, Ok, Option, option_map}
@@ -22,8 +22,8 @@ operands_of sheets = map (λ sheet. map (λ p. p.call.operands) sheet) sheets
 abbrev text : List ℕ → List Object
 text bytes = Plain (Text bytes) ∷ []
 
--- A page that ends within a string. The document has one sheet, with a text in which a page line stands; imposed what
--- stands between the two placed pages is in that text too.
+-- A page that ends within a string. The document has one sheet, with a text that contains a page line. Imposed, the
+-- text also contains what is between the two placed pages.
 
 abbrev string_over_pages : List (List ℕ)
 string_over_pages = codes "0 0 moveto (a" ∷ codes ") show" ∷ []
@@ -47,7 +47,7 @@ another_text : (sheets_by half [] string_over_pages >>= λ sheets. Ok (option_ma
 unfolding digits
 another_text = refl
 
--- A line within a string is dropped as a comment.
+-- A line within a string is dropped like a comment.
 
 abbrev comment_in_string : List (List ℕ)
 comment_in_string = lines (codes "0 0 moveto (a" ∷ codes "%%PageTrailer" ∷ codes "b) show" ∷ []) ∷ []
@@ -61,8 +61,8 @@ dropped_there : (sheets_by half [] comment_in_string >>= λ sheets. Ok (option_m
 unfolding digits
 dropped_there = refl
 
--- A setup that ends within a string, or within a procedure: what puts the save isn't run, and the machine stops at the
--- save's name.
+-- A setup that ends within a string, or within a procedure: the definition of the save's name isn't run, and the
+-- machine stops at that name.
 
 string_of_setup : own (codes "(a") ((codes ") pop " ++ stroke) ∷ []) ≡ Some ((not_placed ∷ []) ∷ [])
 string_of_setup = refl
@@ -78,7 +78,7 @@ procedure_of_setup_imposed : imposed (codes "{") ((codes "} pop " ++ stroke) ∷
 unfolding digits
 procedure_of_setup_imposed = refl
 
--- A last line without a line end, in a word or in a comment: one is put behind it.
+-- A last line without a line end, in a word or in a comment: one is added.
 
 abbrev ended_by : List ℕ → List ℕ
 ended_by end = lines (codes "%!PS-Adobe-3.0" ∷ codes "%%Page: 1 1" ∷ stroke ∷ []) ++ end

@@ -1,4 +1,4 @@
--- Pages that hang on one another: what one page sets is taken back before the next one.
+-- Pages that depend on one another: what one page sets is undone before the next one.
 use Rattle.std.proofs.Common.{◌≡◌, ℕ, List, [], ◌∷◌, ◌++◌, refl, Some, None, map}
 use Rattle.std.specs.Prelude.{codes, Ok, option_map}
 use Rattle.std.specs.Fmt.{digits}

@@ -1,4 +1,5 @@
--- One document for each premise that doesn't hold, and what comes of it: a picture that is not the page's own, placed.
+-- One document for each premise that doesn't hold, and the consequence: a picture that is not the page's own,
+-- placed.
 use Rattle.std.proofs.Common.{◌≡◌, ℕ, zero, suc, List, [], ◌∷◌, ◌++◌, refl, Some, None, true, false, map}
 use Rattle.std.specs.Prelude.{codes, Result, Ok, pos, Option, option_map}
 use Rattle.std.specs.Fmt.{digits}
@@ -15,7 +16,7 @@ use Rattle.pictures.specs.Sheets.{alone}
 use Rattle.pictures.proofs.Examples.TwoUp.{lines, sheets_of, to_the_end}
 use Rattle.pictures.specs.Documents.{started}
 
--- a document whose prolog and pages are these
+-- a document with this prolog and these pages
 abbrev pub document_with : List ℕ → List (List ℕ) → List ℕ
 document_with prolog pages =
     lines (codes "%!PS-Adobe-3.0" ∷ codes "%%EndComments" ∷ prolog ∷ [])
@@ -33,7 +34,7 @@ abbrev pub outline : List (List Painting) → List (List (List (List ℕ) × Lis
 outline sheets =
     map (λ sheet. map (λ p. (map (λ c. c.name) p.graphics.chain, map (λ c. c.name) p.graphics.clip)) sheet) sheets
 
--- the sheets of a document, the latest first: as it prints itself, and imposed
+-- the sheets of a document, the latest first: printed by itself, and imposed
 abbrev pub own_sheets : List ℕ → List (List ℕ) → Option (List (List Painting))
 own_sheets prolog pages = sheets_of (document_with prolog pages)
 
@@ -56,7 +57,7 @@ held_to_the_end (suc n) s = unless (λ r. held_to_the_end n r) s.left s
     unless f [] s = Some s
     unless f (t ∷ ts) s = and_then f (step true s)
 
--- a page by itself, held, behind a prolog
+-- a page by itself, held, after a prolog
 abbrev pub by_itself : List ℕ → List ℕ → Option State
 by_itself prolog page =
     and_then (λ s. held_to_the_end 100 (alone s (tokens page))) (to_the_end 100 (started (tokens prolog)))
@@ -83,7 +84,7 @@ resets = refl
 resets_held : by_itself (codes "/x 1 def") (codes "initgraphics " ++ stroke) ≡ None
 resets_held = refl
 
--- a page takes back a graphics state that it didn't push
+-- a page restores a graphics state that it didn't push
 takes_back : imposed (codes "/x 1 def") ((codes "grestore " ++ stroke) ∷ []) ≡ Ok (Some ((not_placed ∷ []) ∷ []))
 unfolding digits
 takes_back = refl
@@ -91,7 +92,7 @@ takes_back = refl
 takes_back_held : by_itself (codes "/x 1 def") (codes "grestore " ++ stroke) ≡ None
 takes_back_held = refl
 
--- a prolog binds or loads showpage: two sheets, where one was meant
+-- a prolog binds or loads showpage: two sheets instead of one
 binds_showpage : imposed (codes "/e {showpage} bind def") ((stroke ++ codes " e " ++ stroke) ∷ [])
     ≡ Ok (Some ((not_placed ∷ []) ∷ (placed ∷ []) ∷ []))
 unfolding digits
@@ -100,18 +101,18 @@ binds_showpage = refl
 binds_showpage_held : by_itself (codes "/e {showpage} bind def") (stroke ++ codes " e " ++ stroke) ≡ None
 binds_showpage_held = refl
 
--- a prolog that means something else by an operator
+-- a prolog that redefines an operator
 other_concat : imposed (codes "/concat {pop} def") (stroke ∷ []) ≡ Ok (Some ((([], codes "clip" ∷ []) ∷ []) ∷ []))
 unfolding digits
 other_concat = refl
 
--- a prolog that sets a matrix: it is gone behind the first sheet
+-- a prolog that sets a matrix: it is gone after the first sheet
 matrix_in_prolog : imposed (codes "2 2 scale") (stroke ∷ stroke ∷ [])
     ≡ Ok (Some ((placed ∷ []) ∷ ((codes "concat" ∷ codes "scale" ∷ [], codes "clip" ∷ []) ∷ []) ∷ []))
 unfolding digits
 matrix_in_prolog = refl
 
--- a page that takes the name of the save: nothing restores it, and the machine stops
+-- a page that uses the name of the save: nothing restores it, and the machine stops
 takes_the_name : imposed (codes "/x 1 def") ((codes "/ImposeSave 1 def " ++ stroke) ∷ []) ≡ Ok None
 unfolding digits
 takes_the_name = refl

@@ -1,5 +1,5 @@
--- Pages that draw, begin and end by procedures of a prolog, among them one that calls showpage; and the law at this
--- document.
+-- Pages that draw, begin and end by procedures of a prolog, one of which calls showpage; and the law applied to
+-- this document.
 use Rattle.std.proofs.Common.{◌≡◌, ℕ, zero, suc, List, [], ◌∷◌, refl, Some, None, false, ◌∙◌}
 use Rattle.std.specs.Prelude.{codes, Ok, pos}
 use Rattle.std.specs.Fmt.{digits}
@@ -57,7 +57,7 @@ line_in place clip from to = record {
   };
 }
 
--- the point that stands last comes first
+-- the last point comes first
 abbrev first_in : List Call → List Clip → Painting
 first_in place clip = line_in place clip (codes "3 4 moveto") (codes "1 2 lineto")
 
@@ -118,7 +118,7 @@ preamble_runs : PreambleRuns (bytes_of (preamble us)) ready
 unfolding digits
 preamble_runs = (refl, (10, refl), refl, refl, refl, ground)
 
--- what each page prints of itself
+-- what each page prints by itself
 abbrev picture : ℕ → List Painting
 picture zero = first_in [] [] ∷ []
 picture (suc p) = second_in [] [] ∷ second_in [] [] ∷ second_in [] [] ∷ []

@@ -1,4 +1,4 @@
--- Pages scaled, one of them turned too, and moved by centimetres, inches and parts of the paper.
+-- Pages scaled, one of them also turned, and moved by centimetres, inches and parts of the paper.
 use Rattle.std.proofs.Common.{◌≡◌, ℕ, List, [], ◌∷◌, refl, Some, None, false}
 use Rattle.std.specs.Prelude.{codes, Ok, pos}
 use Rattle.std.specs.Fmt.{digits}
@@ -38,7 +38,7 @@ scales = settled (written 2 (
 abbrev half : Call
 half = matrix (codes "0.5 0 0 0.5 28.34646 75")
 
--- (x, y) goes to (s x, s y), to the left to (-s y, s x), and then to (200 - s y, 72 + s x)
+-- (x, y) goes to (s x, s y); turned to the left, to (-s y, s x), and then to (200 - s y, 72 + s x)
 abbrev turned : Call
 turned = matrix (codes "0 0.707107 -0.707107 0 200 72")
 

@@ -19,12 +19,12 @@ numbers_and_strings : tokens (codes "1E6 -.5e-3 1E % x\u{c}y <4 1>") ≡
     Number (codes "1E6") ∷ Number (codes "-.5e-3") ∷ Name (codes "1E") ∷ Name (codes "y") ∷ Hexadecimal (codes "41") ∷ []
 numbers_and_strings = refl
 
--- what isn't known is a token of its own, at which the machine stops
+-- an unknown text is a token of its own, at which the machine stops
 not_known : tokens (codes "//a < <1 > ) 16#FF (") ≡
     Unknown ∷ Literal (codes "a") ∷ Unknown ∷ Number (codes "1") ∷ Unknown ∷ Unknown ∷ Unknown ∷ Unknown ∷ []
 not_known = refl
 
--- two angle brackets are a name; one opens a string, which may be empty
+-- two angle brackets are a name; one begins a string, which may be empty
 angle_brackets : tokens (codes "<<1>> <> <</a<0f>>>") ≡
     Name (codes "<<") ∷ Number (codes "1") ∷ Name (codes ">>") ∷ Hexadecimal []
     ∷ Name (codes "<<") ∷ Literal (codes "a") ∷ Hexadecimal (codes "0f") ∷ Name (codes ">>") ∷ []

@@ -1,5 +1,5 @@
--- Three pages in a signature of four sides, two on a sheet, in a font that the setup sets; and the law at this
--- document.
+-- Three pages in a signature of four sides, two on a sheet, in a font that the setup sets; and the law applied to
+-- this document.
 use Rattle.std.proofs.Common.{◌≡◌, ℕ, zero, suc, List, [], ◌∷◌, refl, Some, false}
 use Rattle.std.specs.Prelude.{codes, Ok, pos}
 use Rattle.std.specs.Fmt.{digits}
@@ -59,7 +59,7 @@ word_in chain clip text = record {
 abbrev word_at : Call → List ℕ → Painting
 word_at place text = word_in (place ∷ []) (clip_to (edge (place ∷ [])) ∷ []) text
 
--- outside of the leaf the fourth page, which is blank, and the first one; inside the second and the third
+-- outside on the leaf the fourth page, which is blank, and the first one; inside the second and the third
 abbrev sheets : List (List Painting)
 sheets =
     (word_at right (codes "One") ∷ [])
@@ -88,7 +88,7 @@ preamble_runs : PreambleRuns (bytes_of (preamble us)) ready
 unfolding digits
 preamble_runs = (refl, (5, refl), refl, refl, refl, ground)
 
--- what each page prints of itself
+-- what each page prints by itself
 abbrev picture : ℕ → List Painting
 picture zero = word_in [] [] (codes "One") ∷ []
 picture (suc zero) = word_in [] [] (codes "Two") ∷ []

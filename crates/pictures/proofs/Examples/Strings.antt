@@ -1,5 +1,5 @@
--- Strings with parentheses in pairs and behind a backslash, with a percent sign and a brace; a comment with a
--- parenthesis that nothing closes; and the law at this document.
+-- Strings with parentheses in pairs and after a backslash, with a percent sign and a brace; a comment with a
+-- parenthesis that nothing closes; and the law applied to this document.
 use Rattle.std.proofs.Common.{◌≡◌, ℕ, List, [], ◌∷◌, refl, Some, None, false, reverse}
 use Rattle.std.specs.Prelude.{codes, Ok}
 use Rattle.std.specs.Fmt.{digits}
@@ -39,7 +39,7 @@ place = matrix (codes "1 0 0 1 30 40")
 abbrev show : List ℕ → Call
 show text = call (codes "show") (Plain (Text text) ∷ [])
 
--- shown behind these
+-- shown after these
 abbrev text_in : List Call → List Clip → List ℕ → List Segment → Painting
 text_in chain clip text before = record {
   call = show text;
@@ -56,7 +56,7 @@ start chain = path chain (codes "1 2 moveto" ∷ [])
 abbrev pairs : List ℕ
 pairs = codes "a (b) 50% {"
 
--- a backslash stands in the text with what it stands before
+-- a backslash is in the text together with the next character
 abbrev escapes : List ℕ
 escapes = codes "\\) \\\\"
 
@@ -92,7 +92,7 @@ preamble_runs : PreambleRuns (bytes_of (preamble us)) ready
 unfolding digits
 preamble_runs = (refl, (0, refl), refl, refl, refl, ground)
 
--- what the page prints of itself
+-- what the page prints by itself
 abbrev picture : ℕ → List Painting
 picture p = reverse (texts_in [] [])
 

@@ -27,7 +27,7 @@ turns = settled (written 1 (
     ∷ (item false 0 (Quarters 3 ∷ by 0 300 ∷ []) ∷ [])
     ∷ []))
 
--- the line, on a page that is placed so
+-- the line, on a page with this placing
 abbrev line_at : Call → Painting
 line_at place = record {
   call = says (codes "stroke");

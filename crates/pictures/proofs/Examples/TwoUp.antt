@@ -21,7 +21,7 @@ abbrev unless_done : (State → Option State) → List Token → State → Optio
 unless_done f [] s = Some s
 unless_done f (t ∷ ts) s = and_then f (step false s)
 
--- runs until nothing is left, so many steps at most
+-- runs until nothing is left, for at most this many steps
 abbrev pub to_the_end : ℕ → State → Option State
 to_the_end zero s = None
 to_the_end (suc n) s = unless_done (λ r. to_the_end n r) s.left s

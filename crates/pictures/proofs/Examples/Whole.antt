@@ -1,4 +1,4 @@
--- The law of whole outputs at the document of two pages: its premises hold, and it says what was computed.
+-- The law of whole outputs, applied to the document of two pages: its premises hold, and it says what was computed.
 use Rattle.std.proofs.Common.{◌≡◌, ℕ, zero, suc, List, [], ◌∷◌, refl, Some, None, true, length}
 use Rattle.std.specs.Prelude.{codes, Result, Ok, Err, Option}
 use Rattle.std.specs.Fmt.{digits}
@@ -26,7 +26,7 @@ units_of (Err e) = []
 abbrev us : List NestedUnit
 us = units_of (document_of document)
 
--- the state behind the preamble
+-- the state after the preamble
 abbrev behind_preamble : State
 behind_preamble = record (started []) {
   work = record {
@@ -112,7 +112,7 @@ these_pictures : sheet_pictures frame us picture behind_preamble (sheets_in None
 unfolding digits
 these_pictures = refl
 
--- The same by what the pages print of themselves.
+-- The same by what the pages print by themselves.
 
 own_preamble_runs : PreambleRuns (bytes_of (preamble us)) behind_preamble
 unfolding digits

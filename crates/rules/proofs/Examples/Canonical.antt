@@ -60,7 +60,7 @@ least_offset_downward : canonical (settled (written 1 (((item false 0 (Moved (me
 unfolding digits
 least_offset_downward = refl
 
--- `0@.999999999` and `0@1.000000001`: a scale beside 1 is written
+-- `0@.999999999` and `0@1.000000001`: a scale next to 1 is written
 scale_below_one : canonical (settled (written 1 (((item false 0 (Scaled (pos 999_999_999) ∷ [])) ∷ []) ∷ []))) ≡ codes "0@.999999999"
 unfolding digits
 scale_below_one = refl

@@ -14,11 +14,11 @@ use Rattle.rules.proofs.Examples.Written.{item, measure, written}
 abbrev lines : List (List ℕ) → List ℕ
 lines texts = flat_map line texts
 
--- page p, whose number is counted from 1 in its first line
+-- page p, whose first line has its number, counted from 1
 abbrev page_lines : ℕ → List (List ℕ)
 page_lines p = (codes "%%Page: " ++ decimal (p + 1) ++ codes " " ++ decimal (p + 1)) ∷ (codes "(" ++ decimal p ++ codes ") pop") ∷ codes "showpage" ∷ []
 
--- a small document whose pages leave their number
+-- a small document, each page of which prints its number
 abbrev pub document_of_pages : ℕ → List ℕ
 document_of_pages n =
     lines (codes "%!PS-Adobe-3.0" ∷ (codes "%%Pages: " ++ decimal n) ∷ codes "%%EndComments" ∷ [])
@@ -118,7 +118,7 @@ two_pages_a_sheet_turned_left = refl
 turned_pair_has_503_bytes : length turned_pair ≡ 503
 turned_pair_has_503_bytes = refl
 
--- `2:1`: a sheet born blank, in full
+-- `2:1`: a blank sheet, in full
 abbrev blank_sheet : List ℕ
 blank_sheet = lines (
     codes "%!PS-Adobe-3.0"
@@ -157,7 +157,7 @@ border_of_one_point : bytes_in (record { paper = points 595 842; border = Some (
 unfolding digits
 border_of_one_point = refl
 
--- `0`: a document in a document, whose page line is none of ours
+-- `0`: a document in a document, whose page line doesn't begin a page
 page_line_in_embedded_document : bytes_in a4 (read 1 ((plain 0 ∷ []) ∷ [])) (codes "%!PS\n%%Page: 1 1\n%%BeginDocument: a\n%%Page: 9 9\n%%EndDocument\nx\n") ≡ Ok 263
 unfolding digits
 page_line_in_embedded_document = refl

@@ -14,7 +14,7 @@ zero_scale_before_repeated = refl
 first_scale_zero : fault_of most_slots (written 1 (((item false 0 (Scaled (pos 0) ∷ Scaled (pos 1_000_000_000) ∷ [])) ∷ []) ∷ [])) ≡ Some (ScaleZero 0)
 first_scale_zero = refl
 
--- `0@0`, and `0@.0000000009` too: nine decimals count, and Texts has its value
+-- `0@0`, and `0@.0000000009` too: nine decimals count, and its value is in Texts
 scale_of_zero : fault_of most_slots (written 1 (((item false 0 (Scaled (pos 0) ∷ [])) ∷ []) ∷ [])) ≡ Some (ScaleZero 0)
 scale_of_zero = refl
 
@@ -90,7 +90,7 @@ lowest_repeated = refl
 lowest_item : fault_of most_slots (written 2 (((item false 0 ([])) ∷ (item false 1 ([])) ∷ []) ∷ ((item false 1 ([])) ∷ (item false 0 ([])) ∷ []) ∷ ((item false 1 (Scaled (neg_ℤ (pos 1_000_000_000)) ∷ [])) ∷ (item false 0 (Scaled (pos 0) ∷ [])) ∷ []) ∷ [])) ≡ Some (ScaleZero 4)
 lowest_item = refl
 
--- a group of 4,097 items, behind one of one item
+-- a group of 4,097 items, after one of one item
 one_slot_too_many : fault_of most_slots (written 1 ((item false 0 [] ∷ []) ∷ replicate 4_097 (item false 0 []) ∷ [])) ≡ Some (TooManySlots 1)
 one_slot_too_many = refl
 
@@ -109,7 +109,7 @@ lowest_group = refl
 repeated_before_slots : fault_of most_slots (written 1 ((replicate 4_096 (item false 0 []) ++ item false 0 (Scaled (pos 1) ∷ Scaled (pos 1) ∷ []) ∷ []) ∷ [])) ≡ Some (Repeated 4_096)
 repeated_before_slots = refl
 
--- 10,001 groups, the last one of 4,097 items: the check of groups one by one comes before their count
+-- 10,001 groups, the last one of 4,097 items: each group is checked before groups are counted
 slots_before_groups : fault_of most_slots (written 1 (replicate 10_000 (item false 0 [] ∷ []) ++ replicate 4_097 (item false 0 []) ∷ [])) ≡ Some (TooManySlots 10_000)
 slots_before_groups = refl
 
@@ -117,6 +117,6 @@ slots_before_groups = refl
 ten_thousand_groups : fault_of most_slots (written 1 (replicate 10_000 (item false 0 [] ∷ []))) ≡ None
 ten_thousand_groups = refl
 
--- and one more
+-- and one more group
 too_many_groups : fault_of most_slots (written 1 (replicate 10_001 (item false 0 [] ∷ []))) ≡ Some TooManyGroups
 too_many_groups = refl

@@ -25,7 +25,7 @@ count_of_many_digits : head_in 1000000 (codes "%!PS\r\n%%Page: 1 1\n") ≡ Ok (c
 unfolding digits
 count_of_many_digits = refl
 
--- six keys are dropped, whatever stands behind them
+-- six keys are dropped, whatever follows them
 all_header_keys : head_in 2 (codes "%!PS\n%%Pages 3\n%%PageOrder: Ascend\n%%BoundingBox\n%%HiResBoundingBox: 1\n%%DocumentMedia: a\n%%Orientation\tx\nx\n%%Page: 1 1\n") ≡ Ok (codes "%!PS\n%%Pages: 2\nx\n")
 unfolding digits
 all_header_keys = refl
@@ -40,7 +40,7 @@ continuation_chain : head_in 1 (codes "%!PS\n%%BoundingBox: 1\n%%+ a\n%%+b\n%%En
 unfolding digits
 continuation_chain = refl
 
--- a `%%+` line behind a kept line stays
+-- a `%%+` line after a kept line stays
 continuation_of_kept_line : head_in 1 (codes "%!PS\n%%Title: a\n%%+ b\n%%Pages: 1\n%%+\n%%Page: 1 1\n") ≡ Ok (codes "%!PS\n%%Pages: 1\n%%Title: a\n%%+ b\n")
 unfolding digits
 continuation_of_kept_line = refl
@@ -60,7 +60,7 @@ embedded_header : head_in 1 (codes "%!PS\n%%BeginDocument: a\n%%BoundingBox: 1\n
 unfolding digits
 embedded_header = refl
 
--- LF is added behind data that the page line follows directly
+-- LF is added after data that the page line follows directly
 data_at_the_end : head_in 1 (codes "%!PS\n%%BeginData: 2\nab%%Page: 1 1\n") ≡ Ok (codes "%!PS\n%%Pages: 1\n%%BeginData: 2\nab\n")
 unfolding digits
 data_at_the_end = refl
@@ -108,23 +108,23 @@ page_of_dropped_lines = refl
 all_page_keys : prepared (codes "%%Page: 1 1\n%%PageFonts: a\n%%+ b\n%%Page\n%%Pages: 1\n%%PageX\n%%BeginPageSetup x\n%%EndPageSetup:\nx\n") ≡ Ok (codes "x\n")
 all_page_keys = refl
 
--- other keys stay, header and trailer lines among them
+-- other keys stay, including header and trailer lines
 other_page_keys_stay : prepared (codes "%%BeginPageSetupX\n%%BoundingBox: 1\n%%Trailer\n%%EOF\n%%pages\n%Page\n") ≡ Ok (codes "%%BeginPageSetupX\n%%BoundingBox: 1\n%%Trailer\n%%EOF\n%%pages\n%Page\n")
 other_page_keys_stay = refl
 
--- the text need not begin with a page line, and a first `%%+` line stays
+-- the text need not begin with a page line, and a `%%+` line at its start stays
 no_page_line : prepared (codes "%%+ a\nx\r") ≡ Ok (codes "%%+ a\nx\r")
 no_page_line = refl
 
--- a page line in it is dropped as any
+-- a page line in it is dropped too
 second_page_line : prepared (codes "x\n%%Page: 2 2\ny\n") ≡ Ok (codes "x\ny\n")
 second_page_line = refl
 
--- depth begins at 0, so an end of a document before any beginning is of no weight
+-- depth begins at 0, so the end of a document without a beginning has no effect
 own_depth : prepared (codes "%%EndDocument\n%%PageTrailer\n%%BeginDocument: a\n%%PageTrailer\n") ≡ Ok (codes "%%EndDocument\n%%BeginDocument: a\n%%PageTrailer\n")
 own_depth = refl
 
--- LF is added behind data at the end
+-- LF is added after data at the end
 body_ends_in_data : prepared (codes "%%Page: 1 1\n%%BeginData: 3\n%%P") ≡ Ok (codes "%%BeginData: 3\n%%P\n")
 body_ends_in_data = refl
 

@@ -1,5 +1,5 @@
--- Which bytes end a key, a line, a field and a count (each byte from 0 to 255 is tried), and which keys are which: each key
--- alone, with a colon and with a blank behind it, and beside longer, shorter and other keys that look like it.
+-- Which bytes end a key, a line, a field and a count: each byte from 0 to 255 is tried. And which keys are which:
+-- each key alone, followed by a colon and by a blank, and beside longer, shorter and other keys that look like it.
 use Rattle.std.proofs.Common.{ℕ, List, [], ◌∷◌, ◌++◌, refl, ◌≡◌, map, length, replicate, Bool, true, false}
 use Rattle.std.specs.Prelude.{◌==◌, nat_lt, filter, flat_map, codes, Result, Ok, Err}
 use Rattle.std.specs.List.{range_with_len, slice_split}
@@ -37,17 +37,17 @@ each text = slice_split (λ b. b == 124) text
 abbrev trailer_units_in : List ℕ → ℕ
 trailer_units_in text = found (cut text >>= λ us. Ok (length (trailer (nested us))))
 
--- a key alone, and with each byte that ends it and more behind
+-- a key alone, and followed by each byte that ends it and more
 abbrev forms : List ℕ → List (List ℕ)
 forms k = k ∷ (k ++ codes ":") ∷ (k ++ codes ": x") ∷ (k ++ codes " x") ∷ (k ++ codes "\tx") ∷ []
 
 -- ---- bytes
--- a tab, a space and a colon end a key, and no other byte does: neither a semicolon, nor a vertical tab (11), a form feed (12),
--- a zero or a non-breaking space (160)
+-- a tab, a space and a colon end a key. No other byte does, neither a semicolon, nor a vertical tab (11), a form
+-- feed (12), a zero or a non-breaking space (160)
 key_ends : bytes_with (λ b. length (key (codes "%%Page" ++ b ∷ codes "1")) == 6) ≡ 9 ∷ 32 ∷ 58 ∷ []
 key_ends = refl
 
--- a key is all of a line in which none of them stands, and nothing if one of them begins it
+-- a key is all of a line without these bytes, and nothing if the line begins with one
 whole_key : map key (codes "%%EOF" ∷ codes "" ∷ codes " %%EOF" ∷ codes ":" ∷ codes "\t" ∷ []) ≡ codes "%%EOF" ∷ codes "" ∷ codes "" ∷ codes "" ∷ codes "" ∷ []
 whole_key = refl
 
@@ -55,20 +55,21 @@ whole_key = refl
 first_end_of_key : map key (codes "a: b" ∷ codes "a b:" ∷ codes "a\tb c" ∷ codes "a::b" ∷ []) ≡ replicate 4 (codes "a")
 first_end_of_key = refl
 
--- LF and CR end a line, and no other byte does: neither a vertical tab, nor a form feed, nor 133, a line end elsewhere
+-- LF and CR end a line; no other byte does, neither a vertical tab, nor a form feed, nor 133, which ends lines
+-- elsewhere
 line_ends : bytes_with (λ b. units_in (codes "a" ++ b ∷ codes "b") == 2) ≡ 10 ∷ 13 ∷ []
 line_ends = refl
 
--- a tab and a space part the fields of a block, and no other byte does: of `Hex` and `Lines` the second is the third field, and
--- then the data are one line of four bytes; behind them `x` is a line of its own
+-- a tab and a space separate the fields of a block; no other byte does. Of `Hex` and `Lines` the second is the
+-- third field, so the data are one line of four bytes, and the `x` after them is a line of its own
 field_ends : bytes_with (λ b. units_in (codes "%%BeginData: 1 Hex" ++ b ∷ codes "Lines\nabc\nx") == 2) ≡ 9 ∷ 32 ∷ []
 field_ends = refl
 
--- behind `Lines` too
+-- also after `Lines`
 third_field_ends : bytes_with (λ b. units_in (codes "%%BeginData: 1 Hex Lines" ++ b ∷ codes "\nabc\nx") == 2) ≡ 9 ∷ 13 ∷ 32 ∷ []
 third_field_ends = refl
 
--- ten digits make a count, and no other byte does: neither `/` nor `:`, which stand beside them
+-- ten digits are digits of a count; no other byte is, neither `/` nor `:`, which are next to them
 count_digits : bytes_with (λ b. is_ok (cut (codes "%%BeginData: " ++ b ∷ codes "\n123456789"))) ≡ codes "0123456789"
 count_digits = refl
 
@@ -76,7 +77,7 @@ count_digits = refl
 abbrev begins_page : List ℕ → Bool
 begins_page content = pages_in (lines (codes "%!PS" ∷ content ∷ [])) == 1
 
--- a page line has this key and a colon directly behind it
+-- a page line has this key, directly followed by a colon
 abbrev page_lines : List (List ℕ)
 page_lines = each (codes "%%Page:|%%Page: 1 1|%%Page:1|%%Page::|%%Page:\tx")
 
@@ -145,7 +146,7 @@ no_closing_lines = each (
 close_no_document : filter closes_document no_closing_lines ≡ []
 close_no_document = refl
 
--- 300 documents in one another: a page begins behind the last of 300 ends, and none behind 299
+-- 300 documents in one another: a page begins after the last of 300 ends, and none after 299
 abbrev nested_documents : (ends : ℕ) → List ℕ
 nested_documents ends = lines (codes "%!PS" ∷ replicate 300 (codes "%%BeginDocument: a") ++ replicate ends (codes "%%EndDocument") ++ codes "%%Page: 1 1" ∷ [])
 
@@ -156,7 +157,7 @@ one_document_open : pages_in (nested_documents 299) ≡ 0
 one_document_open = refl
 
 -- ---- blocks of data
--- the line and one byte behind it are one unit
+-- the line and the byte after it are one unit
 abbrev begins_block : List ℕ → Bool
 begins_block content = units_in (line content ++ codes "x") == 1
 
@@ -176,7 +177,7 @@ no_block_lines = each (
 begin_no_block : filter begins_block no_block_lines ≡ []
 begin_no_block = refl
 
--- the line and the line of three bytes behind it are one unit; counted in bytes they would be two
+-- the line and the line of three bytes after it are one unit; counted in bytes they would be two
 abbrev counts_lines : List ℕ → Bool
 counts_lines content = units_in (line content ++ codes "ab\n") == 1
 
@@ -256,7 +257,7 @@ other_keys_kept_in_page : prepared (lines no_page_keys) ≡ Ok (lines no_page_ke
 other_keys_kept_in_page = refl
 
 -- ---- continued comments
--- a line goes on with the dropped one before it if `%%+` begins it
+-- a line that begins with `%%+` continues the dropped one before it
 abbrev stays_behind_dropped : List ℕ → Bool
 stays_behind_dropped content = found (prepared (lines (codes "%%PageMedia: a" ∷ content ∷ [])) >>= λ body. Ok (length body)) == length (line content)
 

@@ -1,4 +1,5 @@
--- The limits: what just fits is taken, and one more is refused. A plan's sheets are counted and not computed.
+-- The limits: what just fits is taken, and one more is refused. The sheets of a plan are counted without being
+-- computed.
 use Rattle.std.proofs.Common.{arith, rules, inl, ℕ, zero, suc, List, [], ◌∷◌, refl, sym, ◌≡◌, ◌≢◌, Bool, true, false, length, ap, append-nil, ◌∙◌}
 use Rattle.std.specs.Prelude.{◌<◌, ◌≤◌, ◌*◌, ◌==◌, nat_lt, not, nat_eq, codes, replicate, sum_by, Result, Ok, Err}
 use Rattle.std.specs.List.{AllPass, starts_with}
@@ -35,14 +36,14 @@ long_specification text h = omega (arith, h)
 longest_specification : (text : List ℕ) → length text ≡ 65_536 → Refuses most_slots text TooLong → ⊥
 longest_specification text h long = omega (arith, h, long)
 
--- what is too long is told as nothing else, whether it is of the grammar or not
+-- a text that is too long is refused for that alone, whether or not it is in the grammar
 length_before_syntax : (text : List ℕ) → length text ≡ 65_537 → Refuses most_slots text Syntax → ⊥
 length_before_syntax text h (short, none) = omega (arith, h, short)
 
 length_before_checks : (text : List ℕ) → length text ≡ 65_537 → Refuses most_slots text TooLarge → ⊥
 length_before_checks text h (short, spec, is, fault) = omega (arith, h, short)
 
--- one of 65,536 zeros is taken, and comes to page 0
+-- one of 65,536 zeros is taken as page 0
 zeros_pass : (n : ℕ) → AllPass is_ascii_digit (replicate n 48)
 zeros_pass zero = All-nil (λ b. is_ascii_digit b ≡ true)
 zeros_pass (suc n) = All-cons (λ b. is_ascii_digit b ≡ true) 48 (replicate n 48) refl (zeros_pass n)
@@ -63,11 +64,11 @@ longest_taken n h = (
   refl,
 )
 
--- a document of 1,073,741,825 bytes, whatever it begins with
+-- a document of 1,073,741,825 bytes, whatever they are
 long_document : (input : List ℕ) → length input ≡ 1_073_741_825 → document_of input ≡ Err InputTooLong
 long_document input h = refused _ InputTooLong _ (large 1_073_741_824 (length input) (omega (arith, h)))
 
--- one of 1,073,741,824 bytes is looked at
+-- one of 1,073,741,824 bytes is read
 longest_document : (input : List ℕ) → length input ≡ 1_073_741_824
     → document_of input ≡ refuse_if (not (starts_with nat_eq input (codes "%!"))) NotPostScript (of_block (cut input) >>= λ us. with_pages (nested us))
 longest_document input h = passed _ InputTooLong _ (small 1_073_741_824 (length input) (omega (arith, h)))

@@ -70,7 +70,7 @@ past_one_digit (suc (suc (suc (suc k)))) v l w is = omega (arith, w)
 number_before_exponent : IsNumberRead (codes "1e5") (Ok (pos 1_000_000_000, 1))
 number_before_exponent = (record { within = search rules; number = one; longest = past_one_digit }, refl)
 
--- `5.,`: a dot without decimals is of the number, and a comma is not
+-- `5.,`: a dot without decimals belongs to the number, and a comma doesn't
 five : IsNumber (codes "5.") (pos 5_000_000_000)
 five = (false, [], codes "5", codes ".", [], refl, refl, search rules, (refl, refl), search rules, (λ e. cc), refl)
 
@@ -84,7 +84,7 @@ past_dot (suc (suc (suc (suc k)))) v l w is = omega (arith, w)
 number_with_dot : IsNumberRead (codes "5.,") (Ok (pos 5_000_000_000, 2))
 number_with_dot = (record { within = search rules; number = five; longest = past_dot }, refl)
 
--- `21`: the longest number counts, and 2 isn't it
+-- `21`: the longest number counts, and that is not 2
 first_digit_alone : (v : ℤ) → IsLongestNumber (codes "21") 1 v → ⊥
 first_digit_alone v h = h.longest 2 (pos 21_000_000_000) (search rules) (search rules) twenty_one
 
@@ -100,7 +100,7 @@ hundred_thousand = (
   refl,
 )
 
--- `2CM` and `2m` are no lengths: capitals are no units, nor are metres
+-- `2CM` and `2m` are not lengths: units have no capitals, and metres are no unit
 unit_ends : (u : LengthUnit) → ends_number (unit_name u) ≡ true
 unit_ends Pt = refl
 unit_ends Cm = refl
@@ -109,7 +109,7 @@ unit_ends In = refl
 unit_ends Width = refl
 unit_ends Height = refl
 
--- what stands behind the 2 of a length is a unit, or nothing
+-- the 2 of a length is followed by a unit, or by nothing
 unit_behind : (unit : List ℕ) (m : Measure) → ends_number unit ≡ true → IsMeasure (codes "2" ++ unit) m → (unit ≡ unit_name m.unit) ⊎ (unit ≡ [])
 unit_behind unit m ends (number, name, e, n, inl u) =
     let same = one_number number (codes "2") name unit m.number (pos 2_000_000_000) n two (subst (λ z. ends_number z ≡ true) (sym u) (unit_ends m.unit)) ends (sym e) in
@@ -143,7 +143,7 @@ capital_unit m h = elim (unit_behind (codes "CM") m refl h) [ inl e ↦ not_capi
 metres : (m : Measure) → IsMeasure (codes "2m") m → ⊥
 metres m h = elim (unit_behind (codes "m") m refl h) [ inl e ↦ not_metres m.unit e | inr e ↦ some_left 109 [] e ]
 
--- `H`, one of the flips of pstops(1), is no modifier
+-- `H`, one of the flips of pstops(1), is not a modifier
 flip_left_to_right : (m : Modifier) → IsModifier (codes "H") m → ⊥
 flip_left_to_right (Quarters n) (inl (k, inl e)) = omega (arith, same_head 72 76 _ _ e)
 flip_left_to_right (Quarters n) (inl (k, inr e)) = omega (arith, same_head 72 108 _ _ e)

@@ -141,7 +141,7 @@ width_half_in_grains = refl
 width_half_minus_in_grains : grains (sized (pos 127) (pos 3)) (neg_ℤ (pos 500_000_000)) Width ≡ neg_ℤ (pos 64)
 width_half_minus_in_grains = refl
 
--- a little less than half a grain, 63.499999873 grains, goes towards zero on both sides
+-- a little less than half a grain, 63.499999873 grains, is rounded towards zero on both sides
 width_below_half_in_grains : grains (sized (pos 127) (pos 3)) (pos 499_999_999) Width ≡ pos 63
 width_below_half_in_grains = refl
 
@@ -168,11 +168,11 @@ width_two_and_half_in_grains = refl
 width_two_and_half_minus_in_grains : grains (sized (pos 5) (pos 127)) (neg_ℤ (pos 500_000_000)) Width ≡ neg_ℤ (pos 3)
 width_two_and_half_minus_in_grains = refl
 
--- 3 grains times .166666666, a little less than a sixth, are no grain
+-- 3 grains times .166666666, a little less than a sixth, are 0 grains
 height_below_sixth_in_grains : grains (sized (pos 127) (pos 3)) (pos 166_666_666) Height ≡ pos 0
 height_below_sixth_in_grains = refl
 
--- and times .166666667, a little more, are one
+-- 3 grains times .166666667, a little more, are 1 grain
 height_above_sixth_in_grains : grains (sized (pos 127) (pos 3)) (pos 166_666_667) Height ≡ pos 1
 height_above_sixth_in_grains = refl
 
@@ -211,12 +211,12 @@ number_below_one : number_text (pos 700_000_000) ≡ codes ".7"
 unfolding digits
 number_below_one = refl
 
--- nor behind a minus
+-- nor after a minus
 number_minus_half : number_text (neg_ℤ (pos 500_000_000)) ≡ codes "-.5"
 unfolding digits
 number_minus_half = refl
 
--- zero is `0` all the same
+-- zero is still `0`
 number_zero : number_text (pos 0) ≡ codes "0"
 unfolding digits
 number_zero = refl
@@ -236,7 +236,7 @@ number_ten : number_text (pos 10_000_000_000) ≡ codes "10"
 unfolding digits
 number_ten = refl
 
--- a 0 behind the dot stays, on both sides of zero
+-- a 0 after the dot stays, on both sides of zero
 number_below_tenth : number_text (pos 70_000_000) ≡ codes ".07"
 unfolding digits
 number_below_tenth = refl
@@ -254,12 +254,12 @@ number_below_one_by_least : number_text (neg_ℤ (pos 999_999_999)) ≡ codes "-
 unfolding digits
 number_below_one_by_least = refl
 
--- zeros behind the dot and before it
+-- zeros after the dot and before it
 number_one_and_twentieth : number_text (neg_ℤ (pos 1_050_000_000)) ≡ codes "-1.05"
 unfolding digits
 number_one_and_twentieth = refl
 
--- the printed form of two of them: no 0 before the dot of `-.5`, and a 0 alone
+-- the printed form of two of them: `-.5`, with no 0 before the dot, and `0` alone
 minus_half_form : IsPrintedNumber (neg_ℤ (pos 500_000_000)) (codes "-.5")
 minus_half_form = record {
   whole = [];

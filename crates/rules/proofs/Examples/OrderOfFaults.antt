@@ -1,5 +1,6 @@
--- The checks of a specification: each with items that count from the end and with numbers below zero, just taken and just
--- refused; and each two that follow one another, with the fault of the earlier one before and behind that of the later one.
+-- The checks of a specification. Each is tried with items that count from the end and with numbers below zero, just
+-- taken and just refused. Each two that follow one another are tried with the earlier one's fault before and after
+-- the later one's.
 use Rattle.std.proofs.Common.{ℕ, ℤ, List, [], ◌∷◌, ◌++◌, refl, ◌≡◌, true, false, Option, Some, None}
 use Rattle.std.specs.Prelude.{pos, neg_ℤ, replicate}
 use Rattle.rules.specs.Papers.{Pt, Cm, Width}
@@ -48,14 +49,15 @@ scale_too_large = refl
 greatest_scale : fault_of_item (page 0 (Scaled (pos 99_999_999_999_999) ∷ [])) ≡ None
 greatest_scale = refl
 
--- `0@-100000`: too large before it is not above zero; `0@-99999.999999999` is not above zero alone
+-- `0@-100000`: reported as too large, not as a scale that isn't above zero; `0@-99999.999999999` has only the
+-- second fault
 scale_too_large_below_zero : fault_of_item (page 0 (Scaled (neg_ℤ (pos 100_000_000_000_000)) ∷ [])) ≡ Some TooLarge
 scale_too_large_below_zero = refl
 
 greatest_scale_below_zero : fault_of_item (page 0 (Scaled (neg_ℤ (pos 99_999_999_999_999)) ∷ [])) ≡ Some (ScaleZero 0)
 greatest_scale_below_zero = refl
 
--- `0(-100000,0)` and `0(0,100000)`: in each of two lengths, on both sides of zero
+-- `0(-100000,0)` and `0(0,100000)`: in each of the two lengths, on both sides of zero
 offset_too_large_to_the_left : fault_of_item (page 0 (moved_by (neg_ℤ (pos 100_000_000_000_000)) (pos 0) ∷ [])) ≡ Some TooLarge
 offset_too_large_to_the_left = refl
 
@@ -78,7 +80,7 @@ modulo_of_zero = refl
 modulo_of_one : fault_in 1 ((page 0 [] ∷ []) ∷ []) ≡ None
 modulo_of_one = refl
 
--- `0:0(100000,0)`: a number that is too large comes first, also at the end of the text
+-- `0:0(100000,0)`: a number that is too large comes first, even at the end of the text
 too_large_before_modulo : fault_in 0 ((page 0 (moved_by (pos 100_000_000_000_000) (pos 0) ∷ []) ∷ []) ∷ []) ≡ Some TooLarge
 too_large_before_modulo = refl
 
@@ -86,7 +88,7 @@ too_large_before_modulo = refl
 modulo_before_page_from_end : fault_in 0 ((from_end 0 [] ∷ []) ∷ []) ≡ Some ModuloZero
 modulo_before_page_from_end = refl
 
--- ---- pages
+-- ---- page numbers
 -- `2:-2`, and `2:-1` is taken
 page_from_end_is_modulo : fault_in 2 ((from_end 2 [] ∷ []) ∷ []) ≡ Some (PageOutOfBlock 0)
 page_from_end_is_modulo = refl
@@ -98,7 +100,7 @@ page_from_end_below_modulo = refl
 page_one_without_modulo : fault_of_item (from_end 1 []) ≡ Some (PageOutOfBlock 0)
 page_one_without_modulo = refl
 
--- `2:-0+-1,3,-2`: the lowest of two, of which one counts from the end
+-- `2:-0+-1,3,-2`: the lowest of two, one of which counts from the end
 page_before_page_from_end : fault_in 2 ((from_end 0 [] ∷ from_end 1 [] ∷ []) ∷ (page 3 [] ∷ []) ∷ (from_end 2 [] ∷ []) ∷ []) ≡ Some (PageOutOfBlock 2)
 page_before_page_from_end = refl
 
@@ -106,7 +108,7 @@ page_before_page_from_end = refl
 page_from_end_before_page : fault_in 2 ((from_end 3 [] ∷ []) ∷ (page 2 [] ∷ []) ∷ []) ≡ Some (PageOutOfBlock 0)
 page_from_end_before_page = refl
 
--- `2:2,0@100000`: a number that is too large comes first, behind a page too
+-- `2:2,0@100000`: a number that is too large comes first, also after such a page
 page_behind_too_large : fault_in 2 ((page 2 [] ∷ []) ∷ (page 0 (too_large_scale ∷ []) ∷ []) ∷ []) ≡ Some TooLarge
 page_behind_too_large = refl
 
@@ -126,7 +128,7 @@ scale_from_end = refl
 lowest_scale : fault_in 1 ((from_end 0 (one ∷ []) ∷ []) ∷ (page 0 (minus_one ∷ []) ∷ from_end 0 (zero_scale ∷ []) ∷ []) ∷ []) ≡ Some (ScaleZero 1)
 lowest_scale = refl
 
--- an offset of zero or below it is none of a scale: `0(0,-1)`
+-- `0(0,-1)`: the check of scales doesn't look at offsets, which may be zero or below
 offset_below_zero : fault_of_item (page 0 (moved_by (pos 0) (neg_ℤ (pos 1_000_000_000)) ∷ [])) ≡ None
 offset_below_zero = refl
 
@@ -171,7 +173,7 @@ once_in_each_item = refl
 turns_repeated : fault_of_item (page 0 (replicate 5 (Quarters 1))) ≡ None
 turns_repeated = refl
 
--- the scale before what is repeated: `0@0,0@1@1`, `0@1@1,-0@-1`, `0@1@1,0(0,0)(0,0)@0`
+-- the scale before a repeated modifier: `0@0,0@1@1`, `0@1@1,-0@-1`, `0@1@1,0(0,0)(0,0)@0`
 scale_then_repeated : fault_in 1 ((page 0 (zero_scale ∷ []) ∷ []) ∷ (page 0 (one ∷ one ∷ []) ∷ []) ∷ []) ≡ Some (ScaleZero 0)
 scale_then_repeated = refl
 
@@ -181,7 +183,7 @@ repeated_then_scale = refl
 repeated_and_scale : fault_in 1 ((page 0 (one ∷ one ∷ []) ∷ []) ∷ (page 0 (nowhere ∷ nowhere ∷ zero_scale ∷ []) ∷ []) ∷ []) ≡ Some (ScaleZero 1)
 repeated_and_scale = refl
 
--- the page before what is repeated: `0@1@1+1`
+-- the page before a repeated modifier: `0@1@1+1`
 repeated_then_page : fault_in 1 ((page 0 (one ∷ one ∷ []) ∷ page 1 [] ∷ []) ∷ []) ≡ Some (PageOutOfBlock 1)
 repeated_then_page = refl
 
@@ -197,19 +199,19 @@ most_items_from_end = refl
 groups_counted_alone : fault_in 1 (replicate 2 (replicate 4_096 (page 0 []))) ≡ None
 groups_counted_alone = refl
 
--- what is repeated before a group of 4,097 items: with the group behind it, and before it
+-- a repeated modifier before a group of 4,097 items, which may come after it or before it
 repeated_then_items : fault_in 1 ((page 0 (one ∷ one ∷ []) ∷ []) ∷ replicate 4_097 (page 0 []) ∷ []) ≡ Some (Repeated 0)
 repeated_then_items = refl
 
 items_then_repeated : fault_in 1 (replicate 4_097 (page 0 []) ∷ (from_end 0 (nowhere ∷ nowhere ∷ []) ∷ []) ∷ []) ≡ Some (Repeated 4_097)
 items_then_repeated = refl
 
--- a page before a group of 4,097 items, which stands before it
+-- a page before a group of 4,097 items, even if the group comes first
 items_then_page : fault_in 1 (replicate 4_097 (page 0 []) ∷ (from_end 1 [] ∷ []) ∷ []) ≡ Some (PageOutOfBlock 4_097)
 items_then_page = refl
 
 -- ---- groups
--- a group of 4,097 items before 10,001 groups, of which it is the first
+-- a group of 4,097 items before the number of groups, if it is the first of 10,001
 items_then_groups : fault_in 1 (replicate 4_097 (page 0 []) ∷ replicate 10_000 (page 0 [] ∷ [])) ≡ Some (TooManySlots 0)
 items_then_groups = refl
 
@@ -217,6 +219,6 @@ items_then_groups = refl
 groups_from_end : fault_in 1 (replicate 10_001 (from_end 0 [] ∷ [])) ≡ Some TooManyGroups
 groups_from_end = refl
 
--- 10,001 groups, of which the last has two offsets: items come first
+-- 10,001 groups, the last one with two offsets: items come first
 groups_then_repeated : fault_in 1 (replicate 10_000 (page 0 [] ∷ []) ++ (page 0 (nowhere ∷ nowhere ∷ []) ∷ []) ∷ []) ≡ Some (Repeated 10_000)
 groups_then_repeated = refl

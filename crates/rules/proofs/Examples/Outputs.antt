@@ -23,7 +23,7 @@ with_border : output_in (frame a4 (Some (pos 63_500_000_000))) (settled (written
 unfolding digits
 with_border = refl
 
--- `2:1+0`: a blank slot writes nothing, on a sheet with a page
+-- `2:1+0`: for a blank slot nothing is written, on a sheet with a page
 blank_before_page : output_in (frame a4 (None)) (settled (written 2 (((item false 1 ([])) ∷ (item false 0 ([])) ∷ []) ∷ []))) (codes "%!PS\n%%Page: 1 1\nx") ≡ Ok (codes "%!PS\n%%Pages: 1\n%%Page: 1 1\nuserdict /ImposeSave save put\nuserdict /showpage {} put\n[1 0 0 1 0 0] concat\nnewpath 0 0 moveto 595 0 lineto 595 842 lineto 0 842 lineto closepath clip newpath\nx\nImposeSave restore\nshowpage\n")
 unfolding digits
 blank_before_page = refl

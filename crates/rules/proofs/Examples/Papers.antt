@@ -52,7 +52,7 @@ capital_a = refl
 capital_cross : paper_named (codes "10X14") ≡ Some (points 720 1_008)
 capital_cross = refl
 
--- b5 is none of ours
+-- b5 is not in the list
 no_such_paper : paper_named (codes "b5") ≡ None
 no_such_paper = refl
 
@@ -60,22 +60,22 @@ no_such_paper = refl
 longer_name : paper_named (codes "a4 ") ≡ None
 longer_name = refl
 
--- and no word is none
+-- the empty word is no name
 no_name : paper_named (codes "") ≡ None
 no_name = refl
 
--- a name with a letter more at its end, and one with a letter less there, is none
+-- a name with one letter more or less at its end is none
 longer_names : map paper_named (codes "a33" ∷ codes "a4r" ∷ codes "a50" ∷ codes "letters" ∷ codes "legals" ∷ codes "tabloids" ∷ codes "statements" ∷ codes "10x141" ∷ []) ≡ replicate 8 None
 longer_names = refl
 
 shorter_names : map paper_named (codes "a" ∷ codes "lette" ∷ codes "lega" ∷ codes "tabloi" ∷ codes "statemen" ∷ codes "10x1" ∷ []) ≡ replicate 6 None
 shorter_names = refl
 
--- nor is one with a letter more or less at its start
+-- nor is one with one letter more or less at its start
 names_from_within : map paper_named (codes "aa3" ∷ codes "4" ∷ codes " a5" ∷ codes "etter" ∷ codes "xlegal" ∷ codes "abloid" ∷ codes "0x14" ∷ codes "110x14" ∷ []) ≡ replicate 8 None
 names_from_within = refl
 
--- other papers are none
+-- other papers are not in the list
 other_papers : map paper_named (codes "a0" ∷ codes "a1" ∷ codes "a2" ∷ codes "a6" ∷ codes "ledger" ∷ codes "folio" ∷ codes "quarto" ∷ codes "executive" ∷ codes "11x17" ∷ codes "14x10" ∷ []) ≡ replicate 10 None
 other_papers = refl
 
@@ -83,7 +83,7 @@ other_papers = refl
 all_capitals : map paper_named (codes "A3" ∷ codes "A5" ∷ codes "LETTER" ∷ codes "LEGAL" ∷ codes "TABLOID" ∷ codes "STATEMENT" ∷ []) ≡ map paper_named (codes "a3" ∷ codes "a5" ∷ codes "letter" ∷ codes "legal" ∷ codes "tabloid" ∷ codes "statement" ∷ [])
 all_capitals = refl
 
--- of all bytes these two are an `a`, these three are the digits of a name, and these two are an `x`
+-- among all bytes, two are an `a`, three are the digits of a name, and two are an `x`
 abbrev is_name : List ℕ → Bool
 is_name name = is_some (paper_named name)
 
@@ -104,15 +104,15 @@ ends_of_letters = refl
 least_paper : is_paper (pos 1) (pos 1) ≡ true
 least_paper = refl
 
--- none is not
+-- no grain is no side
 no_width : is_paper (pos 0) (pos 1) ≡ false
 no_width = refl
 
--- on neither side
+-- neither as width nor as height
 no_height : is_paper (pos 1) (neg_ℤ (pos 1)) ≡ false
 no_height = refl
 
--- nor is anything below
+-- nor is anything below zero
 width_below_zero : is_paper (neg_ℤ (pos 1)) (pos 1) ≡ false
 width_below_zero = refl
 

@@ -65,7 +65,7 @@ five_quarters_text : matrix_text (matrix_of a4 (settled_item (item false 0 (Quar
 unfolding digits
 five_quarters_text = refl
 
--- `0RUU`: and go on past a full turn
+-- `0RUU`: and may pass a full turn
 seven_quarters : put a4 (settled_item (item false 0 (Quarters 3 ∷ Quarters 2 ∷ Quarters 2 ∷ []))) (point (neg_ℤ (pos 3)) (pos 5)) ≡ point (pos 635_000_000_000) (pos 381_000_000_000)
 seven_quarters = refl
 
@@ -78,7 +78,7 @@ seven_quarters_text : matrix_text (matrix_of a4 (settled_item (item false 0 (Qua
 unfolding digits
 seven_quarters_text = refl
 
--- `0(1in,-2cm)@.5L`: the shift is not scaled, wherever it stands
+-- `0(1in,-2cm)@.5L`: the shift is not scaled, wherever it is written
 scale_before_shift : put a4 (settled_item (item false 0 (Moved (measure (pos 1_000_000_000) In) (measure (neg_ℤ (pos 2_000_000_000)) Cm) ∷ Scaled (pos 500_000_000) ∷ Quarters 1 ∷ []))) (point (pos 1) (pos 2)) ≡ point (pos 9_017_000_000_000) (neg_ℤ (pos 7_136_500_000_000))
 scale_before_shift = refl
 
@@ -144,7 +144,7 @@ right_and_double_text : matrix_text (matrix_of a4 (settled_item (item false 0 (Q
 unfolding digits
 right_and_double_text = refl
 
--- `0LRU`: all three turns come to half a turn
+-- `0LRU`: the three turns add up to half a turn
 all_turns_text : matrix_text (matrix_of a4 (settled_item (item false 0 (Quarters 1 ∷ Quarters 3 ∷ Quarters 2 ∷ [])))) ≡ codes "[-1 0 0 -1 0 0]"
 unfolding digits
 all_turns_text = refl

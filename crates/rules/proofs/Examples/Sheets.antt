@@ -1,4 +1,4 @@
--- Which pages stand on which sheets.
+-- Which pages are on which sheets.
 use Rattle.std.proofs.Common.{ℕ, List, [], ◌∷◌, ◌++◌, refl, ◌≡◌, true, false, Some, None, Option, map, replicate}
 use Rattle.rules.specs.Specification.{Spec, settled}
 use Rattle.rules.specs.Sheets.{sheets}
@@ -31,7 +31,7 @@ minus_in_incomplete_block = refl
 two_groups : on_sheets (settled (written 2 (((item false 1 ([])) ∷ []) ∷ ((item true 0 ([])) ∷ []) ∷ []))) 3 ≡ (Some 1 ∷ []) ∷ (Some 2 ∷ []) ∷ (None ∷ []) ∷ (Some 0 ∷ []) ∷ []
 two_groups = refl
 
--- `2:0+0,0` on 3 pages: a page may stand twice
+-- `2:0+0,0` on 3 pages: a page may be placed twice
 same_page_twice : on_sheets (settled (written 2 (((item false 0 ([])) ∷ (item false 0 ([])) ∷ []) ∷ ((item false 0 ([])) ∷ []) ∷ []))) 3 ≡ (Some 0 ∷ Some 0 ∷ []) ∷ (Some 0 ∷ []) ∷ (Some 2 ∷ Some 2 ∷ []) ∷ (Some 2 ∷ []) ∷ []
 same_page_twice = refl
 
@@ -79,7 +79,7 @@ booklet_of_three = refl
 booklet_of_seven : on_sheets (settled (written 4 (((item true 3 ([])) ∷ (item false 0 ([])) ∷ []) ∷ ((item false 1 ([])) ∷ (item true 2 ([])) ∷ []) ∷ []))) 7 ≡ (None ∷ Some 0 ∷ []) ∷ (Some 1 ∷ Some 6 ∷ []) ∷ (Some 3 ∷ Some 4 ∷ []) ∷ (Some 5 ∷ Some 2 ∷ []) ∷ []
 booklet_of_seven = refl
 
--- on 9 pages, one more than two blocks: the places 8 to 11 are the last block, and 9 to 11 are blank
+-- on 9 pages, one more than two blocks: the places 8 to 11 are the last block; 9 to 11 are blank
 booklet_of_nine : on_sheets (settled (written 4 (((item true 3 ([])) ∷ (item false 0 ([])) ∷ []) ∷ ((item false 1 ([])) ∷ (item true 2 ([])) ∷ []) ∷ []))) 9 ≡ (None ∷ Some 0 ∷ []) ∷ (Some 1 ∷ None ∷ []) ∷ (Some 7 ∷ Some 4 ∷ []) ∷ (Some 5 ∷ Some 6 ∷ []) ∷ (Some 3 ∷ Some 8 ∷ []) ∷ (None ∷ Some 2 ∷ []) ∷ []
 booklet_of_nine = refl
 
@@ -117,6 +117,6 @@ greatest_block_full = refl
 blanks_before_the_page : on_sheets (settled (written 2 ((replicate 64 (item false 1 []) ++ item false 0 [] ∷ []) ∷ []))) 1 ≡ (replicate 64 None ++ Some 0 ∷ []) ∷ []
 blanks_before_the_page = refl
 
--- 4,096 items `0` on one page: the page as often on its sheet
+-- 4,096 items `0` on one page: the page 4,096 times on its sheet
 most_slots_of_one_page : on_sheets (settled (written 1 (replicate 4_096 (item false 0 []) ∷ []))) 1 ≡ replicate 4_096 (Some 0) ∷ []
 most_slots_of_one_page = refl

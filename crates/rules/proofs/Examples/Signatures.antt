@@ -40,7 +40,7 @@ three_leaves = refl
 blanks_in_leaves : signature_row 12 10 ≡ None ∷ Some 0 ∷ Some 1 ∷ None ∷ Some 9 ∷ Some 2 ∷ Some 3 ∷ Some 8 ∷ Some 7 ∷ Some 4 ∷ Some 5 ∷ Some 6 ∷ []
 blanks_in_leaves = refl
 
--- the sides of a signature: four, eight, and a million at most
+-- the numbers of sides that a signature may have: four, eight, and a million at most
 four_sides : AreSides 4
 four_sides = (omega arith, refl, omega arith)
 
@@ -50,7 +50,7 @@ most_sides = (omega arith, refl, omega arith)
 sides_past_most : AreSides 1_000_004 → ⊥
 sides_past_most h = omega (arith, h.2)
 
--- none, one, two, three and six are no multiple of four above 0
+-- none, one, two, three and six are not multiples of four above 0
 no_sides : AreSides 0 → ⊥
 no_sides h = omega (arith, h.0)
 
@@ -89,7 +89,7 @@ full_signature = refl
 page_more_than_signature : signature_row 8 9 ≡ Some 7 ∷ Some 0 ∷ Some 1 ∷ Some 6 ∷ Some 5 ∷ Some 2 ∷ Some 3 ∷ Some 4 ∷ None ∷ Some 8 ∷ None ∷ None ∷ None ∷ None ∷ None ∷ None ∷ []
 page_more_than_signature = refl
 
--- one page on two leaves stands on the second side
+-- one page on two leaves is on the second side
 one_page : signature_row 8 1 ≡ None ∷ Some 0 ∷ None ∷ None ∷ None ∷ None ∷ None ∷ None ∷ []
 one_page = refl
 
@@ -124,7 +124,7 @@ minus_past_row = refl
 modulo_past_row : on_sheets (Some 4) (read 3 ((plain 0 ∷ []) ∷ [])) 5 ≡ (Some 3 ∷ []) ∷ (Some 2 ∷ []) ∷ (None ∷ []) ∷ []
 modulo_past_row = refl
 
--- `3:2` on 5 pages in signatures of 4: an entry behind the end of the row is blank
+-- `3:2` on 5 pages in signatures of 4: an entry after the end of the row is blank
 entry_behind_row : on_sheets (Some 4) (read 3 ((plain 2 ∷ []) ∷ [])) 5 ≡ (Some 1 ∷ []) ∷ (Some 4 ∷ []) ∷ (None ∷ []) ∷ []
 entry_behind_row = refl
 
@@ -159,7 +159,7 @@ sheet_of_each entries e entry lt =
     in_blocks : e < blocks 1 entries
     in_blocks = omega arith
 
--- on one page in a signature of 1,000,000: the page is the first one of its signature, and stands on the second sheet
+-- on one page in a signature of 1,000,000: the page is the first one of its signature, and is on the second sheet
 million_sheets : length (sheets_in (Some 1_000_000) each 1) ≡ 1_000_000
 million_sheets = sheets_of_each (length (signature_row 1_000_000 1)) (entry_of (signature_row 1_000_000 1)) ∙ whole_signatures 1_000_000 1
 

@@ -1,4 +1,4 @@
--- Texts of numbers and specifications, and what they stand for: how each text is taken apart.
+-- Texts of numbers and specifications, and their meaning: how each text is taken apart.
 use Rattle.std.proofs.Common.{inl, inr, rules, [], ◌∷◌, true, false, refl}
 use Rattle.std.specs.Prelude.{codes, pos, neg_ℤ}
 use Rattle.rules.specs.Numbers.{IsNumber}
@@ -14,7 +14,7 @@ dot_at_the_end = (false, [], codes "5", codes ".", [], refl, refl, search rules,
 dot_at_the_start : IsNumber (codes "-.5") (neg_ℤ (pos 500_000_000))
 dot_at_the_start = (true, codes "-", [], codes ".5", codes "5", refl, (refl, refl), search rules, (refl, refl), search rules, (λ e. cc), refl)
 
--- no zero is negative
+-- zero is never negative
 minus_zero : IsNumber (codes "-0.0") (pos 0)
 minus_zero = (true, codes "-", codes "0", codes ".0", codes "0", refl, (refl, refl), search rules, (refl, refl), search rules, (λ e. cc), refl)
 
@@ -22,7 +22,7 @@ minus_zero = (true, codes "-", codes "0", codes ".0", codes "0", refl, (refl, re
 ten_decimals : IsNumber (codes "+00.1234567899") (pos 123_456_789)
 ten_decimals = (false, codes "+", codes "00", codes ".1234567899", codes "1234567899", refl, (refl, refl), search rules, (refl, refl), search rules, (λ e. cc), refl)
 
--- also if nine zeros stand before it; the ninth decimal is 10^-9
+-- also if nine zeros come before it; the ninth decimal is 10^-9
 tenth_decimal_alone : IsNumber (codes ".0000000009") (pos 0)
 tenth_decimal_alone = (false, [], [], codes ".0000000009", codes "0000000009", refl, refl, search rules, (refl, refl), search rules, (λ e. cc), refl)
 
@@ -86,7 +86,7 @@ every_other_page_backwards = inr (codes "2", codes "-0", refl, (search rules, (�
 minus_alone : IsSpec (codes "-") (written 1 ((item true 0 ([]) ∷ []) ∷ []))
 minus_alone = inl (refl, inr (item true 0 ([]), refl, ([], refl, refl, (λ e. cc), refl)))
 
--- `2:u`: behind a modulo too, and in a small letter
+-- `2:u`: after a modulo too, and as a small letter
 turn_alone : IsSpec (codes "2:u") (written 2 ((item false 0 (Quarters 2 ∷ []) ∷ []) ∷ []))
 turn_alone = inr (codes "2", codes "u", refl, (search rules, (λ e. cc), refl), inr (item false 0 (Quarters 2 ∷ []), refl, (codes "u", refl, refl, (λ e. cc), (codes "u", [], refl, inr (inl (refl, inr refl)), refl))))
 
@@ -104,7 +104,7 @@ two_groups =
       ),
     )
 
--- what stands behind the page number in a two-up: `L@.7(21cm,0)` and `L@.7(21cm,14.85cm)`
+-- what follows the page number in a two-up: `L@.7(21cm,0)` and `L@.7(21cm,14.85cm)`
 seven_tenths : IsNumber (codes ".7") (pos 700_000_000)
 seven_tenths = (false, [], [], codes ".7", codes "7", refl, refl, search rules, (refl, refl), search rules, (λ e. cc), refl)
 

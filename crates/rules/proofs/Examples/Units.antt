@@ -26,7 +26,7 @@ empty_text = refl
 cr_at_the_end : units_in (codes "a\r") ≡ Ok ((0, codes "a\r") ∷ [])
 cr_at_the_end = refl
 
--- `Lines` is of no weight behind `%%BeginBinary`
+-- `Lines` has no effect after `%%BeginBinary`
 binary_counts_bytes : units_in (codes "%%BeginBinary: 3 Hex Lines\na\nb\nc\n") ≡ Ok ((0, codes "%%BeginBinary: 3 Hex Lines\na\nb") ∷ (0, codes "\n") ∷ (0, codes "c\n") ∷ [])
 binary_counts_bytes = refl
 
@@ -38,7 +38,7 @@ lines_in_small_letters = refl
 lines_as_second_field : units_in (codes "%%BeginData: 3 Lines\na\nb\nc\n") ≡ Ok ((0, codes "%%BeginData: 3 Lines\na\nb") ∷ (0, codes "\n") ∷ (0, codes "c\n") ∷ [])
 lines_as_second_field = refl
 
--- a fourth field is of no weight
+-- a fourth field has no effect
 lines_as_fourth_field : units_in (codes "%%BeginData: 1 Hex x Lines\nab\n") ≡ Ok ((0, codes "%%BeginData: 1 Hex x Lines\na") ∷ (0, codes "b\n") ∷ [])
 lines_as_fourth_field = refl
 
@@ -54,7 +54,7 @@ no_blank_before_count = refl
 begin_without_colon : units_in (codes "%%BeginData : 5\nab") ≡ Ok ((0, codes "%%BeginData : 5\n") ∷ (0, codes "ab") ∷ [])
 begin_without_colon = refl
 
--- `%%BeginDataX:` is a line
+-- `%%BeginDataX:` is only a line
 begin_with_longer_key : units_in (codes "%%BeginDataX: 5\nab") ≡ Ok ((0, codes "%%BeginDataX: 5\n") ∷ (0, codes "ab") ∷ [])
 begin_with_longer_key = refl
 
@@ -86,11 +86,11 @@ count_with_plus = refl
 count_with_letter : units_in (codes "%%BeginBinary: 2x\nabc") ≡ Err (faulty 0 BadCount)
 count_with_letter = refl
 
--- in its first place too
+-- also in its first place
 count_behind_letter : units_in (codes "%%BeginData: x2\nabc") ≡ Err (faulty 0 BadCount)
 count_behind_letter = refl
 
--- it has no minus and no dot, and nothing but a blank ends it
+-- a count has no minus and no dot, and only a blank ends it
 count_with_minus : units_in (codes "%%BeginData: -0\nabc") ≡ Err (faulty 0 BadCount)
 count_with_minus = refl
 
@@ -103,11 +103,11 @@ count_with_colon = refl
 colon_before_count : units_in (codes "%%BeginData:: 2\nabc") ≡ Err (faulty 0 BadCount)
 colon_before_count = refl
 
--- a count that is none is told before the data that are missing
+-- a malformed count is reported before missing data
 bad_count_of_short_data : units_in (codes "%%BeginData: 9x") ≡ Err (faulty 0 BadCount)
 bad_count_of_short_data = refl
 
--- a count must stand there
+-- there must be a count
 count_left_out : units_in (codes "%%BeginData: \t\nabc") ≡ Err (faulty 0 BadCount)
 count_left_out = refl
 
@@ -115,22 +115,22 @@ count_left_out = refl
 no_line_end_behind_begin : units_in (codes "%%BeginData: 0") ≡ Ok ((0, codes "%%BeginData: 0") ∷ [])
 no_line_end_behind_begin = refl
 
--- as many bytes as the count, and one more
+-- as many bytes as the count says, and one more
 as_many_bytes : units_in (codes "%%BeginData: 3\nabc") ≡ Ok ((0, codes "%%BeginData: 3\nabc") ∷ [])
 as_many_bytes = refl
 
 one_byte_more : units_in (codes "%%BeginBinary: 3\nabcd") ≡ Ok ((0, codes "%%BeginBinary: 3\nabc") ∷ (0, codes "d") ∷ [])
 one_byte_more = refl
 
--- one byte less than the count
+-- one byte less than the count says
 one_byte_too_few : units_in (codes "%%BeginData: 3\nab") ≡ Err (faulty 0 ShortData)
 one_byte_too_few = refl
 
--- of binary data too
+-- also in binary data
 one_binary_byte_too_few : units_in (codes "%%BeginBinary: 3\nab") ≡ Err (faulty 0 ShortData)
 one_binary_byte_too_few = refl
 
--- as many lines as the count, and one more; an empty line is one
+-- as many lines as the count says, and one more; an empty line is one
 as_many_lines : units_in (codes "%%BeginData: 2 Hex Lines\n\nab\n") ≡ Ok ((0, codes "%%BeginData: 2 Hex Lines\n\nab\n") ∷ [])
 as_many_lines = refl
 
@@ -141,7 +141,7 @@ one_line_more = refl
 many_lines_too_few : units_in (codes "%%BeginData: 99999999999999999999999999 Hex Lines\nab\n") ≡ Err (faulty 0 ShortData)
 many_lines_too_few = refl
 
--- one line less than the count: after a last end there is no line
+-- one line less than the count says: after a last end there is no line
 one_line_too_few : units_in (codes "%%BeginData: 2 Hex Lines\nab\n") ≡ Err (faulty 0 ShortData)
 one_line_too_few = refl
 
@@ -149,7 +149,7 @@ one_line_too_few = refl
 last_data_line_without_end : units_in (codes "%%BeginData: 2 Hex Lines\nab\nc") ≡ Ok ((0, codes "%%BeginData: 2 Hex Lines\nab\nc") ∷ [])
 last_data_line_without_end = refl
 
--- where the data end in CR, an LF behind them is an empty line
+-- where the data end in CR, an LF after them is an empty line
 data_end_in_cr : units_in (codes "%%BeginData: 2\na\r\nb") ≡ Ok ((0, codes "%%BeginData: 2\na\r") ∷ (0, codes "\n") ∷ (0, codes "b") ∷ [])
 data_end_in_cr = refl
 
@@ -165,19 +165,19 @@ begin_line_ends_in_cr = refl
 block_in_block : units_in (codes "%%BeginData: 17\n%%BeginData: 99\n\nx") ≡ Ok ((0, codes "%%BeginData: 17\n%%BeginData: 99\n\n") ∷ (0, codes "x") ∷ [])
 block_in_block = refl
 
--- a begin line that data end in begins no block: 9 bytes of it are data, and the rest is a line
+-- the data end in a begin line, which begins no block: 9 bytes of it are data, and the rest is a line
 data_end_in_begin_line : units_in (codes "a\n%%BeginData: 9\n%%BeginData: x\n") ≡ Ok ((0, codes "a\n") ∷ (0, codes "%%BeginData: 9\n%%BeginDa") ∷ (0, codes "ta: x\n") ∷ [])
 data_end_in_begin_line = refl
 
--- of two faults the first one counts
+-- of two faults the first one is reported
 bad_count_before_short_data : units_in (codes "a\n%%BeginData: x\n%%BeginBinary: 99\n") ≡ Err (faulty 2 BadCount)
 bad_count_before_short_data = refl
 
--- also the other way round
+-- in either order
 short_data_before_bad_count : units_in (codes "a\r\n%%BeginBinary: 99\n%%BeginData: x\n") ≡ Err (faulty 3 ShortData)
 short_data_before_bad_count = refl
 
--- a fault behind a block is told where its own line begins
+-- a fault after a block is reported where its own line begins
 fault_behind_block : units_in (codes "%%BeginData: 2\nab%%BeginData: x\n") ≡ Err (faulty 17 BadCount)
 fault_behind_block = refl
 
@@ -185,11 +185,11 @@ fault_behind_block = refl
 fault_in_embedded_document : units_in (codes "%%BeginDocument: a\n%%BeginData: x\n") ≡ Err (faulty 19 BadCount)
 fault_in_embedded_document = refl
 
--- depth rises after its line and falls after its line
+-- depth rises after the line that begins a document and falls after the line that ends it
 depth_counts : units_in (codes "%%BeginDocument: a\n%%BeginDocument\tb\nx\n%%EndDocument\n%%EndDocument\ny\n") ≡ Ok ((0, codes "%%BeginDocument: a\n") ∷ (1, codes "%%BeginDocument\tb\n") ∷ (2, codes "x\n") ∷ (2, codes "%%EndDocument\n") ∷ (1, codes "%%EndDocument\n") ∷ (0, codes "y\n") ∷ [])
 depth_counts = refl
 
--- an end without a beginning is of no weight
+-- an end without a beginning has no effect
 depth_stays_at_zero : units_in (codes "%%EndDocument\n%%EndDocument\n%%BeginDocument: a\nx\n") ≡ Ok ((0, codes "%%EndDocument\n") ∷ (0, codes "%%EndDocument\n") ∷ (0, codes "%%BeginDocument: a\n") ∷ (1, codes "x\n") ∷ [])
 depth_stays_at_zero = refl
 
@@ -197,11 +197,11 @@ depth_stays_at_zero = refl
 depth_of_block : units_in (codes "%%BeginDocument\n%%BeginData: 1\nx%%EndDocument\n%%BeginData: 1\ny") ≡ Ok ((0, codes "%%BeginDocument\n") ∷ (1, codes "%%BeginData: 1\nx") ∷ (1, codes "%%EndDocument\n") ∷ (0, codes "%%BeginData: 1\ny") ∷ [])
 depth_of_block = refl
 
--- an end of a document in data is none
+-- the end of a document in data has no effect
 end_of_document_in_data : units_in (codes "%%BeginDocument\n%%BeginData: 14\n%%EndDocument\nx") ≡ Ok ((0, codes "%%BeginDocument\n") ∷ (1, codes "%%BeginData: 14\n%%EndDocument\n") ∷ (1, codes "x") ∷ [])
 end_of_document_in_data = refl
 
--- nor is a beginning in data
+-- nor has a beginning in data
 depth_in_data : units_in (codes "%%BeginData: 19\n%%BeginDocument: a\n\nx") ≡ Ok ((0, codes "%%BeginData: 19\n%%BeginDocument: a\n") ∷ (0, codes "\n") ∷ (0, codes "x") ∷ [])
 depth_in_data = refl
 

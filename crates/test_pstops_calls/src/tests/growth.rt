@@ -148,8 +148,8 @@ fn lines(rt: HostRuntime) -> Result<(), Fail> {
     assert_line(&rt, rt.alloc(), Fault::Create, 3, line)
 }
 
-/// Runs a request over a sink that was made before: whether a growth was refused. Then the status is 3, the line tells
-/// of it or is empty, and the sink has a first part of the output.
+/// Runs a request over a sink that was made before: whether a growth was refused. Then the status is 3, the line reports
+/// it or is empty, and the sink has a first part of the output.
 fn run_refused<R: Threads + Wait + Abort + Sync>(
     rt: &R,
     alloc: Global,
@@ -178,7 +178,7 @@ fn run_refused<R: Threads + Wait + Abort + Sync>(
 }
 
 /// Refuses each growth of a run in turn. Threads grow what they grow in any order, so the end is where none of some
-/// numbers behind one another was refused.
+/// numbers after one another was refused.
 fn refuse_run<R: Threads + Wait + Abort + Sync>(
     rt: &R,
     alloc: Global,

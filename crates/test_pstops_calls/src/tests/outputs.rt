@@ -38,7 +38,7 @@ fn ended<'a, R: Threads + Wait + Sync>(
     Ok(pstops(rt, alloc, words.as_slice(), world))
 }
 
-/// These words end with this status, behind so many inputs that were opened, and nothing is created.
+/// These words end with this status, after so many inputs that were opened, and nothing is created.
 fn assert_stopped<R: Threads + Wait + Abort + Sync>(
     rt: &R,
     alloc: Global,

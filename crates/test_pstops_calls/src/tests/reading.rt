@@ -1,4 +1,6 @@
-//! Inputs that are read whole, and readers that fail.
+//! Inputs that are read whole, and readers and sources that fail.
+ghost use Rattle.std.specs.Prelude.{None};
+
 use crate::tests::checks::{assert_bytes, assert_that};
 use pstops_cli::{ReadFault, ReadSource, Source, SourceFault, read_input};
 use std::alloc::Global;
@@ -68,7 +70,7 @@ fn assert_failed_at<R: Abort>(rt: &R, alloc: Global, fails_at: usize, cause: Err
     assert_that(rt, reader.calls == fails_at);
 }
 
-// 85 bytes are 12 calls of seven bytes, one of one, and one that tells of the end.
+// 85 bytes are 12 calls of seven bytes, one of one, and one that reports the end.
 #[test]
 fn a_reader_that_fails_at_any_call_is_not_asked_again(rt: HostRuntime) {
     for fails_at in 1..=14usize {
@@ -95,7 +97,7 @@ struct Broken {
 }
 
 impl Source for Broken {
-    ghost failures = { λ s. s.failures };
+    ghost seen = { λ s. record { bytes = None; failures = s.failures } };
 
     fn fill(&mut self, buffer: &mut [u8]) -> Result<usize, SourceFault> {
         if self.left == 0 {

@@ -149,7 +149,7 @@ fn is_sheet_text(
 /// The text of a sheet with a page that isn't copied if it is long.
 fn put_together<'r>(
     alloc: Global,
-    job: &Job<'_, '_>,
+    job: &Job<'r, '_>,
     sheet: u32,
     body: &'r [u8],
 ) -> Result<Rope<'r>, AllocError>
@@ -168,7 +168,7 @@ fn put_together<'r>(
 /// The same, if it is what the sheet's text is otherwise.
 fn text_with<'r>(
     alloc: Global,
-    job: &Job<'_, '_>,
+    job: &Job<'r, '_>,
     sheet: u32,
     body: &'r [u8],
 ) -> Result<Rope<'r>, AllocError>
@@ -189,7 +189,7 @@ fn text_with<'r>(
 fn finish<'r, R: Abort>(
     rt: &R,
     alloc: Global,
-    job: &Job<'_, '_>,
+    job: &Job<'r, '_>,
     finished: &mut FinishedSheets<'r>,
     sheet: u32,
     body: &'r [u8],
@@ -207,7 +207,7 @@ fn finish<'r, R: Abort>(
 fn put_sheets<'r, R: Abort>(
     rt: &R,
     alloc: Global,
-    job: &Job<'_, '_>,
+    job: &Job<'r, '_>,
     bodies: &[&'r str; 4],
     early: &mut Early<'r>,
     sheets: &[u32],

@@ -13,7 +13,7 @@ fn set_of(alloc: Global, numbers: &[u32]) -> Result<SheetSet, AllocError> {
     Ok(set)
 }
 
-/// Takes the first number before each of these ends: whether they are those that are wanted.
+/// Takes the first number before each of these ends. Returns whether they are the expected ones.
 fn are_taken(set: &mut SheetSet, wanted: &[(u32, Option<u32>)]) -> bool {
     for (end, number) in wanted {
         if set.take_first_before(*end) != *number {

@@ -1,7 +1,7 @@
 use Rattle.std.specs.Prelude.{None, option_map}
 use Rattle.std.proofs.Common.{◌≡◌, length}
 use Rattle.dsc.specs.Fields.{fields_in}
-use Rattle.dsc.specs.declared.boxes.Part.TheVariants.{Preamble}
+use Rattle.dsc.specs.declared.boxes.Section.TheVariants.{Preamble}
 use Rattle.dsc.proofs.Seeking.{sought_on}
 use Rattle.dsc.proofs.boxes.trailer_box.Given as goal
 

@@ -12,6 +12,9 @@ returns-in-Err-impose_spec_task g c = record {
 
 pub returns : goal.returns
 returns g c = record {
-  ended =
-      (inr (inr (finishes_spec_row c.args.request.now c.args.input.items c.in-Ok.task _ _ c.in-Ok-impose_spec_task.report c.in-Ok.ensures.is_task c.in-Ok-impose_spec_task.ensures.finished)), c.in-Ok-impose_spec_task.ensures.steady);
+  ended = (
+    inr (inr (finishes_spec_row c.args.request.now c.args.input.items c.in-Ok.task _ _ _ c.in-Ok-impose_spec_task.report c.in-Ok.ensures.is_task
+        (rw c.as_slice.ensures.value at c.told_pages-told.ensures) c.in-Ok-impose_spec_task.ensures.finished)),
+    c.in-Ok-impose_spec_task.ensures.steady,
+  );
 }

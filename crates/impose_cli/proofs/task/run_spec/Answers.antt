@@ -20,6 +20,9 @@ returns-in-Err-run_task g c = record {
 
 pub returns : goal.returns
 returns g c = record {
-  ended =
-      (finishes c.args.request.now c.args.input.items c.in-Ok.task _ _ c.in-Ok-run_task.report c.requires.spec c.in-Ok.ensures.is_task c.in-Ok-run_task.ensures.finished, c.in-Ok-run_task.ensures.steady);
+  ended = (
+    finishes c.args.request.now c.args.input.items c.in-Ok.task _ _ _ c.in-Ok-run_task.report c.requires.spec c.in-Ok.ensures.is_task
+        (rw c.as_slice.ensures.value at c.told_pages-told.ensures) c.in-Ok-run_task.ensures.finished,
+    c.in-Ok-run_task.ensures.steady,
+  );
 }

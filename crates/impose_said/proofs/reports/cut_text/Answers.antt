@@ -1,5 +1,5 @@
 use Rattle.std.proofs.Common.{rules, string_bytes}
-use Rattle.impose_said.proofs.FourLines.{cut_told}
+use Rattle.impose_said.proofs.Lines.{cut_told}
 use Rattle.impose_said.proofs.reports.cut_text.Goals as goal
 
 pub returns : goal.returns

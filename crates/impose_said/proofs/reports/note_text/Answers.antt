@@ -1,5 +1,5 @@
 use Rattle.std.proofs.Common.{rules, string_bytes}
-use Rattle.impose_said.proofs.FourLines.{note_told}
+use Rattle.impose_said.proofs.Lines.{note_told}
 use Rattle.impose_said.proofs.reports.note_text.Goals as goal
 
 pub returns-in_ok-format-in-Some : goal.returns-in_ok-format-in-Some

@@ -6,7 +6,7 @@ use Rattle.imposer.proofs.gathering.gather_at.Goals as goal
 
 pub gather_by-state-requires-clause-held : goal.gather_by-state-requires-clause-held
 gather_by-state-requires-clause-held g c κs within =
-    let run = c.args.input.now.shared.now in
+    let run = c.args.shared.now in
     let held = c.requires.held in
     record {
       tokens = subst (λ n. AreTokens run.table.now run.ready.now n c.args.supplies.held.tokens) (sym held.tokens.seat_share) held.tokens;
@@ -22,13 +22,13 @@ pub returns-clause-outcome : goal.returns-clause-outcome
 returns-clause-outcome g c =
     let state = c.gather_by-state.result in
     let last = c.finish-gathered.new.state in
-    sink_answers c.args.collector.now.job.now (g.S.Sink.seen c.args.sink.now) (g.S.Sink.seen state.sink.now) (g.S.Sink.seen last.sink.now) _
+    sink_answers c.args.shared.now.job.now (g.S.Sink.seen c.args.sink.now) (g.S.Sink.seen state.sink.now) (g.S.Sink.seen last.sink.now) _
     state.progress c.gather_by-state.new.ended c.finish-gathered.result
     (search rules) (search rules) (search rules) c.finish-gathered.ensures.ended c.finish-gathered.ensures.missing
 
 pub returns-clause-whole : goal.returns-clause-whole
 returns-clause-whole g c =
-    let run = c.args.input.now.shared.now in
+    let run = c.args.shared.now in
     let first = c.args.supplies.held in
     let count = c.args.supplies.crew.preparers in
     let blank = c.requires.blank_sheets in
@@ -40,7 +40,7 @@ returns-clause-whole g c =
 
 pub returns-clause-unshelved : goal.returns-clause-unshelved
 returns-clause-unshelved g c =
-    let run = c.args.input.now.shared.now in
+    let run = c.args.shared.now in
     let first = c.args.supplies.held in
     let count = c.args.supplies.crew.preparers in
     let back = all_back run first.tokens count c.gather_by-state.new.ended c.requires.crew.0 c.requires.held.tokens.seat_share

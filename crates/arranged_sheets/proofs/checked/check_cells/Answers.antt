@@ -1,9 +1,0 @@
-use Rattle.std.proofs.Common.{rules}
-use Rattle.rules.specs.Signatures.{entry_of}
-use Rattle.arranged_sheets.specs.Shapes.{filling}
-use Rattle.arranged_sheets.specs.Standing.{EntryFits}
-use Rattle.arranged_sheets.proofs.Filling.{one_more}
-use Rattle.arranged_sheets.proofs.checked.check_cells.Goals as goal
-
-pub loop-entry-preserved : goal.loop-entry-preserved
-loop-entry-preserved c = one_more (λ i. EntryFits (filling c.args.setting.now c.args.papers.now) (entry_of c.args.row.now i)) c.loop-entry.entry-index c.loop-entry.invariant (search rules)

@@ -1,8 +1,0 @@
-use Rattle.std.proofs.Common.{rules}
-use Rattle.rules.specs.Signatures.{entry_of}
-use Rattle.arranged_sheets.specs.Posters.{EntryMayBePoster}
-use Rattle.arranged_sheets.proofs.Filling.{one_more}
-use Rattle.arranged_sheets.proofs.checked.check_posters.Goals as goal
-
-pub loop-entry-preserved : goal.loop-entry-preserved
-loop-entry-preserved c = one_more (λ i. EntryMayBePoster c.args.poster.now c.args.papers.now (entry_of c.args.row.now i)) c.loop-entry.entry-index c.loop-entry.invariant (search rules)

@@ -1,5 +1,0 @@
-use Rattle.arranged_sheets.proofs.Behind.{behind_is_mirror}
-use Rattle.arranged_sheets.proofs.laws.behind_is_mirror.Goals as goal
-
-pub returns : goal.returns
-returns c = behind_is_mirror

@@ -1,5 +1,0 @@
-use Rattle.std.proofs.Common.{refl}
-use Rattle.arranged_sheets.proofs.laws.booklet_is_grid.Goals as goal
-
-pub returns : goal.returns
-returns c = λ f row. refl

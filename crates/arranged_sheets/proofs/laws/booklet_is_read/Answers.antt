@@ -1,5 +1,0 @@
-use Rattle.arranged_sheets.proofs.Folding.{booklet_is_read}
-use Rattle.arranged_sheets.proofs.laws.booklet_is_read.Goals as goal
-
-pub returns : goal.returns
-returns c = booklet_is_read

@@ -1,5 +1,0 @@
-use Rattle.arranged_sheets.proofs.Leaves.{creep_keeps_sides}
-use Rattle.arranged_sheets.proofs.laws.creep_keeps_sides.Goals as goal
-
-pub returns : goal.returns
-returns c = creep_keeps_sides

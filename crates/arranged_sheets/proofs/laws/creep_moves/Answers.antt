@@ -1,5 +1,0 @@
-use Rattle.arranged_sheets.proofs.Leaves.{creep_moves}
-use Rattle.arranged_sheets.proofs.laws.creep_moves.Goals as goal
-
-pub returns : goal.returns
-returns c = creep_moves

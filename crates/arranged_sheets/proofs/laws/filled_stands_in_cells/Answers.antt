@@ -1,5 +1,0 @@
-use Rattle.arranged_sheets.proofs.InCells.{filled_stands_in_cells}
-use Rattle.arranged_sheets.proofs.laws.filled_stands_in_cells.Goals as goal
-
-pub returns : goal.returns
-returns c = filled_stands_in_cells

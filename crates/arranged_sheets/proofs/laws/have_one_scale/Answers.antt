@@ -1,5 +1,0 @@
-use Rattle.arranged_sheets.proofs.OneScale.{have_one_scale}
-use Rattle.arranged_sheets.proofs.laws.have_one_scale.Goals as goal
-
-pub returns : goal.returns
-returns c = have_one_scale

@@ -1,5 +1,0 @@
-use Rattle.arranged_sheets.proofs.AtRest.{no_creep_is_plain}
-use Rattle.arranged_sheets.proofs.laws.no_creep_is_plain.Goals as goal
-
-pub returns : goal.returns
-returns c = no_creep_is_plain

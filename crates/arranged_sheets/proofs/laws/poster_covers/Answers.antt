@@ -1,5 +1,0 @@
-use Rattle.arranged_sheets.proofs.Tiles.{poster_covers}
-use Rattle.arranged_sheets.proofs.laws.poster_covers.Goals as goal
-
-pub returns : goal.returns
-returns c = poster_covers

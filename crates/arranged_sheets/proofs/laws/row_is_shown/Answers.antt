@@ -1,5 +1,0 @@
-use Rattle.arranged_sheets.proofs.Shown.{row_is_shown}
-use Rattle.arranged_sheets.proofs.laws.row_is_shown.Goals as goal
-
-pub returns : goal.returns
-returns c = row_is_shown

@@ -1,5 +1,0 @@
-use Rattle.arranged_sheets.proofs.Inside.{sides_are_apart}
-use Rattle.arranged_sheets.proofs.laws.sides_are_apart.Goals as goal
-
-pub returns : goal.returns
-returns c = sides_are_apart

@@ -1,5 +1,0 @@
-use Rattle.arranged_sheets.proofs.Tiles.{tiles_overlap}
-use Rattle.arranged_sheets.proofs.laws.tiles_overlap.Goals as goal
-
-pub returns : goal.returns
-returns c = tiles_overlap

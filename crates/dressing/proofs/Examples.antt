@@ -1,0 +1,126 @@
+-- Worked examples.
+use Rattle.std.proofs.Common.{◌≡◌, refl}
+use Rattle.std.specs.Prelude.{Bool, codes, map, [], ◌∷◌, false, true}
+use Rattle.std.specs.Fmt.{digits}
+use Rattle.rules.specs.Papers.{points}
+use Rattle.made_sheets.specs.Dress.{undressed}
+use Rattle.layouts.specs.Placed.{Room}
+use Rattle.layouts.specs.Cells.{Grid}
+use Rattle.dressing.specs.Strokes.{cut_marks, fold_marks, outer_cut_marks}
+use Rattle.dressing.specs.Ruled.{note_lines}
+use Rattle.dressing.specs.Drawn.{mark_lines, marked, stroke_line}
+
+-- a sheet of 100 by 200 points with a margin of 10 points and a gap of 4, in two columns
+abbrev small : Room
+small = record { paper = points 100 200; edge = 1_000_000; gap = 400_000; trim = 0 }
+
+abbrev columns : Grid
+columns = record { rows = 1; columns = 2; turned = false }
+
+-- it is folded in the middle
+folded : map stroke_line (fold_marks small columns) ≡ codes "newpath 50 0 moveto 50 10 lineto stroke" ∷ codes "newpath 50 200 moveto 50 190 lineto stroke" ∷ []
+unfolding digits
+folded = refl
+
+-- it is cut there, and 2 points outside of its cells
+cut : map stroke_line (cut_marks small columns)
+    ≡ codes "newpath 50 0 moveto 50 10 lineto stroke"
+    ∷ codes "newpath 50 200 moveto 50 190 lineto stroke"
+    ∷ codes "newpath 8 0 moveto 8 10 lineto stroke"
+    ∷ codes "newpath 8 200 moveto 8 190 lineto stroke"
+    ∷ codes "newpath 92 0 moveto 92 10 lineto stroke"
+    ∷ codes "newpath 92 200 moveto 92 190 lineto stroke"
+    ∷ codes "newpath 0 8 moveto 10 8 lineto stroke"
+    ∷ codes "newpath 100 8 moveto 90 8 lineto stroke"
+    ∷ codes "newpath 0 192 moveto 10 192 lineto stroke"
+    ∷ codes "newpath 100 192 moveto 90 192 lineto stroke"
+    ∷ []
+unfolding digits
+cut = refl
+
+-- if it is folded there, it is cut outside of its cells alone
+cut_round : map stroke_line (outer_cut_marks small columns)
+    ≡ codes "newpath 8 0 moveto 8 10 lineto stroke"
+    ∷ codes "newpath 8 200 moveto 8 190 lineto stroke"
+    ∷ codes "newpath 92 0 moveto 92 10 lineto stroke"
+    ∷ codes "newpath 92 200 moveto 92 190 lineto stroke"
+    ∷ codes "newpath 0 8 moveto 10 8 lineto stroke"
+    ∷ codes "newpath 100 8 moveto 90 8 lineto stroke"
+    ∷ codes "newpath 0 192 moveto 10 192 lineto stroke"
+    ∷ codes "newpath 100 192 moveto 90 192 lineto stroke"
+    ∷ []
+unfolding digits
+cut_round = refl
+
+-- and not at all if the margin has no room for half a gap, or if there is none
+narrow_round : outer_cut_marks (record { paper = points 100 200; edge = 1_000_000; gap = 2_000_001; trim = 0 }) columns ≡ []
+narrow_round = refl
+
+bare_round : outer_cut_marks (record { paper = points 100 200; edge = 0; gap = 0; trim = 0 }) columns ≡ []
+bare_round = refl
+
+-- without a margin strokes have 18 points, and in a wide one too: they end at the cells
+abbrev bare : Room
+bare = record { paper = points 100 200; edge = 0; gap = 0; trim = 0 }
+
+bare_cut : map stroke_line (cut_marks bare columns)
+    ≡ codes "newpath 50 0 moveto 50 18 lineto stroke" ∷ codes "newpath 50 200 moveto 50 182 lineto stroke" ∷ []
+unfolding digits
+bare_cut = refl
+
+abbrev wide : Room
+wide = record { paper = points 100 200; edge = 3_000_000; gap = 0; trim = 0 }
+
+wide_fold : map stroke_line (fold_marks wide columns)
+    ≡ codes "newpath 50 12 moveto 50 30 lineto stroke" ∷ codes "newpath 50 188 moveto 50 170 lineto stroke" ∷ []
+unfolding digits
+wide_fold = refl
+
+-- two cells on their sides lie one above the other
+on_sides : map stroke_line (fold_marks bare (record { rows = 1; columns = 2; turned = true }))
+    ≡ codes "newpath 0 100 moveto 18 100 lineto stroke" ∷ codes "newpath 100 100 moveto 82 100 lineto stroke" ∷ []
+unfolding digits
+on_sides = refl
+
+-- two rows of cells, each 52 points wide and 48 high: one line for notes in each row, since the second would lie on the cell's
+-- lower side
+abbrev rows : Bool → Grid
+rows turned = record { rows = 2; columns = 2; turned = turned }
+
+ruled : map stroke_line (note_lines (record { paper = points 120 112; edge = 600_000; gap = 400_000; trim = 0 }) (rows false))
+    ≡ codes "newpath 62 82 moveto 114 82 lineto stroke" ∷ codes "newpath 62 30 moveto 114 30 lineto stroke" ∷ []
+unfolding digits
+ruled = refl
+
+-- on a sheet that lies on its side they are upright, and the first row is the left one
+ruled_on_sides : map stroke_line (note_lines (record { paper = points 112 120; edge = 600_000; gap = 400_000; trim = 0 }) (rows true))
+    ≡ codes "newpath 30 62 moveto 30 114 lineto stroke" ∷ codes "newpath 82 62 moveto 82 114 lineto stroke" ∷ []
+unfolding digits
+ruled_on_sides = refl
+
+-- in a cell of 200 points there are eight
+one_row : map stroke_line (note_lines bare columns)
+    ≡ codes "newpath 50 176 moveto 100 176 lineto stroke"
+    ∷ codes "newpath 50 152 moveto 100 152 lineto stroke"
+    ∷ codes "newpath 50 128 moveto 100 128 lineto stroke"
+    ∷ codes "newpath 50 104 moveto 100 104 lineto stroke"
+    ∷ codes "newpath 50 80 moveto 100 80 lineto stroke"
+    ∷ codes "newpath 50 56 moveto 100 56 lineto stroke"
+    ∷ codes "newpath 50 32 moveto 100 32 lineto stroke"
+    ∷ codes "newpath 50 8 moveto 100 8 lineto stroke"
+    ∷ []
+unfolding digits
+one_row = refl
+
+-- what is added to a sheet
+added : (marked (fold_marks bare columns) undressed).finish 0 (points 100 200)
+    ≡ codes "gsave 0 setgray .25 setlinewidth [] 0 setdash"
+    ∷ codes "newpath 50 0 moveto 50 18 lineto stroke"
+    ∷ codes "newpath 50 200 moveto 50 182 lineto stroke"
+    ∷ codes "grestore"
+    ∷ []
+unfolding digits
+added = refl
+
+no_marks : mark_lines [] ≡ []
+no_marks = refl

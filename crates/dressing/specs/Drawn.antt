@@ -1,0 +1,30 @@
+-- The lines that draw marks, and the dress that has them. Their operators are of the PostScript Language Reference; the rest
+-- is this project's own rules.
+use Rattle.std.specs.Prelude.{ℕ, ℤ, List, [], ◌∷◌, ◌++◌, map, codes}
+use Rattle.rules.specs.Numbers.{points_text}
+use Rattle.made_sheets.specs.Dress.{Dress}
+use Rattle.dressing.specs.declared.strokes.Stroke.{Stroke}
+
+abbrev pub point_text : (x y : ℤ) → List ℕ
+point_text x y = points_text x ++ (codes " " ++ points_text y)
+
+-- the line that draws a stroke
+abbrev pub stroke_line : Stroke → List ℕ
+stroke_line s =
+    codes "newpath "
+    ++ (point_text s.start.0 s.start.1 ++ (codes " moveto " ++ (point_text s.end.0 s.end.1 ++ codes " lineto stroke")))
+
+-- strokes are black, and a quarter of a point wide; no strokes are no lines
+abbrev pub mark_lines : List Stroke → List (List ℕ)
+mark_lines [] = []
+mark_lines (s ∷ strokes) =
+    codes "gsave 0 setgray .25 setlinewidth [] 0 setdash"
+    ∷ (map stroke_line (s ∷ strokes) ++ codes "grestore" ∷ [])
+
+-- the dress with these strokes at the end of each sheet, after its own lines there
+abbrev pub marked : List Stroke → Dress → Dress
+marked strokes dress = record {
+  header = dress.header;
+  start = dress.start;
+  finish = λ s paper. dress.finish s paper ++ mark_lines strokes;
+}

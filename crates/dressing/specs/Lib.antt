@@ -1,0 +1,11 @@
+-- Read in this order: where sheets are cut and folded; which strokes mark it; lines for notes; the lines that draw strokes, and
+-- the dress that has these; what holds of them.
+-- Read in this order: sizes as they are printed; what a dress gives to sheets; sheets that were the first of their size.
+pub mod Places
+pub mod Strokes
+pub mod Ruled
+pub mod Drawn
+pub mod Laws
+pub mod Sizes
+pub mod Dressings
+pub mod Firsts

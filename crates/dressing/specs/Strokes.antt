@@ -1,0 +1,86 @@
+-- Which strokes mark where a sheet is cut or folded: short ones along each such line, at both of its ends.
+use Rattle.std.specs.Prelude.{ℕ, ◌-◌, ◌*◌, ◌==◌, nat_le, nat_abs, pos, ◌-ℤ◌, not, Bool, ◌&&◌, if◌then◌else◌}
+use Rattle.std.specs.Prelude.{List, [], ◌∷◌, ◌++◌, flat_map}
+use Rattle.std.specs.List.{range_with_len}
+use Rattle.layouts.specs.Placed.{Room}
+use Rattle.layouts.specs.Cells.{Grid}
+use Rattle.dressing.specs.Places.{gap_at, grains_in}
+use Rattle.dressing.specs.declared.strokes.Stroke.{Stroke}
+
+-- the longest stroke has 18 points; in 10^-5 of a point
+abbrev pub longest : ℕ
+longest = 1_800_000
+
+-- how far from an edge of the sheet strokes end, in grains: where the margin ends, if there is one
+abbrev pub far_end : Room → ℕ
+far_end room = grains_in (if room.edge == 0 then longest else room.edge)
+
+-- and where they begin: they are as long as the margin is wide, but no longer than the longest
+abbrev pub near_end : Room → ℕ
+near_end room = far_end room - grains_in longest
+
+-- along a line that is so far from the left edge: at its lower end, and at its upper one
+abbrev pub upright_strokes : Room → (x : ℕ) → List Stroke
+upright_strokes room x =
+    record { start = (pos x, pos (near_end room)); end = (pos x, pos (far_end room)) }
+    ∷ record {
+      start = (pos x, room.paper.height -ℤ pos (near_end room));
+      end = (pos x, room.paper.height -ℤ pos (far_end room));
+    }
+    ∷ []
+
+-- along a line that lies so far from the lower edge: at its left end, and at its right one
+abbrev pub level_strokes : Room → (y : ℕ) → List Stroke
+level_strokes room y =
+    record { start = (pos (near_end room), pos y); end = (pos (far_end room), pos y) }
+    ∷ record {
+      start = (room.paper.width -ℤ pos (near_end room), pos y);
+      end = (room.paper.width -ℤ pos (far_end room), pos y);
+    }
+    ∷ []
+
+-- along the line before cell k of so many side by side, or one above another
+abbrev pub upright_at : Room → (parts k : ℕ) → List Stroke
+upright_at room parts k = upright_strokes room (gap_at room (nat_abs room.paper.width) parts k)
+
+abbrev pub level_at : Room → (parts k : ℕ) → List Stroke
+level_at room parts k = level_strokes room (gap_at room (nat_abs room.paper.height) parts k)
+
+-- how many cells are side by side, and how many one above another: a grid lies on its side if its pages do
+abbrev pub cells_across : Grid → ℕ
+cells_across g = if g.turned then g.rows else g.columns
+
+abbrev pub cells_up : Grid → ℕ
+cells_up g = if g.turned then g.columns else g.rows
+
+-- between all cells
+abbrev pub upright_between : Room → (parts : ℕ) → List Stroke
+upright_between room parts = flat_map (upright_at room parts) (range_with_len 1 (parts - 1))
+
+abbrev pub level_between : Room → (parts : ℕ) → List Stroke
+level_between room parts = flat_map (level_at room parts) (range_with_len 1 (parts - 1))
+
+abbrev pub marks_between : Room → Grid → List Stroke
+marks_between room g = upright_between room (cells_across g) ++ level_between room (cells_up g)
+
+-- and round all cells, as far from them as the middle of a gap
+abbrev pub marks_round : Room → Grid → List Stroke
+marks_round room g =
+    (upright_at room (cells_across g) 0 ++ upright_at room (cells_across g) (cells_across g))
+    ++ (level_at room (cells_up g) 0 ++ level_at room (cells_up g) (cells_up g))
+
+-- there is a margin, and it has room for half a gap
+abbrev pub has_room_round : Room → Bool
+has_room_round room = not (room.edge == 0) && nat_le room.gap (2 * room.edge)
+
+-- a sheet is folded between its cells
+abbrev pub fold_marks : Room → Grid → List Stroke
+fold_marks room g = marks_between room g
+
+-- one that is folded there is cut round its cells alone, if the margin has room for it
+abbrev pub outer_cut_marks : Room → Grid → List Stroke
+outer_cut_marks room g = if has_room_round room then marks_round room g else []
+
+-- and any other one between them, too
+abbrev pub cut_marks : Room → Grid → List Stroke
+cut_marks room g = marks_between room g ++ outer_cut_marks room g

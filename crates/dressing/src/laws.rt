@@ -1,0 +1,49 @@
+//! Laws of the definitions. The functions do nothing.
+ghost use Rattle.dressing.specs.Places.{PiecesAreLike};
+ghost use Rattle.dressing.specs.Laws.{LinesAreBeside, LinesAreInCell, MarksAreInMargin, MarksAreOutside, MarksAreTame, MarksMissPages};
+ghost use Rattle.dressing.specs.Dressings.{DressingDresses, NoMarksAreTelling};
+
+/// Cut along all marks of a side, all pieces are as wide.
+pub fn pieces_are_like()
+    ensures { PiecesAreLike }
+{}
+
+/// No mark goes over a cell.
+pub fn marks_are_outside()
+    ensures { MarksAreOutside }
+{}
+
+/// No mark goes over a page in a cell, as long as nothing is trimmed of pages.
+pub fn marks_miss_pages()
+    ensures { MarksMissPages }
+{}
+
+/// If there is a margin, all marks are in it.
+pub fn marks_are_in_margin()
+    ensures { MarksAreInMargin }
+{}
+
+/// Lines for notes lie in the cells that are for notes.
+pub fn lines_are_in_cell()
+    ensures { LinesAreInCell }
+{}
+
+/// No line for notes goes over a cell in which a page may be.
+pub fn lines_are_beside()
+    ensures { LinesAreBeside }
+{}
+
+/// Sheets with marks can be imposed again.
+pub fn marks_are_tame()
+    ensures { MarksAreTame }
+{}
+
+/// Sheets with the lines that a dress gives them are the dressed sheets.
+pub fn dressing_dresses()
+    ensures { DressingDresses }
+{}
+
+/// Without marks sheets have the lines that report their papers, and no others.
+pub fn no_marks_are_telling()
+    ensures { NoMarksAreTelling }
+{}

@@ -1,0 +1,18 @@
+//! What sheets get besides their pages: lines that report their paper, marks for folds and cuts, lines for notes.
+#![tactic(auto)]
+
+mod dress;
+pub mod laws;
+mod lines;
+mod paper_lines;
+mod places;
+mod ruled;
+mod strokes;
+mod told;
+
+pub use dress::dress_of;
+pub use lines::mark_lines;
+pub use places::gap_at;
+pub use ruled::note_lines;
+pub use strokes::{Marks, Stroke, cut_marks, fold_marks, outer_cut_marks};
+pub use told::told_papers;

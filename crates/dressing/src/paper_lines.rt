@@ -1,0 +1,178 @@
+//! Lines that report a paper.
+ghost use Rattle.std.specs.Prelude.{◌≡◌, ◌++◌, ◌∷◌, [], codes, fold, map, IfOk, OnOk};
+ghost use Rattle.papers.specs.Own.{covering as covering_paper};
+ghost use Rattle.papers.specs.Told.{box_line, medium_line, medium_text, one_header, page_size_lines as size_lines};
+ghost use Rattle.papers.specs.Told.{several_header, sheet_lines as lines_of_sheet, setting_line, size_name, size_text, telling_of};
+
+use lengths::{Paper, print_points};
+use papers::covering;
+use sheet_text::Lines;
+use std::alloc::{AllocError, Global};
+
+/// The header's lines for these papers.
+pub(crate) fn header_lines(alloc: Global, told: &[Paper]) -> Result<Lines, AllocError>
+    ensures { IfOk result (λ lines. lines ≡ (telling_of told.now).header) }
+{
+    match told {
+        [] => Ok(Lines::new(alloc)),
+        [paper] => one_paper(alloc, paper),
+        [first, others @ ..] => several_papers(alloc, first, others),
+    }
+}
+
+fn one_paper(alloc: Global, paper: &Paper) -> Result<Lines, AllocError>
+    ensures { IfOk result (λ lines. lines ≡ one_header paper.now) }
+{
+    let mut lines = Lines::new(alloc);
+    push_box(alloc, &mut lines, paper)?;
+    push_medium(alloc, &mut lines, paper)?;
+    Ok(lines)
+}
+
+fn several_papers(alloc: Global, first: &Paper, others: &[Paper]) -> Result<Lines, AllocError>
+    ensures { IfOk result (λ lines. lines ≡ several_header first.now others.now) }
+{
+    let mut lines = Lines::new(alloc);
+    let large = covering_all(first, others);
+    push_box(alloc, &mut lines, &large)?;
+    push_named_medium(alloc, &mut lines, first)?;
+    for paper in others {
+        push_continued(alloc, &mut lines, paper)?;
+    }
+    Ok(lines)
+}
+
+/// The least paper that covers all of these.
+fn covering_all(first: &Paper, others: &[Paper]) -> Paper
+    ensures { result ≡ fold covering_paper first.now others.now }
+{
+    let mut large = *first;
+    for paper in others {
+        large = covering(&large, paper);
+    }
+    large
+}
+
+/// The lines of a sheet of this paper, if sheets have several.
+pub(crate) fn sheet_lines(alloc: Global, paper: &Paper) -> Result<Lines, AllocError>
+    ensures { IfOk result (λ lines. lines ≡ lines_of_sheet paper.now) }
+{
+    let mut lines = Lines::new(alloc);
+    push_page_medium(alloc, &mut lines, paper)?;
+    push_page_size(alloc, &mut lines, paper)?;
+    Ok(lines)
+}
+
+fn push_box(alloc: Global, lines: &mut Lines, paper: &Paper) -> Result<(), AllocError>
+    ensures { OnOk result (lines.new ≡ lines.old ++ box_line paper.now ∷ []) }
+{
+    let mut line = Vec::new(alloc);
+    line.extend_from_slice(b"%%BoundingBox: 0 0 ")?;
+    append_size(&mut line, paper)?;
+    lines.push(line.as_slice())?;
+    Ok(())
+}
+
+/// The one medium.
+fn push_medium(alloc: Global, lines: &mut Lines, paper: &Paper) -> Result<(), AllocError>
+    ensures { OnOk result (lines.new
+        ≡ lines.old ++ medium_line (codes "%%DocumentMedia: ") (codes "Plain") paper.now ∷ []) }
+{
+    let mut line = Vec::new(alloc);
+    line.extend_from_slice(b"%%DocumentMedia: Plain")?;
+    append_medium(&mut line, paper)?;
+    lines.push(line.as_slice())?;
+    Ok(())
+}
+
+/// The first of several media, which is named after its sides.
+fn push_named_medium(alloc: Global, lines: &mut Lines, paper: &Paper) -> Result<(), AllocError>
+    ensures { OnOk result (lines.new
+        ≡ lines.old ++ medium_line (codes "%%DocumentMedia: ") (size_name paper.now) paper.now ∷ []) }
+{
+    let mut line = Vec::new(alloc);
+    line.extend_from_slice(b"%%DocumentMedia: ")?;
+    append_name(&mut line, paper)?;
+    append_medium(&mut line, paper)?;
+    lines.push(line.as_slice())?;
+    Ok(())
+}
+
+/// Another medium.
+fn push_continued(alloc: Global, lines: &mut Lines, paper: &Paper) -> Result<(), AllocError>
+    ensures { OnOk result (lines.new
+        ≡ lines.old ++ medium_line (codes "%%+ ") (size_name paper.now) paper.now ∷ []) }
+{
+    let mut line = Vec::new(alloc);
+    line.extend_from_slice(b"%%+ ")?;
+    append_name(&mut line, paper)?;
+    append_medium(&mut line, paper)?;
+    lines.push(line.as_slice())?;
+    Ok(())
+}
+
+/// The medium of a sheet.
+fn push_page_medium(alloc: Global, lines: &mut Lines, paper: &Paper) -> Result<(), AllocError>
+    ensures { OnOk result (lines.new
+        ≡ lines.old ++ (codes "%%PageMedia: " ++ size_name paper.now) ∷ []) }
+{
+    let mut line = Vec::new(alloc);
+    line.extend_from_slice(b"%%PageMedia: ")?;
+    append_name(&mut line, paper)?;
+    lines.push(line.as_slice())?;
+    Ok(())
+}
+
+/// The lines that set the device's page size.
+fn push_page_size(alloc: Global, lines: &mut Lines, paper: &Paper) -> Result<(), AllocError>
+    ensures { OnOk result (lines.new ≡ lines.old ++ size_lines paper.now) }
+{
+    lines.push(b"/PStoPSenablepage where {pop PStoPSenablepage}")?;
+    lines.push(
+        b"{userdict /showpage 2 copy known {get dup type /operatortype eq {pop true} {length 0 ne} ifelse} {pop pop true} ifelse} ifelse",
+    )?;
+    push_size_if_shown(alloc, lines, paper)?;
+    Ok(())
+}
+
+/// The last of them, which sets it.
+fn push_size_if_shown(alloc: Global, lines: &mut Lines, paper: &Paper) -> Result<(), AllocError>
+    ensures { OnOk result (lines.new ≡ lines.old ++ setting_line paper.now ∷ []) }
+{
+    let mut line = Vec::new(alloc);
+    line.extend_from_slice(b"systemdict /setpagedevice known and {1 dict dup /PageSize [")?;
+    append_size(&mut line, paper)?;
+    line.extend_from_slice(b"] put systemdict /setpagedevice get exec} if")?;
+    lines.push(line.as_slice())?;
+    Ok(())
+}
+
+/// What follows the name of a medium: its sides, and that nothing else is known.
+fn append_medium(line: &mut Vec<u8>, paper: &Paper) -> Result<(), AllocError>
+    ensures { OnOk result (line.new.items ≡ line.old.items ++ medium_text [] paper.now) }
+{
+    line.extend_from_slice(b" ")?;
+    append_size(line, paper)?;
+    line.extend_from_slice(b" 0 () ()")?;
+    Ok(())
+}
+
+/// Both sides, in points.
+fn append_size(line: &mut Vec<u8>, paper: &Paper) -> Result<(), AllocError>
+    ensures { OnOk result (line.new.items ≡ line.old.items ++ size_text paper.now) }
+{
+    print_points(paper.width(), line)?;
+    line.extend_from_slice(b" ")?;
+    print_points(paper.height(), line)?;
+    Ok(())
+}
+
+/// The name of a medium that is named after its sides.
+fn append_name(line: &mut Vec<u8>, paper: &Paper) -> Result<(), AllocError>
+    ensures { OnOk result (line.new.items ≡ line.old.items ++ size_name paper.now) }
+{
+    print_points(paper.width(), line)?;
+    line.extend_from_slice(b"x")?;
+    print_points(paper.height(), line)?;
+    Ok(())
+}

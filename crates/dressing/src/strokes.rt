@@ -1,0 +1,224 @@
+//! The strokes by which sheets are marked.
+ghost use Rattle.std.specs.Prelude.{◌≡◌, ◌<◌, ◌≤◌, ◌-ℤ◌, ◌++◌, pos, nat_abs, IfOk, IsTrue, OnOk};
+ghost use Rattle.rules.specs.Papers.{is_side};
+ghost use Rattle.dressing.specs.Strokes.{cells_across as across_of, cells_up as up_of, far_end as far_of, near_end as near_of};
+ghost use Rattle.dressing.specs.Strokes.{cut_marks as cut_of, fold_marks as fold_of, has_room_round as has_room, longest};
+ghost use Rattle.dressing.specs.Strokes.{outer_cut_marks as outer_cut_of};
+ghost use Rattle.dressing.specs.Strokes.{level_at, level_between, level_strokes, marks_between, marks_round};
+ghost use Rattle.dressing.specs.Strokes.{upright_at, upright_between, upright_strokes};
+
+use crate::places::{gap_at, grains};
+use layouts::{Grid, Room};
+use lengths::Grains;
+use std::alloc::{AllocError, Global};
+
+/// Which marks are asked for: where sheets are folded, where they are cut, and lines for notes beside their pages.
+#[derive(Clone, Copy, Debug, PartialEq, Eq)]
+pub struct Marks {
+    pub fold: bool,
+    pub cut: bool,
+    pub ruled: bool,
+}
+
+/// A line on a sheet, from a point to another one: how far each is from the left edge, and from the lower one.
+#[derive(Clone, Copy, Debug, PartialEq, Eq)]
+pub struct Stroke {
+    pub start: (Grains, Grains),
+    pub end: (Grains, Grains),
+}
+
+/// The marks along which a sheet is cut between its cells, and round them if the margin has room for it.
+pub fn cut_marks(alloc: Global, room: &Room, grid: Grid) -> Result<Vec<Stroke>, AllocError>
+    ensures { IfOk result (λ strokes. strokes.items ≡ cut_of room.now grid) }
+{
+    let mut strokes = Vec::new(alloc);
+    push_between(room, grid, &mut strokes)?;
+    push_round_if_room(room, grid, &mut strokes)?;
+    Ok(strokes)
+}
+
+/// The marks along which a sheet is cut that is folded between its cells: round them alone, if the margin has room for it.
+pub fn outer_cut_marks(alloc: Global, room: &Room, grid: Grid) -> Result<Vec<Stroke>, AllocError>
+    ensures { IfOk result (λ strokes. strokes.items ≡ outer_cut_of room.now grid) }
+{
+    let mut outer = Vec::new(alloc);
+    push_round_if_room(room, grid, &mut outer)?;
+    Ok(outer)
+}
+
+/// The marks along which a sheet is folded between its cells.
+pub fn fold_marks(alloc: Global, room: &Room, grid: Grid) -> Result<Vec<Stroke>, AllocError>
+    ensures { IfOk result (λ strokes. strokes.items ≡ fold_of room.now grid) }
+{
+    let mut strokes = Vec::new(alloc);
+    push_between(room, grid, &mut strokes)?;
+    Ok(strokes)
+}
+
+/// Adds the marks between all cells.
+fn push_between(room: &Room, grid: Grid, strokes: &mut Vec<Stroke>) -> Result<(), AllocError>
+    ensures { OnOk result (strokes.new.items ≡ strokes.old.items ++ marks_between room.now grid) }
+{
+    push_upright_between(room, cells_across(grid), strokes)?;
+    push_level_between(room, cells_up(grid), strokes)?;
+    Ok(())
+}
+
+/// Adds those round all cells, if the margin has room for them.
+fn push_round_if_room(room: &Room, grid: Grid, strokes: &mut Vec<Stroke>) -> Result<(), AllocError>
+    ensures { OnOk result (strokes.new.items ≡ strokes.old.items ++ outer_cut_of room.now grid) }
+{
+    if has_room_round(room) {
+        push_round(room, grid, strokes)?;
+    }
+    Ok(())
+}
+
+/// Adds those round all cells.
+fn push_round(room: &Room, grid: Grid, strokes: &mut Vec<Stroke>) -> Result<(), AllocError>
+    ensures { OnOk result (strokes.new.items ≡ strokes.old.items ++ marks_round room.now grid) }
+{
+    push_upright_round(room, cells_across(grid), strokes)?;
+    push_level_round(room, cells_up(grid), strokes)?;
+    Ok(())
+}
+
+fn push_upright_round(room: &Room, parts: u32, strokes: &mut Vec<Stroke>) -> Result<(), AllocError>
+    requires { 0 < parts }
+    ensures { OnOk result (strokes.new.items
+        ≡ strokes.old.items ++ (upright_at room.now parts 0 ++ upright_at room.now parts parts)) }
+{
+    push_upright(room, parts, 0, strokes)?;
+    push_upright(room, parts, parts, strokes)?;
+    Ok(())
+}
+
+fn push_level_round(room: &Room, parts: u32, strokes: &mut Vec<Stroke>) -> Result<(), AllocError>
+    requires { 0 < parts }
+    ensures { OnOk result (strokes.new.items
+        ≡ strokes.old.items ++ (level_at room.now parts 0 ++ level_at room.now parts parts)) }
+{
+    push_level(room, parts, 0, strokes)?;
+    push_level(room, parts, parts, strokes)?;
+    Ok(())
+}
+
+/// How many cells are side by side, as one holds the sheet.
+fn cells_across(grid: Grid) -> u32
+    ensures value { result ≡ across_of grid }
+    ensures some { 0 < result }
+{
+    if grid.turned { grid.rows } else { grid.columns }
+}
+
+/// And how many one above another.
+fn cells_up(grid: Grid) -> u32
+    ensures value { result ≡ up_of grid }
+    ensures some { 0 < result }
+{
+    if grid.turned { grid.columns } else { grid.rows }
+}
+
+/// Whether there is a margin that has room for half a gap.
+fn has_room_round(room: &Room) -> bool
+    ensures { result ≡ has_room room.now }
+{
+    room.edge != 0 && room.gap <= 2 * room.edge
+}
+
+/// Adds the marks between so many cells side by side.
+fn push_upright_between(
+    room: &Room,
+    parts: u32,
+    strokes: &mut Vec<Stroke>,
+) -> Result<(), AllocError>
+    requires { 0 < parts }
+    ensures { OnOk result (strokes.new.items ≡ strokes.old.items ++ upright_between room.now parts) }
+{
+    for k in 1..parts {
+        push_upright(room, parts, k, strokes)?;
+    }
+    Ok(())
+}
+
+/// Adds the marks between so many cells one above another.
+fn push_level_between(room: &Room, parts: u32, strokes: &mut Vec<Stroke>) -> Result<(), AllocError>
+    requires { 0 < parts }
+    ensures { OnOk result (strokes.new.items ≡ strokes.old.items ++ level_between room.now parts) }
+{
+    for k in 1..parts {
+        push_level(room, parts, k, strokes)?;
+    }
+    Ok(())
+}
+
+/// Adds the strokes along the line before a cell of so many side by side.
+fn push_upright(
+    room: &Room,
+    parts: u32,
+    k: u32,
+    strokes: &mut Vec<Stroke>,
+) -> Result<(), AllocError>
+    requires some { 0 < parts }
+    requires part { k ≤ parts }
+    ensures { OnOk result (strokes.new.items ≡ strokes.old.items ++ upright_at room.now parts k) }
+{
+    let x = gap_at(room, room.paper.width(), parts, k);
+    strokes.push(Stroke {
+        start: (x, near_end(room)),
+        end: (x, far_end(room)),
+    })?;
+    strokes.push(Stroke {
+        start: (x, from_far(room.paper.height(), near_end(room))),
+        end: (x, from_far(room.paper.height(), far_end(room))),
+    })?;
+    Ok(())
+}
+
+/// Adds the strokes along the line below a cell of so many one above another.
+fn push_level(room: &Room, parts: u32, k: u32, strokes: &mut Vec<Stroke>) -> Result<(), AllocError>
+    requires some { 0 < parts }
+    requires part { k ≤ parts }
+    ensures { OnOk result (strokes.new.items ≡ strokes.old.items ++ level_at room.now parts k) }
+{
+    let y = gap_at(room, room.paper.height(), parts, k);
+    strokes.push(Stroke {
+        start: (near_end(room), y),
+        end: (far_end(room), y),
+    })?;
+    strokes.push(Stroke {
+        start: (from_far(room.paper.width(), near_end(room)), y),
+        end: (from_far(room.paper.width(), far_end(room)), y),
+    })?;
+    Ok(())
+}
+
+/// How far from an edge of the sheet strokes end.
+fn far_end(room: &Room) -> Grains
+    ensures value { result ≡ pos (far_of room.now) }
+    ensures few { nat_abs result ≤ 12_700_000_000_000_000 }
+{
+    if room.edge == 0 {
+        grains(2_286_000_000_000)
+    } else {
+        grains(i128::from(room.edge) * 1_270_000)
+    }
+}
+
+/// And where they begin.
+fn near_end(room: &Room) -> Grains
+    ensures value { result ≡ pos (near_of room.now) }
+    ensures few { nat_abs result ≤ 12_700_000_000_000_000 }
+{
+    let far = far_end(room).get().unsigned_abs();
+    grains(far.saturating_sub(2_286_000_000_000) as i128)
+}
+
+/// As far from the other edge.
+fn from_far(side: Grains, length: Grains) -> Grains
+    requires side { IsTrue (is_side side) }
+    requires few { nat_abs length ≤ 12_700_000_000_000_000 }
+    ensures { result ≡ side -ℤ length }
+{
+    grains(side.get() - length.get())
+}

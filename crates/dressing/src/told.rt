@@ -1,0 +1,67 @@
+//! The papers that sheets report.
+ghost use Rattle.std.specs.Prelude.{◌≡◌, IfOk, IsTrue, OnOk};
+ghost use Rattle.rules.specs.Papers.{is_side};
+ghost use Rattle.papers.specs.Told.{in_print as printed, papers_told};
+ghost use Rattle.dressing.specs.Sizes.{AreSizesOf, papers_of, size_of, with_paper};
+
+use lengths::{Grains, Paper};
+use sheet_plan::MadeSheets;
+use std::alloc::{AllocError, Global};
+use std::collections::BTreeSet;
+
+/// The sides of a paper as they are printed, in whole 10^-5 points.
+#[derive(Clone, Copy, Debug, PartialEq, Eq, PartialOrd, Ord)]
+pub(crate) struct Size {
+    pub(crate) width: i128,
+    pub(crate) height: i128,
+}
+
+/// The papers that sheets report: each that is printed otherwise than all before it. Refused for memory alone, and if there
+/// are 2^32 sheets.
+pub fn told_papers(alloc: Global, sheets: &MadeSheets) -> Result<Vec<Paper>, AllocError>
+    ensures { IfOk result (λ told. told.items ≡ papers_told (papers_of sheets.now)) }
+{
+    let Ok(count) = u32::try_from(sheets.len()) else {
+        return Err(AllocError);
+    };
+    let mut told = Vec::new(alloc);
+    let mut sizes = BTreeSet::new(alloc);
+    for sheet in 0..count {
+        note(&mut told, &mut sizes, sheets.paper(sheet))?;
+    }
+    Ok(told)
+}
+
+/// Puts a paper after these, if it is printed otherwise than each of them.
+fn note(told: &mut Vec<Paper>, sizes: &mut BTreeSet<Size>, paper: &Paper) -> Result<(), AllocError>
+    requires { AreSizesOf told.old.items sizes.old }
+    ensures told { OnOk result (told.new.items ≡ with_paper told.old.items paper.now) }
+    ensures sizes { OnOk result (AreSizesOf told.new.items sizes.new) }
+{
+    let size = size_in_print(paper);
+    if sizes.contains(&size) {
+        return Ok(());
+    }
+    told.push(*paper)?;
+    sizes.insert(size)?;
+    Ok(())
+}
+
+/// The sides of a paper as they are printed.
+pub(crate) fn size_in_print(paper: &Paper) -> Size
+    ensures { result ≡ size_of paper.now }
+{
+    Size {
+        width: in_print(paper.width()),
+        height: in_print(paper.height()),
+    }
+}
+
+/// A side in whole 10^-5 points, rounded half away from zero.
+fn in_print(side: Grains) -> i128
+    requires { IsTrue (is_side side) }
+    ensures { result ≡ printed side }
+{
+    let size = (2 * side.get().unsigned_abs() + 1_270_000) / (2 * 1_270_000);
+    size as i128
+}

@@ -1,0 +1,63 @@
+-- Pages that a row takes, an entry or a page at a time.
+use Rattle.std.proofs.Common.{Bool, true, false, ◌≡◌, ◌∙◌, ℕ, zero, suc, ◌+◌, ◌<◌, ◌≤◌, List, [], ◌∷◌, ◌++◌, length, take, set, refl, ap, arith, sym}
+use Rattle.std.specs.Prelude.{Option, None, get_or, ◌||◌, ◌==◌, if◌then◌else◌}
+use Rattle.std.proofs.lemmas.Bool.{eqb-true, eqb-false}
+use Rattle.dsc.proofs.Cases.{by_test}
+use Rattle.std.proofs.lemmas.List.{take_more, length-take-le, get_or-set_same, get_or-set_other}
+use Rattle.rules.specs.Papers.{Paper}
+use Rattle.made_sheets.specs.Rows.{Row}
+use Rattle.impose_cli.specs.RowTasks.{is_page, taken_from, takes}
+
+swapped : (a b c : Bool) → (a || (b || c)) ≡ (b || (a || c))
+swapped true true c = refl
+swapped true false c = refl
+swapped false b c = refl
+
+takes_more : (row : Row) (e : Option ℕ) (k : ℕ) → takes (row ++ e ∷ []) k ≡ (is_page e k || takes row k)
+takes_more [] e k = refl
+takes_more (first ∷ row) e k = ap (λ b. is_page first k || b) (takes_more row e k) ∙ swapped (is_page first k) (is_page e k) (takes row k)
+
+-- one entry more was marked
+pub marked : (row : Row) (i : ℕ) (e : Option ℕ) (old new : List Bool) (k : ℕ) → i < length row → e ≡ get_or row i None
+    → get_or old k false ≡ takes (take i row) k → get_or new k false ≡ (is_page e k || get_or old k false)
+    → get_or new k false ≡ takes (take (i + 1) row) k
+marked row i e old new k l at before made =
+    made ∙ ap (λ b. is_page e k || b) before
+    ∙ ap (λ x. is_page x k || takes (take i row) k) at
+    ∙ sym (takes_more (take i row) (get_or row i None) k)
+    ∙ ap (λ r. takes r k) (sym (take_more row i None l))
+
+one_more : (row : Row) (other : Paper) (n k : ℕ) (own : List Paper) (last : Paper) → k ≡ n + length own
+    → taken_from row other n (own ++ last ∷ []) ≡ taken_from row other n own ++ (if takes row k then last else other) ∷ []
+one_more row other n k [] last e = ap (λ m. (if takes row m then last else other) ∷ []) (omega (arith, e))
+one_more row other n k (p ∷ ps) last e =
+    ap (λ qs. (if takes row n then p else other) ∷ qs) (one_more row other (n + 1) k ps last (omega (arith, e)))
+
+-- what stands there is found with any default
+pub any_default : {A : Type 0} (xs : List A) (i : ℕ) (a b : A) → i < length xs → get_or xs i a ≡ get_or xs i b
+any_default [] i a b l = absurd (omega (arith, l))
+any_default (x ∷ xs) zero a b l = refl
+any_default (x ∷ xs) (suc i) a b l = any_default xs i a b (omega (arith, l))
+
+-- a page was marked
+pub set_marks : (xs : List Bool) (i k : ℕ) → i < length xs → get_or (set xs i true) k false ≡ ((i == k) || get_or xs k false)
+set_marks xs i k l = by_test (i == k)
+    (λ is. rw is (ap (λ n. get_or (set xs i true) n false) (sym (eqb-true i k is)) ∙ get_or-set_same xs i true false l))
+    (λ isnt. rw isnt (get_or-set_other xs i k true false (λ e. eqb-false i k isnt (sym e))))
+
+-- no page is marked behind the last one
+pub past_marks : (xs : List Bool) (i k : ℕ) → k < length xs → length xs ≤ i → get_or xs k false ≡ ((i == k) || get_or xs k false)
+past_marks xs i k l past = by_test (i == k)
+    (λ is. let e = eqb-true i k is in absurd (omega (arith, l, past, e)))
+    (λ isnt. rw isnt refl)
+
+-- the paper of one page more was taken
+pub page_taken : (row : Row) (other : Paper) (own : List Paper) (i : ℕ) (p made : Paper) (is : Bool) (old new : List Paper) → i < length own
+    → p ≡ get_or own i other → is ≡ takes row i → made ≡ (if is then p else other)
+    → old ≡ taken_from row other 0 (take i own) → new ≡ old ++ made ∷ []
+    → new ≡ taken_from row other 0 (take (i + 1) own)
+page_taken row other own i p made is old new l at taken e before pushed =
+    pushed ∙ ap (λ ps. ps ++ made ∷ []) before
+    ∙ ap (λ q. taken_from row other 0 (take i own) ++ q ∷ []) (e ∙ ap (λ b. if b then p else other) taken ∙ ap (λ q. if takes row i then q else other) at)
+    ∙ sym (one_more row other 0 i (take i own) (get_or own i other) (let n = length-take-le i own (omega (arith, l)) in omega (arith, n)))
+    ∙ ap (taken_from row other 0) (sym (take_more own i other l))

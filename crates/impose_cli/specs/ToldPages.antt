@@ -1,0 +1,43 @@
+-- How many pages a document says that it has (DSC 3.0, %%Pages): in its header, or at its end if the header says so by (atend). The
+-- end is looked for line by line, so that it is found in a document that was left open too.
+use Rattle.std.specs.Prelude.{ℕ, Bool, ◌^◌, ◌-◌, min, List, [], ◌∷◌, if◌then◌else◌, Option, Some, None, codes, option_and_then}
+use Rattle.std.specs.List.{list_all}
+use Rattle.std.specs.Str.{bytes_eq}
+use Rattle.std.specs.Char.{is_ascii_digit}
+use Rattle.rules.specs.Numbers.{number_of}
+use Rattle.rules.specs.Units.{key}
+use Rattle.papers.specs.Media.{comment_fields, contents, header}
+
+-- the number that a field makes, or the greatest one, if all of it are digits
+abbrev pub count_of : (field : List ℕ) → Option ℕ
+count_of field = if list_all is_ascii_digit field then Some (min (number_of field) (2 ^ 64 - 1)) else None
+
+abbrev pub first_field : Option (List (List ℕ)) → Option (List ℕ)
+first_field None = None
+first_field (Some []) = None
+first_field (Some (field ∷ more)) = Some field
+
+-- the first field of the first `%%Pages:` among these lines
+abbrev pub pages_field : List (List ℕ) → Option (List ℕ)
+pages_field lines = first_field (comment_fields (codes "%%Pages") lines)
+
+abbrev pub begins_trailer : (line : List ℕ) → Bool
+begins_trailer line = bytes_eq (key line) (codes "%%Trailer")
+
+-- the lines after the last `%%Trailer`, or these if there is none
+abbrev pub behind_trailer : (all : List (List ℕ)) → List (List ℕ) → List (List ℕ)
+behind_trailer all [] = all
+behind_trailer all (line ∷ more) =
+    if begins_trailer line then behind_trailer more more else behind_trailer all more
+
+-- the lines at the end of a document
+abbrev pub last_lines : (text : List ℕ) → List (List ℕ)
+last_lines text = behind_trailer (contents text) (contents text)
+
+-- what a field of the header says of the number of pages, where these lines are at the end
+abbrev pub count_by : (field : List ℕ) → (end : List (List ℕ)) → Option ℕ
+count_by field end =
+    if bytes_eq field (codes "(atend)") then option_and_then count_of (pages_field end) else count_of field
+
+abbrev pub told_pages : (text : List ℕ) → Option ℕ
+told_pages text = option_and_then (λ field. count_by field (last_lines text)) (pages_field (header text))

@@ -1,9 +1,0 @@
-pub mod Plain
-pub mod Tame
-pub mod Joined
-pub mod Pairs
-pub mod Outside
-mod Past
-pub mod Beside
-pub mod RowByRow
-pub mod Examples

@@ -1,5 +1,0 @@
-use Rattle.marks.proofs.Beside.{lines_are_in_cell}
-use Rattle.marks.proofs.laws.lines_are_in_cell.Goals as goal
-
-pub returns : goal.returns
-returns c = lines_are_in_cell

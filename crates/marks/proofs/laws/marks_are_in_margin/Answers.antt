@@ -1,5 +1,0 @@
-use Rattle.marks.proofs.Outside.{marks_are_in_margin}
-use Rattle.marks.proofs.laws.marks_are_in_margin.Goals as goal
-
-pub returns : goal.returns
-returns c = marks_are_in_margin

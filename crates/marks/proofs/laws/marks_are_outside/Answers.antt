@@ -1,5 +1,0 @@
-use Rattle.marks.proofs.Outside.{marks_are_outside}
-use Rattle.marks.proofs.laws.marks_are_outside.Goals as goal
-
-pub returns : goal.returns
-returns c = marks_are_outside

@@ -1,0 +1,6 @@
+-- Worked examples.
+pub mod Natural
+pub mod Looking
+pub mod LookingPreamble
+pub mod Binding
+pub mod Freer

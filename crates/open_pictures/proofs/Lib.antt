@@ -1,0 +1,13 @@
+pub mod Runs
+pub mod Nowhere
+pub mod More
+pub mod Commutes
+pub mod Unaware
+pub mod Placed
+pub mod Sheets
+pub mod Output
+pub mod Own
+pub mod Imposed
+pub mod Operators
+pub mod Closed
+pub mod Examples

@@ -1,0 +1,174 @@
+-- Further operators by their names. One that is a function of what it may see, which is all but where the page is, is
+-- placeless whatever it does.
+use Rattle.std.specs.Prelude.{◌≡◌, ℕ, zero, suc, List, [], ◌∷◌, ◌++◌, if◌then◌else◌, Option, Some, None}
+use Rattle.pictures.specs.Objects.{Token, Name, Bound, Object, Saved, Operator, Kind, Computes, Controls, Draws, Looks, CopiesPage, Effect, Call}
+use Rattle.pictures.specs.Dictionaries.{Entry, meaning, system}
+use Rattle.pictures.specs.Operators.{Work, with_operands, also, computed, controlled, taken}
+use Rattle.pictures.specs.Machine.{State, Kept, changed, painting}
+use Rattle.pictures.specs.Sheets.{among}
+use Rattle.pictures.specs.Unaware.{put_names, no_saved}
+use Rattle.pictures.specs.Shifted.{Agree, up_work}
+use Rattle.open_pictures.specs.Machine.{Further}
+use Rattle.open_pictures.specs.Blindness.{IsPlaceless, IsBlind}
+
+-- What an operator may see: the operands and the dictionaries, what matrices hold, the settings of the graphics state
+-- (fonts, colours, lines). Not the transformation, the path, the clip, what is saved and what is painted
+pub record Sight : Type 0 where
+  pub work : Work
+  pub kept : List Kept
+  pub settings : List Call
+
+abbrev pub sight_of : State → Sight
+sight_of s = record { work = s.work; kept = s.kept; settings = s.graphics.settings }
+
+-- one thing that it does to the graphics state or the sheet, as an operator of the machine does: a segment of the path,
+-- a matrix of the chain, a setting, a painting ..
+pub record Stroke : Type 0 where
+  pub effect : Effect
+  pub call : Call
+
+-- what comes of it: what is run next, the operands and dictionaries, what matrices hold, what it draws
+pub record Outcome : Type 0 where
+  pub next : List Token
+  pub work : Work
+  pub kept : List Kept
+  pub strokes : List Stroke
+
+abbrev pub Blind : Type 0
+Blind = Sight → Option Outcome
+
+abbrev pub struck : Stroke → State → State
+struck x s = record s {
+  graphics = changed x.effect x.call s.graphics;
+  painted = painting x.effect x.call s.graphics s.painted;
+}
+
+abbrev pub all_struck : List Stroke → State → State
+all_struck [] s = s
+all_struck (x ∷ xs) s = all_struck xs (struck x s)
+
+abbrev pub come_to : Option Outcome → State → Option State
+come_to None s = None
+come_to (Some o) s = Some (all_struck o.strokes (record s { left = o.next ++ s.left; work = o.work; kept = o.kept }))
+
+-- such an operator in a machine
+abbrev pub blindly : Blind → State → Option State
+blindly f s = come_to (f (sight_of s)) s
+
+-- Where the machine stops and further operators may go on: at a name that no dictionary has, or that means an operator
+-- which is there by its name alone, so that `bind` and `where` find it; or at an operator of the machine's own, if the
+-- operands aren't those that it takes
+pub data Stop : Type 0 where
+  AtName : (name : List ℕ) → Stop
+  AtOperands : Kind → Stop
+
+abbrev pub stop_of : List ℕ → Option Object → Option Stop
+stop_of name None = Some (AtName name)
+stop_of name (Some (Operator other (Looks CopiesPage))) = Some (AtName other)
+stop_of name (Some (Operator other kind)) = Some (AtOperands kind)
+stop_of name o = None
+
+-- not by a name that the sheet's text puts
+abbrev pub next_stop : List Token → State → Option Stop
+next_stop (Name name ∷ ts) s =
+    if among name put_names then None else stop_of name (meaning s.work.dictionaries s.work.entries name)
+next_stop (Bound name ∷ ts) s = stop_of name (system name)
+next_stop ts s = None
+
+-- further operators by their names, and freer forms of operators that the machine has
+pub record Table : Type 0 where
+  pub names : List ℕ → Option Blind
+  pub forms : Kind → Option Blind
+
+abbrev pub entry : Table → Stop → Option Blind
+entry table (AtName name) = table.names name
+entry table (AtOperands kind) = table.forms kind
+
+abbrev pub only_names : (List ℕ → Option Blind) → Table
+only_names names = record { names = names; forms = λ kind. None }
+
+abbrev pub after_first : List Token → List Token
+after_first [] = []
+after_first (t ∷ ts) = ts
+
+abbrev pub called : Option Blind → State → Option State
+called None s = None
+called (Some f) s = blindly f s
+
+abbrev pub looked_up : Table → Option Stop → State → Option State
+looked_up table None s = None
+looked_up table (Some stop) s = called (entry table stop) s
+
+-- the further operators of a table
+abbrev pub by_table : Table → Further
+by_table table s = looked_up table (next_stop s.left s) (record s { left = after_first s.left })
+
+-- an operator of the machine doesn't take the operands that are there
+abbrev pub IsOutside : Kind → Work → Type 0
+IsOutside (Computes c) w = computed c w ≡ None
+IsOutside (Controls c) w = controlled c w ≡ None
+IsOutside (Draws wants e) w = taken wants w.operands ≡ None
+IsOutside kind w = ⊥
+
+-- a freer form takes only what the operator itself doesn't take
+abbrev pub TakesOthers : Table → Type 0
+TakesOthers table =
+    (kind : Kind) (f : Blind) (sight : Sight) (o : Outcome) → table.forms kind ≡ Some f → f sight ≡ Some o
+    → IsOutside kind sight.work
+
+-- It asks for none of the names that the sheet's text puts, and not for the level of a save: with those names, and the
+-- saves one level further in, the same comes of it
+abbrev pub AsksForNone : Blind → Type 0
+AsksForNone f =
+    (n : ℕ) (sight : Sight) (o : Outcome) (es : List Entry) → f sight ≡ Some o → Agree n es sight.work.entries
+    → (fs : List Entry) × (f (record sight { work = up_work es sight.work }) ≡ Some (record o { work = up_work fs o.work }))
+    × Agree n fs o.work.entries
+
+abbrev pub AllAskForNone : Table → Type 0
+AllAskForNone table = (stop : Stop) (f : Blind) → entry table stop ≡ Some f → AsksForNone f
+
+-- Operators that take so many operands, none of them a save, and answer with others, by these and the settings alone.
+-- They draw one thing or none.
+
+abbrev pub taken_plain : ℕ → List Object → Option (List Object × List Object)
+taken_plain zero os = Some ([], os)
+taken_plain (suc n) [] = None
+taken_plain (suc n) (Saved level ∷ os) = None
+taken_plain (suc n) (o ∷ os) = also o (taken_plain n os)
+
+abbrev pub Answer : Type 0
+Answer = (operands : List Object) → (settings : List Call) → Option (List Object)
+
+abbrev pub strokes_of : Option Effect → List ℕ → List Object → List Stroke
+strokes_of None name os = []
+strokes_of (Some e) name os = record { effect = e; call = record { name = name; operands = os } } ∷ []
+
+abbrev pub answered : Option (List Object) → List Stroke → List Object → Sight → Option Outcome
+answered None strokes rest sight = None
+answered (Some rs) strokes rest sight =
+    if no_saved rs then Some (record {
+      next = [];
+      work = with_operands sight.work (rs ++ rest);
+      kept = sight.kept;
+      strokes = strokes;
+    })
+    else None
+
+abbrev pub answers_on : List ℕ → Option Effect → Answer → Option (List Object × List Object) → Sight → Option Outcome
+answers_on name e answer None sight = None
+answers_on name e answer (Some (os, rest)) sight = answered (answer os sight.settings) (strokes_of e name os) rest sight
+
+abbrev pub answering : List ℕ → ℕ → Option Effect → Answer → Blind
+answering name n e answer sight = answers_on name e answer (taken_plain n sight.work.operands) sight
+
+-- whatever the operators of a table do, they are placeless: a law
+abbrev pub TablesArePlaceless : Type 0
+TablesArePlaceless = (table : Table) → TakesOthers table → IsPlaceless (by_table table)
+
+-- and blind, if they ask for none of the names that the sheet's text puts: a law
+abbrev pub TablesAreBlind : Type 0
+TablesAreBlind = (table : Table) → TakesOthers table → AllAskForNone table → IsBlind (by_table table)
+
+-- whatever it answers, an operator that answers by its operands and the settings asks for none of those names: a law
+abbrev pub AnswersAskForNone : Type 0
+AnswersAskForNone = (name : List ℕ) (n : ℕ) (e : Option Effect) (answer : Answer) → AsksForNone (answering name n e answer)

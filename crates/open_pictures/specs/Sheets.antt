@@ -1,0 +1,47 @@
+-- Pages and sheets in a machine with further operators: the definitions of crates/pictures, with this machine's runs.
+use Rattle.std.specs.Prelude.{◌≡◌, List, [], ◌∷◌, ◌++◌, false, true}
+use Rattle.pictures.specs.Objects.{Token}
+use Rattle.pictures.specs.Machine.{State, Painting}
+use Rattle.pictures.specs.Placing.{Around, state_at}
+use Rattle.pictures.specs.Sheets.{Shown, IsGround, LeavesAsItWas, alone, run_of, page_picture, placed_tokens}
+use Rattle.pictures.specs.Pictures.{printed, sheets_tokens}
+use Rattle.open_pictures.specs.Machine.{Further, OpenRuns}
+use Rattle.open_pictures.specs.Blindness.{IsPlaceless}
+
+-- what a held machine does in a state, a free one does in the state placed, with any further operators that are
+-- placeless: a law
+abbrev pub OpenPlacingCommutes : Type 0
+OpenPlacingCommutes =
+    (x : Further) (a : Around) (s t : State) → IsPlaceless x → OpenRuns x true s t
+    → OpenRuns x false (state_at a s) (state_at a t)
+
+-- from a state after the preamble the page paints this by itself
+pub record OpenPaintsAlone (x : Further) (s : State) (body : List Token) (picture : List Painting) : Type 0 where
+  pub end : State
+  pub run : OpenRuns x true (alone s body) end
+  pub leaves : LeavesAsItWas s end
+  pub picture_is : end.painted ≡ picture
+
+abbrev pub OpenAllPaint : Further → State → List Shown → Type 0
+OpenAllPaint x s [] = Unit {0}
+OpenAllPaint x s (y ∷ ys) = OpenPaintsAlone x s y.placed.body y.picture × OpenAllPaint x s ys
+
+abbrev pub OpenAllSheetsPaint : Further → State → List (List Shown) → Type 0
+OpenAllSheetsPaint x s [] = Unit {0}
+OpenAllSheetsPaint x s (ys ∷ more) = OpenAllPaint x s ys × OpenAllSheetsPaint x s more
+
+-- a placed page paints on the sheet what it paints by itself, placed, after its border; and all else is as it was: a law
+abbrev pub OpenPageIsPlaced : Type 0
+OpenPageIsPlaced =
+    (x : Further) (s : State) (y : Shown) (rest : List Token) → IsPlaceless x → IsGround s
+    → OpenPaintsAlone x s y.placed.body y.picture
+    → OpenRuns x false (run_of (placed_tokens y.placed ++ rest) s)
+    (record s { left = rest; painted = page_picture s.graphics y ++ s.painted })
+
+-- each sheet is printed with the pictures of its pages, placed, and the machine is where it was: a law
+abbrev pub OpenSheetsArePrinted : Type 0
+OpenSheetsArePrinted =
+    (x : Further) (s : State) (ys : List (List Shown)) (rest : List Token) → IsPlaceless x → IsGround s → s.painted ≡ []
+    → OpenAllSheetsPaint x s ys
+    → OpenRuns x false (run_of (sheets_tokens ys ++ rest) s)
+    (record s { left = rest; sheets = printed s.graphics ys s.sheets })

@@ -1,9 +1,0 @@
-pub mod Heads
-pub mod MediaLines
-pub mod KnownNames
-pub mod PageTells
-pub mod DocumentTells
-pub mod CutPages
-pub mod Covering
-pub mod CountedAsOne
-pub mod Examples

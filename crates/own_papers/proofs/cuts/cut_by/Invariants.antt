@@ -1,7 +1,0 @@
-use Rattle.std.proofs.Common.{◌≡◌, ◌≤◌}
-use Rattle.std.specs.Prelude.{IfSome}
-use Rattle.own_papers.proofs.CutPages.{cut_before}
-use Rattle.own_papers.proofs.cuts.cut_by.Given as goal
-
-abbrev pub invariant-loop-page : goal.invariant-loop-page
-invariant-loop-page l = (l.cut ≡ cut_before l.paper l.own l.page) × IfSome l.cut (λ c. c.pages ≤ l.page)

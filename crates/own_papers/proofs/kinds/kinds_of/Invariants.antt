@@ -1,6 +1,0 @@
-use Rattle.std.proofs.Common.{◌≡◌, ◌∷◌, take}
-use Rattle.own_papers.specs.AsOne.{kinds}
-use Rattle.own_papers.proofs.kinds.kinds_of.Given as goal
-
-abbrev pub invariant-loop-paper : goal.invariant-loop-paper
-invariant-loop-paper l = l.kinds.items ≡ kinds (l.first ∷ take l.paper-index l.own)

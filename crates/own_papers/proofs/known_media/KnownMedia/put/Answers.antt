@@ -1,6 +1,0 @@
-use Rattle.std.proofs.Common.{Some}
-use Rattle.own_papers.proofs.KnownNames.{updated}
-use Rattle.own_papers.proofs.known_media.KnownMedia.put.Goals as goal
-
-pub returns : goal.returns
-returns c = updated c.args.self.now (record { papers = c.insert.new.self }) c.args.name.items (Some c.args.paper) c.in_ok-insert.ensures.updates

@@ -1,5 +1,0 @@
-use Rattle.own_papers.proofs.CountedAsOne.{nothing_is_cut}
-use Rattle.own_papers.proofs.laws.nothing_is_cut.Goals as goal
-
-pub returns : goal.returns
-returns c = nothing_is_cut

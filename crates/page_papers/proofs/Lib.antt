@@ -1,3 +1,0 @@
-pub mod Tame
-pub mod Found
-pub mod Examples

@@ -1,0 +1,17 @@
+pub mod Table
+pub mod Landscape
+pub mod Examples
+pub mod Contents
+pub mod DocumentExamples
+pub mod Tame
+pub mod Found
+pub mod PageExamples
+pub mod Heads
+pub mod MediaLines
+pub mod KnownNames
+pub mod PageTells
+pub mod DocumentTells
+pub mod CutPages
+pub mod Covered
+pub mod CountedAsOne
+pub mod OwnExamples

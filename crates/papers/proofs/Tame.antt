@@ -1,0 +1,106 @@
+-- The lines that report a paper begin nothing.
+use Rattle.std.specs.Prelude.{codes, map, false, true}
+use Rattle.std.proofs.Common.{◌≡◌, ℕ, List, [], ◌∷◌, ◌++◌, refl, fold}
+use Rattle.rules.specs.Papers.{Paper}
+use Rattle.rules.specs.Numbers.{points_text}
+use Rattle.rules.specs.Units.{begins_block, has_key, is_comment}
+use Rattle.seams.proofs.Plainly.{no_ends_append, no_ends_points}
+use Rattle.seams.specs.Seams.{no_ends}
+use Rattle.imposed_again.specs.MadeAgain.{AreTame, IsTame, IsTameDress}
+use Rattle.papers.specs.Own.{covering}
+use Rattle.papers.specs.Told.{TellingIsTame, box_line, medium_line, medium_text, page_size_lines, papers_told, size_name, size_text, telling_of}
+
+-- ---- no line ends in them
+whole_sides : (p : Paper) (between : List ℕ) → no_ends between ≡ true → no_ends (points_text p.width ++ (between ++ points_text p.height)) ≡ true
+whole_sides p between plain =
+    no_ends_append (points_text p.width) (between ++ points_text p.height) (no_ends_points p.width) (no_ends_append between (points_text p.height) plain (no_ends_points p.height))
+
+whole_size : (p : Paper) → no_ends (size_text p) ≡ true
+whole_size p = whole_sides p (codes " ") refl
+
+pub whole_name : (p : Paper) → no_ends (size_name p) ≡ true
+whole_name p = whole_sides p (codes "x") refl
+
+whole_medium : (name : List ℕ) (p : Paper) → no_ends name ≡ true → no_ends (medium_text name p) ≡ true
+whole_medium name p plain =
+    no_ends_append name (codes " " ++ (size_text p ++ codes " 0 () ()")) plain
+    (no_ends_append (codes " ") (size_text p ++ codes " 0 () ()") refl (no_ends_append (size_text p) (codes " 0 () ()") (whole_size p) refl))
+
+-- ---- lines by what they begin with
+pub box : (p : Paper) → IsTame (box_line p)
+box p = record { whole = no_ends_append (codes "%%BoundingBox: 0 0 ") (size_text p) refl (whole_size p); no_data = refl; no_document = refl; no_end = refl; no_page = refl; no_trailer = refl }
+
+pub medium : (name : List ℕ) (p : Paper) → no_ends name ≡ true → IsTame (medium_line (codes "%%DocumentMedia: ") name p)
+medium name p plain =
+    record {
+      whole = no_ends_append (codes "%%DocumentMedia: ") (medium_text name p) refl (whole_medium name p plain);
+      no_data = refl;
+      no_document = refl;
+      no_end = refl;
+      no_page = refl;
+      no_trailer = refl;
+    }
+
+pub one_more : (p : Paper) → IsTame (medium_line (codes "%%+ ") (size_name p) p)
+one_more p =
+    record {
+      whole = no_ends_append (codes "%%+ ") (medium_text (size_name p) p) refl (whole_medium (size_name p) p (whole_name p));
+      no_data = refl;
+      no_document = refl;
+      no_end = refl;
+      no_page = refl;
+      no_trailer = refl;
+    }
+
+all_more : (ps : List Paper) → AreTame (map (λ r. medium_line (codes "%%+ ") (size_name r) r) ps)
+all_more [] = tt
+all_more (p ∷ ps) = (one_more p, all_more ps)
+
+pub named : (p : Paper) → IsTame (codes "%%PageMedia: " ++ size_name p)
+named p =
+    record {
+      whole = no_ends_append (codes "%%PageMedia: ") (size_name p) refl (whole_name p);
+      no_data = refl;
+      no_document = refl;
+      no_end = refl;
+      no_page = refl;
+      no_trailer = refl;
+    }
+
+known : (l : List ℕ) → no_ends l ≡ true → begins_block l ≡ false → has_key (codes "%%BeginDocument" ∷ []) l ≡ false → has_key (codes "%%EndDocument" ∷ []) l ≡ false
+    → is_comment (codes "%%Page") l ≡ false → has_key (codes "%%Trailer" ∷ codes "%%EOF" ∷ []) l ≡ false → IsTame l
+known l a b d e f g = record { whole = a; no_data = b; no_document = d; no_end = e; no_page = f; no_trailer = g }
+
+pub set_size : (p : Paper) → AreTame (page_size_lines p)
+set_size p = (
+  known (codes "/PStoPSenablepage where {pop PStoPSenablepage}") refl refl refl refl refl refl,
+  (
+    known (codes "{userdict /showpage 2 copy known {get dup type /operatortype eq {pop true} {length 0 ne} ifelse} {pop pop true} ifelse} ifelse") refl refl refl refl refl refl,
+    (
+      record {
+        whole =
+            no_ends_append (codes "systemdict /setpagedevice known and {1 dict dup /PageSize [") (size_text p ++ codes "] put systemdict /setpagedevice get exec} if") refl
+            (no_ends_append (size_text p) (codes "] put systemdict /setpagedevice get exec} if") (whole_size p) refl);
+        no_data = refl;
+        no_document = refl;
+        no_end = refl;
+        no_page = refl;
+        no_trailer = refl;
+      },
+      tt,
+    ),
+  ),
+)
+
+told : (ps : List Paper) → IsTameDress (telling_of ps)
+told [] = record { header = tt; start = λ s paper. tt; finish = λ s paper. tt }
+told (p ∷ []) = record { header = (box p, (medium (codes "Plain") p refl, tt)); start = λ s paper. tt; finish = λ s paper. tt }
+told (p ∷ q ∷ ps) =
+    record {
+      header = (box (fold covering p (q ∷ ps)), (medium (size_name p) p (whole_name p), all_more (q ∷ ps)));
+      start = λ s paper. (named paper, set_size paper);
+      finish = λ s paper. tt;
+    }
+
+pub telling_is_tame : TellingIsTame
+telling_is_tame all = told (papers_told (map (λ sheet. sheet.paper) all))

@@ -1,0 +1,204 @@
+-- The paper that a document is made for, by its comments (DSC 3.0, %%DocumentMedia and %%BoundingBox, and
+-- (atend); DSC 2.1, %%DocumentPaperSizes).
+use Rattle.std.specs.Prelude.{ℕ, zero, suc, ◌*◌, ℤ, pos, ◌+ℤ◌, ◌-ℤ◌, nat_abs, nat_le, int_lt, Bool, false, ◌&&◌, ◌||◌, if◌then◌else◌, option_map, option_and_then}
+use Rattle.std.specs.Prelude.{List, [], ◌∷◌, length, take, drop, map, filter, codes, Option, Some, None, nat_eq, ◌-◌, ◌==◌, slice_index, slice_range}
+use Rattle.std.specs.Ordering.{int_eq}
+use Rattle.std.specs.List.{starts_with}
+use Rattle.std.specs.Str.{bytes_eq}
+use Rattle.rules.specs.Papers.{Paper, Pt, grains, is_paper}
+use Rattle.rules.specs.Numbers.{is_large}
+use Rattle.rules.specs.Units.{content_of, line_len, is_comment, fields}
+use Rattle.rules.specs.Parts.{NestedUnit, is_outermost_line, trailer}
+use Rattle.dsc.specs.Fields.{fields_in}
+use Rattle.dsc.specs.Header.{header_len}
+use Rattle.dsc.specs.Units.{units_of}
+use Rattle.lengths.specs.Lengths.{a4}
+use Rattle.lengths.specs.Reading.{is_empty, number_at}
+use Rattle.papers.specs.Names.{paper_named, turned}
+use Rattle.papers.specs.declared.media.Comment.{Comment}
+use Rattle.papers.specs.declared.boxes.Edges.{Edges}
+use Rattle.papers.specs.declared.media.Comment.TheVariants.{DocumentMedia, DocumentPaperSizes, BoundingBox}
+
+-- ---- fields
+
+-- all of the field is a number, which is in points
+abbrev pub points_at : Option (ℤ × List ℕ) → Option ℤ
+points_at None = None
+points_at (Some (number, rest)) = if is_large number then None
+    else (if is_empty rest then Some (grains a4 number Pt) else None)
+
+abbrev pub points_of : List ℕ → Option ℤ
+points_of field = points_at (number_at field)
+
+-- shorter than one point
+abbrev pub is_short : ℤ → Bool
+is_short side = int_lt side (pos 127_000_000_000)
+
+-- the paper with these sides, if they may be a paper's, and none is shorter than a point
+abbrev pub paper_of_sides : (width height : ℤ) → Option Paper
+paper_of_sides width height = if is_short width || is_short height then None
+    else (if is_paper width height then Some (record { width = width; height = height }) else None)
+
+abbrev pub paper_of : (width height : Option ℤ) → Option Paper
+paper_of width height = option_and_then (λ w. option_and_then (λ h. paper_of_sides w h) height) width
+
+-- the parentheses that may enclose a text
+abbrev pub opening : ℕ
+opening = 40
+
+abbrev pub closing : ℕ
+closing = 41
+
+-- a field in parentheses
+abbrev pub is_enclosed : List ℕ → Bool
+is_enclosed field =
+    nat_le 2 (length field) && (slice_index field 0 == opening && slice_index field (length field - 1) == closing)
+
+-- the name in a field: what is between its parentheses, if it has them
+abbrev pub name_in : (field : List ℕ) → List ℕ
+name_in field = if is_enclosed field then slice_range field 1 (length field - 1) else field
+
+-- ---- comments
+
+-- the contents of so many lines at most
+abbrev pub contents_of : ℕ → List ℕ → List (List ℕ)
+contents_of zero text = []
+contents_of (suc most) [] = []
+contents_of (suc most) (b ∷ rest) = content_of (b ∷ rest) ∷ contents_of most (drop (line_len (b ∷ rest)) (b ∷ rest))
+
+-- the contents of the lines; a line has a byte, so there are no more lines than bytes
+abbrev pub contents : List ℕ → List (List ℕ)
+contents text = contents_of (length text) text
+
+-- the fields of the first comment with this name, if there is one
+abbrev pub comment_fields : (name : List ℕ) → List (List ℕ) → Option (List (List ℕ))
+comment_fields name [] = None
+comment_fields name (content ∷ rest) = if is_comment name content then Some (fields content)
+    else comment_fields name rest
+
+-- the fields of a line that continues a comment: those after the %%+
+abbrev pub more_fields : List ℕ → List (List ℕ)
+more_fields content = fields_in (drop 3 content)
+
+-- those of each line at the front that continues a comment
+abbrev pub continued : List (List ℕ) → List (List (List ℕ))
+continued [] = []
+continued (content ∷ rest) =
+    if starts_with nat_eq content (codes "%%+") then more_fields content ∷ continued rest else []
+
+-- the fields of the first comment with this name, and those of each line that continues it
+abbrev pub comment_lines : (name : List ℕ) → List (List ℕ) → List (List (List ℕ))
+comment_lines name [] = []
+comment_lines name (content ∷ rest) = if is_comment name content then fields content ∷ continued rest
+    else comment_lines name rest
+
+-- the paper of a medium: its name, its width, its height, and more
+abbrev pub media_paper : List (List ℕ) → Option Paper
+media_paper (name ∷ width ∷ height ∷ more) = paper_of (points_of width) (points_of height)
+media_paper other = None
+
+-- the paper of a box that begins at 0 0: left, bottom, right, top, and more
+abbrev pub is_zero : Option ℤ → Bool
+is_zero None = false
+is_zero (Some length) = int_eq length (pos 0)
+
+abbrev pub box_paper : List (List ℕ) → Option Paper
+box_paper (left ∷ bottom ∷ right ∷ top ∷ more) =
+    if is_zero (points_of left)
+    then (if is_zero (points_of bottom) then paper_of (points_of right) (points_of top) else None) else None
+box_paper other = None
+
+-- by so much, 15 points, programs' sizes of one paper may differ
+abbrev pub nearness : ℕ
+nearness = 15 * 127_000_000_000
+
+abbrev pub are_near : (a b : ℤ) → Bool
+are_near a b = nat_le (nat_abs (a -ℤ b)) nearness
+
+-- the edges of a box
+abbrev pub edges : (left bottom right top : Option ℤ) → Option Edges
+edges left bottom right top =
+    option_and_then (λ l. option_and_then (λ b. option_and_then (λ r. option_and_then
+    (λ t. Some (record { left = l; bottom = b; right = r; top = t })) top) right) bottom) left
+
+abbrev pub edges_of : List (List ℕ) → Option Edges
+edges_of (left ∷ bottom ∷ right ∷ top ∷ more) = edges (points_of left) (points_of bottom) (points_of right) (points_of top)
+edges_of other = None
+
+-- an edge lies past the end of a side by more than 15 points
+abbrev pub is_past : (side edge : ℤ) → Bool
+is_past side edge = int_lt (side +ℤ pos nearness) edge
+
+-- it reaches over a paper to the right or above
+abbrev pub reaches_over : Paper → Edges → Bool
+reaches_over paper box = is_past paper.width box.right || is_past paper.height box.top
+
+-- the paper of a box that reaches over this one, if it begins nowhere left of it or below it: it leaves as much room to
+-- the right of the box as to the left, and above as below
+abbrev pub paper_round : Edges → Option Paper
+paper_round box = paper_of_sides (box.left +ℤ box.right) (box.bottom +ℤ box.top)
+
+abbrev pub paper_beyond : Paper → Edges → Option Paper
+paper_beyond paper box = if int_lt box.left (pos 0) || int_lt box.bottom (pos 0) then None
+    else (if reaches_over paper box then paper_round box else None)
+
+abbrev pub wider_paper : Paper → List (List ℕ) → Option Paper
+wider_paper paper box = option_and_then (paper_beyond paper) (edges_of box)
+
+-- the first of two, if there is one, and else the second
+abbrev pub else_take : Option Paper → Option Paper → Option Paper
+else_take (Some paper) other = Some paper
+else_take None other = other
+
+-- the paper of a box, where this one would be taken without it
+abbrev pub paper_of_box : Paper → List (List ℕ) → Option Paper
+paper_of_box paper box = else_take (box_paper box) (wider_paper paper box)
+
+abbrev pub header : List ℕ → List (List ℕ)
+header text = contents (take (header_len text) text)
+
+-- the lines of a document's trailer
+abbrev pub trailer_lines : List NestedUnit → List (List ℕ)
+trailer_lines us = map (λ u. u.unit.content) (filter is_outermost_line (trailer us))
+
+-- the value says that a comment in the header is in the trailer
+abbrev pub is_at_end : List (List ℕ) → Bool
+is_at_end [] = false
+is_at_end (field ∷ more) = bytes_eq field (codes "(atend)")
+
+-- the box of a document, which may be in its trailer
+abbrev pub box_or_last : (trailer : List (List ℕ)) → List (List ℕ) → Option (List (List ℕ))
+box_or_last trailer box = if is_at_end box then comment_fields (codes "%%BoundingBox") trailer else Some box
+
+abbrev pub box_of : (lines trailer : List (List ℕ)) → Option (List (List ℕ))
+box_of lines trailer = option_and_then (box_or_last trailer) (comment_fields (codes "%%BoundingBox") lines)
+
+-- the paper of the first field that is the name of one
+abbrev pub first_named : List (List ℕ) → Option Paper
+first_named [] = None
+first_named (field ∷ more) = else_take (paper_named (name_in field)) (first_named more)
+
+-- that of the first in these lines
+abbrev pub first_named_in : List (List (List ℕ)) → Option Paper
+first_named_in [] = None
+first_named_in (names ∷ more) = else_take (first_named names) (first_named_in more)
+
+-- a paper lies as a box does: on its side, if the box has the paper's sides exchanged
+abbrev pub lying_as : (box : Option Paper) → Paper → Paper
+lying_as None paper = paper
+lying_as (Some box) paper =
+    if are_near box.width paper.height && are_near box.height paper.width then turned paper else paper
+
+-- the document's own paper where this one is usual, and which comment gives it: the first of these that does
+abbrev pub or_box : (usual : Paper) → (box : Option (List (List ℕ))) → Option Paper → Option (Paper × Comment)
+or_box usual box (Some paper) = Some (lying_as (option_and_then box_paper box) paper, DocumentPaperSizes)
+or_box usual box None = option_map (λ paper. (paper, BoundingBox)) (option_and_then (paper_of_box usual) box)
+
+abbrev pub or_named : (usual : Paper) → (lines trailer : List (List ℕ)) → Option Paper → Option (Paper × Comment)
+or_named usual lines trailer (Some paper) = Some (paper, DocumentMedia)
+or_named usual lines trailer None =
+    or_box usual (box_of lines trailer) (first_named_in (comment_lines (codes "%%DocumentPaperSizes") lines))
+
+abbrev pub document_paper : (usual : Paper) → List ℕ → Option (Paper × Comment)
+document_paper usual text = or_named usual (header text) (trailer_lines (units_of text))
+    (option_and_then media_paper (comment_fields (codes "%%DocumentMedia") (header text)))

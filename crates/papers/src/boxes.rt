@@ -1,0 +1,147 @@
+//! Papers that boxes give.
+ghost use Rattle.std.specs.Prelude.{◌≡◌, ◌+ℤ◌};
+ghost use Rattle.dsc.specs.Fields.{fields_in};
+ghost use Rattle.papers.specs.Media as meaning;
+
+use crate::fields::{is_zero, points_of};
+use dsc::next_field;
+use lengths::{Grains, Paper};
+
+/// By so much, 15 points, programs' sizes of one paper may differ.
+const NEARNESS: i128 = 15 * 127_000_000_000;
+
+/// The grains of one point, the shortest side.
+const ONE_POINT: i128 = 127_000_000_000;
+
+/// The edges of a box.
+#[derive(Clone, Copy)]
+struct Edges {
+    left: Grains,
+    bottom: Grains,
+    right: Grains,
+    top: Grains,
+}
+
+/// The paper of a box where this one would be taken without it: its own, if it begins at 0 0. Else, if it reaches over
+/// that paper by more than 15 points, the paper that leaves as much room to the right of it as to the left, and above
+/// as below.
+pub fn paper_of_box(paper: &Paper, value: &[u8]) -> Option<Paper>
+    ensures { result ≡ meaning.paper_of_box paper.now (fields_in value.now) }
+{
+    match box_paper(value) {
+        Some(own) => Some(own),
+        None => wider_paper(paper, value),
+    }
+}
+
+/// The paper of a box that begins at 0 0: left, bottom, right, top, and more.
+pub(crate) fn box_paper(value: &[u8]) -> Option<Paper>
+    ensures { result ≡ meaning.box_paper (fields_in value.now) }
+{
+    let (left, rest) = next_field(value)?;
+    let (bottom, rest) = next_field(rest)?;
+    let (right, rest) = next_field(rest)?;
+    let (top, _) = next_field(rest)?;
+    if is_zero(points_of(left)) && is_zero(points_of(bottom)) {
+        paper_of(points_of(right), points_of(top))
+    } else {
+        None
+    }
+}
+
+/// The paper of a box that reaches over this one, and begins neither left of it nor below it.
+fn wider_paper(paper: &Paper, value: &[u8]) -> Option<Paper>
+    ensures { result ≡ meaning.wider_paper paper.now (fields_in value.now) }
+{
+    paper_beyond(paper, &edges_of(value)?)
+}
+
+fn paper_beyond(paper: &Paper, edges: &Edges) -> Option<Paper>
+    ensures { result ≡ meaning.paper_beyond paper.now edges.now }
+{
+    if edges.left.get() < 0 || edges.bottom.get() < 0 {
+        return None;
+    }
+    if reaches_over(paper, edges) {
+        paper_round(edges)
+    } else {
+        None
+    }
+}
+
+/// Whether a box reaches over a paper, to the right or above, by more than 15 points.
+fn reaches_over(paper: &Paper, edges: &Edges) -> bool
+    ensures { result ≡ meaning.reaches_over paper.now edges.now }
+{
+    is_past(paper.width(), edges.right) || is_past(paper.height(), edges.top)
+}
+
+/// Whether an edge lies past the end of a side by more than 15 points.
+fn is_past(side: Grains, edge: Grains) -> bool
+    ensures { result ≡ meaning.is_past side edge }
+{
+    side.get() + NEARNESS < edge.get()
+}
+
+/// The paper that leaves as much room to the right of the box as to the left, and above as below.
+fn paper_round(edges: &Edges) -> Option<Paper>
+    ensures { result ≡ meaning.paper_round edges.now }
+{
+    paper_of_sides(sum(edges.left, edges.right), sum(edges.bottom, edges.top))
+}
+
+/// So many grains are both lengths together.
+fn sum(one: Grains, other: Grains) -> i128
+    ensures { result ≡ one +ℤ other }
+{
+    one.get() + other.get()
+}
+
+/// The edges of a box: left, bottom, right, top, and more.
+fn edges_of(value: &[u8]) -> Option<Edges>
+    ensures { result ≡ meaning.edges_of (fields_in value.now) }
+{
+    let (left, rest) = next_field(value)?;
+    let (bottom, rest) = next_field(rest)?;
+    let (right, rest) = next_field(rest)?;
+    let (top, _) = next_field(rest)?;
+    all_edges(
+        points_of(left),
+        points_of(bottom),
+        points_of(right),
+        points_of(top),
+    )
+}
+
+fn all_edges(
+    left: Option<Grains>,
+    bottom: Option<Grains>,
+    right: Option<Grains>,
+    top: Option<Grains>,
+) -> Option<Edges>
+    ensures { result ≡ meaning.edges left bottom right top }
+{
+    Some(Edges {
+        left: left?,
+        bottom: bottom?,
+        right: right?,
+        top: top?,
+    })
+}
+
+/// The paper with these sides, if there is one.
+pub(crate) fn paper_of(width: Option<Grains>, height: Option<Grains>) -> Option<Paper>
+    ensures { result ≡ meaning.paper_of width height }
+{
+    paper_of_sides(width?.get(), height?.get())
+}
+
+/// The paper with sides of so many grains, if they may be a paper's, and none is shorter than a point.
+fn paper_of_sides(width: i128, height: i128) -> Option<Paper>
+    ensures { result ≡ meaning.paper_of_sides width height }
+{
+    if width < ONE_POINT || height < ONE_POINT {
+        return None;
+    }
+    Paper::new(Grains::new(width)?, Grains::new(height)?)
+}

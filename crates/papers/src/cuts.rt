@@ -1,0 +1,90 @@
+//! Pages that a paper cuts.
+ghost use Rattle.std.specs.Prelude.{◌≡◌, ◌<◌, ◌-ℤ◌, nat_abs, IfSome, IsTrue};
+ghost use Rattle.rules.specs.Papers.{is_side};
+ghost use Rattle.papers.specs.Own.{covers as covers_it, is_near as is_near_to};
+ghost use Rattle.papers.specs.Cuts.{cut_of, is_cut as is_cut_by, with_page as with_one};
+
+use crate::covering;
+use lengths::Paper;
+
+/// So many grains, 15 points, two sides may differ that count as one.
+const NEARNESS: u128 = 15 * 127_000_000_000;
+
+/// Pages of a document that a paper cuts.
+#[derive(Clone, Copy, Debug, PartialEq, Eq)]
+pub struct Cut {
+    /// The first of them, counted from 0.
+    pub first: usize,
+    /// The last of them.
+    pub last: usize,
+    /// How many they are.
+    pub pages: usize,
+    /// The least paper that covers the own ones of all of them.
+    pub paper: Paper,
+}
+
+/// Which pages a paper cuts, if pages have these papers of their own: those that it doesn't cover. Papers whose sides
+/// differ by at most 15 points count as one, and then none is cut.
+pub fn cut_by(paper: &Paper, own: &[Paper]) -> Option<Cut>
+    ensures { result ≡ cut_of paper.now own.now }
+{
+    let mut cut = None;
+    for (page, other) in own.iter().enumerate() {
+        if is_cut(paper, other) {
+            cut = Some(with_page(cut, page, other));
+        }
+    }
+    cut
+}
+
+/// The same pages, and after them this one.
+fn with_page(cut: Option<Cut>, page: usize, paper: &Paper) -> Cut
+    requires few { IfSome cut (λ c. c.pages < usize.MAX) }
+    ensures { result ≡ with_one cut page paper.now }
+{
+    match cut {
+        None => Cut {
+            first: page,
+            last: page,
+            pages: 1,
+            paper: *paper,
+        },
+        Some(cut) => Cut {
+            first: cut.first,
+            last: page,
+            pages: cut.pages + 1,
+            paper: covering(&cut.paper, paper),
+        },
+    }
+}
+
+/// Whether a paper cuts a page of that one.
+fn is_cut(paper: &Paper, own: &Paper) -> bool
+    ensures { result ≡ is_cut_by paper.now own.now }
+{
+    !covers(paper, own) && !is_near(paper, own)
+}
+
+/// Whether no side of the other one is longer.
+fn covers(paper: &Paper, other: &Paper) -> bool
+    ensures { result ≡ covers_it paper.now other.now }
+{
+    other.width().get() <= paper.width().get() && other.height().get() <= paper.height().get()
+}
+
+/// Whether they count as one paper.
+pub(crate) fn is_near(paper: &Paper, other: &Paper) -> bool
+    ensures { result ≡ is_near_to paper.now other.now }
+{
+    difference(paper.width().get(), other.width().get()) <= NEARNESS
+        && difference(paper.height().get(), other.height().get()) <= NEARNESS
+}
+
+/// By how much two sides differ.
+fn difference(one: i128, other: i128) -> u128
+    requires one { IsTrue (is_side one) }
+    requires other { IsTrue (is_side other) }
+    ensures { result ≡ nat_abs (one -ℤ other) }
+{
+    (one - other).unsigned_abs()
+}

@@ -1,0 +1,14 @@
+//! Why a text means no paper.
+
+/// Why a text means no paper.
+#[derive(Clone, Copy, Debug, PartialEq, Eq)]
+pub enum PaperError {
+    /// It is no name, and no width and height with an `x` between them.
+    Unknown,
+    /// No unit follows the numbers, and one of them is too small to be meant in points.
+    NoUnit,
+    /// A unit follows the width, and none the height.
+    UnitOfWidthAlone,
+    /// A side is zero, negative or too long.
+    NoSuchSize,
+}

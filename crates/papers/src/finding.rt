@@ -1,0 +1,158 @@
+//! The paper of each page of a document.
+ghost use Rattle.std.specs.Prelude.{◌≡◌, IfOk, None, map, drop, length, replicate, codes, option_and_then};
+ghost use Rattle.rules.specs.Parts.{bytes_of, pages};
+ghost use Rattle.rules.specs.Units.{line_len};
+ghost use Rattle.dsc.specs.Units.{units_of};
+ghost use Rattle.papers.specs.Names.{paper_named};
+ghost use Rattle.papers.specs.Media.{comment_fields, contents, header, paper_of_box as paper_of_box_at, trailer_lines};
+ghost use Rattle.papers.specs.Comments.{head_of, named_medium, page_head, told_by_document, told_by_page as told};
+ghost use Rattle.papers.specs.Own.{medium_by, or_this, own_papers as papers_of_pages, page_or};
+ghost use Rattle.dsc.specs.Fields.{fields_in};
+ghost use Rattle.papers.specs.Named.{known_paper};
+
+use crate::fields::name_in;
+use crate::known_media::KnownMedia;
+use crate::page_heads::value_in_head;
+use crate::{document_paper, paper_of_box};
+use dsc::{Document, first_content, header_len, line_end_after, next_field};
+use lengths::Paper;
+use std::alloc::{AllocError, Global};
+
+/// The papers of a document's pages, in order: the one that is asked for, if one is. Else each page's own: what the page
+/// says itself, else what its document says, else the one at home. Refused out of memory alone.
+pub fn own_papers(
+    alloc: Global,
+    document: &Document<'_>,
+    asked: Option<Paper>,
+    home: &Paper,
+) -> Result<Vec<Paper>, AllocError>
+    ensures { IfOk result (λ papers.
+        papers.items ≡ papers_of_pages asked paper_named home.now (bytes_of document.now) document.now) }
+{
+    match asked {
+        Some(paper) => one_paper(alloc, document.pages(), paper),
+        None => told_papers(alloc, document, home),
+    }
+}
+
+/// So many pages of one paper.
+fn one_paper(alloc: Global, pages: u32, paper: Paper) -> Result<Vec<Paper>, AllocError>
+    ensures { IfOk result (λ papers. papers.items ≡ replicate pages paper) }
+{
+    let mut papers = Vec::new(alloc);
+    papers.resize(pages as usize, paper)?;
+    Ok(papers)
+}
+
+/// Each page's own paper.
+fn told_papers(
+    alloc: Global,
+    document: &Document<'_>,
+    home: &Paper,
+) -> Result<Vec<Paper>, AllocError>
+    ensures { IfOk result (λ papers.
+        papers.items ≡ papers_of_pages None paper_named home.now (bytes_of document.now) document.now) }
+{
+    let text = document.text();
+    let (header, _) = text.split_at(header_len(text));
+    each_or(alloc, document, header, &document_or(text, home))
+}
+
+/// The paper that a document names, and else this one.
+fn document_or(text: &[u8], other: &Paper) -> Paper
+    ensures { result
+        ≡ or_this (told_by_document paper_named other.now (header text.now) (trailer_lines (units_of text.now))) other.now }
+{
+    match document_paper(text, other) {
+        Some(told) => told.0,
+        None => *other,
+    }
+}
+
+/// What each page says itself, with the media of these header comments, and else this paper.
+fn each_or(
+    alloc: Global,
+    document: &Document<'_>,
+    header: &[u8],
+    other: &Paper,
+) -> Result<Vec<Paper>, AllocError>
+    ensures { IfOk result (λ papers. papers.items
+        ≡ map (λ page. page_or (medium_by (contents header.now)) (page_head page) other.now) (pages document.now)) }
+{
+    let known = KnownMedia::read(alloc, header)?;
+    each_with(alloc, document, &known, other)
+}
+
+/// What each page says itself, with these media, and else this paper.
+fn each_with(
+    alloc: Global,
+    document: &Document<'_>,
+    known: &KnownMedia,
+    other: &Paper,
+) -> Result<Vec<Paper>, AllocError>
+    ensures { IfOk result (λ papers. papers.items
+        ≡ map (λ page. page_or (known_paper known.now) (page_head page) other.now) (pages document.now)) }
+{
+    let mut papers = Vec::new(alloc);
+    for page in 0..document.pages() {
+        let paper = page_paper(known, document.page(page), other);
+        papers.push(paper)?;
+    }
+    Ok(papers)
+}
+
+/// The paper of a page: what it says itself, and else this one, which is its document's.
+fn page_paper(known: &KnownMedia, page: &[u8], other: &Paper) -> Paper
+    ensures { result ≡ page_or (known_paper known.now) (page_head page.now) other.now }
+{
+    match told_by_page(known, page, other) {
+        Some(paper) => paper,
+        None => *other,
+    }
+}
+
+/// The paper that a page names in the comments after its first line: by its `%%PageMedia:`, if that names a medium that
+/// is known, and else by its `%%PageBoundingBox:`, where this paper would be taken without it.
+fn told_by_page(known: &KnownMedia, page: &[u8], other: &Paper) -> Option<Paper>
+    ensures { result ≡ told (known_paper known.now) other.now (page_head page.now) }
+{
+    let head = behind_first_line(page);
+    match named_paper(known, head) {
+        Some(paper) => Some(paper),
+        None => boxed_paper(head, other),
+    }
+}
+
+/// The paper of the medium that a page names, in the comments after its first line.
+fn named_paper(known: &KnownMedia, head: &[u8]) -> Option<Paper>
+    ensures { result ≡ option_and_then (named_medium (known_paper known.now))
+        (comment_fields (codes "%%PageMedia") (head_of (length head.now) head.now)) }
+{
+    known_medium(known, value_in_head(head, b"%%PageMedia", b"%%PageMedia:")?)
+}
+
+/// The paper of the medium that the first field names.
+fn known_medium(known: &KnownMedia, value: &[u8]) -> Option<Paper>
+    ensures { result ≡ named_medium (known_paper known.now) (fields_in value.now) }
+{
+    let (field, _) = next_field(value)?;
+    known.paper_of(name_in(field))
+}
+
+/// The paper that a page's box gives, in the comments after its first line, where this one would be taken without it.
+fn boxed_paper(head: &[u8], other: &Paper) -> Option<Paper>
+    ensures { result ≡ option_and_then (paper_of_box_at other.now)
+        (comment_fields (codes "%%PageBoundingBox") (head_of (length head.now) head.now)) }
+{
+    let value = value_in_head(head, b"%%PageBoundingBox", b"%%PageBoundingBox:")?;
+    paper_of_box(other, value)
+}
+
+/// What follows the first line.
+fn behind_first_line(text: &[u8]) -> &[u8]
+    ensures { result.now ≡ drop (line_len text.now) text.now }
+{
+    let content = first_content(text);
+    let (_, behind) = text.split_at(line_end_after(text, content.len()));
+    behind
+}

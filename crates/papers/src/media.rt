@@ -1,0 +1,191 @@
+//! The paper that a document is made for, by its comments.
+ghost use Rattle.std.specs.Prelude.{◌≡◌, ◌++◌, ◌∷◌, [], ◌&&◌, IsTrue, option_and_then, option_map, codes, None};
+ghost use Rattle.rules.specs.Papers.{is_side};
+ghost use Rattle.rules.specs.Bytes.{colon};
+ghost use Rattle.dsc.specs.Fields.{fields_in};
+ghost use Rattle.dsc.specs.Units.{units_of};
+ghost use Rattle.papers.specs.Media as meaning;
+
+use crate::boxes::{box_paper, paper_of, paper_of_box};
+use crate::comments::{continuation, first_comment};
+use crate::fields::{name_in, points_of};
+use crate::paper_by_name;
+use dsc::{header_len, next_field, trailer_box};
+use lengths::{Grains, Paper};
+
+/// By so much, 15 points, programs' sizes of one paper may differ.
+const NEARNESS: u128 = 15 * 127_000_000_000;
+
+/// The comment that gives the paper.
+#[derive(Clone, Copy, Debug, PartialEq, Eq)]
+pub enum Comment {
+    /// The first `%%DocumentMedia:`.
+    DocumentMedia,
+    /// The first `%%DocumentPaperSizes:`, of which a field is the name of a paper, perhaps in parentheses.
+    DocumentPaperSizes,
+    /// The first `%%BoundingBox:`.
+    BoundingBox,
+}
+
+/// The paper of a document for which this one is usual, by its header comments (DSC 3.0, 5.2): by the width and height
+/// of its first `%%DocumentMedia:`, else by the first known name in its `%%DocumentPaperSizes:` (on its side, if the box
+/// at 0 0 has its sides exchanged, to 15 points), else by its `%%BoundingBox:`, as `paper_of_box` has it. A box that is
+/// `(atend)` is the first `%%BoundingBox:` of the trailer; a text with a faulty data block has no trailer.
+pub fn document_paper(text: &[u8], usual: &Paper) -> Option<(Paper, Comment)>
+    ensures { result ≡ meaning.document_paper usual.now text.now }
+{
+    let (header, _) = text.split_at(header_len(text));
+    match media_in(header) {
+        Some(paper) => Some((paper, Comment::DocumentMedia)),
+        None => named_or_boxed(header, text, usual),
+    }
+}
+
+/// The paper of the first known name among the comments, else that of the first box.
+fn named_or_boxed(header: &[u8], text: &[u8], usual: &Paper) -> Option<(Paper, Comment)>
+    ensures { result ≡ meaning.or_named usual.now (meaning.contents header.now) (meaning.trailer_lines (units_of text.now)) None }
+{
+    let value = box_of(header, text);
+    match named_in(header) {
+        Some(paper) => Some((
+            lying_as(corner_paper(value), paper),
+            Comment::DocumentPaperSizes,
+        )),
+        None => Some((paper_of_box(usual, value?)?, Comment::BoundingBox)),
+    }
+}
+
+/// The paper of a box that begins at 0 0, if there is a box.
+fn corner_paper(value: Option<&[u8]>) -> Option<Paper>
+    ensures { result ≡ option_and_then meaning.box_paper (option_map (λ v. fields_in v.now) value.entry) }
+{
+    box_paper(value?)
+}
+
+/// The paper as this box lies: on its side, if the box has its sides exchanged.
+fn lying_as(told: Option<Paper>, paper: Paper) -> Paper
+    ensures { result ≡ meaning.lying_as told paper }
+{
+    match told {
+        Some(told) if is_turned(&told, &paper) => paper.turned(),
+        _ => paper,
+    }
+}
+
+/// Whether one has the sides of the other exchanged.
+fn is_turned(told: &Paper, paper: &Paper) -> bool
+    ensures { result ≡ (meaning.are_near told.now.width paper.now.height && meaning.are_near told.now.height paper.now.width) }
+{
+    are_near(told.width(), paper.height()) && are_near(told.height(), paper.width())
+}
+
+/// Whether two sides count as one, since programs round them differently.
+fn are_near(one: Grains, other: Grains) -> bool
+    requires one { IsTrue (is_side one) }
+    requires other { IsTrue (is_side other) }
+    ensures { result ≡ meaning.are_near one other }
+{
+    (one.get() - other.get()).unsigned_abs() <= NEARNESS
+}
+
+/// The paper of the first known name in the first list of names among the comments, which lines may continue.
+fn named_in(header: &[u8]) -> Option<Paper>
+    ensures { result ≡ meaning.first_named_in
+        (meaning.comment_lines (codes "%%DocumentPaperSizes") (meaning.contents header.now)) }
+{
+    let (value, others) = first_comment(header, b"%%DocumentPaperSizes", b"%%DocumentPaperSizes:")?;
+    match first_named(value) {
+        Some(paper) => Some(paper),
+        None => named_behind(others),
+    }
+}
+
+/// The paper of the first known name in the lines at the front that continue a comment.
+fn named_behind(text: &[u8]) -> Option<Paper>
+    ensures { result ≡ meaning.first_named_in (meaning.continued (meaning.contents text.now)) }
+{
+    let mut rest = text;
+    while let Some((value, others)) = continuation(rest) {
+        if let Some(paper) = first_named(value) {
+            return Some(paper);
+        }
+        rest = others;
+    }
+    None
+}
+
+/// The paper of the first field that is the name of one.
+fn first_named(value: &[u8]) -> Option<Paper>
+    ensures { result ≡ meaning.first_named (fields_in value.now) }
+{
+    let mut rest = value;
+    while let Some((field, others)) = next_field(rest) {
+        if let Some(paper) = paper_by_name(name_in(field)) {
+            return Some(paper);
+        }
+        rest = others;
+    }
+    None
+}
+
+/// The paper of the first medium among the comments.
+fn media_in(header: &[u8]) -> Option<Paper>
+    ensures { result ≡ option_and_then meaning.media_paper
+        (meaning.comment_fields (codes "%%DocumentMedia") (meaning.contents header.now)) }
+{
+    media_paper(value_of(header, b"%%DocumentMedia", b"%%DocumentMedia:")?)
+}
+
+/// What follows the colon of the first box among the comments, which may be in the trailer.
+fn box_of<'t>(header: &'t [u8], text: &'t [u8]) -> Option<&'t [u8]>
+    ensures { option_map (λ value. fields_in value.now) result
+        ≡ meaning.box_of (meaning.contents header.now) (meaning.trailer_lines (units_of text.now)) }
+{
+    box_or_last(value_of(header, b"%%BoundingBox", b"%%BoundingBox:")?, text)
+}
+
+/// A box in the header with this value, or the first one in the trailer.
+#[tactic(auto, using(crate::proofs::Contents::trailer_box_is))]
+fn box_or_last<'t>(value: &'t [u8], text: &'t [u8]) -> Option<&'t [u8]>
+    ensures { option_map (λ v. fields_in v.now) result
+        ≡ meaning.box_or_last (meaning.trailer_lines (units_of text.now)) (fields_in value.now) }
+{
+    if is_at_end(value) {
+        trailer_box(text)
+    } else {
+        Some(value)
+    }
+}
+
+/// Whether a comment in the header with this value is in the trailer.
+fn is_at_end(value: &[u8]) -> bool
+    ensures { result ≡ meaning.is_at_end (fields_in value.now) }
+{
+    match next_field(value) {
+        Some((field, _)) => field == b"(atend)".as_slice(),
+        None => false,
+    }
+}
+
+/// What follows the colon of the first comment with this key.
+#[tactic(auto, using(crate::proofs::Contents::none_told, crate::proofs::Contents::first_told))]
+fn value_of<'t>(header: &'t [u8], key: &[u8], with_colon: &[u8]) -> Option<&'t [u8]>
+    requires { with_colon.now ≡ key.now ++ colon ∷ [] }
+    ensures { option_map (λ value. fields_in value.now) result
+        ≡ meaning.comment_fields key.now (meaning.contents header.now) }
+{
+    match first_comment(header, key, with_colon) {
+        Some((value, _)) => Some(value),
+        None => None,
+    }
+}
+
+/// The paper of a medium: its name, its width, its height, and more.
+pub fn media_paper(value: &[u8]) -> Option<Paper>
+    ensures { result ≡ meaning.media_paper (fields_in value.now) }
+{
+    let (_, rest) = next_field(value)?;
+    let (width, rest) = next_field(rest)?;
+    let (height, _) = next_field(rest)?;
+    paper_of(points_of(width), points_of(height))
+}

@@ -1,0 +1,38 @@
+//! The comments after a page's line.
+ghost use Rattle.std.specs.Prelude.{◌≡◌, ◌++◌, ◌∷◌, [], option_map, length};
+ghost use Rattle.rules.specs.Bytes.{colon};
+ghost use Rattle.dsc.specs.Fields.{fields_in};
+ghost use Rattle.papers.specs.Media.{comment_fields};
+ghost use Rattle.papers.specs.Comments.{head_of, is_in_head};
+
+use dsc::{comment_value, first_content, is_header, key_of, line_end_after};
+
+/// What follows the colon of the first comment with this key, in the run of comments at the front.
+pub(crate) fn value_in_head<'t>(text: &'t [u8], key: &[u8], with_colon: &[u8]) -> Option<&'t [u8]>
+    requires { with_colon.now ≡ key.now ++ colon ∷ [] }
+    ensures { option_map (λ value. fields_in value.now) result
+        ≡ comment_fields key.now (head_of (length text.now) text.now) }
+{
+    let mut rest = text;
+    while !rest.is_empty() {
+        let content = first_content(rest);
+        if !is_in_head(content) {
+            return None;
+        }
+        if let Some(value) = comment_value(content, key, with_colon) {
+            return Some(value);
+        }
+        let (_, others) = rest.split_at(line_end_after(rest, content.len()));
+        rest = others;
+    }
+    None
+}
+
+/// Whether a line with this content goes on with that run: a comment, the one that begins a page's setup too, but none
+/// that begins anything else.
+fn is_in_head(content: &[u8]) -> bool
+    ensures { result ≡ is_in_head content.now }
+{
+    let key = key_of(content);
+    is_header(content) && (!key.starts_with(b"%%Begin") || key == b"%%BeginPageSetup".as_slice())
+}

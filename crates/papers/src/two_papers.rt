@@ -1,0 +1,28 @@
+//! What is made of two papers.
+ghost use Rattle.std.specs.Prelude.{◌≡◌, IsTrue};
+ghost use Rattle.rules.specs.Papers.{is_side};
+ghost use Rattle.papers.specs.Own.{covering as covering_paper, larger as larger_side};
+
+use lengths::{Grains, Paper};
+
+/// The least paper that covers both.
+pub fn covering(a: &Paper, b: &Paper) -> Paper
+    ensures { result ≡ covering_paper a.now b.now }
+{
+    let width = larger(a.width(), b.width());
+    let height = larger(a.height(), b.height());
+    match Paper::new(width, height) {
+        Some(paper) => paper,
+        None => unreachable!(),
+    }
+}
+
+/// The larger side.
+fn larger(a: Grains, b: Grains) -> Grains
+    requires a { IsTrue (is_side a) }
+    requires b { IsTrue (is_side b) }
+    ensures value { result ≡ larger_side a b }
+    ensures side { IsTrue (is_side result) }
+{
+    if a.get() <= b.get() { b } else { a }
+}

@@ -1,8 +1,0 @@
-use Rattle.std.proofs.Common.{◌≡◌, ◌++◌}
-use Rattle.sheet_plan.specs.OfSheets.{slots_at}
-use Rattle.preview.specs.Listing.{cell_at}
-use Rattle.preview.specs.Naming.{each}
-use Rattle.preview.proofs.reading.append_columns.Given as goal
-
-abbrev pub invariant-loop-column : goal.invariant-loop-column
-invariant-loop-column l = l.out.items ≡ l.initial.out.items ++ each (cell_at (slots_at l.sheets l.sheet) l.order l.grid l.row) 0 l.column

@@ -1,0 +1,97 @@
+-- Leaves that don't creep.
+use Rattle.std.proofs.Common.{arith, rules, ◌≡◌, ℕ, ◌+◌, ◌-◌, ◌*◌, ◌/◌, ◌%◌, Bool, true, false, inl, inr, Option, Some, None, List, [], ◌∷◌, refl, sym, ap, ap₂, ◌∙◌}
+use Rattle.std.specs.Prelude.{ℤ, pos, neg_ℤ, ◌-ℤ◌, nat_le, if◌then◌else◌, map}
+use Rattle.std.specs.List.{range_with_len}
+use Rattle.std.proofs.Math.IntN.{+ℤ_idr}
+use Rattle.rules.specs.Papers.{Paper, Pt}
+use Rattle.rules.specs.Specification.{Item}
+use Rattle.made_sheets.specs.Made.{Placed}
+use Rattle.made_sheets.specs.Rows.{Row}
+use Rattle.layouts.specs.declared.error.ArrangementError.{ArrangementError}
+use Rattle.layouts.specs.declared.error.ArrangementError.TheVariants as why
+use Rattle.layouts.specs.declared.setting.Setting.{Setting}
+use Rattle.layouts.specs.Refusals.{first_of}
+use Rattle.layouts.specs.Placed.{Room}
+use Rattle.layouts.specs.Fitted.{fitted, fitted_back, why_not_fitted}
+use Rattle.row_sheets.specs.Filled.{Filling, grid_entry, is_turned, slot_on}
+use Rattle.row_sheets.specs.Shapes.{IsRefusedFor}
+use Rattle.row_sheets.specs.Creep.{AreHalves, IsRefusedCreeping, NoCreepIsPlain, creep_on, creeping, creeping_slot, is_before_fold, moved_up, or_else, up_to_fold, why_not_creeping}
+use Rattle.row_sheets.proofs.Creeping.{halves, of_halves}
+use Rattle.row_sheets.proofs.Filling.{sheet}
+
+same_maps : {X Y : Type 0} (f g : X → Y) (xs : List X) → ((x : X) → f x ≡ g x) → map f xs ≡ map g xs
+same_maps f g [] h = refl
+same_maps f g (x ∷ xs) h = ap₂ (λ y ys. y ∷ ys) (h x) (same_maps f g xs h)
+
+-- ---- how far
+
+none_of : (is_one : Bool) (i m : ℕ) → (if is_one then 0 else i * 0 / m) ≡ 0
+none_of true i m = refl
+none_of false i m = search arith
+
+no_creep : (leaves s : ℕ) → creep_on 0 leaves s ≡ 0
+no_creep leaves s = none_of (nat_le leaves 1) (s / 2 % leaves) (leaves - 1)
+
+not_to_fold : (is_before : Bool) → (if is_before then pos 0 else pos 0 -ℤ pos 0) ≡ pos 0
+not_to_fold true = refl
+not_to_fold false = refl
+
+not_up : (right_to_left by_half : Bool) (k : ℕ) → up_to_fold right_to_left by_half k 0 ≡ pos 0
+not_up right_to_left false k = not_to_fold (is_before_fold right_to_left k)
+not_up right_to_left true k = ap neg_ℤ (not_to_fold (is_before_fold right_to_left k))
+
+-- ---- a page that isn't moved
+
+unmoved : (item : Item) → item.y.unit ≡ Pt → moved_up (pos 0) item ≡ item
+unmoved item e =
+    ap (λ n. record item { y = record { number = n; unit = Pt } }) (+ℤ_idr item.y.number)
+    ∙ ap (λ u. record item { y = record { number = item.y.number; unit = u } }) (sym e)
+
+abbrev placed : Setting → (by_half : Bool) → Paper → (k : ℕ) → Item
+placed t by_half page k = if by_half then fitted_back t page k else fitted t page k
+
+in_points : (room : Room) (b : Bool) (asked : Option ℤ) (by_half : Bool) (page : Paper) (k : ℕ) → (placed (halves room b asked) by_half page k).y.unit ≡ Pt
+in_points room b asked false page k = refl
+in_points room b asked true page k = refl
+
+at_rest : (t : Setting) (by_half : Bool) (page : Paper) (k : ℕ) → AreHalves t → creeping t by_half page k 0 ≡ placed t by_half page k
+at_rest t by_half page k h =
+    ap (λ by. moved_up by (placed t by_half page k)) (not_up t.order.right_to_left by_half k)
+    ∙ unmoved (placed t by_half page k) (of_halves (λ u. (placed u by_half page k).y.unit ≡ Pt) t h (in_points t.room t.order.right_to_left t.scale by_half page k))
+
+slot_at_rest : (f : Filling) (by_half : Bool) (k : ℕ) (entry : Option ℕ) → AreHalves f.setting → creeping_slot f by_half k 0 entry ≡ slot_on f by_half k entry
+slot_at_rest f false k None h = refl
+slot_at_rest f true k None h = refl
+slot_at_rest f false k (Some page) h = let paper = f.paper_of page in ap (λ i. Placed page i paper) (at_rest f.setting false paper k h)
+slot_at_rest f true k (Some page) h = let paper = f.paper_of page in ap (λ i. Placed page i paper) (at_rest f.setting true paper k h)
+
+-- ---- its sheets, and what refuses them
+
+pub sheets_at_rest : (f : Filling) (turned_backs : Bool) (leaves : ℕ) (row : Row) (sheets : List ℕ) → AreHalves f.setting
+    → map (λ s. sheet f.setting.room.paper (map (λ k. creeping_slot f (is_turned turned_backs s) k (creep_on 0 leaves s) (grid_entry 2 row s k)) (range_with_len 0 2))) sheets
+    ≡ map (λ s. sheet f.setting.room.paper (map (λ k. slot_on f (is_turned turned_backs s) k (grid_entry 2 row s k)) (range_with_len 0 2))) sheets
+sheets_at_rest f turned_backs leaves row sheets h =
+    same_maps _ _ sheets (λ s. ap (sheet f.setting.room.paper)
+    (same_maps _ _ (range_with_len 0 2) (λ k.
+    ap (λ n. creeping_slot f (is_turned turned_backs s) k n (grid_entry 2 row s k)) (no_creep leaves s)
+    ∙ slot_at_rest f (is_turned turned_backs s) k (grid_entry 2 row s k) h)))
+
+or_else_none : (one : Option ArrangementError) → or_else one None ≡ one
+or_else_none None = refl
+or_else_none (Some e) = refl
+
+free : (n : ℕ) → nat_le (2 * 0) n ≡ true
+free n = search rules
+
+not_for_creep : (t : Setting) (page : Paper) → why_not_creeping t page 0 ≡ why_not_fitted t page
+not_for_creep t page =
+    ap (λ b. or_else (why_not_fitted t page) (first_of b why.CreepOverFold None)) (free _)
+    ∙ or_else_none (why_not_fitted t page)
+
+refused_at_rest : (f : Filling) (leaves : ℕ) (row : Row) (e : ArrangementError) → IsRefusedCreeping f 0 leaves row e → IsRefusedFor f row e
+refused_at_rest f leaves row e (inl h) = inl h
+refused_at_rest f leaves row e (inr (s, k, less, h)) =
+    inr (s * 2 + k, (h.0, h.1, sym (not_for_creep f.setting (f.paper_of h.0)) ∙ (ap (why_not_creeping f.setting (f.paper_of h.0)) (sym (no_creep leaves s)) ∙ h.2)))
+
+pub no_creep_is_plain : NoCreepIsPlain
+no_creep_is_plain = λ f turned_backs leaves row h. (sheets_at_rest f turned_backs leaves row _ h, λ e. refused_at_rest f leaves row e)

@@ -1,0 +1,208 @@
+-- Pages on leaves that creep stay within reach, as long as there is room at the fold.
+use Rattle.std.proofs.Common.{arith, rules, ◌≡◌, ℕ, suc, zero, ◌+◌, ◌*◌, ◌<◌, ◌≤◌, Bool, true, false, inr, Option, Some, None, [], ◌∷◌, refl, sym, ap, subst, ◌∙◌}
+use Rattle.std.specs.Prelude.{ℤ, pos, neg_ℤ, ◌+ℤ◌, ◌-ℤ◌, ◌*ℤ◌, nat_abs, nat_le, nat_lt, IsTrue, if◌then◌else◌, map}
+use Rattle.std.specs.List.{range_with_len}
+use Rattle.std.proofs.lemmas.Int.{ints}
+use Rattle.rules.specs.Numbers.{greatest_number}
+use Rattle.rules.specs.Papers.{Paper}
+use Rattle.rules.specs.Specification.{Item}
+use Rattle.rules.specs.Signatures.{entry_of}
+use Rattle.made_sheets.specs.Made.{MadeSlot}
+use Rattle.made_sheets.specs.Rows.{Row}
+use Rattle.layouts.specs.declared.error.ArrangementError.{ArrangementError}
+use Rattle.layouts.specs.declared.error.ArrangementError.TheVariants as why
+use Rattle.layouts.specs.declared.setting.Setting.{Setting}
+use Rattle.layouts.specs.Placed.{Room}
+use Rattle.layouts.specs.Cells.{size, slack, slack_x, trimmed, whole}
+use Rattle.layouts.specs.Grids.{beside, leaf_order}
+use Rattle.layouts.specs.Refusals.{first_of}
+use Rattle.layouts.specs.Fitted.{fitted, fitted_back, scale_on, why_no_scale_on, why_not_fitted}
+use Rattle.layouts.proofs.AlongSide.{in_cell, cells_fit}
+use Rattle.layouts.proofs.OnSide.{HasCell, cell, shown, from_start}
+use Rattle.layouts.proofs.InGrid.{fits, both_true}
+use Rattle.layouts.proofs.Folds.{kept_little}
+use Rattle.layouts.proofs.Fitting.{has_scale}
+use Rattle.row_sheets.specs.Creep.{up_to_fold, moved_up, may_creep, or_else, why_not_creeping, creep_on, creeping, creeping_slot, AreHalves, IsRefusedCreep, IsRefusedCreeping}
+use Rattle.row_sheets.specs.Standing.{EntryCreeps}
+use Rattle.row_sheets.specs.Filled.{Filling}
+
+-- ---- a page on its half
+
+record Within (room : Room) (h v s creep : ℕ) : Type 0 where
+  pub before : from_start room h 2 v s 0 + creep ≤ whole h
+  pub behind : creep ≤ from_start room h 2 v s 1
+  pub ends : from_start room h 2 v s 1 ≤ whole h
+
+within : (room : Room) (h v s creep : ℕ) → HasCell room h 2 v s → 2 * creep ≤ 2 * slack (cell room h 2) (shown room v) s + room.gap → Within room h v s creep
+within room h v s creep has may =
+    let some = has.some in
+    let fit = in_cell (cell room h 2) (shown room v) s has.fits in
+    let all = cells_fit room h 2 0 some (omega arith) in
+    let little = (kept_little room room.gap).0 in
+    record {
+      before = omega (arith, some, fit, all, may, little);
+      behind = omega (arith, some, may, little);
+      ends = omega (arith, some, fit, all, little);
+    }
+
+-- at the largest numbers that there are
+
+up_front : (a t c W : ℕ) → a + c ≤ W → W + t < 10_000_000_000 → nat_abs ((pos 10_000 *ℤ (pos a -ℤ pos t)) +ℤ (pos 10_000 *ℤ pos c)) ≤ greatest_number
+up_front a t c W h near = omega (arith, ints, h, near)
+
+down_front : (a t c W : ℕ) → c ≤ a → a ≤ W → W + t < 10_000_000_000 → nat_abs ((pos 10_000 *ℤ (pos a -ℤ pos t)) +ℤ (pos 10_000 *ℤ (pos 0 -ℤ pos c))) ≤ greatest_number
+down_front a t c W h most near = omega (arith, ints, h, most, near)
+
+down_back : (a t c W : ℕ) → a + c ≤ W → W + t < 10_000_000_000 → nat_abs ((pos 10_000 *ℤ (pos W -ℤ (pos a -ℤ pos t))) +ℤ (pos 10_000 *ℤ neg_ℤ (pos c))) ≤ greatest_number
+down_back a t c W h near = omega (arith, ints, h, near)
+
+up_back : (a t c W : ℕ) → c ≤ a → a ≤ W → W + t < 10_000_000_000 → nat_abs ((pos 10_000 *ℤ (pos W -ℤ (pos a -ℤ pos t))) +ℤ (pos 10_000 *ℤ neg_ℤ (pos 0 -ℤ pos c))) ≤ greatest_number
+up_back a t c W h most near = omega (arith, ints, h, most, near)
+
+-- ---- settings whose cells are halves
+
+abbrev pub halves : (room : Room) (b : Bool) (asked : Option ℤ) → Setting
+halves room b asked = record { room = room; grid = beside true; order = leaf_order b; scale = asked }
+
+halves_are : (t : Setting) → AreHalves t → t ≡ halves t.room t.order.right_to_left t.scale
+halves_are t h =
+    ap (λ g. record { room = t.room; grid = g; order = t.order; scale = t.scale }) h.0
+    ∙ ap (λ o. record { room = t.room; grid = beside true; order = o; scale = t.scale }) h.1
+
+-- they are two
+pub halves_many : (t : Setting) → AreHalves t → 2 ≤ size t.grid
+halves_many t h = subst (λ g. 2 ≤ size g) (sym h.0) (let two : 2 ≤ size (beside true) = omega arith in two)
+
+-- what holds of halves holds of such a setting
+pub of_halves : (P : Setting → Type 0) (t : Setting) → AreHalves t → P (halves t.room t.order.right_to_left t.scale) → P t
+of_halves P t h p = subst P (sym (halves_are t h)) p
+
+at_most : (a b : ℕ) → nat_le a b ≡ true → a ≤ b
+at_most a b e = search (rules, e)
+
+below : (a b : ℕ) → IsTrue (nat_lt a b) → a < b
+below a b h = search (rules, h)
+
+-- a page in its half, with room at the fold
+record Creeps (room : Room) (v s creep : ℕ) : Type 0 where
+  pub stays : Within room (nat_abs room.paper.height) v s creep
+  pub near : whole (nat_abs room.paper.height) + trimmed room s < 10_000_000_000
+
+creeps : (page : Paper) (room : Room) (b : Bool) (asked : Option ℤ) (creep : ℕ) → (let s = scale_on (halves room b asked) page in
+    why_no_scale_on (halves room b asked) page ≡ None → may_creep page room s creep ≡ true → Creeps room (nat_abs page.width) s creep)
+creeps page room b asked creep e may =
+    let t = halves room b asked in
+    let s = scale_on t page in
+    let has = has_scale t page e in
+    let f = fits page room (beside true) s has.place in
+    let h = nat_abs room.paper.height in
+    let cell_is : HasCell room h 2 (nat_abs page.width) s = record { some = f.some_wide; fits = f.is_wide; left = has.place.some_wide } in
+    let near = both_true (nat_lt (whole (nat_abs room.paper.width) + trimmed room s) 10_000_000_000) (nat_lt (whole h + trimmed room s) 10_000_000_000) has.near in
+    record {
+      stays = within room h (nat_abs page.width) s creep cell_is (at_most (2 * creep) (2 * slack (cell room h 2) (shown room (nat_abs page.width)) s + room.gap) may);
+      near = below (whole h + trimmed room s) 10_000_000_000 near.1;
+    }
+
+-- how far up it is in the end, in 10^-9 of a point
+abbrev moved : Setting → (by_half : Bool) → (page : Paper) → (k creep : ℕ) → ℤ
+moved t by_half page k creep =
+    (if by_half then fitted_back t page k else fitted t page k).y.number +ℤ (pos 10_000 *ℤ up_to_fold t.order.right_to_left by_half k creep)
+
+reach_at : (page : Paper) (room : Room) (b : Bool) (asked : Option ℤ) (by_half : Bool) (k creep : ℕ) → k < 2 → Creeps room (nat_abs page.width) (scale_on (halves room b asked) page) creep
+    → nat_abs (moved (halves room b asked) by_half page k creep) ≤ greatest_number
+reach_at page room false asked false zero creep less c =
+    let s = scale_on (halves room false asked) page in
+    let h = nat_abs room.paper.height in
+    up_front (from_start room h 2 (nat_abs page.width) s 0) (trimmed room s) creep (whole h) c.stays.before c.near
+reach_at page room false asked false (suc zero) creep less c =
+    let s = scale_on (halves room false asked) page in
+    let h = nat_abs room.paper.height in
+    down_front (from_start room h 2 (nat_abs page.width) s 1) (trimmed room s) creep (whole h) c.stays.behind c.stays.ends c.near
+reach_at page room true asked false zero creep less c =
+    let s = scale_on (halves room true asked) page in
+    let h = nat_abs room.paper.height in
+    down_front (from_start room h 2 (nat_abs page.width) s 1) (trimmed room s) creep (whole h) c.stays.behind c.stays.ends c.near
+reach_at page room true asked false (suc zero) creep less c =
+    let s = scale_on (halves room true asked) page in
+    let h = nat_abs room.paper.height in
+    up_front (from_start room h 2 (nat_abs page.width) s 0) (trimmed room s) creep (whole h) c.stays.before c.near
+reach_at page room false asked true zero creep less c =
+    let s = scale_on (halves room false asked) page in
+    let h = nat_abs room.paper.height in
+    down_back (from_start room h 2 (nat_abs page.width) s 0) (trimmed room s) creep (whole h) c.stays.before c.near
+reach_at page room false asked true (suc zero) creep less c =
+    let s = scale_on (halves room false asked) page in
+    let h = nat_abs room.paper.height in
+    up_back (from_start room h 2 (nat_abs page.width) s 1) (trimmed room s) creep (whole h) c.stays.behind c.stays.ends c.near
+reach_at page room true asked true zero creep less c =
+    let s = scale_on (halves room true asked) page in
+    let h = nat_abs room.paper.height in
+    up_back (from_start room h 2 (nat_abs page.width) s 1) (trimmed room s) creep (whole h) c.stays.behind c.stays.ends c.near
+reach_at page room true asked true (suc zero) creep less c =
+    let s = scale_on (halves room true asked) page in
+    let h = nat_abs room.paper.height in
+    down_back (from_start room h 2 (nat_abs page.width) s 0) (trimmed room s) creep (whole h) c.stays.before c.near
+reach_at page room b asked by_half (suc (suc k)) creep less c = absurd (omega (arith, less))
+
+pub reached : (t : Setting) (page : Paper) (by_half : Bool) (k creep : ℕ) → AreHalves t → k < 2 → why_no_scale_on t page ≡ None → may_creep page t.room (scale_on t page) creep ≡ true
+    → nat_abs (moved t by_half page k creep) ≤ greatest_number
+reached t page by_half k creep halved less =
+    of_halves (λ u. why_no_scale_on u page ≡ None → may_creep page u.room (scale_on u page) creep ≡ true → nat_abs (moved u by_half page k creep) ≤ greatest_number) t halved
+    (λ e may. reach_at page t.room t.order.right_to_left t.scale by_half k creep less (creeps page t.room t.order.right_to_left t.scale creep e may))
+
+pub small : (t : Setting) (page : Paper) (creep : ℕ) → AreHalves t → why_no_scale_on t page ≡ None → may_creep page t.room (scale_on t page) creep ≡ true → creep < 10_000_000_000
+small t page creep halved =
+    of_halves (λ u. why_no_scale_on u page ≡ None → may_creep page u.room (scale_on u page) creep ≡ true → creep < 10_000_000_000) t halved
+    (λ e may.
+    let c = creeps page t.room t.order.right_to_left t.scale creep e may in
+    let before = c.stays.before in let near = c.near in
+    omega (arith, before, near))
+
+-- ---- what is moved
+
+pub room_there : (t : Setting) (page : Paper) (creep slack : ℕ) → AreHalves t → slack ≡ slack_x page t.room t.grid (scale_on t page) → nat_le (2 * creep) (2 * slack + t.room.gap) ≡ true → may_creep page t.room (scale_on t page) creep ≡ true
+room_there t page creep slack halved is h =
+    sym (ap (λ n. nat_le (2 * creep) (2 * n + t.room.gap)) (is ∙ ap (λ g. slack_x page t.room g (scale_on t page)) halved.0)) ∙ h
+
+free_both : (x : Option ArrangementError) (m : Bool) → x ≡ None → m ≡ true → or_else x (first_of m why.CreepOverFold None) ≡ None
+free_both None true e h = refl
+free_both None false e h = absurd (cc (h))
+free_both (Some x) m e h = absurd (cc (e))
+
+pub creeps_there : (t : Setting) (page : Paper) (creep : ℕ) → why_not_fitted t page ≡ None → may_creep page t.room (scale_on t page) creep ≡ true → why_not_creeping t page creep ≡ None
+creeps_there t page creep e may = free_both (why_not_fitted t page) (may_creep page t.room (scale_on t page) creep) e may
+
+pub made_there : (t : Setting) (page : Paper) (by_half : Bool) (k creep : ℕ) (by : ℤ) (item item' : Item) → item' ≡ moved_up by item → by ≡ up_to_fold t.order.right_to_left by_half k creep
+    → item ≡ (if by_half then fitted_back t page k else fitted t page k) → item' ≡ creeping t by_half page k creep
+made_there t page by_half k creep by item item' e f g = e ∙ (ap (λ b. moved_up b item) f ∙ ap (moved_up (up_to_fold t.order.right_to_left by_half k creep)) g)
+
+pub reached_there : (t : Setting) (page : Paper) (by_half : Bool) (k creep : ℕ) (by : ℤ) (item : Item) → AreHalves t → k < 2 → why_no_scale_on t page ≡ None → may_creep page t.room (scale_on t page) creep ≡ true
+    → by ≡ up_to_fold t.order.right_to_left by_half k creep → item ≡ (if by_half then fitted_back t page k else fitted t page k) → nat_abs (item.y.number +ℤ (pos 10_000 *ℤ by)) ≤ greatest_number
+reached_there t page by_half k creep by item halved less scale may f g =
+    subst (λ b. nat_abs (item.y.number +ℤ (pos 10_000 *ℤ b)) ≤ greatest_number) (sym f)
+    (subst (λ i. nat_abs (i.y.number +ℤ (pos 10_000 *ℤ up_to_fold t.order.right_to_left by_half k creep)) ≤ greatest_number) (sym g) (reached t page by_half k creep halved less scale may))
+
+-- the two slots of a side
+pub both_slots : (f : ℕ → MadeSlot) (one other : MadeSlot) → one ≡ f 0 → other ≡ f 1 → one ∷ other ∷ [] ≡ map f (range_with_len 0 2)
+both_slots f one other e e' = ap (λ x. x ∷ other ∷ []) e ∙ ap (λ x. f 0 ∷ x ∷ []) e'
+
+-- an entry that is found step by step
+pub entry_is : (f : Filling) (row : Row) (half half' : Bool) (k by by' place place' : ℕ) (entry : Option ℕ) (slot : MadeSlot) → slot ≡ creeping_slot f half k by entry → half ≡ half' → by ≡ by' → entry ≡ entry_of row place → place ≡ place'
+    → slot ≡ creeping_slot f half' k by' (entry_of row place')
+entry_is f row half half' k by by' place place' entry slot is h b e at =
+    is ∙ (ap (λ x. creeping_slot f x k by entry) h ∙ (ap (λ n. creeping_slot f half' k n entry) b ∙ ap (creeping_slot f half' k by') (e ∙ ap (entry_of row) at)))
+
+pub entry_creeps : (f : Filling) (row : Row) (by by' place place' : ℕ) (entry : Option ℕ) → EntryCreeps f by entry → by ≡ by' → entry ≡ entry_of row place → place ≡ place' → EntryCreeps f by' (entry_of row place')
+entry_creeps f row by by' place place' entry has b e at = subst (EntryCreeps f by') (e ∙ ap (entry_of row) at) (subst (λ n. EntryCreeps f n entry) b has)
+
+-- what holds of the two slots of a side
+pub both_creep : (P : ℕ → Type 0) → P 0 → P 1 → (k : ℕ) → k < 2 → P k
+both_creep P p q zero less = p
+both_creep P p q (suc zero) less = q
+both_creep P p q (suc (suc k)) less = absurd (omega (arith, less))
+
+-- what refuses an entry refuses the sides
+pub entry_refused : (f : Filling) (row : Row) (creep leaves s k by place : ℕ) (entry : Option ℕ) (e : ArrangementError) → k < 2 → IsRefusedCreep f by entry e → by ≡ creep_on creep leaves s → entry ≡ entry_of row place → place ≡ s * 2 + k
+    → IsRefusedCreeping f creep leaves row e
+entry_refused f row creep leaves s k by place entry e less h b is at =
+    inr (s, k, less, subst (λ x. IsRefusedCreep f (creep_on creep leaves s) x e) (is ∙ ap (entry_of row) at) (subst (λ n. IsRefusedCreep f n entry e) b h))

@@ -1,0 +1,50 @@
+-- Worked examples.
+use Rattle.std.proofs.Common.{◌≡◌, refl}
+use Rattle.std.specs.Prelude.{ℕ, map, [], ◌∷◌, Some, None}
+use Rattle.std.specs.List.{range_with_len}
+use Rattle.layouts.specs.declared.arrangement.Run.TheVariants.{Rows, Columns}
+use Rattle.made_sheets.specs.Rows.{all_pages}
+use Rattle.row_sheets.specs.Filled.{stack_entry, duplex_entry, cell_behind, card_entry}
+use Rattle.row_sheets.specs.Creep.{creep_of}
+use Rattle.row_sheets.specs.Posters.{length_of}
+use Rattle.rules.specs.Papers.{points}
+use Rattle.std.specs.Prelude.{nat_abs}
+
+-- seven pages in a stack of two cells: four sheets, and the last part ends with a blank
+first_sheet : map (stack_entry 4 (all_pages 7) 0) (range_with_len 0 2) ≡ Some 0 ∷ Some 4 ∷ []
+first_sheet = refl
+
+last_sheet : map (stack_entry 4 (all_pages 7) 3) (range_with_len 0 2) ≡ Some 3 ∷ None ∷ []
+last_sheet = refl
+
+-- which cell is behind one, if cells are filled row by row
+abbrev behind_cell : (rows columns cell : ℕ) → ℕ
+behind_cell rows columns cell = cell_behind Rows rows columns cell
+
+-- eight pages on two leaves with two cells beside one another on each side
+front : map (duplex_entry 2 (behind_cell 1 2) (all_pages 8) 0) (range_with_len 0 2) ≡ Some 0 ∷ Some 4 ∷ []
+front = refl
+
+back : map (duplex_entry 2 (behind_cell 1 2) (all_pages 8) 1) (range_with_len 0 2) ≡ Some 5 ∷ Some 1 ∷ []
+back = refl
+
+-- behind the first cell of two rows and three columns is the last one of its row
+behind_rows : map (behind_cell 2 3) (range_with_len 0 6) ≡ 2 ∷ 1 ∷ 0 ∷ 5 ∷ 4 ∷ 3 ∷ []
+behind_rows = refl
+
+behind_columns : map (cell_behind Columns 2 3) (range_with_len 0 6) ≡ 4 ∷ 5 ∷ 2 ∷ 3 ∷ 0 ∷ 1 ∷ []
+behind_columns = refl
+
+card : map (card_entry (all_pages 3) 1) (range_with_len 0 4) ≡ Some 1 ∷ Some 1 ∷ Some 1 ∷ Some 1 ∷ []
+card = refl
+
+-- five leaves that creep by 3 mm in all, rounded down to whole 10^-5 pt
+creep : map (creep_of 850_393 5) (range_with_len 0 5) ≡ 0 ∷ 212_598 ∷ 425_196 ∷ 637_794 ∷ 850_393 ∷ []
+creep = refl
+
+one_leaf : creep_of 850_393 1 0 ≡ 0
+one_leaf = refl
+
+-- three tiles of 595 pt with margins of 10 pt that overlap by 20 pt
+three_tiles : length_of (nat_abs (points 595 842).width) 1_000_000 2_000_000 3 ≡ 168_500_000
+three_tiles = refl

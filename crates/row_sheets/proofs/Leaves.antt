@@ -1,0 +1,132 @@
+-- Leaves that creep.
+use Rattle.std.proofs.Common.{arith, rules, ◌≡◌, ℕ, ◌+◌, ◌-◌, ◌*◌, ◌/◌, ◌<◌, ◌≤◌, Bool, true, false, refl, sym, ap, subst, ◌∙◌}
+use Rattle.std.specs.Prelude.{ℤ, pos, negsuc, ◌≤ℤ◌, ◌+ℤ◌, ◌-ℤ◌, ◌*ℤ◌, nat_abs, nat_le, if◌then◌else◌}
+use Rattle.std.proofs.Math.Nat.{mul-div_cancel, mul_comm, zero-mul, zero-div, mul-le-mul_right, div-mul-le_self}
+use Rattle.std.proofs.lemmas.Nat.{le-div}
+use Rattle.std.proofs.lemmas.Int.{ints}
+use Rattle.rules.specs.Papers.{Paper}
+use Rattle.rules.specs.Specification.{Left}
+use Rattle.rules.specs.Placement.{Point}
+use Rattle.layouts.specs.Placed.{Room, fine, stands, IsOfPage}
+use Rattle.layouts.specs.Cells.{slack, trimmed, to_right, to_top, row_of, column_of}
+use Rattle.layouts.specs.Grids.{beside, leaf_order}
+use Rattle.layouts.specs.Laws.{HasPlace}
+use Rattle.layouts.proofs.AlongSide.{moved_back, in_cell}
+use Rattle.layouts.proofs.Sides.{of_sides, placed, point, between}
+use Rattle.layouts.proofs.OnSide.{HasCell, ends, cell, shown, from_start}
+use Rattle.layouts.proofs.InGrid.{sides_are}
+use Rattle.layouts.proofs.Folds.{fold, kept_little, in_middle, has_cell}
+use Rattle.row_sheets.specs.Creep.{creep_of, moved_up, to_fold, leaf_item, may_creep, KeepsSides, StaysBefore, StaysBehind, CreepMoves, CreepGrows, CreepKeepsSides}
+
+moved_at : (page : Paper) (k s : ℕ) (x y by : ℤ) (p : Point)
+    → ((stands page (moved_up by (placed Left k s x y)) p).x ≡ (stands page (placed Left k s x y) p).x)
+    × ((stands page (moved_up by (placed Left k s x y)) p).y ≡ (stands page (placed Left k s x y) p).y +ℤ (pos 1_270_000_000_000_000 *ℤ by))
+moved_at page k s x y by p = (refl, omega (arith, ints))
+
+pub creep_moves : CreepMoves
+creep_moves page room b s creep k p =
+    let row = row_of (leaf_order b) (beside true) k in
+    let column = column_of (leaf_order b) (beside true) k in
+    moved_at page k s (to_right page room (beside true) s row column) (to_top page room (beside true) s row column) (to_fold b k creep) p
+
+-- ---- how far
+
+more_leaves : (leaves i creep : ℕ) → 1 < leaves → creep_of creep leaves i ≡ i * creep / (leaves - 1)
+more_leaves leaves i creep h = either (nat_le leaves 1) (i * creep / (leaves - 1)) (above leaves h)
+  where
+    above : (n : ℕ) → 1 < n → nat_le n 1 ≡ false
+    above n h = search (rules, h)
+
+    either : (b : Bool) (x : ℕ) → b ≡ false → (if b then 0 else x) ≡ x
+    either true x e = cc
+    either false x e = refl
+
+no_farther : (a b d : ℕ) → 0 < d → a ≤ b → a / d ≤ b / d
+no_farther a b d some h = le-div (a / d) b d some (omega (arith, h, div-mul-le_self a d))
+
+whole_creep : (d creep : ℕ) → 0 < d → d * creep / d ≡ creep
+whole_creep d creep some = ap (λ m. m / d) (mul_comm d creep) ∙ mul-div_cancel creep some
+
+pub least_leaf : (i d creep : ℕ) → 0 < d → i ≤ d → i * creep / d ≤ creep
+least_leaf i d creep some h = omega (arith, no_farther (i * creep) (d * creep) d some (mul-le-mul_right creep h), whole_creep d creep some)
+
+pub creep_grows : CreepGrows
+creep_grows creep leaves i many more =
+    let d = leaves - 1 in
+    let some : 0 < d = omega (arith, many) in
+    let here = more_leaves leaves i creep many in
+    let next = more_leaves leaves (i + 1) creep many in
+    let first : 0 * creep / d ≡ 0 = ap (λ m. m / d) (zero-mul creep) ∙ zero-div d in
+    let step : i * creep ≤ (i + 1) * creep = mul-le-mul_right creep (omega arith) in
+    let least : i * creep ≤ d * creep = mul-le-mul_right creep (omega (arith, more)) in (
+      more_leaves leaves 0 creep many ∙ first,
+      more_leaves leaves (leaves - 1) creep many ∙ whole_creep d creep some,
+      omega (arith, here, next, no_farther (i * creep) ((i + 1) * creep) d some step),
+      omega (arith, here, no_farther (i * creep) (d * creep) d some least, whole_creep d creep some),
+    )
+
+-- ---- the fold
+
+at_most : (a b : ℕ) → nat_le a b ≡ true → a ≤ b
+at_most a b e = search (rules, e)
+
+before_at : (v u k s : ℕ) (room : Room) (h : ℕ) (x : ℤ) (creep : ℕ) → HasCell room h 2 v s → 2 * creep ≤ 2 * slack (cell room h 2) (shown room v) s + room.gap
+    → (a b : ℤ) → IsOfPage room.trim (of_sides v u) (point a b)
+    → (pos 2 *ℤ (stands (of_sides v u) (moved_up (pos creep) (placed Left k s x (pos (from_start room h 2 v s 0) -ℤ pos (trimmed room s)))) (point a b)).y) ≤ℤ fine (fold room h)
+before_at v u k s room h x creep has may (pos a) b of =
+    let most = (between room.trim v s a (let f = of.left in omega (arith, ints)) (let f = of.right in omega (arith, ints))).end in
+    let e = ends room v s room.gap has.left in
+    let is = e.end in let more = e.kept in let some = has.some in
+    omega (arith, ints, most, is, more, some, may, in_cell (cell room h 2) (shown room v) s has.fits, (kept_little room room.gap).0)
+before_at v u k s room h x creep has may (negsuc a) b of = absurd (let f = of.left in omega (arith, ints))
+
+behind_at : (v u k s : ℕ) (room : Room) (h : ℕ) (x : ℤ) (creep : ℕ) → HasCell room h 2 v s → 2 * creep ≤ 2 * slack (cell room h 2) (shown room v) s + room.gap
+    → (a b : ℤ) → IsOfPage room.trim (of_sides v u) (point a b)
+    → fine (fold room h) ≤ℤ (pos 2 *ℤ (stands (of_sides v u) (moved_up (pos 0 -ℤ pos creep) (placed Left k s x (pos (from_start room h 2 v s 1) -ℤ pos (trimmed room s)))) (point a b)).y)
+behind_at v u k s room h x creep has may (pos a) b of =
+    let least = (between room.trim v s a (let f = of.left in omega (arith, ints)) (let f = of.right in omega (arith, ints))).start in
+    let back = moved_back room.trim s in
+    let some = has.some in
+    omega (arith, ints, least, back, some, may, (kept_little room room.gap).0)
+behind_at v u k s room h x creep has may (negsuc a) b of = absurd (let f = of.left in omega (arith, ints))
+
+-- the one page, and the other
+
+room_left : (v u : ℕ) (room : Room) (s creep : ℕ) → may_creep (of_sides v u) room s creep ≡ true
+    → 2 * creep ≤ 2 * slack (cell room (nat_abs room.paper.height) 2) (shown room v) s + room.gap
+room_left v u room s creep may = at_most (2 * creep) (2 * slack (cell room (nat_abs room.paper.height) 2) (shown room v) s + room.gap) may
+
+pub before_fold : (v u : ℕ) (room : Room) (b : Bool) (s creep : ℕ) → HasPlace (of_sides v u) room (beside true) s → may_creep (of_sides v u) room s creep ≡ true
+    → StaysBefore room (fold room (nat_abs room.paper.height)) (of_sides v u) (leaf_item (of_sides v u) room b s creep (if b then 1 else 0))
+before_fold v u room false s creep place may p of =
+    before_at v u 0 s room (nat_abs room.paper.height) (to_right (of_sides v u) room (beside true) s 0 0) creep (has_cell v u room s place) (room_left v u room s creep may) p.x p.y of
+before_fold v u room true s creep place may p of =
+    before_at v u 1 s room (nat_abs room.paper.height) (to_right (of_sides v u) room (beside true) s 0 0) creep (has_cell v u room s place) (room_left v u room s creep may) p.x p.y of
+
+pub behind_fold : (v u : ℕ) (room : Room) (b : Bool) (s creep : ℕ) → HasPlace (of_sides v u) room (beside true) s → may_creep (of_sides v u) room s creep ≡ true
+    → StaysBehind room (fold room (nat_abs room.paper.height)) (of_sides v u) (leaf_item (of_sides v u) room b s creep (if b then 0 else 1))
+behind_fold v u room false s creep place may p of =
+    behind_at v u 1 s room (nat_abs room.paper.height) (to_right (of_sides v u) room (beside true) s 0 1) creep (has_cell v u room s place) (room_left v u room s creep may) p.x p.y of
+behind_fold v u room true s creep place may p of =
+    behind_at v u 0 s room (nat_abs room.paper.height) (to_right (of_sides v u) room (beside true) s 0 1) creep (has_cell v u room s place) (room_left v u room s creep may) p.x p.y of
+
+keeps_at : (v u : ℕ) (room : Room) (b : Bool) (s creep : ℕ) → HasPlace (of_sides v u) room (beside true) s → may_creep (of_sides v u) room s creep ≡ true
+    → KeepsSides (of_sides v u) room (leaf_item (of_sides v u) room b s creep (if b then 1 else 0)) (leaf_item (of_sides v u) room b s creep (if b then 0 else 1))
+keeps_at v u room b s creep place may =
+    let h = nat_abs room.paper.height in
+    let middle = in_middle room h (has_cell v u room s place).some in
+    record {
+      twice = fold room h;
+      no_farther = middle.0;
+      no_nearer = middle.1;
+      before = before_fold v u room b s creep place may;
+      behind = behind_fold v u room b s creep place may;
+    }
+
+abbrev KeepsIf : (room : Room) (b : Bool) (s creep : ℕ) → Paper → Type 0
+KeepsIf room b s creep o = HasPlace o room (beside true) s → may_creep o room s creep ≡ true
+    → KeepsSides o room (leaf_item o room b s creep (if b then 1 else 0)) (leaf_item o room b s creep (if b then 0 else 1))
+
+pub creep_keeps_sides : CreepKeepsSides
+creep_keeps_sides page room b s creep is place may =
+    subst (KeepsIf room b s creep) (sym (sides_are page is)) (λ here here'. keeps_at (nat_abs page.width) (nat_abs page.height) room b s creep here here') place may

@@ -1,0 +1,506 @@
+-- Leaves whose pages have their places are laid out well, also if they creep.
+use Rattle.std.proofs.Common.{arith, rules, ◌≡◌, ℕ, ◌+◌, ◌-◌, ◌*◌, ◌<◌, ◌≤◌, Bool, true, false, Option, Some, None, [], ◌∷◌, refl, sym, ap, subst}
+use Rattle.std.specs.Prelude.{ℤ, pos, neg_ℤ, ◌≤ℤ◌, ◌+ℤ◌, ◌-ℤ◌, ◌*ℤ◌, nat_abs, nat_lt, if◌then◌else◌}
+use Rattle.std.specs.List.{range_with_len}
+use Rattle.std.proofs.Math.Nat.{div-mul-le_self}
+use Rattle.std.proofs.lemmas.Int.{ints}
+use Rattle.rules.specs.Papers.{Paper}
+use Rattle.rules.specs.Specification.{Item, Right}
+use Rattle.rules.specs.Placement.{Point}
+use Rattle.made_sheets.specs.Made.{MadeSlot, MadeSheet}
+use Rattle.made_sheets.specs.Rows.{Row}
+use Rattle.layouts.specs.declared.error.ArrangementError.{ArrangementError}
+use Rattle.layouts.specs.declared.error.ArrangementError.TheVariants as why
+use Rattle.layouts.specs.declared.setting.Setting.{Setting}
+use Rattle.layouts.specs.Placed.{Room, fine, stands, IsInside}
+use Rattle.layouts.specs.Cells.{item_in, back_in, whole, to_right, to_top, row_of, column_of, size}
+use Rattle.layouts.specs.Grids.{beside, leaf_order}
+use Rattle.layouts.specs.Laws.{IsPaper, HasPlace, IsHalfTurnOf}
+use Rattle.layouts.specs.Refusals.{first_of}
+use Rattle.layouts.specs.Fitted.{fitted, fitted_back, scale_on, why_not_fitted}
+use Rattle.layouts.proofs.Sides.{placed}
+use Rattle.layouts.proofs.OnSide.{cell}
+use Rattle.layouts.proofs.InGrid.{sides_are}
+use Rattle.layouts.proofs.AlongSide.{cells_fit}
+use Rattle.layouts.proofs.Folds.{fold, kept_little, in_middle, fold_on_sheet, has_cell}
+use Rattle.layouts.proofs.Fitting.{fitted_stands, has_scale, scale_of_many, stands_back, one_of_many, in_cell}
+use Rattle.row_sheets.specs.Filled.{Filling, SlotIsInside, is_turned, grid_entry}
+use Rattle.row_sheets.specs.Creep.{AreHalves, creeping, creeping_slot, creeping_sides, creep_on, leaf_item, may_creep, moved_up, or_else, to_fold, StaysBefore, StaysBehind}
+use Rattle.row_sheets.specs.Standing.{AllStand, EntryCreeps, EntryFits, FitsIn, FitsOnLeaf, LeavesStand, SlotStaysBefore, SlotStaysBehind, StandsOnLeaf, fold_on, is_first_before}
+use Rattle.row_sheets.proofs.AtRest.{sheets_at_rest}
+use Rattle.row_sheets.proofs.Creeping.{halves, of_halves}
+use Rattle.row_sheets.proofs.Filling.{sheet}
+use Rattle.row_sheets.proofs.Leaves.{creep_moves, before_fold, behind_fold}
+use Rattle.row_sheets.proofs.OnSheets.{numbered, sides_stand}
+
+-- ---- one page, whatever its paper, on a side that isn't turned
+
+abbrev BeforeIf : (room : Room) (b : Bool) (s creep : ℕ) → Paper → Type 0
+BeforeIf room b s creep o = HasPlace o room (beside true) s → may_creep o room s creep ≡ true
+    → StaysBefore room (fold room (nat_abs room.paper.height)) o (leaf_item o room b s creep (if b then 1 else 0))
+
+abbrev BehindIf : (room : Room) (b : Bool) (s creep : ℕ) → Paper → Type 0
+BehindIf room b s creep o = HasPlace o room (beside true) s → may_creep o room s creep ≡ true
+    → StaysBehind room (fold room (nat_abs room.paper.height)) o (leaf_item o room b s creep (if b then 0 else 1))
+
+-- a page that has room to creep so far, and lies well where it doesn't
+record Creeps (page : Paper) (room : Room) (b : Bool) (s creep : ℕ) : Type 0 where
+  pub page_is : IsPaper page
+  pub sheet_is : IsPaper room.paper
+  pub place : HasPlace page room (beside true) s
+  pub may : may_creep page room s creep ≡ true
+  pub inside : (k : ℕ) → k < 2 → IsInside room page (item_in page room (beside true) (leaf_order b) s k)
+  pub inside_back : (k : ℕ) → k < 2 → IsInside room page (back_in page room (beside true) (leaf_order b) s 0 k)
+  pub turned : (k : ℕ) → k < 2 → IsHalfTurnOf page room.paper (item_in page room (beside true) (leaf_order b) s k) (back_in page room (beside true) (leaf_order b) s 0 k)
+
+stays_before : (page : Paper) (room : Room) (b : Bool) (s creep : ℕ) → Creeps page room b s creep
+    → StaysBefore room (fold room (nat_abs room.paper.height)) page (leaf_item page room b s creep (if b then 1 else 0))
+stays_before page room b s creep c =
+    subst (BeforeIf room b s creep) (sym (sides_are page c.page_is)) (λ here may. before_fold (nat_abs page.width) (nat_abs page.height) room b s creep here may) c.place c.may
+
+stays_behind : (page : Paper) (room : Room) (b : Bool) (s creep : ℕ) → Creeps page room b s creep
+    → StaysBehind room (fold room (nat_abs room.paper.height)) page (leaf_item page room b s creep (if b then 0 else 1))
+stays_behind page room b s creep c =
+    subst (BehindIf room b s creep) (sym (sides_are page c.page_is)) (λ here may. behind_fold (nat_abs page.width) (nat_abs page.height) room b s creep here may) c.place c.may
+
+-- ---- the fold
+
+abbrev CellIf : Room → (s : ℕ) → Paper → Type 0
+CellIf room s o = HasPlace o room (beside true) s → 0 < cell room (nat_abs room.paper.height) 2
+
+some_cell : (page : Paper) (room : Room) (s : ℕ) → IsPaper page → HasPlace page room (beside true) s → 0 < cell room (nat_abs room.paper.height) 2
+some_cell page room s is place =
+    subst (CellIf room s) (sym (sides_are page is)) (λ here. (has_cell (nat_abs page.width) (nat_abs page.height) room s here).some) place
+
+-- it lies within the margins
+record OnSheet (room : Room) (T W : ℕ) : Type 0 where
+  pub least : 2 * room.edge ≤ T
+  pub most : T + 2 * room.edge ≤ 2 * W
+
+fold_within : (room : Room) (h : ℕ) → 0 < cell room h 2 → OnSheet room (fold room h) (whole h)
+fold_within room h some =
+    let edge = kept_little room room.edge in
+    let gap = kept_little room room.gap in
+    record {
+      least = omega (arith, some, edge.0, gap.0);
+      most = omega (arith, some, cells_fit room h 2 0 some (omega arith), edge.0, gap.0, gap.1);
+    }
+
+turned_within : (room : Room) (T W : ℕ) → OnSheet room T W → OnSheet room (2 * W - T) W
+turned_within room T W on =
+    let least = on.least in
+    let most = on.most in
+    record { least = omega (arith, most); most = omega (arith, least, most) }
+
+-- ---- inside
+
+top_at : (y height : ℤ) (T e W h : ℕ) → height ≡ pos h → W * 1_270_000 ≤ h → T + 2 * e ≤ 2 * W → (pos 2 *ℤ y) ≤ℤ fine T → (y +ℤ fine e) ≤ℤ (pos 1_000_000_000 *ℤ height)
+top_at y height T e W h is part most low = omega (arith, ints, is, part, most, low)
+
+bottom_at : (y : ℤ) (T e : ℕ) → 2 * e ≤ T → fine T ≤ℤ (pos 2 *ℤ y) → fine e ≤ℤ y
+bottom_at y T e least high = omega (arith, ints, least, high)
+
+lower : (a y z : ℤ) → a ≤ℤ y → y ≤ℤ z → a ≤ℤ z
+lower a y z p q = omega (arith, ints, p, q)
+
+upper : (y z a b : ℤ) → (z +ℤ a) ≤ℤ b → y ≤ℤ z → (y +ℤ a) ≤ℤ b
+upper y z a b p q = omega (arith, ints, p, q)
+
+height_is : (sheet : Paper) → IsPaper sheet → sheet.height ≡ pos (nat_abs sheet.height)
+height_is sheet is = ap (λ p. p.height) (sides_are sheet is)
+
+-- a page that is moved up, but not across the fold, and one that is moved down
+moved_up_inside : (page : Paper) (room : Room) (item item' : Item) (T : ℕ) → IsPaper room.paper → OnSheet room T (whole (nat_abs room.paper.height)) → IsInside room page item
+    → ((p : Point) → (stands page item' p).x ≡ (stands page item p).x) → ((p : Point) → (stands page item p).y ≤ℤ (stands page item' p).y) → StaysBefore room T page item'
+    → IsInside room page item'
+moved_up_inside page room item item' T is on inside across up stays p of =
+    let at = inside p of in
+    let h = nat_abs room.paper.height in
+    record {
+      left = subst (λ x. fine room.edge ≤ℤ x) (sym (across p)) at.left;
+      right = subst (λ x. (x +ℤ fine room.edge) ≤ℤ (pos 1_000_000_000 *ℤ room.paper.width)) (sym (across p)) at.right;
+      bottom = lower (fine room.edge) (stands page item p).y (stands page item' p).y at.bottom (up p);
+      top = top_at (stands page item' p).y room.paper.height T room.edge (whole h) h (height_is room.paper is) (div-mul-le_self h 1_270_000) on.most (stays p of);
+    }
+
+moved_down_inside : (page : Paper) (room : Room) (item item' : Item) (T : ℕ) → OnSheet room T (whole (nat_abs room.paper.height)) → IsInside room page item
+    → ((p : Point) → (stands page item' p).x ≡ (stands page item p).x) → ((p : Point) → (stands page item' p).y ≤ℤ (stands page item p).y) → StaysBehind room T page item'
+    → IsInside room page item'
+moved_down_inside page room item item' T on inside across down stays p of =
+    let at = inside p of in
+    record {
+      left = subst (λ x. fine room.edge ≤ℤ x) (sym (across p)) at.left;
+      right = subst (λ x. (x +ℤ fine room.edge) ≤ℤ (pos 1_000_000_000 *ℤ room.paper.width)) (sym (across p)) at.right;
+      bottom = bottom_at (stands page item' p).y T room.edge on.least (stays p of);
+      top = upper (stands page item' p).y (stands page item p).y (fine room.edge) (pos 1_000_000_000 *ℤ room.paper.height) at.top (down p);
+    }
+
+-- ---- sides that are turned by half
+
+-- a page on the back of a leaf that creeps
+abbrev back_item : (page : Paper) → Room → (right_to_left : Bool) → (scale creep k : ℕ) → Item
+back_item page room b s creep k = moved_up (neg_ℤ (to_fold b k creep)) (back_in page room (beside true) (leaf_order b) s 0 k)
+
+back_moved_at : (page : Paper) (k s : ℕ) (x y by : ℤ) (p : Point)
+    → ((stands page (moved_up by (placed Right k s x y)) p).x ≡ (stands page (placed Right k s x y) p).x)
+    × ((stands page (moved_up by (placed Right k s x y)) p).y ≡ (stands page (placed Right k s x y) p).y +ℤ (pos 1_270_000_000_000_000 *ℤ by))
+back_moved_at page k s x y by p = (refl, omega (arith, ints))
+
+back_moves : (page : Paper) (room : Room) (b : Bool) (s creep k : ℕ) (p : Point)
+    → ((stands page (back_item page room b s creep k) p).x ≡ (stands page (back_in page room (beside true) (leaf_order b) s 0 k) p).x)
+    × ((stands page (back_item page room b s creep k) p).y ≡ (stands page (back_in page room (beside true) (leaf_order b) s 0 k) p).y +ℤ (pos 1_270_000_000_000_000 *ℤ neg_ℤ (to_fold b k creep)))
+back_moves page room b s creep k p =
+    let row = row_of (leaf_order b) (beside true) k in
+    let column = column_of (leaf_order b) (beside true) k in
+    back_moved_at page (0 + k) s (pos (whole (nat_abs room.paper.width)) -ℤ to_right page room (beside true) s row column) (pos (whole (nat_abs room.paper.height)) -ℤ to_top page room (beside true) s row column) (neg_ℤ (to_fold b k creep)) p
+
+turned_at : (W : ℕ) (y z front back c : ℤ) → front ≡ y +ℤ (pos 1_270_000_000_000_000 *ℤ c) → z ≡ (pos 1_270_000_000_000_000 *ℤ pos W) -ℤ y → back ≡ z +ℤ (pos 1_270_000_000_000_000 *ℤ neg_ℤ c)
+    → back ≡ (pos 1_270_000_000_000_000 *ℤ pos W) -ℤ front
+turned_at W y z front back c e f g = omega (arith, ints, e, f, g)
+
+-- it is the front's, turned by half
+back_turned : (page : Paper) (room : Room) (b : Bool) (s creep k : ℕ) (p : Point) → IsHalfTurnOf page room.paper (item_in page room (beside true) (leaf_order b) s k) (back_in page room (beside true) (leaf_order b) s 0 k)
+    → (stands page (back_item page room b s creep k) p).y ≡ (pos 1_270_000_000_000_000 *ℤ pos (whole (nat_abs room.paper.height))) -ℤ (stands page (leaf_item page room b s creep k) p).y
+back_turned page room b s creep k p half =
+    turned_at (whole (nat_abs room.paper.height)) (stands page (item_in page room (beside true) (leaf_order b) s k) p).y (stands page (back_in page room (beside true) (leaf_order b) s 0 k) p).y
+    (stands page (leaf_item page room b s creep k) p).y (stands page (back_item page room b s creep k) p).y (to_fold b k creep)
+    (creep_moves page room b s creep k p).1 (half.up p) (back_moves page room b s creep k p).1
+
+behind_turned : (T W : ℕ) (y z : ℤ) → T ≤ 2 * W → (pos 2 *ℤ y) ≤ℤ fine T → z ≡ (pos 1_270_000_000_000_000 *ℤ pos W) -ℤ y → fine (2 * W - T) ≤ℤ (pos 2 *ℤ z)
+behind_turned T W y z most h e = omega (arith, ints, most, h, e)
+
+before_turned : (T W : ℕ) (y z : ℤ) → T ≤ 2 * W → fine T ≤ℤ (pos 2 *ℤ y) → z ≡ (pos 1_270_000_000_000_000 *ℤ pos W) -ℤ y → (pos 2 *ℤ z) ≤ℤ fine (2 * W - T)
+before_turned T W y z most h e = omega (arith, ints, most, h, e)
+
+-- ---- a page in its half
+
+record Before (room : Room) (T : ℕ) (page : Paper) (item : Item) : Type 0 where
+  pub inside : IsInside room page item
+  pub stays : StaysBefore room T page item
+
+record Behind (room : Room) (T : ℕ) (page : Paper) (item : Item) : Type 0 where
+  pub inside : IsInside room page item
+  pub stays : StaysBehind room T page item
+
+up_by : (y z : ℤ) (c : ℕ) → z ≡ y +ℤ (pos 1_270_000_000_000_000 *ℤ pos c) → y ≤ℤ z
+up_by y z c e = omega (arith, ints, e)
+
+up_by_less : (y z : ℤ) (c : ℕ) → z ≡ y +ℤ (pos 1_270_000_000_000_000 *ℤ neg_ℤ (pos 0 -ℤ pos c)) → y ≤ℤ z
+up_by_less y z c e = omega (arith, ints, e)
+
+down_by : (y z : ℤ) (c : ℕ) → z ≡ y +ℤ (pos 1_270_000_000_000_000 *ℤ (pos 0 -ℤ pos c)) → z ≤ℤ y
+down_by y z c e = omega (arith, ints, e)
+
+down_by_less : (y z : ℤ) (c : ℕ) → z ≡ y +ℤ (pos 1_270_000_000_000_000 *ℤ neg_ℤ (pos c)) → z ≤ℤ y
+down_by_less y z c e = omega (arith, ints, e)
+
+fold_here : (page : Paper) (room : Room) (b : Bool) (s creep : ℕ) → Creeps page room b s creep → OnSheet room (fold room (nat_abs room.paper.height)) (whole (nat_abs room.paper.height))
+fold_here page room b s creep c = fold_within room (nat_abs room.paper.height) (some_cell page room s c.page_is c.place)
+
+front_before : (page : Paper) (room : Room) (b : Bool) (s creep : ℕ) → Creeps page room b s creep
+    → Before room (fold room (nat_abs room.paper.height)) page (leaf_item page room b s creep (if b then 1 else 0))
+front_before page room false s creep c =
+    let stays = stays_before page room false s creep c in record {
+      inside = moved_up_inside page room (item_in page room (beside true) (leaf_order false) s 0) (leaf_item page room false s creep 0) (fold room (nat_abs room.paper.height)) c.sheet_is (fold_here page room false s creep c)
+          (c.inside 0 (omega arith))
+          (λ p. (creep_moves page room false s creep 0 p).0) (λ p. up_by _ _ creep (creep_moves page room false s creep 0 p).1) stays;
+      stays = stays;
+    }
+front_before page room true s creep c =
+    let stays = stays_before page room true s creep c in record {
+      inside = moved_up_inside page room (item_in page room (beside true) (leaf_order true) s 1) (leaf_item page room true s creep 1) (fold room (nat_abs room.paper.height)) c.sheet_is (fold_here page room true s creep c)
+          (c.inside 1 (omega arith))
+          (λ p. (creep_moves page room true s creep 1 p).0) (λ p. up_by _ _ creep (creep_moves page room true s creep 1 p).1) stays;
+      stays = stays;
+    }
+
+front_behind : (page : Paper) (room : Room) (b : Bool) (s creep : ℕ) → Creeps page room b s creep
+    → Behind room (fold room (nat_abs room.paper.height)) page (leaf_item page room b s creep (if b then 0 else 1))
+front_behind page room false s creep c =
+    let stays = stays_behind page room false s creep c in record {
+      inside = moved_down_inside page room (item_in page room (beside true) (leaf_order false) s 1) (leaf_item page room false s creep 1) (fold room (nat_abs room.paper.height)) (fold_here page room false s creep c)
+          (c.inside 1 (omega arith))
+          (λ p. (creep_moves page room false s creep 1 p).0) (λ p. down_by _ _ creep (creep_moves page room false s creep 1 p).1) stays;
+      stays = stays;
+    }
+front_behind page room true s creep c =
+    let stays = stays_behind page room true s creep c in record {
+      inside = moved_down_inside page room (item_in page room (beside true) (leaf_order true) s 0) (leaf_item page room true s creep 0) (fold room (nat_abs room.paper.height)) (fold_here page room true s creep c)
+          (c.inside 0 (omega arith))
+          (λ p. (creep_moves page room true s creep 0 p).0) (λ p. down_by _ _ creep (creep_moves page room true s creep 0 p).1) stays;
+      stays = stays;
+    }
+
+no_higher : (page : Paper) (room : Room) (b : Bool) (s creep : ℕ) → Creeps page room b s creep → fold room (nat_abs room.paper.height) ≤ 2 * whole (nat_abs room.paper.height)
+no_higher page room b s creep c = fold_on_sheet room (nat_abs room.paper.height) (some_cell page room s c.page_is c.place)
+
+one_of_two : (b : Bool) → (if b then 1 else 0) < 2
+one_of_two true = omega arith
+one_of_two false = omega arith
+
+other_of_two : (b : Bool) → (if b then 0 else 1) < 2
+other_of_two true = omega arith
+other_of_two false = omega arith
+
+back_stays_behind : (page : Paper) (room : Room) (b : Bool) (s creep : ℕ) → Creeps page room b s creep
+    → StaysBehind room (2 * whole (nat_abs room.paper.height) - fold room (nat_abs room.paper.height)) page (back_item page room b s creep (if b then 1 else 0))
+back_stays_behind page room b s creep c p of =
+    let k = if b then 1 else 0 in
+    behind_turned (fold room (nat_abs room.paper.height)) (whole (nat_abs room.paper.height)) (stands page (leaf_item page room b s creep k) p).y (stands page (back_item page room b s creep k) p).y
+    (no_higher page room b s creep c) (stays_before page room b s creep c p of) (back_turned page room b s creep k p (c.turned k (one_of_two b)))
+
+back_stays_before : (page : Paper) (room : Room) (b : Bool) (s creep : ℕ) → Creeps page room b s creep
+    → StaysBefore room (2 * whole (nat_abs room.paper.height) - fold room (nat_abs room.paper.height)) page (back_item page room b s creep (if b then 0 else 1))
+back_stays_before page room b s creep c p of =
+    let k = if b then 0 else 1 in
+    before_turned (fold room (nat_abs room.paper.height)) (whole (nat_abs room.paper.height)) (stands page (leaf_item page room b s creep k) p).y (stands page (back_item page room b s creep k) p).y
+    (no_higher page room b s creep c) (stays_behind page room b s creep c p of) (back_turned page room b s creep k p (c.turned k (other_of_two b)))
+
+fold_back : (page : Paper) (room : Room) (b : Bool) (s creep : ℕ) → Creeps page room b s creep → OnSheet room (2 * whole (nat_abs room.paper.height) - fold room (nat_abs room.paper.height)) (whole (nat_abs room.paper.height))
+fold_back page room b s creep c = turned_within room (fold room (nat_abs room.paper.height)) (whole (nat_abs room.paper.height)) (fold_here page room b s creep c)
+
+back_behind : (page : Paper) (room : Room) (b : Bool) (s creep : ℕ) → Creeps page room b s creep
+    → Behind room (2 * whole (nat_abs room.paper.height) - fold room (nat_abs room.paper.height)) page (back_item page room b s creep (if b then 1 else 0))
+back_behind page room false s creep c =
+    let stays = back_stays_behind page room false s creep c in record {
+      inside = moved_down_inside page room (back_in page room (beside true) (leaf_order false) s 0 0) (back_item page room false s creep 0) (2 * whole (nat_abs room.paper.height) - fold room (nat_abs room.paper.height)) (fold_back page room false s creep c)
+          (c.inside_back 0 (omega arith))
+          (λ p. (back_moves page room false s creep 0 p).0) (λ p. down_by_less _ _ creep (back_moves page room false s creep 0 p).1) stays;
+      stays = stays;
+    }
+back_behind page room true s creep c =
+    let stays = back_stays_behind page room true s creep c in record {
+      inside = moved_down_inside page room (back_in page room (beside true) (leaf_order true) s 0 1) (back_item page room true s creep 1) (2 * whole (nat_abs room.paper.height) - fold room (nat_abs room.paper.height)) (fold_back page room true s creep c)
+          (c.inside_back 1 (omega arith))
+          (λ p. (back_moves page room true s creep 1 p).0) (λ p. down_by_less _ _ creep (back_moves page room true s creep 1 p).1) stays;
+      stays = stays;
+    }
+
+back_before : (page : Paper) (room : Room) (b : Bool) (s creep : ℕ) → Creeps page room b s creep
+    → Before room (2 * whole (nat_abs room.paper.height) - fold room (nat_abs room.paper.height)) page (back_item page room b s creep (if b then 0 else 1))
+back_before page room false s creep c =
+    let stays = back_stays_before page room false s creep c in record {
+      inside = moved_up_inside page room (back_in page room (beside true) (leaf_order false) s 0 1) (back_item page room false s creep 1) (2 * whole (nat_abs room.paper.height) - fold room (nat_abs room.paper.height)) c.sheet_is (fold_back page room false s creep c)
+          (c.inside_back 1 (omega arith))
+          (λ p. (back_moves page room false s creep 1 p).0) (λ p. up_by_less _ _ creep (back_moves page room false s creep 1 p).1) stays;
+      stays = stays;
+    }
+back_before page room true s creep c =
+    let stays = back_stays_before page room true s creep c in record {
+      inside = moved_up_inside page room (back_in page room (beside true) (leaf_order true) s 0 0) (back_item page room true s creep 0) (2 * whole (nat_abs room.paper.height) - fold room (nat_abs room.paper.height)) c.sheet_is (fold_back page room true s creep c)
+          (c.inside_back 0 (omega arith))
+          (λ p. (back_moves page room true s creep 0 p).0) (λ p. up_by_less _ _ creep (back_moves page room true s creep 0 p).1) stays;
+      stays = stays;
+    }
+
+-- ---- an entry in its half
+
+none_both : (one other : Option ArrangementError) → or_else one other ≡ None → (one ≡ None) × (other ≡ None)
+none_both None other h = (refl, h)
+none_both (Some e) other h = absurd (cc (h))
+
+holds : (b : Bool) (e : ArrangementError) → first_of b e None ≡ None → b ≡ true
+holds true e h = refl
+holds false e h = absurd (cc (h))
+
+pub fits_in : (t : Setting) (page : Paper) (creep : ℕ) → FitsOnLeaf t page creep → FitsIn t page
+fits_in t page creep has =
+    let free = none_both (why_not_fitted t page) (first_of (may_creep page t.room (scale_on t page) creep) why.CreepOverFold None) has.fits in
+    record { sheet_is = has.sheet_is; page_is = has.page_is; fits = free.0 }
+
+creeps_on : (page : Paper) (room : Room) (b : Bool) (asked : Option ℤ) (creep : ℕ) → (let t = halves room b asked in
+    FitsOnLeaf t page creep → (why_not_fitted t page ≡ None) × Creeps page room b (scale_on t page) creep)
+creeps_on page room b asked creep has =
+    let t = halves room b asked in
+    let may = may_creep page room (scale_on t page) creep in
+    let free = none_both (why_not_fitted t page) (first_of may why.CreepOverFold None) has.fits in
+    let scale = scale_of_many t page (omega arith) free.0 in
+    let is_in_cell : (k : ℕ) → fitted t page k ≡ item_in page room (beside true) (leaf_order b) (scale_on t page) k = λ k. (in_cell t page k k (one_of_many t page (omega arith)) free.0).0 in (
+      free.0,
+      record {
+        page_is = has.page_is;
+        sheet_is = has.sheet_is;
+        place = (has_scale t page scale).place;
+        may = holds may why.CreepOverFold free.1;
+        inside = λ k less. subst (IsInside room page) (is_in_cell k) (fitted_stands t page k has.page_is has.sheet_is (omega (arith, less)) free.0).inside;
+        inside_back = λ k less. (stands_back t page k has.page_is has.sheet_is (omega (arith, less)) scale).inside;
+        turned = λ k less. subst (λ i. IsHalfTurnOf page room.paper i (fitted_back t page k)) (is_in_cell k)
+            ((stands_back t page k has.page_is has.sheet_is (omega (arith, less)) scale).turned (one_of_many t page (omega arith)));
+      },
+    )
+
+-- a line that is there also if no page is
+abbrev line : Room → ℕ
+line room = let h = nat_abs room.paper.height in if nat_lt 0 (cell room h 2) then fold room h else whole h
+
+by_test : {P : Type 0} (b : Bool) → (b ≡ true → P) → (b ≡ false → P) → P
+by_test true p q = p refl
+by_test false p q = q refl
+
+first_one : (b : Bool) (x y : ℕ) → b ≡ true → (if b then x else y) ≡ x
+first_one true x y e = refl
+first_one false x y e = cc
+
+second_one : (b : Bool) (x y : ℕ) → b ≡ false → (if b then x else y) ≡ y
+second_one true x y e = cc
+second_one false x y e = refl
+
+is_below : (n : ℕ) → 0 < n → nat_lt 0 n ≡ true
+is_below n h = search (rules, h)
+
+below_is : (n : ℕ) → nat_lt 0 n ≡ true → 0 < n
+below_is n h = search (rules, h)
+
+line_is : (page : Paper) (room : Room) (b : Bool) (s creep : ℕ) → Creeps page room b s creep → fold room (nat_abs room.paper.height) ≡ line room
+line_is page room b s creep c =
+    let h = nat_abs room.paper.height in
+    sym (first_one (nat_lt 0 (cell room h 2)) (fold room h) (whole h) (is_below (cell room h 2) (some_cell page room s c.page_is c.place)))
+
+abbrev InMiddle : (T W : ℕ) → Type 0
+InMiddle T W = (T ≤ W + 1) × (W ≤ T + 1)
+
+line_in_middle : (room : Room) → InMiddle (line room) (whole (nat_abs room.paper.height))
+line_in_middle room =
+    let h = nat_abs room.paper.height in
+    by_test (nat_lt 0 (cell room h 2))
+    (λ e. subst (λ T. InMiddle T (whole h)) (sym (first_one (nat_lt 0 (cell room h 2)) (fold room h) (whole h) e)) (in_middle room h (below_is (cell room h 2) e)))
+    (λ e. subst (λ T. InMiddle T (whole h)) (sym (second_one (nat_lt 0 (cell room h 2)) (fold room h) (whole h) e)) (omega arith, omega arith))
+
+abbrev on_halves : (room : Room) (b : Bool) (asked : Option ℤ) → (ℕ → Paper) → Filling
+on_halves room b asked paper_of = record { setting = halves room b asked; paper_of = paper_of }
+
+-- the item of a page on a side that isn't turned
+front_is : (page : Paper) (room : Room) (b : Bool) (asked : Option ℤ) (k creep : ℕ) → (let t = halves room b asked in
+    why_not_fitted t page ≡ None → leaf_item page room b (scale_on t page) creep k ≡ creeping t false page k creep)
+front_is page room b asked k creep free =
+    let t = halves room b asked in
+    ap (moved_up (to_fold b k creep)) (sym (in_cell t page k k (one_of_many t page (omega arith)) free).0)
+
+abbrev SlotBefore : Room → (T : ℕ) → MadeSlot → Type 0
+SlotBefore room T slot = SlotIsInside room slot × SlotStaysBefore room T slot
+
+abbrev SlotBehind : Room → (T : ℕ) → MadeSlot → Type 0
+SlotBehind room T slot = SlotIsInside room slot × SlotStaysBehind room T slot
+
+front_slot_before : (room : Room) (b : Bool) (asked : Option ℤ) (paper_of : ℕ → Paper) (creep : ℕ) (entry : Option ℕ) → (let f = on_halves room b asked paper_of in
+    EntryCreeps f creep entry → SlotBefore room (line room) (creeping_slot f false (if b then 1 else 0) creep entry))
+front_slot_before room b asked paper_of creep None has = (tt, tt)
+front_slot_before room b asked paper_of creep (Some page) has =
+    let paper = paper_of page in
+    let t = halves room b asked in
+    let c = creeps_on paper room b asked creep has in
+    let is = front_is paper room b asked (if b then 1 else 0) creep c.0 in
+    let at = front_before paper room b (scale_on t paper) creep c.1 in (
+      subst (IsInside room paper) is at.inside,
+      subst (StaysBefore room (line room) paper) is (subst (λ T. StaysBefore room T paper (leaf_item paper room b (scale_on t paper) creep (if b then 1 else 0))) (line_is paper room b (scale_on t paper) creep c.1) at.stays),
+    )
+
+front_slot_behind : (room : Room) (b : Bool) (asked : Option ℤ) (paper_of : ℕ → Paper) (creep : ℕ) (entry : Option ℕ) → (let f = on_halves room b asked paper_of in
+    EntryCreeps f creep entry → SlotBehind room (line room) (creeping_slot f false (if b then 0 else 1) creep entry))
+front_slot_behind room b asked paper_of creep None has = (tt, tt)
+front_slot_behind room b asked paper_of creep (Some page) has =
+    let paper = paper_of page in
+    let t = halves room b asked in
+    let c = creeps_on paper room b asked creep has in
+    let is = front_is paper room b asked (if b then 0 else 1) creep c.0 in
+    let at = front_behind paper room b (scale_on t paper) creep c.1 in (
+      subst (IsInside room paper) is at.inside,
+      subst (StaysBehind room (line room) paper) is (subst (λ T. StaysBehind room T paper (leaf_item paper room b (scale_on t paper) creep (if b then 0 else 1))) (line_is paper room b (scale_on t paper) creep c.1) at.stays),
+    )
+
+back_slot_behind : (room : Room) (b : Bool) (asked : Option ℤ) (paper_of : ℕ → Paper) (creep : ℕ) (entry : Option ℕ) → (let f = on_halves room b asked paper_of in
+    EntryCreeps f creep entry → SlotBehind room (2 * whole (nat_abs room.paper.height) - line room) (creeping_slot f true (if b then 1 else 0) creep entry))
+back_slot_behind room b asked paper_of creep None has = (tt, tt)
+back_slot_behind room b asked paper_of creep (Some page) has =
+    let paper = paper_of page in
+    let s = scale_on (halves room b asked) paper in
+    let c = creeps_on paper room b asked creep has in
+    let at = back_behind paper room b s creep c.1 in (
+      at.inside,
+      subst (λ T. StaysBehind room (2 * whole (nat_abs room.paper.height) - T) paper (back_item paper room b s creep (if b then 1 else 0))) (line_is paper room b s creep c.1) at.stays,
+    )
+
+back_slot_before : (room : Room) (b : Bool) (asked : Option ℤ) (paper_of : ℕ → Paper) (creep : ℕ) (entry : Option ℕ) → (let f = on_halves room b asked paper_of in
+    EntryCreeps f creep entry → SlotBefore room (2 * whole (nat_abs room.paper.height) - line room) (creeping_slot f true (if b then 0 else 1) creep entry))
+back_slot_before room b asked paper_of creep None has = (tt, tt)
+back_slot_before room b asked paper_of creep (Some page) has =
+    let paper = paper_of page in
+    let s = scale_on (halves room b asked) paper in
+    let c = creeps_on paper room b asked creep has in
+    let at = back_before paper room b s creep c.1 in (
+      at.inside,
+      subst (λ T. StaysBefore room (2 * whole (nat_abs room.paper.height) - T) paper (back_item paper room b s creep (if b then 0 else 1))) (line_is paper room b s creep c.1) at.stays,
+    )
+
+-- ---- a side
+
+abbrev side : Filling → (by_half : Bool) → (creep : ℕ) → (one other : Option ℕ) → MadeSheet
+side f by_half creep one other =
+    sheet f.setting.room.paper (creeping_slot f by_half 0 creep one ∷ creeping_slot f by_half 1 creep other ∷ [])
+
+side_on_halves : (room : Room) (b : Bool) (asked : Option ℤ) (paper_of : ℕ → Paper) (by_half : Bool) (creep : ℕ) (one other : Option ℕ) → (let f = on_halves room b asked paper_of in
+    EntryCreeps f creep one → EntryCreeps f creep other → StandsOnLeaf room (fold_on room by_half (line room)) (is_first_before b by_half) (side f by_half creep one other))
+side_on_halves room false asked paper_of false creep one other has has' =
+    let at = front_slot_before room false asked paper_of creep one has in
+    let at' = front_slot_behind room false asked paper_of creep other has' in
+    record { paper = refl; first = _; second = _; slots = refl; first_inside = at.0; second_inside = at'.0; before = at.1; behind = at'.1 }
+side_on_halves room true asked paper_of false creep one other has has' =
+    let at = front_slot_behind room true asked paper_of creep one has in
+    let at' = front_slot_before room true asked paper_of creep other has' in
+    record { paper = refl; first = _; second = _; slots = refl; first_inside = at.0; second_inside = at'.0; before = at'.1; behind = at.1 }
+side_on_halves room false asked paper_of true creep one other has has' =
+    let at = back_slot_behind room false asked paper_of creep one has in
+    let at' = back_slot_before room false asked paper_of creep other has' in
+    record { paper = refl; first = _; second = _; slots = refl; first_inside = at.0; second_inside = at'.0; before = at'.1; behind = at.1 }
+side_on_halves room true asked paper_of true creep one other has has' =
+    let at = back_slot_before room true asked paper_of creep one has in
+    let at' = back_slot_behind room true asked paper_of creep other has' in
+    record { paper = refl; first = _; second = _; slots = refl; first_inside = at.0; second_inside = at'.0; before = at.1; behind = at'.1 }
+
+abbrev SideStands : Bool → (creep : ℕ) → (one other : Option ℕ) → (ℕ → Paper) → Setting → Type 0
+SideStands by_half creep one other paper_of t = let f : Filling = record { setting = t; paper_of = paper_of } in
+    EntryCreeps f creep one → EntryCreeps f creep other
+    → StandsOnLeaf t.room (fold_on t.room by_half (line t.room)) (is_first_before t.order.right_to_left by_half) (side f by_half creep one other)
+
+side_stands : (f : Filling) (by_half : Bool) (creep : ℕ) (one other : Option ℕ) → AreHalves f.setting → EntryCreeps f creep one → EntryCreeps f creep other
+    → StandsOnLeaf f.setting.room (fold_on f.setting.room by_half (line f.setting.room)) (is_first_before f.setting.order.right_to_left by_half) (side f by_half creep one other)
+side_stands f by_half creep one other halved =
+    of_halves (SideStands by_half creep one other f.paper_of) f.setting halved
+    (side_on_halves f.setting.room f.setting.order.right_to_left f.setting.scale f.paper_of by_half creep one other)
+
+-- ---- all sides
+
+entry_fits : (f : Filling) (creep : ℕ) (entry : Option ℕ) → EntryCreeps f creep entry → EntryFits f entry
+entry_fits f creep None has = tt
+entry_fits f creep (Some page) has = fits_in f.setting (f.paper_of page) creep has
+
+enough : (t : Setting) → AreHalves t → 2 ≤ size t.grid
+enough t halved = subst (λ g. 2 ≤ size g) (sym halved.0) (omega arith)
+
+abbrev AllCreep : Filling → (creep leaves sheets : ℕ) → Row → Type 0
+AllCreep f creep leaves sheets row = (s k : ℕ) → s < sheets → k < 2 → EntryCreeps f (creep_on creep leaves s) (grid_entry 2 row s k)
+
+plain_stand : (f : Filling) (turned_backs : Bool) (creep leaves sheets : ℕ) (row : Row) → AreHalves f.setting → AllCreep f creep leaves sheets row → creep ≡ 0
+    → AllStand f.setting.room (creeping_sides f turned_backs creep leaves sheets row)
+plain_stand f turned_backs creep leaves sheets row halved has none =
+    let many = enough f.setting halved in
+    let all = sides_stand f turned_backs sheets 2 (grid_entry 2 row) many (λ e. many)
+    (λ s k in_s in_k. entry_fits f (creep_on creep leaves s) (grid_entry 2 row s k) (has s k in_s in_k)) in
+    subst (λ n. AllStand f.setting.room (creeping_sides f turned_backs n leaves sheets row)) (sym none)
+    (subst (AllStand f.setting.room) (sym (sheets_at_rest f turned_backs leaves row (range_with_len 0 sheets) halved)) all)
+
+pub leaves_stand : (f : Filling) (turned_backs : Bool) (creep leaves sheets : ℕ) (row : Row) → AreHalves f.setting → AllCreep f creep leaves sheets row
+    → LeavesStand f.setting turned_backs creep (creeping_sides f turned_backs creep leaves sheets row)
+leaves_stand f turned_backs creep leaves sheets row halved has =
+    let room = f.setting.room in
+    let middle = line_in_middle room in
+    record {
+      twice = line room;
+      no_farther = middle.0;
+      no_nearer = middle.1;
+      sides = numbered
+          (λ s. StandsOnLeaf room (fold_on room (is_turned turned_backs s) (line room)) (is_first_before f.setting.order.right_to_left (is_turned turned_backs s)))
+          (λ s. side f (is_turned turned_backs s) (creep_on creep leaves s) (grid_entry 2 row s 0) (grid_entry 2 row s 1)) sheets
+          (λ s less. side_stands f (is_turned turned_backs s) (creep_on creep leaves s) (grid_entry 2 row s 0) (grid_entry 2 row s 1) halved (has s 0 less (omega arith)) (has s 1 less (omega arith)));
+      apart = plain_stand f turned_backs creep leaves sheets row halved has;
+    }

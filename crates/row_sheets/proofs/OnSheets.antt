@@ -1,0 +1,72 @@
+-- Sheets whose pages have their places are laid out well.
+use Rattle.std.proofs.Common.{arith, ◌≡◌, ◌≢◌, ℕ, ◌<◌, ◌≤◌, Bool, true, false, Option, Some, None, length, refl, sym, subst}
+use Rattle.std.specs.Prelude.{All, AllPairs, map, slice_index_or}
+use Rattle.std.specs.List.{range_with_len}
+use Rattle.std.proofs.lemmas.List.FromFn.{get_or-map-range_with_len, length-map-range_with_len}
+use Rattle.layouts.specs.Cells.{size}
+use Rattle.layouts.proofs.Fitting.{fitted_stands, fitted_is_apart, stands_back, scale_of_many, backs_are_apart}
+use Rattle.row_sheets.specs.Filled.{Filling, slot_on, sides, is_turned, SlotIsInside, SlotsAreApart}
+use Rattle.row_sheets.specs.Standing.{StandsIn, AllStand, EntryFits}
+
+-- ---- what is numbered in turn
+
+pub numbered : {X : Type 0} (P : ℕ → X → Type 0) (f : ℕ → X) (n : ℕ) → ((k : ℕ) → k < n → P k (f k))
+    → (k : ℕ) (d : X) → k < length (map f (range_with_len 0 n)) → P k (slice_index_or (map f (range_with_len 0 n)) k d)
+numbered P f n h k d less =
+    let many = length-map-range_with_len f 0 n in
+    let below : k < n = omega (arith, less, many) in
+    subst (P k) (sym (get_or-map-range_with_len f 0 n k k d below (omega arith))) (h k below)
+
+pub each_of : {X : Type 0} (P : X → Type 0) (f : ℕ → X) (n : ℕ) → ((k : ℕ) → k < n → P (f k)) → All P (map f (range_with_len 0 n))
+each_of P f n h = numbered (λ k. P) f n h
+
+pub each_two_of : {X : Type 0} (R : X → X → Type 0) (f : ℕ → X) (n : ℕ) → ((i j : ℕ) → i < n → j < n → i ≢ j → R (f i) (f j)) → AllPairs R (map f (range_with_len 0 n))
+each_two_of R f n h i j d before less =
+    let many = length-map-range_with_len f 0 n in
+    let second : j < n = omega (arith, less, many) in
+    let first : i < n = omega (arith, before, second) in
+    let differ : i ≢ j = λ e. omega (arith, before, e) in
+    subst (λ x. R x (slice_index_or (map f (range_with_len 0 n)) j d)) (sym (get_or-map-range_with_len f 0 n i i d first (omega arith)))
+    (subst (R (f i)) (sym (get_or-map-range_with_len f 0 n j j d second (omega arith))) (h i j first second differ))
+
+-- ---- a sheet
+
+slot_inside : (f : Filling) (by_half : Bool) (c : ℕ) (entry : Option ℕ) → (by_half ≡ true → 2 ≤ size f.setting.grid) → c < size f.setting.grid → EntryFits f entry
+    → SlotIsInside f.setting.room (slot_on f by_half c entry)
+slot_inside f false c None many within fits = tt
+slot_inside f true c None many within fits = tt
+slot_inside f false c (Some page) many within has =
+    (fitted_stands f.setting (f.paper_of page) c has.page_is has.sheet_is within has.fits).inside
+slot_inside f true c (Some page) many within has =
+    (stands_back f.setting (f.paper_of page) c has.page_is has.sheet_is within (scale_of_many f.setting (f.paper_of page) (many refl) has.fits)).inside
+
+slots_apart : (f : Filling) (by_half : Bool) (c d : ℕ) (one other : Option ℕ) → c < size f.setting.grid → d < size f.setting.grid → c ≢ d → EntryFits f one → EntryFits f other
+    → SlotsAreApart f.setting.room (slot_on f by_half c one) (slot_on f by_half d other)
+slots_apart f false c d None other in_c in_d differ has has' = tt
+slots_apart f true c d None other in_c in_d differ has has' = tt
+slots_apart f false c d (Some page) None in_c in_d differ has has' = tt
+slots_apart f true c d (Some page) None in_c in_d differ has has' = tt
+slots_apart f false c d (Some page) (Some page') in_c in_d differ has has' =
+    fitted_is_apart f.setting (f.paper_of page) (f.paper_of page') c d has.page_is has'.page_is has.sheet_is has.fits has'.fits in_c in_d differ
+slots_apart f true c d (Some page) (Some page') in_c in_d differ has has' =
+    backs_are_apart f.setting (f.paper_of page) (f.paper_of page') c d has.page_is has'.page_is has.sheet_is has.fits has'.fits in_c in_d differ
+
+only_backs : (turned_backs : Bool) (s many : ℕ) → (turned_backs ≡ true → 2 ≤ many) → is_turned turned_backs s ≡ true → 2 ≤ many
+only_backs true s many h e = h refl
+only_backs false s many h e = cc
+
+-- ---- all sheets
+
+pub sides_stand : (f : Filling) (turned_backs : Bool) (sheets cells : ℕ) (entry : (s c : ℕ) → Option ℕ) → cells ≤ size f.setting.grid → (turned_backs ≡ true → 2 ≤ size f.setting.grid)
+    → ((s c : ℕ) → s < sheets → c < cells → EntryFits f (entry s c)) → AllStand f.setting.room (sides f turned_backs sheets cells entry)
+sides_stand f turned_backs sheets cells entry enough halves fits =
+    each_of (StandsIn f.setting.room) (λ s. record {
+      paper = f.setting.room.paper;
+      slots = map (λ c. slot_on f (is_turned turned_backs s) c (entry s c)) (range_with_len 0 cells);
+    }) sheets (λ s less. let half = is_turned turned_backs s in record {
+      paper = refl;
+      inside = each_of (SlotIsInside f.setting.room) (λ c. slot_on f half c (entry s c)) cells
+          (λ c within. slot_inside f half c (entry s c) (only_backs turned_backs s (size f.setting.grid) halves) (omega (arith, within, enough)) (fits s c less within));
+      apart = each_two_of (SlotsAreApart f.setting.room) (λ c. slot_on f half c (entry s c)) cells
+          (λ c d in_c in_d differ. slots_apart f half c d (entry s c) (entry s d) (omega (arith, in_c, enough)) (omega (arith, in_d, enough)) differ (fits s c less in_c) (fits s d less in_d));
+    })

@@ -1,0 +1,9 @@
+use Rattle.std.proofs.Common.{rules}
+use Rattle.rules.specs.Signatures.{entry_of}
+use Rattle.row_sheets.specs.Shapes.{filling}
+use Rattle.row_sheets.specs.Standing.{EntryFits}
+use Rattle.row_sheets.proofs.Filling.{one_more}
+use Rattle.row_sheets.proofs.checked.check_cells.Goals as goal
+
+pub loop-entry-preserved : goal.loop-entry-preserved
+loop-entry-preserved c = one_more (λ i. EntryFits (filling c.args.setting.now c.args.papers.now) (entry_of c.args.row.now i)) c.loop-entry.entry-index c.loop-entry.invariant (search rules)

@@ -1,0 +1,154 @@
+-- Leaves that creep: in a folded signature the inner leaves stick out, so what is on them is moved towards the fold.
+-- All here is this project's own rules.
+use Rattle.std.specs.Prelude.{◌≡◌, ◌⊎◌, ℕ, ◌+◌, ◌-◌, ◌*◌, ◌/◌, ◌%◌, ◌<◌, ◌≤◌, ℤ, pos, ◌+ℤ◌, ◌-ℤ◌, ◌*ℤ◌, neg_ℤ, ◌≤ℤ◌}
+use Rattle.std.specs.Prelude.{Bool, true, false, ◌==◌, if◌then◌else◌, nat_le, nat_abs, List, map, length, Option, Some, None}
+use Rattle.std.specs.List.{range_with_len}
+use Rattle.rules.specs.Papers.{Paper, Pt}
+use Rattle.rules.specs.Specification.{Item}
+use Rattle.rules.specs.Placement.{Point}
+use Rattle.rules.specs.Sheets.{blocks}
+use Rattle.made_sheets.specs.Made.{MadeSlot, Blank, Placed, MadeSheet}
+use Rattle.made_sheets.specs.Rows.{Row}
+use Rattle.layouts.specs.declared.error.ArrangementError.{ArrangementError}
+use Rattle.layouts.specs.declared.error.ArrangementError.TheVariants as why
+use Rattle.layouts.specs.declared.setting.Setting.{Setting}
+use Rattle.layouts.specs.Placed.{Room, fine, stands, IsOfPage}
+use Rattle.layouts.specs.Cells.{item_in, slack_x, whole}
+use Rattle.layouts.specs.Grids.{beside, leaf_order}
+use Rattle.layouts.specs.Laws.{IsPaper, HasPlace}
+use Rattle.layouts.specs.Refusals.{first_of}
+use Rattle.layouts.specs.Fitted.{fitted, fitted_back, scale_on, why_not_fitted}
+use Rattle.row_sheets.specs.Filled.{Filling, booklet_sheets, is_turned, grid_entry}
+use Rattle.row_sheets.specs.Shapes.{IsRefusedFor}
+
+-- how far leaf i of m is moved, in 10^-5 of a point; leaf 0 is the outermost, and one leaf alone doesn't creep
+abbrev pub creep_of : (creep leaves i : ℕ) → ℕ
+creep_of creep leaves i = if nat_le leaves 1 then 0 else i * creep / (leaves - 1)
+
+-- a page that is moved up by so many 10^-5 of a point; its offset is in points
+abbrev pub moved_up : ℤ → Item → Item
+moved_up by item = record item {
+  y = record { number = item.y.number +ℤ (pos 10_000 *ℤ by); unit = Pt };
+}
+
+-- page k of a side lies before the fold, or beyond it
+abbrev pub is_before_fold : (right_to_left : Bool) → (k : ℕ) → Bool
+is_before_fold right_to_left k = if right_to_left then k == 1 else k == 0
+
+-- towards the fold
+abbrev pub to_fold : (right_to_left : Bool) → (k creep : ℕ) → ℤ
+to_fold right_to_left k creep = if is_before_fold right_to_left k then pos creep else pos 0 -ℤ pos creep
+
+-- page k of a side of a leaf that creeps so far
+abbrev pub leaf_item : (page : Paper) → Room → (right_to_left : Bool) → (scale creep k : ℕ) → Item
+leaf_item page room right_to_left s creep k =
+    moved_up (to_fold right_to_left k creep) (item_in page room (beside true) (leaf_order right_to_left) s k)
+
+-- it is the page of a leaf that doesn't creep, moved towards the fold: a law
+abbrev pub CreepMoves : Type 0
+CreepMoves = (page : Paper) (room : Room) (right_to_left : Bool) (s creep k : ℕ) (p : Point)
+    → ((stands page (leaf_item page room right_to_left s creep k) p).x
+    ≡ (stands page (item_in page room (beside true) (leaf_order right_to_left) s k) p).x)
+    × ((stands page (leaf_item page room right_to_left s creep k) p).y
+    ≡ (stands page (item_in page room (beside true) (leaf_order right_to_left) s k) p).y
+    +ℤ (pos 1_270_000_000_000_000 *ℤ to_fold right_to_left k creep))
+
+-- the outermost leaf stays, the innermost is moved by the whole creep, and none is moved farther than the next one in
+abbrev pub CreepGrows : Type 0
+CreepGrows = (creep leaves i : ℕ) → 1 < leaves → i + 1 < leaves
+    → (creep_of creep leaves 0 ≡ 0) × (creep_of creep leaves (leaves - 1) ≡ creep)
+    × (creep_of creep leaves i ≤ creep_of creep leaves (i + 1)) × (creep_of creep leaves i ≤ creep)
+
+-- there is room at the fold for a leaf to creep so far: at the side of the fold a page leaves free its share of the cell,
+-- and half of the gap
+abbrev pub may_creep : (page : Paper) → Room → (scale creep : ℕ) → Bool
+may_creep page room s creep = nat_le (2 * creep) (2 * slack_x page room (beside true) s + room.gap)
+
+-- nothing of the page crosses a line across the sheet; the line is twice as far up as said
+abbrev pub StaysBefore : Room → (twice : ℕ) → (page : Paper) → Item → Type 0
+StaysBefore room twice page item = (p : Point) → IsOfPage room.trim page p
+    → (pos 2 *ℤ (stands page item p).y) ≤ℤ fine twice
+
+abbrev pub StaysBehind : Room → (twice : ℕ) → (page : Paper) → Item → Type 0
+StaysBehind room twice page item = (p : Point) → IsOfPage room.trim page p
+    → fine twice ≤ℤ (pos 2 *ℤ (stands page item p).y)
+
+-- nothing crosses the fold, which is the middle of the sheet to 10^-5 of a point
+pub record KeepsSides (page : Paper) (room : Room) (one other : Item) : Type 0 where
+  pub twice : ℕ
+  pub no_farther : twice ≤ whole (nat_abs room.paper.height) + 1
+  pub no_nearer : whole (nat_abs room.paper.height) ≤ twice + 1
+  pub before : StaysBefore room twice page one
+  pub behind : StaysBehind room twice page other
+
+-- as long as there is room, no leaf crosses its fold: a law
+abbrev pub CreepKeepsSides : Type 0
+CreepKeepsSides = (page : Paper) (room : Room) (right_to_left : Bool) (s creep : ℕ) → IsPaper page
+    → HasPlace page room (beside true) s → may_creep page room s creep ≡ true
+    → KeepsSides page room (leaf_item page room right_to_left s creep (if right_to_left then 1 else 0))
+    (leaf_item page room right_to_left s creep (if right_to_left then 0 else 1))
+
+-- ---- booklets that creep
+
+-- how far the pages of side s are moved, if signatures have so many leaves: each has a front and a back, and the first one
+-- is the outermost
+abbrev pub creep_on : (creep leaves s : ℕ) → ℕ
+creep_on creep leaves s = creep_of creep leaves (s / 2 % leaves)
+
+-- on a sheet that is turned by half the fold is on a page's other side
+abbrev pub up_to_fold : (right_to_left by_half : Bool) → (k creep : ℕ) → ℤ
+up_to_fold right_to_left false k creep = to_fold right_to_left k creep
+up_to_fold right_to_left true k creep = neg_ℤ (to_fold right_to_left k creep)
+
+-- a page of this paper in half k of a leaf that creeps so far
+abbrev pub creeping : Setting → (by_half : Bool) → (page : Paper) → (k creep : ℕ) → Item
+creeping t by_half page k creep =
+    moved_up (up_to_fold t.order.right_to_left by_half k creep) (if by_half then fitted_back t page k else fitted t page k)
+
+-- an entry of a row there
+abbrev pub creeping_slot : Filling → (by_half : Bool) → (k creep : ℕ) → Option ℕ → MadeSlot
+creeping_slot f by_half k creep None = Blank
+creeping_slot f by_half k creep (Some page) =
+    let paper = f.paper_of page in Placed page (creeping f.setting by_half paper k creep) paper
+
+-- so many sides of leaves that creep so far, in signatures of so many leaves
+abbrev pub creeping_sides : Filling → (turned_backs : Bool) → (creep leaves sheets : ℕ) → Row → List MadeSheet
+creeping_sides f turned_backs creep leaves sheets row = map (λ s. record {
+  paper = f.setting.room.paper;
+  slots = map (λ k. creeping_slot f (is_turned turned_backs s) k (creep_on creep leaves s) (grid_entry 2 row s k))
+      (range_with_len 0 2);
+}) (range_with_len 0 sheets)
+
+-- those of a booklet, as `booklet_sheets`
+abbrev pub creeping_sheets : Filling → (turned_backs : Bool) → (creep leaves : ℕ) → Row → List MadeSheet
+creeping_sheets f turned_backs creep leaves row =
+    creeping_sides f turned_backs creep leaves (blocks 2 (length row)) row
+
+-- the cells are the two halves of a sheet
+abbrev pub AreHalves : Setting → Type 0
+AreHalves t = (t.grid ≡ beside true) × (t.order ≡ leaf_order t.order.right_to_left)
+
+abbrev pub or_else : (one other : Option ArrangementError) → Option ArrangementError
+or_else None other = other
+or_else (Some e) other = Some e
+
+-- why a page can't lie in a half that creeps so far: as it can't lie there at all, or as it would cross the fold
+abbrev pub why_not_creeping : Setting → (page : Paper) → (creep : ℕ) → Option ArrangementError
+why_not_creeping t page creep =
+    or_else (why_not_fitted t page) (first_of (may_creep page t.room (scale_on t page) creep) why.CreepOverFold None)
+
+-- this is why the entry can't lie there
+abbrev pub IsRefusedCreep : Filling → (creep : ℕ) → (entry : Option ℕ) → ArrangementError → Type 0
+IsRefusedCreep f creep entry e =
+    (page : ℕ) × (entry ≡ Some page) × (why_not_creeping f.setting (f.paper_of page) creep ≡ Some e)
+
+-- it is out of memory, or the reason for a page on one of the sides
+abbrev pub IsRefusedCreeping : Filling → (creep leaves : ℕ) → Row → ArrangementError → Type 0
+IsRefusedCreeping f creep leaves row e = (e ≡ why.NoMemory)
+    ⊎ ((s k : ℕ) × (k < 2) × IsRefusedCreep f (creep_on creep leaves s) (grid_entry 2 row s k) e)
+
+-- leaves that don't creep are those of `booklet_sheets`, and are refused for nothing else: a law
+abbrev pub NoCreepIsPlain : Type 0
+NoCreepIsPlain = (f : Filling) (turned_backs : Bool) (leaves : ℕ) (row : Row) → AreHalves f.setting
+    → (creeping_sheets f turned_backs 0 leaves row ≡ booklet_sheets f turned_backs row)
+    × ((e : ArrangementError) → IsRefusedCreeping f 0 leaves row e → IsRefusedFor f row e)

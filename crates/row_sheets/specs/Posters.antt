@@ -1,0 +1,214 @@
+-- Posters: one page over several sheets, which are its tiles. All here is this project's own rules.
+use Rattle.std.specs.Prelude.{◌≡◌, ◌⊎◌, ⊤, ℕ, ◌+◌, ◌-◌, ◌*◌, ◌/◌, ◌%◌, ◌<◌, min, pos, ◌+ℤ◌, ◌-ℤ◌, ◌≤ℤ◌, nat_abs, nat_le, nat_lt, ◌&&◌}
+use Rattle.std.specs.Prelude.{false, if◌then◌else◌, List, [], ◌∷◌, map, flat_map, slice_get, slice_index_or, Option, Some, None}
+use Rattle.std.specs.List.{range_with_len}
+use Rattle.rules.specs.Papers.{Paper}
+use Rattle.rules.specs.Specification.{Item, Upright}
+use Rattle.rules.specs.Placement.{Point}
+use Rattle.layouts.specs.Placed.{fine, stands, IsOfPage}
+use Rattle.layouts.specs.Cells.{fitting, slack, in_points, whole}
+use Rattle.layouts.specs.Refusals.{are_reached, is_scale}
+use Rattle.layouts.specs.Laws.{IsPaper}
+use Rattle.rules.specs.Signatures.{entry_of}
+use Rattle.made_sheets.specs.Made.{MadeSheet, Blank, Placed}
+use Rattle.made_sheets.specs.Rows.{Row}
+use Rattle.row_sheets.specs.declared.poster.Poster.{Poster}
+use Rattle.row_sheets.specs.declared.poster.Laid.{Laid}
+use Rattle.row_sheets.specs.declared.poster.PosterError.{PosterError}
+use Rattle.row_sheets.specs.declared.poster.PosterError.TheVariants as why
+
+-- what the margins leave of a side
+abbrev pub tile : (side edge : ℕ) → ℕ
+tile side edge = whole side - 2 * edge
+
+-- from where a tile begins to where the next one begins
+abbrev pub stride : (side edge overlap : ℕ) → ℕ
+stride side edge overlap = tile side edge - overlap
+
+-- how long so many tiles are
+abbrev pub length_of : (side edge overlap tiles : ℕ) → ℕ
+length_of side edge overlap tiles = (tiles - 1) * stride side edge overlap + tile side edge
+
+abbrev pub poster_width : Poster → ℕ
+poster_width p = length_of (nat_abs p.sheet.width) p.edge p.overlap p.columns
+
+abbrev pub poster_height : Poster → ℕ
+poster_height p = length_of (nat_abs p.sheet.height) p.edge p.overlap p.rows
+
+-- the largest scale with which the page fits its tiles, in 10^-9
+abbrev pub poster_scale : (page : Paper) → Poster → ℕ
+poster_scale page p =
+    min (fitting (poster_width p) (nat_abs page.width)) (fitting (poster_height p) (nat_abs page.height))
+
+-- where the page begins on the poster: it is in its middle
+abbrev pub begins_at : (length side scale : ℕ) → ℕ
+begins_at length side scale = slack length side scale
+
+-- the page on the tile in this column, and in this row from the foot
+abbrev pub tile_item : (page : Paper) → Poster → (page_number column row : ℕ) → Item
+tile_item page p k column row = let s = poster_scale page p in record {
+  page = k;
+  from_end = false;
+  turn = Upright;
+  scale = pos s;
+  x = in_points (pos (p.edge + begins_at (poster_width p) (nat_abs page.width) s)
+      -ℤ pos (column * stride (nat_abs p.sheet.width) p.edge p.overlap));
+  y = in_points (pos (p.edge + begins_at (poster_height p) (nat_abs page.height) s)
+      -ℤ pos (row * stride (nat_abs p.sheet.height) p.edge p.overlap));
+}
+
+-- the sheets of a page: row by row from the head, and each from the left
+abbrev pub poster_sheets : (page : Paper) → Poster → (page_number : ℕ) → List MadeSheet
+poster_sheets page p k = map (λ n. record {
+  paper = p.sheet;
+  slots = Placed k (tile_item page p k (n % p.columns) (p.rows - (n / p.columns + 1))) page ∷ [];
+}) (range_with_len 0 (p.rows * p.columns))
+
+-- how many sheets a poster has at most
+abbrev pub most_tiles : ℕ
+most_tiles = 1_024
+
+-- the first reason why there is no such poster, if there is one
+abbrev pub why_no_poster : (page : Paper) → Poster → Option PosterError
+why_no_poster page p =
+    if nat_le 1 (p.rows * p.columns) && nat_le (p.rows * p.columns) most_tiles
+    then (if are_reached p.sheet
+    then (if nat_lt p.overlap (tile (nat_abs p.sheet.width) p.edge) && nat_lt p.overlap (tile (nat_abs p.sheet.height) p.edge)
+    then (if nat_lt (poster_width p) 10_000_000_000 && nat_lt (poster_height p) 10_000_000_000
+    then (if is_scale (poster_scale page p) then None else Some why.ScaleOutOfRange)
+    else Some why.SideTooLong)
+    else Some why.NothingButOverlap)
+    else Some why.SideTooLong)
+    else Some why.TilesOutOfRange
+
+-- the error is that one, or out of memory
+abbrev pub IsNoPoster : Option PosterError → PosterError → Type 0
+IsNoPoster found e = (e ≡ why.NoMemory) ⊎ (found ≡ Some e)
+
+-- ---- the pages of a row
+
+-- as many blank sheets
+abbrev pub blank_tiles : Poster → List MadeSheet
+blank_tiles p = map (λ n. record { paper = p.sheet; slots = Blank ∷ [] }) (range_with_len 0 (p.rows * p.columns))
+
+-- the paper of a page; one whose paper isn't known has the sheets'
+abbrev pub poster_paper : Poster → List Paper → (page : ℕ) → Paper
+poster_paper p papers page = slice_index_or papers page p.sheet
+
+-- a page on its tiles; for a blank they are blank
+abbrev pub entry_tiles : Poster → List Paper → Option ℕ → List MadeSheet
+entry_tiles p papers None = blank_tiles p
+entry_tiles p papers (Some page) = poster_sheets (poster_paper p papers page) p page
+
+-- the tiles of all entries, one entry after the other
+abbrev pub row_tiles : Poster → List Paper → Row → List MadeSheet
+row_tiles p papers row = flat_map (entry_tiles p papers) row
+
+-- this is why the entry's page can't be a poster
+abbrev pub IsNoPosterFrom : Poster → List Paper → (entry : Option ℕ) → PosterError → Type 0
+IsNoPosterFrom p papers entry e =
+    (page : ℕ) × (entry ≡ Some page) × (why_no_poster (poster_paper p papers page) p ≡ Some e)
+
+-- it is the reason for a page of the row
+abbrev pub IsNoPosterIn : Poster → List Paper → Row → PosterError → Type 0
+IsNoPosterIn p papers row e = (i : ℕ) × IsNoPosterFrom p papers (entry_of row i) e
+
+-- or it is out of memory
+abbrev pub IsNoPosterFor : Poster → List Paper → Row → PosterError → Type 0
+IsNoPosterFor p papers row e = (e ≡ why.NoMemory) ⊎ IsNoPosterIn p papers row e
+
+-- ---- the page on the tiles
+
+-- the page on the tiles: its scale, where it begins on the first one, and how far the next ones are
+abbrev pub laid_of : (page : Paper) → Poster → Laid
+laid_of page p = let s = poster_scale page p in record {
+  scale = s;
+  left = p.edge + begins_at (poster_width p) (nat_abs page.width) s;
+  bottom = p.edge + begins_at (poster_height p) (nat_abs page.height) s;
+  across = stride (nat_abs p.sheet.width) p.edge p.overlap;
+  down = stride (nat_abs p.sheet.height) p.edge p.overlap;
+}
+
+abbrev pub laid_item : Laid → (page_number column row : ℕ) → Item
+laid_item l k column row = record {
+  page = k;
+  from_end = false;
+  turn = Upright;
+  scale = pos l.scale;
+  x = in_points (pos l.left -ℤ pos (column * l.across));
+  y = in_points (pos l.bottom -ℤ pos (row * l.down));
+}
+
+-- its offsets can be written
+abbrev pub IsNear : Laid → (column row : ℕ) → Type 0
+IsNear l column row =
+    (l.left < 10_000_000_000) × (column * l.across < 10_000_000_000) × (l.bottom < 10_000_000_000)
+    × (row * l.down < 10_000_000_000)
+
+-- a tile shows what is between its margins
+pub record IsShown (p : Poster) (at : Point) : Type 0 where
+  pub left : fine p.edge ≤ℤ at.x
+  pub right : at.x ≤ℤ fine (p.edge + tile (nat_abs p.sheet.width) p.edge)
+  pub bottom : fine p.edge ≤ℤ at.y
+  pub top : at.y ≤ℤ fine (p.edge + tile (nat_abs p.sheet.height) p.edge)
+
+-- there are tiles, and they are longer than they overlap
+pub record HasTiles (p : Poster) : Type 0 where
+  pub some_columns : 0 < p.columns
+  pub some_rows : 0 < p.rows
+  pub wide : p.overlap < tile (nat_abs p.sheet.width) p.edge
+  pub high : p.overlap < tile (nat_abs p.sheet.height) p.edge
+
+-- each point of the page is shown on a tile: a law
+abbrev pub PosterCovers : Type 0
+PosterCovers = (page : Paper) (p : Poster) (k : ℕ) (at : Point) → IsPaper page → HasTiles p → IsOfPage 0 page at
+    → (column row : ℕ) × (column < p.columns) × (row < p.rows) × IsShown p (stands page (tile_item page p k column row) at)
+
+-- what is on one tile is on the next one to the right too, farther to the left by a tile less the overlap: so
+-- neighbours share exactly the overlap. And likewise upward: a law
+abbrev pub TilesOverlap : Type 0
+TilesOverlap = (page : Paper) (p : Poster) (k column row : ℕ) (at : Point) → HasTiles p
+    → ((stands page (tile_item page p k column row) at).x
+    ≡ (stands page (tile_item page p k (column + 1) row) at).x
+    +ℤ (fine (tile (nat_abs p.sheet.width) p.edge) -ℤ fine p.overlap))
+    × ((stands page (tile_item page p k column row) at).y
+    ≡ (stands page (tile_item page p k column (row + 1)) at).y
+    +ℤ (fine (tile (nat_abs p.sheet.height) p.edge) -ℤ fine p.overlap))
+
+-- ---- what such sheets rest on
+
+-- a page of this paper can be such a poster
+pub record MayBePoster (p : Poster) (page : Paper) : Type 0 where
+  pub page_is : IsPaper page
+  pub fits : why_no_poster page p ≡ None
+
+abbrev pub EntryMayBePoster : Poster → List Paper → (entry : Option ℕ) → Type 0
+EntryMayBePoster p papers None = ⊤
+EntryMayBePoster p papers (Some page) = MayBePoster p (poster_paper p papers page)
+
+-- each page of a row can be one: nothing had to be refused
+abbrev pub AllMayBePosters : Poster → List Paper → Row → Type 0
+AllMayBePosters p papers row = (i : ℕ) → EntryMayBePoster p papers (entry_of row i)
+
+-- a poster that a page can be has tiles: a law
+abbrev pub PosterHasTiles : Type 0
+PosterHasTiles = (page : Paper) (p : Poster) → why_no_poster page p ≡ None → HasTiles p
+
+-- the first of the sheets of entry i is sheet i times so many
+abbrev pub first_tile : Poster → (i : ℕ) → ℕ
+first_tile p i = i * (p.rows * p.columns)
+
+-- these sheets show a point of a page: on one of the entry's sheets the page is placed by its own paper, and what the
+-- margins leave of that sheet has the point
+pub record IsOnTile (p : Poster) (made : List MadeSheet) (i page : ℕ) (paper : Paper) (at : Point) : Type 0 where
+  pub n : ℕ
+  pub is_one : n < p.rows * p.columns
+  pub item : Item
+  pub sheet : slice_get made (first_tile p i + n) ≡ Some (record { paper = p.sheet; slots = Placed page item paper ∷ [] })
+  pub shown : IsShown p (stands paper item at)
+
+-- each point of each page of a row is shown on one of its sheets, if each page can be a poster: a law
+abbrev pub RowIsShown : Type 0
+RowIsShown = (p : Poster) (papers : List Paper) (row : Row) (i page : ℕ) (at : Point) → AllMayBePosters p papers row
+    → entry_of row i ≡ Some page → IsOfPage 0 (poster_paper p papers page) at
+    → IsOnTile p (row_tiles p papers row) i page (poster_paper p papers page) at

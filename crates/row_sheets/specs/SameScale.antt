@@ -1,0 +1,72 @@
+-- One scale for all pages of a row: that of the largest paper. All here is this project's own rules.
+use Rattle.std.specs.Prelude.{◌≡◌, ℕ, ◌<◌, ◌≤◌, ℤ, pos, int_le, if◌then◌else◌, Option, Some, None}
+use Rattle.std.specs.List.{fold}
+use Rattle.rules.specs.Papers.{Paper}
+use Rattle.rules.specs.Signatures.{entry_of}
+use Rattle.made_sheets.specs.Rows.{Row}
+use Rattle.layouts.specs.declared.error.ArrangementError.{ArrangementError}
+use Rattle.layouts.specs.declared.setting.Setting.{Setting}
+use Rattle.layouts.specs.Cells.{size}
+use Rattle.layouts.specs.Fitted.{IsFitted, fitted, scale_on, why_no_scale_on}
+use Rattle.layouts.specs.Laws.{IsPaper}
+use Rattle.row_sheets.specs.Filled.{Filling}
+
+-- the scale of a page, by its own paper
+abbrev pub own_scale : Filling → (page : ℕ) → ℕ
+own_scale f page = scale_on f.setting (f.paper_of page)
+
+abbrev pub lesser : (one other : ℤ) → ℤ
+lesser one other = if int_le one other then one else other
+
+-- the least scale so far, and that with one more entry
+abbrev pub least_with : Filling → (least : Option ℤ) → (entry : Option ℕ) → Option ℤ
+least_with f least None = least
+least_with f None (Some page) = Some (pos (own_scale f page))
+least_with f (Some least) (Some page) = Some (lesser least (pos (own_scale f page)))
+
+-- the least of the scales of a row's pages, which is that of the largest paper; none if the row has no page
+abbrev pub least_scale : Filling → Row → Option ℤ
+least_scale f row = fold (least_with f) None row
+
+-- the cells, with that scale for all pages
+abbrev pub at_one_scale : Filling → Row → Setting
+at_one_scale f row = record {
+  room = f.setting.room;
+  grid = f.setting.grid;
+  order = f.setting.order;
+  scale = least_scale f row;
+}
+
+-- this is why an entry's page has no scale of its own
+abbrev pub HasNoScale : Filling → (entry : Option ℕ) → ArrangementError → Type 0
+HasNoScale f entry e =
+    (page : ℕ) × (entry ≡ Some page) × (why_no_scale_on f.setting (f.paper_of page) ≡ Some e)
+
+-- and why one of a row has none
+abbrev pub HaveNoScale : Filling → Row → ArrangementError → Type 0
+HaveNoScale f row e = (i : ℕ) × HasNoScale f (entry_of row i) e
+
+-- ---- laws
+
+-- all pages have this scale; it is the own scale of a page of the row, and none of its pages has a smaller one
+pub record IsOneScale (f : Filling) (row : Row) (scale : ℕ) : Type 0 where
+  pub all : (paper : Paper) → scale_on (at_one_scale f row) paper ≡ scale
+  pub place : ℕ
+  pub page : ℕ
+  pub is_there : entry_of row place ≡ Some page
+  pub is_own : own_scale f page ≡ scale
+  pub least : (i p : ℕ) → entry_of row i ≡ Some p → scale ≤ own_scale f p
+
+-- a row with a page has one scale
+abbrev pub HaveOneScale : Type 0
+HaveOneScale = (f : Filling) (row : Row) (i page : ℕ) → entry_of row i ≡ Some page → (scale : ℕ) × IsOneScale f row scale
+
+-- all pages of the row have scales of their own
+abbrev pub HaveScales : Filling → Row → Type 0
+HaveScales f row = (i page : ℕ) → entry_of row i ≡ Some page → why_no_scale_on f.setting (f.paper_of page) ≡ None
+
+-- then at the one scale each still lies in its cell: on what the margin leaves of the sheet, and in the cell's middle
+abbrev pub OneScaleStands : Type 0
+OneScaleStands = (f : Filling) (row : Row) (i page k : ℕ) → IsPaper f.setting.room.paper → IsPaper (f.paper_of page)
+    → HaveScales f row → entry_of row i ≡ Some page → k < size f.setting.grid
+    → IsFitted (at_one_scale f row) (f.paper_of page) k (fitted (at_one_scale f row) (f.paper_of page) k)

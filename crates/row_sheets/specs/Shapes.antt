@@ -1,0 +1,46 @@
+-- How rows are put into cells, and why they can't be. All here is this project's own rules.
+use Rattle.std.specs.Prelude.{◌≡◌, ◌⊎◌, ℕ, ◌+◌, ◌*◌, ◌%◌, ◌==◌, if◌then◌else◌, List, slice_index_or, Option, Some}
+use Rattle.rules.specs.Papers.{Paper}
+use Rattle.rules.specs.Signatures.{entry_of}
+use Rattle.made_sheets.specs.Rows.{Row}
+use Rattle.layouts.specs.declared.error.ArrangementError.{ArrangementError}
+use Rattle.layouts.specs.declared.error.ArrangementError.TheVariants as why
+use Rattle.layouts.specs.declared.setting.Setting.{Setting}
+use Rattle.layouts.specs.Fitted.{why_not_fitted}
+use Rattle.row_sheets.specs.declared.fill.CellKind.{CellKind}
+use Rattle.row_sheets.specs.declared.fill.CellKind.TheVariants as kind
+use Rattle.row_sheets.specs.declared.fill.Shape.{Shape}
+use Rattle.row_sheets.specs.Filled.{Filling, behind_in}
+
+-- the cells of a sheet, and the papers of the pages in their order; a page whose paper isn't known has the sheet's
+abbrev pub filling : Setting → List Paper → Filling
+filling t papers = record { setting = t; paper_of = λ page. slice_index_or papers page t.room.paper }
+
+-- the cell on a front, and on a back the one that is behind it
+abbrev pub cell_on : Setting → (s c : ℕ) → ℕ
+cell_on t s c = if s % 2 == 0 then c else behind_in t c
+
+-- which entry of the row is in cell c of sheet s
+abbrev pub place_by : CellKind → Setting → (sheets cells s c : ℕ) → ℕ
+place_by kind.Grid t sheets cells s c = s * cells + c
+place_by kind.Cards t sheets cells s c = s
+place_by kind.Stack t sheets cells s c = c * sheets + s
+place_by kind.Leaves t sheets cells s c = cell_on t s c * sheets + s
+
+abbrev pub place : Shape → Setting → (s c : ℕ) → ℕ
+place h t s c = place_by h.kind t h.sheets h.cells s c
+
+abbrev pub entry_in : Shape → Setting → Row → (s c : ℕ) → Option ℕ
+entry_in h t row s c = entry_of row (place h t s c)
+
+-- this is why the entry can't lie in its cell
+abbrev pub IsRefusedFrom : Filling → (entry : Option ℕ) → ArrangementError → Type 0
+IsRefusedFrom f entry e = (page : ℕ) × (entry ≡ Some page) × (why_not_fitted f.setting (f.paper_of page) ≡ Some e)
+
+-- it is the reason for a page of the row
+abbrev pub IsRefusedIn : Filling → Row → ArrangementError → Type 0
+IsRefusedIn f row e = (i : ℕ) × IsRefusedFrom f (entry_of row i) e
+
+-- or it is out of memory
+abbrev pub IsRefusedFor : Filling → Row → ArrangementError → Type 0
+IsRefusedFor f row e = (e ≡ why.NoMemory) ⊎ IsRefusedIn f row e

@@ -1,0 +1,81 @@
+//! Whether the pages of a row can be laid, looked at without a sheet being made.
+ghost use Rattle.std.specs.Prelude.{◌≡◌, ◌<◌, IfErr, OnOk, Some, ℕ};
+ghost use Rattle.rules.specs.Signatures.{entry_of};
+ghost use Rattle.layouts.specs.Cells.{size};
+ghost use Rattle.row_sheets.specs.Shapes.{filling, IsRefusedFrom, IsRefusedIn};
+ghost use Rattle.row_sheets.specs.Standing.{EntryFits};
+ghost use Rattle.row_sheets.specs.Posters.{EntryMayBePoster, IsNoPosterFrom, IsNoPosterIn};
+
+use crate::fill::paper_of;
+use crate::poster::{Poster, PosterError, check_poster};
+use crate::poster_rows::poster_paper_of;
+use layouts::{ArrangementError, Setting};
+use lengths::Paper;
+
+/// Whether each page of the row has its place in a cell; a page whose paper isn't known has the sheet's. The first page that
+/// has none is reported.
+pub fn check_cells(
+    setting: &Setting,
+    papers: &[Paper],
+    row: &[Option<u32>],
+) -> Result<(), ArrangementError>
+    requires { 0 < size setting.now.grid }
+    ensures fits { OnOk result ((i : ℕ) → EntryFits (filling setting.now papers.now) (entry_of row.now i)) }
+    ensures refused { IfErr result (IsRefusedIn (filling setting.now papers.now) row.now) }
+{
+    for entry in row {
+        match check_cell(setting, papers, *entry) {
+            Ok(()) => (),
+            Err(error) => return Err(error),
+        }
+    }
+    Ok(())
+}
+
+fn check_cell(
+    setting: &Setting,
+    papers: &[Paper],
+    entry: Option<u32>,
+) -> Result<(), ArrangementError>
+    requires { 0 < size setting.now.grid }
+    ensures fits { OnOk result (EntryFits (filling setting.now papers.now) entry) }
+    ensures refused { IfErr result (IsRefusedFrom (filling setting.now papers.now) entry) }
+{
+    let page = match entry {
+        Some(page) => page,
+        None => return Ok(()),
+    };
+    match setting.item(&paper_of(setting, papers, page), 0) {
+        Ok(_) => Ok(()),
+        Err(error) => Err(error),
+    }
+}
+
+/// Whether each page of the row can be such a poster; a page whose paper isn't known has the sheets'. The first page that
+/// can't is reported.
+pub fn check_posters(
+    poster: &Poster,
+    papers: &[Paper],
+    row: &[Option<u32>],
+) -> Result<(), PosterError>
+    ensures possible { OnOk result ((i : ℕ) → EntryMayBePoster poster.now papers.now (entry_of row.now i)) }
+    ensures refused { IfErr result (IsNoPosterIn poster.now papers.now row.now) }
+{
+    for entry in row {
+        match check_entry(poster, papers, *entry) {
+            Ok(()) => (),
+            Err(error) => return Err(error),
+        }
+    }
+    Ok(())
+}
+
+fn check_entry(poster: &Poster, papers: &[Paper], entry: Option<u32>) -> Result<(), PosterError>
+    ensures possible { OnOk result (EntryMayBePoster poster.now papers.now entry) }
+    ensures refused { IfErr result (IsNoPosterFrom poster.now papers.now entry) }
+{
+    match entry {
+        Some(page) => check_poster(poster, &poster_paper_of(poster, papers, page)),
+        None => Ok(()),
+    }
+}

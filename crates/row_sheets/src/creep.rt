@@ -1,0 +1,225 @@
+//! Booklets whose leaves creep: in a folded signature the inner leaves stick out, so what is on them is moved towards
+//! the fold.
+ghost use Rattle.std.specs.Prelude.{◌≡◌, ◌+◌, ◌*◌, ◌<◌, ◌≤◌, ◌+ℤ◌, ◌*ℤ◌, pos, nat_abs, IfOk, IfErr, OnOk, Some, nat_le, true};
+ghost use Rattle.rules.specs.Numbers.{greatest_number};
+ghost use Rattle.pagespec.specs.Items.{item_of};
+ghost use Rattle.layouts.specs.Cells.{slack_x};
+ghost use Rattle.layouts.specs.Fitted.{scale_on};
+ghost use Rattle.sheet_plan.specs.OfSheets.{slot_of};
+ghost use Rattle.row_sheets.specs.Shapes.{filling};
+ghost use Rattle.row_sheets.specs.Creep.{creep_on as creep_on_side, up_to_fold, moved_up as moved_up_by};
+ghost use Rattle.row_sheets.specs.Creep.{creeping, creeping_slot as creeping_slot_of, creeping_sheets as creeping_of};
+ghost use Rattle.row_sheets.specs.Creep.{AreHalves, may_creep, why_not_creeping, IsRefusedCreep, IsRefusedCreeping};
+ghost use Rattle.row_sheets.specs.Standing.{AllFitOnLeaves, EntryCreeps, FitsOnLeaf, LeavesStand};
+
+use super::fill::{blocks_of, entry_at, is_turned, paper_of};
+use super::fitter::Fitter;
+use layouts::{ArrangementError, Setting};
+use lengths::{Number, Paper, Unit};
+use pagespec::{Item, Measure};
+use sheet_plan::{MadeSheets, MadeSlot};
+use std::alloc::Global;
+
+/// How far the leaves of a signature creep.
+#[derive(Clone, Copy, Debug, PartialEq, Eq)]
+pub struct Creep {
+    /// How far pages of the innermost leaf are moved towards the fold, in 10^-5 of a point. The outermost leaf stays.
+    pub innermost: u64,
+    /// How many leaves a signature has.
+    pub leaves: u32,
+}
+
+/// The sides of a booklet's leaves, as `booklet_sheets` makes them, with each page moved towards the fold as far as its leaf
+/// creeps. It is refused if a page would cross the fold.
+pub fn creeping_booklet_sheets(
+    alloc: Global,
+    setting: &Setting,
+    papers: &[Paper],
+    turned_backs: bool,
+    creep: Creep,
+    row: &[Option<u32>],
+) -> Result<MadeSheets, ArrangementError>
+    requires { AreHalves setting.now }
+    ensures made { IfOk result (λ made. made
+        ≡ creeping_of (filling setting.now papers.now) turned_backs creep.innermost creep.leaves row.now) }
+    ensures stands { IfOk result (LeavesStand setting.now turned_backs creep.innermost) }
+    ensures fits { OnOk result
+        (AllFitOnLeaves (filling setting.now papers.now) creep.innermost creep.leaves row.now) }
+    ensures refused { IfErr result
+        (IsRefusedCreeping (filling setting.now papers.now) creep.innermost creep.leaves row.now) }
+{
+    let sheets = match blocks_of(row, 2) {
+        Ok(sheets) => sheets,
+        Err(error) => return Err(error),
+    };
+    let mut fitter = match Fitter::new(alloc, setting, 2) {
+        Ok(fitter) => fitter,
+        Err(_) => return Err(ArrangementError::NoMemory),
+    };
+    let mut made = MadeSheets::new(alloc);
+    for s in 0..sheets {
+        let by_half = is_turned(turned_backs, s);
+        let by = creep_on(creep, s);
+        let place = 2 * u128::from(s);
+        let entry = entry_at(row, place);
+        let first = match creeping_slot(&mut fitter, papers, by_half, by, entry, 0) {
+            Ok(slot) => slot,
+            Err(error) => return Err(error),
+        };
+        let next = entry_at(row, place + 1);
+        let second = match creeping_slot(&mut fitter, papers, by_half, by, next, 1) {
+            Ok(slot) => slot,
+            Err(error) => return Err(error),
+        };
+        match made.push(&setting.room.paper, &[first, second]) {
+            Ok(()) => (),
+            Err(_) => return Err(ArrangementError::NoMemory),
+        }
+    }
+    Ok(made)
+}
+
+/// How far the pages of a side are moved.
+fn creep_on(creep: Creep, s: u32) -> u64
+    ensures { result ≡ creep_on_side creep.innermost creep.leaves s }
+{
+    if creep.leaves <= 1 {
+        return 0;
+    }
+    let leaf = s / 2 % creep.leaves;
+    (u128::from(leaf) * u128::from(creep.innermost) / u128::from(creep.leaves - 1)) as u64
+}
+
+/// An entry of a row in a half of a leaf that creeps so far.
+fn creeping_slot(
+    fitter: &mut Fitter,
+    papers: &[Paper],
+    by_half: bool,
+    creep: u64,
+    entry: Option<u32>,
+    cell: u32,
+) -> Result<MadeSlot, ArrangementError>
+    requires halves { AreHalves fitter.old }
+    requires cell { cell < 2 }
+    ensures made { IfOk result (λ slot. slot_of slot
+        ≡ creeping_slot_of (filling fitter.old papers.now) by_half cell creep entry) }
+    ensures fits { OnOk result (EntryCreeps (filling fitter.old papers.now) creep entry) }
+    ensures refused { IfErr result (IsRefusedCreep (filling fitter.old papers.now) creep entry) }
+    ensures same { fitter.new ≡ fitter.old }
+{
+    let page = match entry {
+        Some(page) => page,
+        None => return Ok(MadeSlot::Blank),
+    };
+    let paper = paper_of(fitter.setting(), papers, page);
+    match creeping_item(fitter, &paper, by_half, creep, cell) {
+        Ok(item) => Ok(MadeSlot::Placed { page, item, paper }),
+        Err(error) => Err(error),
+    }
+}
+
+/// A page of this paper there.
+fn creeping_item(
+    fitter: &mut Fitter,
+    paper: &Paper,
+    by_half: bool,
+    creep: u64,
+    cell: u32,
+) -> Result<Item, ArrangementError>
+    requires halves { AreHalves fitter.old }
+    requires cell { cell < 2 }
+    ensures made { IfOk result (λ item. item_of item ≡ creeping fitter.old by_half paper.now cell creep) }
+    ensures fits { OnOk result (FitsOnLeaf fitter.old paper.now creep) }
+    ensures refused { IfErr result (λ error. why_not_creeping fitter.old paper.now creep ≡ Some error) }
+    ensures same { fitter.new ≡ fitter.old }
+{
+    let item = match fitter.item(paper, by_half, cell) {
+        Ok(item) => item,
+        Err(error) => return Err(error),
+    };
+    match check_fold(fitter.setting(), paper, creep) {
+        Ok(()) => (),
+        Err(error) => return Err(error),
+    }
+    let setting = fitter.setting();
+    let by = towards_fold(setting.order.right_to_left, by_half, cell, creep);
+    Ok(moved_up(item, by))
+}
+
+/// The check that a page of this paper doesn't cross the fold of a leaf that creeps so far.
+fn check_fold(setting: &Setting, paper: &Paper, creep: u64) -> Result<(), ArrangementError>
+    requires halves { AreHalves setting.now }
+    ensures possible { OnOk result
+        (may_creep paper.now setting.now.room (scale_on setting.now paper.now) creep ≡ true) }
+    ensures refused { IfErr result (λ error. why_not_creeping setting.now paper.now creep ≡ Some error) }
+{
+    if creep == 0 {
+        return Ok(());
+    }
+    let slack = match setting.slack(paper) {
+        Ok(slack) => slack,
+        Err(error) => return Err(error),
+    };
+    if has_room(slack, setting.room.gap, creep) {
+        Ok(())
+    } else {
+        Err(ArrangementError::CreepOverFold)
+    }
+}
+
+/// Whether there is room at the fold for a leaf to creep so far.
+fn has_room(slack: u128, gap: u64, creep: u64) -> bool
+    ensures { result ≡ nat_le (2 * creep) (2 * slack + gap) }
+{
+    2 * u128::from(creep).saturating_sub(slack) <= u128::from(gap)
+}
+
+/// How far up a page is moved that is moved towards the fold.
+fn towards_fold(right_to_left: bool, by_half: bool, cell: u32, creep: u64) -> i64
+    requires { creep < 10_000_000_000 }
+    ensures value { result ≡ up_to_fold right_to_left by_half cell creep }
+    ensures in_range { nat_abs result < 10_000_000_000 }
+{
+    let creep = creep as i64;
+    let is_before = if right_to_left { cell == 1 } else { cell == 0 };
+    let up = if is_before { creep } else { 0 - creep };
+    if by_half { -up } else { up }
+}
+
+/// A page that is moved up by so many 10^-5 of a point; its offset is in points.
+fn moved_up(item: Item, by: i64) -> Item
+    requires by { nat_abs by < 10_000_000_000 }
+    requires reach { nat_abs ((item_of item).y.number +ℤ (pos 10_000 *ℤ by)) ≤ greatest_number }
+    ensures { item_of result ≡ moved_up_by by (item_of item) }
+{
+    let (x, y) = item.offset;
+    match Number::new(sum(y.number.billionths(), in_billionths(by))) {
+        Some(number) => Item {
+            offset: (
+                x,
+                Measure {
+                    number,
+                    unit: Unit::Pt,
+                },
+            ),
+            ..item
+        },
+        None => unreachable!(),
+    }
+}
+
+/// So many 10^-5 of a point, in 10^-9 of a point.
+fn in_billionths(by: i64) -> i64
+    requires { nat_abs by < 10_000_000_000 }
+    ensures { result ≡ pos 10_000 *ℤ by }
+{
+    10_000 * by
+}
+
+/// The sum, which a number can have.
+fn sum(one: i64, other: i64) -> i64
+    requires { nat_abs (one +ℤ other) ≤ greatest_number }
+    ensures { result ≡ one +ℤ other }
+{
+    one + other
+}

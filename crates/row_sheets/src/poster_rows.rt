@@ -1,0 +1,78 @@
+//! Posters of the pages of a row.
+ghost use Rattle.std.specs.Prelude.{◌≡◌, ◌⊎◌, ◌++◌, ◌*◌, ◌≤◌, IfErr, IfOk, OnOk, slice_index_or};
+ghost use Rattle.row_sheets.specs.Posters.{most_tiles, blank_tiles, entry_tiles, poster_paper, row_tiles};
+ghost use Rattle.row_sheets.specs.Posters.{AllMayBePosters, EntryMayBePoster, IsNoPosterFor, IsNoPosterFrom};
+ghost use Rattle.row_sheets.specs.declared.poster.PosterError.TheVariants as why;
+
+use crate::poster::{Poster, PosterError, push_poster};
+use lengths::Paper;
+use sheet_plan::{MadeSheets, MadeSlot};
+use std::alloc::Global;
+
+/// The pages of a row, each over the sheets of such a poster, one page after the other. A blank leaves as many sheets
+/// blank, and a page whose paper isn't known has the sheets'.
+pub fn poster_row_sheets(
+    alloc: Global,
+    poster: &Poster,
+    papers: &[Paper],
+    row: &[Option<u32>],
+) -> Result<MadeSheets, PosterError>
+    requires { poster.now.rows * poster.now.columns ≤ most_tiles }
+    ensures made { IfOk result (λ made. made ≡ row_tiles poster.now papers.now row.now) }
+    ensures fits { OnOk result (AllMayBePosters poster.now papers.now row.now) }
+    ensures refused { IfErr result (IsNoPosterFor poster.now papers.now row.now) }
+{
+    let mut made = MadeSheets::new(alloc);
+    for entry in row {
+        match push_entry(poster, papers, *entry, &mut made) {
+            Ok(()) => (),
+            Err(error) => return Err(error),
+        }
+    }
+    Ok(made)
+}
+
+/// Adds the sheets of an entry.
+fn push_entry(
+    poster: &Poster,
+    papers: &[Paper],
+    entry: Option<u32>,
+    made: &mut MadeSheets,
+) -> Result<(), PosterError>
+    requires { poster.now.rows * poster.now.columns ≤ most_tiles }
+    ensures pushed { OnOk result (made.new ≡ made.old ++ entry_tiles poster.now papers.now entry) }
+    ensures fits { OnOk result (EntryMayBePoster poster.now papers.now entry) }
+    ensures refused { IfErr result (λ e. (e ≡ why.NoMemory) ⊎ IsNoPosterFrom poster.now papers.now entry e) }
+{
+    match entry {
+        Some(page) => push_poster(poster, &poster_paper_of(poster, papers, page), page, made),
+        None => push_blanks(poster, made),
+    }
+}
+
+/// The paper of a page.
+pub(crate) fn poster_paper_of(poster: &Poster, papers: &[Paper], page: u32) -> Paper
+    ensures { result ≡ poster_paper poster.now papers.now page }
+{
+    if (page as usize) < papers.len() {
+        papers[page as usize]
+    } else {
+        poster.sheet
+    }
+}
+
+/// Adds as many blank sheets as a page takes.
+fn push_blanks(poster: &Poster, made: &mut MadeSheets) -> Result<(), PosterError>
+    requires { poster.now.rows * poster.now.columns ≤ most_tiles }
+    ensures pushed { OnOk result (made.new ≡ made.old ++ blank_tiles poster.now) }
+    ensures refused { IfErr result (λ e. e ≡ why.NoMemory) }
+{
+    for n in 0..poster.rows * poster.columns {
+        let slots = [MadeSlot::Blank];
+        match made.push(&poster.sheet, &slots) {
+            Ok(()) => (),
+            Err(_) => return Err(PosterError::NoMemory),
+        }
+    }
+    Ok(())
+}

@@ -1,0 +1,68 @@
+//! One scale for all pages of a row.
+ghost use Rattle.std.specs.Prelude.{◌≡◌, IfErr, IfOk};
+ghost use Rattle.row_sheets.specs.Shapes.{filling};
+ghost use Rattle.row_sheets.specs.SameScale.{at_one_scale as setting_of, least_with, lesser as lesser_of};
+ghost use Rattle.row_sheets.specs.SameScale.{HasNoScale, HaveNoScale};
+
+use crate::fill::paper_of;
+use layouts::{ArrangementError, Setting};
+use lengths::{Number, Paper};
+
+/// The cells with one scale for all pages of the row: that of the largest paper, the least of the pages' own. A page whose
+/// paper isn't known has the sheet's.
+pub fn at_one_scale(
+    setting: &Setting,
+    papers: &[Paper],
+    row: &[Option<u32>],
+) -> Result<Setting, ArrangementError>
+    ensures made { IfOk result (λ t. t ≡ setting_of (filling setting.now papers.now) row.now) }
+    ensures refused { IfErr result (HaveNoScale (filling setting.now papers.now) row.now) }
+{
+    let mut least = None;
+    for entry in row {
+        match with_entry(setting, papers, least, *entry) {
+            Ok(found) => least = found,
+            Err(error) => return Err(error),
+        }
+    }
+    Ok(Setting {
+        room: setting.room,
+        grid: setting.grid,
+        order: setting.order,
+        scale: least,
+    })
+}
+
+/// The least scale with one more entry.
+fn with_entry(
+    setting: &Setting,
+    papers: &[Paper],
+    least: Option<Number>,
+    entry: Option<u32>,
+) -> Result<Option<Number>, ArrangementError>
+    ensures value { IfOk result (λ found. found ≡ least_with (filling setting.now papers.now) least entry) }
+    ensures refused { IfErr result (HasNoScale (filling setting.now papers.now) entry) }
+{
+    let page = match entry {
+        Some(page) => page,
+        None => return Ok(least),
+    };
+    let scale = match setting.scale(&paper_of(setting, papers, page)) {
+        Ok(scale) => scale,
+        Err(error) => return Err(error),
+    };
+    match least {
+        Some(least) => Ok(Some(lesser(least, scale))),
+        None => Ok(Some(scale)),
+    }
+}
+
+fn lesser(one: Number, other: Number) -> Number
+    ensures { result ≡ lesser_of one other }
+{
+    if one.billionths() <= other.billionths() {
+        one
+    } else {
+        other
+    }
+}

@@ -1,3 +1,0 @@
--- Read in this order: what errors are called; what the answers mean.
-pub mod Errors
-pub mod Runs

@@ -1,5 +1,0 @@
-use Rattle.told_papers.proofs.Given.{no_marks_are_telling}
-use Rattle.told_papers.proofs.laws.no_marks_are_telling.Goals as goal
-
-pub returns : goal.returns
-returns c = no_marks_are_telling

@@ -1,6 +1,0 @@
-use Rattle.std.proofs.Common.{◌≡◌, drop, fold}
-use Rattle.page_papers.specs.Own.{covering}
-use Rattle.told_papers.proofs.lines.covering_all.Given as goal
-
-abbrev pub invariant-loop-paper : goal.invariant-loop-paper
-invariant-loop-paper l = fold covering l.large (drop l.paper-index l.others) ≡ fold covering l.first l.others

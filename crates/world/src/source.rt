@@ -1,0 +1,57 @@
+//! What bytes are read from.
+ghost use Rattle.std.specs.Prelude.{◌≡◌, ◌<◌, ◌≤◌, IfOk, length};
+ghost use Rattle.world.specs.Input.{Counts, Fills, SourceView};
+
+use std::io::Read;
+
+/// A source failed and gave nothing.
+#[derive(Clone, Copy, Debug, PartialEq, Eq)]
+pub struct SourceFault;
+
+/// What bytes are read from.
+pub trait Source {
+    // Which bytes are still to come, if it reports them, and how often it has failed.
+    ghost seen: { Self → SourceView };
+
+    /// Moves some of the bytes still to come to the front of `buffer` and answers how many, 0 only at the end.
+    fn fill(&mut self, buffer: &mut [u8]) -> Result<usize, SourceFault>
+        requires room { 0 < length buffer.old }
+        requires countable { (seen self.old).failures < u64.MAX }
+        ensures within { IfOk result (λ k. k ≤ length buffer.new) }
+        ensures moved { Fills (seen self.old).bytes (seen self.new).bytes result buffer.new }
+        ensures counted { Counts (seen self.old).failures (seen self.new).failures result };
+}
+
+/// A reader as a source. An error of the reader, an interrupted read too, is a failure.
+#[derive(Drop)]
+pub struct ReadSource<T> {
+    reader: T,
+    failures: u64,
+}
+
+impl<T: Read> ReadSource<T> {
+    /// A source of what the reader still gives, without failures so far.
+    pub fn new(reader: T) -> ReadSource<T>
+        ensures remaining { (⟦<ReadSource<T> as Source>⟧.seen result).bytes ≡ T.remaining reader }
+        ensures fresh { (⟦<ReadSource<T> as Source>⟧.seen result).failures ≡ 0 }
+    {
+        ReadSource {
+            reader,
+            failures: 0,
+        }
+    }
+}
+
+impl<T: Read> Source for ReadSource<T> {
+    ghost seen = { λ s. record { bytes = T.remaining s.reader; failures = s.failures } };
+
+    fn fill(&mut self, buffer: &mut [u8]) -> Result<usize, SourceFault> {
+        match self.reader.read(buffer) {
+            Ok(count) => Ok(count),
+            Err(_) => {
+                self.failures += 1;
+                Err(SourceFault)
+            }
+        }
+    }
+}
