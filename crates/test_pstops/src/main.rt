@@ -2,6 +2,7 @@
 //! prints what differs.
 #![tactic(auto)]
 
+mod corpus;
 mod requests;
 mod worlds;
 
@@ -22,6 +23,7 @@ const FILES: [&str; 5] = [
 ];
 
 fn main(rt: HostRuntime) -> anyhow::Result<()> {
+    corpus::impose_all(&rt, &rt)?;
     let mut tally = Tally::new();
     for name in FILES {
         let file = load(&rt, name)?;

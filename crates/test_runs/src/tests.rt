@@ -8,6 +8,7 @@ mod examples;
 mod gates;
 mod growth;
 mod handed_back;
+mod pstops;
 mod refused_puts;
 mod sheets_of_sheets;
 mod sinks;

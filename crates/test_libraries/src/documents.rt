@@ -1,0 +1,75 @@
+//! Runs the case files in `data`: calls of libraries, as commands over the documents there, with their answers. It
+//! prints the cases that differ, and the number of cases.
+mod changes;
+mod cuts;
+mod differing;
+mod document_commands;
+mod guards;
+mod known_laws;
+mod named_rows;
+mod paper_commands;
+mod paper_texts;
+mod row_commands;
+mod sheets;
+mod words;
+
+use crate::documents::differing::tell_differing;
+use crate::documents::document_commands::answer_of_document;
+use crate::documents::known_laws::call_laws;
+use crate::documents::paper_commands::answer_of_papers;
+use crate::documents::row_commands::answer_of_rows;
+use crate::documents::words::words_of;
+use std::alloc::Global;
+use test_cases::{Case, Document, Found, Tally, load};
+
+const FILES: [&str; 6] = [
+    "cuts.cases",
+    "documents.cases",
+    "guards.cases",
+    "papers.cases",
+    "rows.cases",
+    "sheets.cases",
+];
+
+/// Goes through them.
+pub fn run_all(rt: &HostRuntime) -> anyhow::Result<()> {
+    call_laws();
+    tell_differing(rt)?;
+    let mut tally = Tally::new();
+    for name in FILES {
+        let file = load(rt, name)?;
+        tally.tell_bad_lines(rt, name, &file)?;
+        for case in file.cases.iter() {
+            let found = found(rt.alloc(), case, file.documents.as_slice())?;
+            tally.compare(rt, name, case, &found)?;
+        }
+    }
+    tally.end(rt)
+}
+
+/// The result of a command: its answer, or why it has none.
+fn found(alloc: Global, case: &Case, documents: &[Document]) -> anyhow::Result<Found> {
+    let words = words_of(alloc, case)?;
+    let (status, text) = match answer(alloc, words.as_slice(), documents) {
+        Ok(Some(text)) => (0, text),
+        Ok(None) => (2, String::from_str(alloc, "no such command\n")?),
+        Err(error) => (2, format!(in alloc; "{error}\n")?),
+    };
+    Ok(Found {
+        status,
+        output: Vec::from_slice(alloc, text.as_bytes())?,
+        error: Vec::new(alloc),
+        files: Vec::new(alloc),
+    })
+}
+
+/// The answer of the library that the command names.
+fn answer(alloc: Global, words: &[&str], documents: &[Document]) -> anyhow::Result<Option<String>> {
+    if let Some(text) = answer_of_document(alloc, words, documents)? {
+        return Ok(Some(text));
+    }
+    if let Some(text) = answer_of_papers(alloc, words, documents)? {
+        return Ok(Some(text));
+    }
+    answer_of_rows(alloc, words)
+}

@@ -1,0 +1,177 @@
+//! Sheets whose cells are filled from a row, and posters.
+ghost use Rattle.std.specs.Prelude.{◌*◌, ◌≤◌, IfSome};
+ghost use Rattle.layouts.specs.Cells.{size};
+
+use crate::specifications::answer::Answer;
+use crate::specifications::planned::page_lists;
+use crate::specifications::words::{number, paper, row, word};
+use layouts::{Arrangement, ArrangementError, Cells, Papers, Setting};
+use lengths::{Paper, a4};
+use row_sheets::{
+    Poster, card_sheets, check_poster, grid_sheets, leaf_sheets, poster_row_sheets, poster_sheets,
+    stack_sheets,
+};
+use sheet_plan::{MadeSheets, Plan};
+
+pub fn run(out: &mut Answer, words: &[String]) -> Option<()> {
+    match word(words, 0)? {
+        "filled" => filled(out, words, &[])?,
+        "filled_with" => {
+            let papers = [a4(), paper(words, 1)?];
+            filled(out, behind_first(words), &papers)?;
+        }
+        "fitted" => fitted(out, &paper(words, 1)?)?,
+        "scale" => scale(out, &paper(words, 1)?)?,
+        "poster" => poster(out, words)?,
+        "check_poster" => checked(out, words)?,
+        "posters" => posters(out, words)?,
+        _ => return None,
+    }
+    Some(())
+}
+
+fn behind_first(words: &[String]) -> &[String] {
+    match words {
+        [_, rest @ ..] => rest,
+        [] => words,
+    }
+}
+
+/// Two columns and one row on A4, chosen for pages of that paper.
+pub fn two_columns() -> Option<Setting>
+    ensures { IfSome result (λ t. 2 ≤ size t.grid) }
+{
+    let papers = Papers {
+        page: a4(),
+        sheet: a4(),
+    };
+    let cells = Cells::Exactly {
+        columns: 2,
+        rows: 1,
+    };
+    match Setting::of(&papers, &Arrangement::plain(cells)) {
+        Ok(setting) => Some(setting),
+        Err(_) => None,
+    }
+}
+
+/// The pages of sheets that are filled from a row in this way, with these papers.
+fn filled(out: &mut Answer, words: &[String], papers: &[Paper]) -> Option<()> {
+    let setting = two_columns()?;
+    let (alloc, way) = (out.alloc, word(words, 1)?);
+    let row = row(alloc, behind_first(behind_first(words)))?;
+    let row = row.as_slice();
+    let made = match way {
+        "grid" => grid_sheets(alloc, &setting, papers, 2, row),
+        "cards" => card_sheets(alloc, &setting, papers, 2, row),
+        "stack" => stack_sheets(alloc, &setting, papers, 2, row),
+        "leaves" => leaf_sheets(alloc, &setting, papers, row),
+        _ => return None,
+    };
+    tell(out, made);
+    Some(())
+}
+
+/// The pages of each sheet, or why there are none.
+fn tell(out: &mut Answer, made: Result<MadeSheets, ArrangementError>) {
+    match made {
+        Ok(made) => match Plan::of_sheets(out.alloc, 8, &made) {
+            Ok(plan) => page_lists(out, &plan),
+            Err(error) => out.refusal(error),
+        },
+        Err(error) => out.refusal(error),
+    }
+}
+
+/// How a page is scaled and moved in the second cell, in 10^-9.
+fn fitted(out: &mut Answer, paper: &Paper) -> Option<()> {
+    match two_columns()?.item(paper, 1) {
+        Ok(item) => {
+            let (x, y) = (item.offset.0.number, item.offset.1.number);
+            let scale = item.scale.billionths();
+            out.line(format_args!("{scale} {} {}", x.billionths(), y.billionths()));
+        }
+        Err(error) => out.refusal(error),
+    }
+    Some(())
+}
+
+fn scale(out: &mut Answer, paper: &Paper) -> Option<()> {
+    match two_columns()?.scale(paper) {
+        Ok(scale) => out.line(scale.billionths()),
+        Err(error) => out.refusal(error),
+    }
+    Some(())
+}
+
+/// Two columns and one row of A4 sheets, with 10 points free along each edge, that overlap by 20 points.
+fn two_tiles() -> Poster
+    ensures { result.rows * result.columns ≤ 1_024 }
+{
+    Poster {
+        sheet: a4(),
+        columns: 2,
+        rows: 1,
+        edge: 1_000_000,
+        overlap: 2_000_000,
+    }
+}
+
+/// Such a poster; or one with the columns, the edge and the overlap that follow the page's paper.
+fn told(words: &[String]) -> Option<Poster> {
+    let mut poster = two_tiles();
+    if word(words, 2).is_some() {
+        poster.columns = u32::try_from(number(words, 2)?).ok()?;
+        poster.edge = u64::try_from(number(words, 3)?).ok()?;
+        poster.overlap = u64::try_from(number(words, 4)?).ok()?;
+    }
+    Some(poster)
+}
+
+fn poster(out: &mut Answer, words: &[String]) -> Option<()> {
+    match poster_sheets(out.alloc, &told(words)?, &paper(words, 1)?, 0) {
+        Ok(made) => offsets(out, &made),
+        Err(error) => out.refusal(error),
+    }
+    Some(())
+}
+
+fn checked(out: &mut Answer, words: &[String]) -> Option<()> {
+    match check_poster(&told(words)?, &paper(words, 1)?) {
+        Ok(()) => out.verdict(true),
+        Err(error) => out.refusal(error),
+    }
+    Some(())
+}
+
+/// The pages of a row, each on two such tiles; the second page has a paper of its own.
+fn posters(out: &mut Answer, words: &[String]) -> Option<()> {
+    let papers = [a4(), paper(words, 1)?];
+    let row = row(out.alloc, behind_first(behind_first(words)))?;
+    match poster_row_sheets(out.alloc, &two_tiles(), &papers, row.as_slice()) {
+        Ok(made) => offsets(out, &made),
+        Err(error) => out.refusal(error),
+    }
+    Some(())
+}
+
+/// The offset of the first page of each sheet, in 10^-9 of a point.
+fn offsets(out: &mut Answer, made: &MadeSheets) {
+    let Ok(sheets) = u32::try_from(made.len()) else {
+        return out.text("too many\n");
+    };
+    for sheet in 0..sheets {
+        if made.slots(sheet) == 0 {
+            out.text("no slots\n");
+        } else {
+            match made.placed(sheet, 0) {
+                Some(placed) => {
+                    let (x, y) = placed.item.offset;
+                    let (x, y) = (x.number.billionths(), y.number.billionths());
+                    out.line(format_args!("{x} {y}"));
+                }
+                None => out.text("-\n"),
+            }
+        }
+    }
+}

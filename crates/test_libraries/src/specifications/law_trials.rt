@@ -1,0 +1,241 @@
+//! The laws of layouts on printed matrices, by arithmetic of the tests' own: all numbers of pages on many papers.
+use crate::specifications::answer::Answer;
+use crate::specifications::placed::{
+    Kept, Placed, are_apart, are_in_order, are_inside, are_like, columns_of, largest, pages_of,
+};
+use crate::specifications::words::word;
+use layouts::{Arrangement, Binding, Cells, Papers, arrange, bind};
+use lengths::{Grains, paper_by_name};
+use pagespec::Spec;
+use std::alloc::{AllocError, Global};
+
+/// The papers, with their sides in points.
+const PAPERS: [(&str, i64, i64); 8] = [
+    ("a3", 842, 1191),
+    ("a4", 595, 842),
+    ("a5", 420, 595),
+    ("letter", 612, 792),
+    ("legal", 612, 1008),
+    ("tabloid", 792, 1224),
+    ("statement", 396, 612),
+    ("10x14", 720, 1008),
+];
+
+/// Some of the numbers of pages from 65 to 1,024.
+const MANY: [u32; 5] = [65, 97, 256, 720, 1_024];
+
+/// Numbers of pages on sheets of other papers.
+const SOME: [u32; 10] = [1, 2, 3, 4, 6, 8, 13, 16, 24, 64];
+
+const NOTHING: Kept = Kept { margin: 0, gap: 0 };
+
+/// 10 mm along the edges, and 5 mm between cells.
+const MILLIMETRES: Kept = Kept {
+    margin: 2_834_646,
+    gap: 1_417_323,
+};
+
+pub fn run(out: &mut Answer, words: &[String]) -> Option<()> {
+    match word(words, 0)? {
+        "1_to_64_pages" => {
+            let numbers = up_to_64(out.alloc)?;
+            layouts_tried(out, numbers.as_slice(), true, NOTHING);
+        }
+        "many_pages" => layouts_tried(out, &MANY, true, NOTHING),
+        "other_papers" => layouts_tried(out, &SOME, false, NOTHING),
+        "booklets" => booklets_tried(out),
+        "margins_and_gaps" => {
+            let numbers = up_to_64(out.alloc)?;
+            layouts_tried(out, numbers.as_slice(), true, MILLIMETRES);
+        }
+        "laws" => laws_called(out),
+        _ => return None,
+    }
+    Some(())
+}
+
+fn up_to_64(alloc: Global) -> Option<Vec<u32>> {
+    let mut numbers = Vec::new(alloc);
+    for n in 1..65u32 {
+        numbers.push(n).ok()?;
+    }
+    Some(numbers)
+}
+
+/// A paper by its name, and its sides in points.
+type Named = (&'static str, i64, i64);
+
+/// Prints how many layouts have no fault, or the first that has one.
+fn layouts_tried(out: &mut Answer, numbers: &[u32], on_own_paper: bool, kept: Kept) {
+    let mut count = 0u32;
+    for page in PAPERS {
+        for sheet in PAPERS {
+            if on_own_paper && page.0 != sheet.0 {
+                continue;
+            }
+            for n in numbers {
+                let fault = fault_of(out.alloc, *n, page, sheet, kept);
+                if fault != "" {
+                    out.line(format_args!("{n} of {} on {}: {fault}", page.0, sheet.0));
+                    return;
+                }
+                count = count.saturating_add(1);
+            }
+        }
+    }
+    out.line(format_args!("{count} layouts, no fault"));
+}
+
+/// The specification of n pages of one paper on a sheet of the other.
+fn laid_out(alloc: Global, n: u32, papers: &Papers, kept: Kept) -> Option<Spec> {
+    let mut arrangement = Arrangement::plain(Cells::AtLeast(n));
+    if kept.margin != 0 {
+        arrangement.margin = Grains::new(3_600_000_000_000)?;
+        arrangement.gap = Grains::new(1_800_000_000_000)?;
+    }
+    arrange(alloc, papers, &arrangement).ok()
+}
+
+fn papers_named(page: &str, sheet: &str) -> Option<Papers> {
+    Some(Papers {
+        page: paper_by_name(page)?,
+        sheet: paper_by_name(sheet)?,
+    })
+}
+
+/// What is wrong with n pages of one paper on a sheet of the other.
+fn fault_of(alloc: Global, n: u32, page: Named, sheet: Named, kept: Kept) -> &'static str {
+    let Some(papers) = papers_named(page.0, sheet.0) else {
+        return "no paper";
+    };
+    let Some(spec) = laid_out(alloc, n, &papers, kept) else {
+        return "refused";
+    };
+    if spec.groups().len() != 1 || spec.modulo() != n {
+        return "not so many sheets";
+    }
+    let sides = (page.1, page.2);
+    match pages_of(alloc, &spec, 0, &papers.page, sides) {
+        Ok(pages) => fault_among(pages.as_slice(), n, sides, (sheet.1, sheet.2), kept),
+        Err(_) => "out of memory",
+    }
+}
+
+/// What is wrong with n pages with these sides on a sheet with these sides.
+fn fault_among(
+    pages: &[Placed],
+    n: u32,
+    page: (i64, i64),
+    sheet: (i64, i64),
+    kept: Kept,
+) -> &'static str {
+    let Some(first) = pages.first() else {
+        return "no page";
+    };
+    if pages.len() != n as usize {
+        return "not so many pages";
+    }
+    if !are_like(pages, first.quarters, first.scale) || 1 < first.quarters {
+        return "not alike";
+    }
+    if !are_inside(pages, sheet, kept.margin.saturating_mul(10_000)) {
+        return "not inside";
+    }
+    if !are_apart(pages, kept.gap.saturating_mul(10_000)) {
+        return "not apart";
+    }
+    if !are_in_order(pages, columns_of(pages)) {
+        return "not in order";
+    }
+    let best = largest(i64::from(n), page, sheet, kept);
+    if best < first.scale || first.scale.saturating_add(1_000) <= best {
+        return "not large";
+    }
+    ""
+}
+
+/// Prints how many booklets have no fault, or the first that has one.
+fn booklets_tried(out: &mut Answer) {
+    let mut count = 0u32;
+    for page in PAPERS {
+        for sheet in PAPERS {
+            for long_edge in [false, true] {
+                let fault = booklet_fault(out.alloc, page, sheet, long_edge);
+                if fault != "" {
+                    out.line(format_args!("{} on {}: {fault}", page.0, sheet.0));
+                    return;
+                }
+                count = count.saturating_add(1);
+            }
+        }
+    }
+    out.line(format_args!("{count} layouts, no fault"));
+}
+
+/// What is wrong with a booklet.
+fn booklet_fault(alloc: Global, page: Named, sheet: Named, long_edge: bool) -> &'static str {
+    let Some(papers) = papers_named(page.0, sheet.0) else {
+        return "no paper";
+    };
+    let Ok(spec) = bind(alloc, &papers, &Binding::plain(long_edge)) else {
+        return "refused";
+    };
+    let sides = (page.1, page.2);
+    let (front, back) = (
+        pages_of(alloc, &spec, 0, &papers.page, sides),
+        pages_of(alloc, &spec, 1, &papers.page, sides),
+    );
+    match (front, back) {
+        (Ok(front), Ok(back)) => {
+            let backs = if long_edge { 2 } else { 0 };
+            if back.len() != backs {
+                return "not two pages";
+            }
+            fault_of_leaf(front.as_slice(), back.as_slice(), (sheet.1, sheet.2))
+        }
+        _ => "out of memory",
+    }
+}
+
+/// What is wrong with the sides of a leaf.
+fn fault_of_leaf(front: &[Placed], back: &[Placed], sheet: (i64, i64)) -> &'static str {
+    let Some(first) = front.first() else {
+        return "no page";
+    };
+    if front.len() != 2 {
+        return "not two pages";
+    }
+    for (pages, quarters) in [(front, 1), (back, 3)] {
+        if !are_like(pages, quarters, first.scale) {
+            return "not alike";
+        }
+        if !are_inside(pages, sheet, 0) || !are_apart(pages, 0) {
+            return "not inside, or not apart";
+        }
+        if !are_in_order(pages, 2) {
+            return "not in order";
+        }
+    }
+    ""
+}
+
+/// Calls the proved laws.
+fn laws_called(out: &mut Answer) {
+    lengths::laws::printed_scale_is_read();
+    lengths::laws::printed_number_is_read();
+    placement::laws::printed_matrix_is_near();
+    layouts::laws::stands_where_put();
+    layouts::laws::pages_are_inside();
+    layouts::laws::pages_are_apart();
+    layouts::laws::pages_are_in_order();
+    layouts::laws::pages_are_in_middle();
+    layouts::laws::best_has_cells();
+    layouts::laws::best_is_best();
+    layouts::laws::best_is_large();
+    layouts::laws::back_is_inside();
+    layouts::laws::back_is_half_turn();
+    layouts::laws::leaf_keeps_fold();
+    layouts::laws::right_to_left_is_mirror();
+    layouts::laws::printed_as_it_is();
+    out.text("called\n");
+}

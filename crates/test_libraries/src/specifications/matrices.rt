@@ -1,0 +1,61 @@
+//! Matrices, and what comes before and after a page.
+use crate::specifications::answer::Answer;
+use crate::specifications::words::{item, number, paper, word};
+use lengths::{Grains, Paper};
+use pagespec::Item;
+use placement::{closing_text, matrix_of, matrix_text, opening_text};
+use std::alloc::Global;
+
+pub fn run(out: &mut Answer, words: &[String]) -> Option<()> {
+    match word(words, 0)? {
+        "matrix" => matrix(out, &placed(out.alloc, words)?, &paper(words, 2)?),
+        "apply" => applied(
+            out,
+            &placed(out.alloc, words)?,
+            &paper(words, 2)?,
+            (coordinate(words, 3)?, coordinate(words, 4)?),
+        ),
+        "page_texts" => page_texts(
+            out,
+            &placed(out.alloc, words)?,
+            &paper(words, 2)?,
+            border(words, 3),
+        ),
+        _ => return None,
+    }
+    Some(())
+}
+
+/// The item of a text.
+fn placed(alloc: Global, words: &[String]) -> Option<Item> {
+    item(alloc, word(words, 1)?)
+}
+
+fn coordinate(words: &[String], at: usize) -> Option<i32> {
+    i32::try_from(number(words, at)?).ok()
+}
+
+/// The width of a border, in grains, if there is one.
+fn border(words: &[String], at: usize) -> Option<Grains> {
+    Grains::new(number(words, at)?)
+}
+
+fn matrix(out: &mut Answer, item: &Item, paper: &Paper) {
+    let added = matrix_text(&matrix_of(item, paper), &mut out.bytes);
+    out.note(added.is_ok());
+    out.text("\n");
+}
+
+fn applied(out: &mut Answer, item: &Item, paper: &Paper, point: (i32, i32)) {
+    let (x, y) = matrix_of(item, paper).apply(point.0, point.1);
+    out.line(format_args!("{x} {y}"));
+}
+
+/// What comes before a page, appended to a text, and what comes after the page.
+fn page_texts(out: &mut Answer, item: &Item, paper: &Paper, border: Option<Grains>) {
+    out.text("% page\n");
+    let added = opening_text(item, paper, border, &mut out.bytes);
+    out.note(added.is_ok());
+    let added = closing_text(&mut out.bytes);
+    out.note(added.is_ok());
+}

@@ -1,0 +1,93 @@
+//! Numbers, lengths and papers.
+use crate::specifications::answer::Answer;
+use crate::specifications::words::{number, paper, word};
+use lengths::{
+    Grains, Number, Unit, paper_by_name, print_number, print_points, print_scale, read_digits,
+    read_number, to_grains, unit_by_name,
+};
+
+pub fn run(out: &mut Answer, words: &[String]) -> Option<()> {
+    let text = word(words, 1).unwrap_or("");
+    match word(words, 0)? {
+        "read_number" => number_at_start(out, text),
+        "read_digits" => digits_at_start(out, text),
+        "to_grains" => in_grains(out, words)?,
+        "print_number" => printed(out, billionths(words)?),
+        "print_points" => points(out, Grains::new(number(words, 1)?)?),
+        "paper_by_name" => named(out, text),
+        "numbers" => numbers(out),
+        "is_number" => out.verdict(billionths(words).is_some()),
+        "is_length" => out.verdict(Grains::new(number(words, 1)?).is_some()),
+        "is_paper" => out.verdict(paper(words, 1).is_some()),
+        _ => return None,
+    }
+    Some(())
+}
+
+/// A number, given in 10^-9.
+fn billionths(words: &[String]) -> Option<Number> {
+    Number::new(i64::try_from(number(words, 1)?).ok()?)
+}
+
+fn number_at_start(out: &mut Answer, text: &str) {
+    match read_number(text.as_bytes()) {
+        Ok((number, len)) => out.line(format_args!("{} {len}", number.billionths())),
+        Err(error) => out.refusal(error),
+    }
+}
+
+fn digits_at_start(out: &mut Answer, text: &str) {
+    match read_digits(text.as_bytes()) {
+        Some((value, rest)) => out.line(format_args!("{value} {}", rest.len())),
+        None => out.text("none\n"),
+    }
+}
+
+fn in_grains(out: &mut Answer, words: &[String]) -> Option<()> {
+    let length = to_grains(billionths(words)?, unit(words)?, &paper(words, 3)?);
+    out.line(length.get());
+    Some(())
+}
+
+fn unit(words: &[String]) -> Option<Unit> {
+    match word(words, 2)? {
+        "w" => Some(Unit::W),
+        "h" => Some(Unit::H),
+        name => unit_by_name(name.as_bytes()),
+    }
+}
+
+/// A number after a text, in full and as a specification has it.
+fn printed(out: &mut Answer, number: Number) {
+    out.text("@");
+    let added = print_scale(number, &mut out.bytes);
+    out.note(added.is_ok());
+    out.text(" @");
+    let added = print_number(number, &mut out.bytes);
+    out.note(added.is_ok());
+    out.text("\n");
+}
+
+fn points(out: &mut Answer, length: Grains) {
+    let added = print_points(length, &mut out.bytes);
+    out.note(added.is_ok());
+    out.text("\n");
+}
+
+/// The sides of a paper, in points.
+fn named(out: &mut Answer, name: &str) {
+    match paper_by_name(name) {
+        Some(paper) => {
+            let width = paper.width().get() / 127_000_000_000;
+            let height = paper.height().get() / 127_000_000_000;
+            out.line(format_args!("{width} x {height}"));
+        }
+        None => out.text("none\n"),
+    }
+}
+
+fn numbers(out: &mut Answer) {
+    let (zero, one) = (Number::ZERO.billionths(), Number::ONE.billionths());
+    let less = (-Number::ONE).billionths();
+    out.line(format_args!("{zero} {one} {less}"));
+}

@@ -1,0 +1,132 @@
+//! Layouts: specifications that are made for people.
+use crate::specifications::answer::Answer;
+use crate::specifications::specifications::written;
+use crate::specifications::words::{count, length, number, number_in, paper, word};
+use layouts::{Arrangement, ArrangementError, Binding, Cells, Papers, Run, Turned, arrange, bind};
+use lengths::{Grains, Number, a4};
+use pagespec::Spec;
+use std::fmt::{Debug, Display};
+
+pub fn run(out: &mut Answer, words: &[String]) -> Option<()> {
+    match word(words, 0)? {
+        "nup" => pages_on_sheets(out, words),
+        "booklet" => leaves(out, words),
+        "arrange" => cells_of_a4(out, words),
+        "bind" => leaves_of_a4(out, words),
+        "no_memory_for_a_layout" => {
+            out.line(ArrangementError::NoMemory);
+            Some(())
+        }
+        _ => None,
+    }
+}
+
+fn pages_on_sheets(out: &mut Answer, words: &[String]) -> Option<()> {
+    let cells = Cells::AtLeast(count(words, 1)?);
+    let made = arrange(out.alloc, &papers(words)?, &Arrangement::plain(cells));
+    tell(out, made)
+}
+
+fn leaves(out: &mut Answer, words: &[String]) -> Option<()> {
+    let binding = Binding::plain(word(words, 1)? == "long");
+    let made = bind(out.alloc, &papers(words)?, &binding);
+    tell(out, made)
+}
+
+fn cells_of_a4(out: &mut Answer, words: &[String]) -> Option<()> {
+    match arrangement(words) {
+        Some(asked) => tell(out, arrange(out.alloc, &on_a4(), &asked)),
+        None => None,
+    }
+}
+
+fn leaves_of_a4(out: &mut Answer, words: &[String]) -> Option<()> {
+    match binding(words) {
+        Some(asked) => tell(out, bind(out.alloc, &on_a4(), &asked)),
+        None => None,
+    }
+}
+
+/// The papers of pages and sheets.
+fn papers(words: &[String]) -> Option<Papers> {
+    Some(Papers {
+        page: paper(words, 2)?,
+        sheet: paper(words, 3)?,
+    })
+}
+
+/// A specification, or why there is none.
+fn tell<E: Debug + Display + Drop>(out: &mut Answer, made: Result<Spec, E>) -> Option<()> {
+    match made {
+        Ok(spec) => written(out, &spec),
+        Err(error) => out.refusal(error),
+    }
+    Some(())
+}
+
+fn on_a4() -> Papers {
+    Papers {
+        page: a4(),
+        sheet: a4(),
+    }
+}
+
+/// Cells, and the options that follow them.
+fn arrangement(words: &[String]) -> Option<Arrangement> {
+    let mut arrangement = Arrangement::plain(cells(word(words, 1)?)?);
+    for word in words.iter().skip(2) {
+        ask(&mut arrangement, word.as_str())?;
+    }
+    Some(arrangement)
+}
+
+/// This many cells or more, or `columns x rows`.
+fn cells(text: &str) -> Option<Cells> {
+    match text.split_once('x') {
+        None => Some(Cells::AtLeast(small(text)?)),
+        Some((columns, rows)) => Some(Cells::Exactly {
+            columns: small(columns)?,
+            rows: small(rows)?,
+        }),
+    }
+}
+
+fn small(text: &str) -> Option<u32> {
+    u32::try_from(number_in(text)?).ok()
+}
+
+fn ask(arrangement: &mut Arrangement, text: &str) -> Option<()> {
+    match text.split_once('=').unwrap_or((text, "")) {
+        ("columns", "") => arrangement.order.run = Run::Columns,
+        ("right_to_left", "") => arrangement.order.right_to_left = true,
+        ("left", "") => arrangement.order.turned = Turned::Left,
+        ("right", "") => arrangement.order.turned = Turned::Right,
+        ("margin", value) => arrangement.margin = hundred_thousandths(value)?,
+        ("gap", value) => arrangement.gap = hundred_thousandths(value)?,
+        ("trim", value) => arrangement.trim = hundred_thousandths(value)?,
+        ("scale", value) => arrangement.scale = Some(billionths(value)?),
+        _ => return None,
+    }
+    Some(())
+}
+
+/// This many 10^-5 of a point.
+fn hundred_thousandths(text: &str) -> Option<Grains> {
+    length(text, 1_270_000)
+}
+
+fn billionths(text: &str) -> Option<Number> {
+    Number::new(i64::try_from(number_in(text)?).ok()?)
+}
+
+fn binding(words: &[String]) -> Option<Binding> {
+    let mut binding = Binding::plain(false);
+    for word in words.iter().skip(1) {
+        match word.as_str().split_once('=').unwrap_or((word.as_str(), "")) {
+            ("right_to_left", "") => binding.right_to_left = true,
+            ("gap", value) => binding.gap = hundred_thousandths(value)?,
+            _ => return None,
+        }
+    }
+    Some(binding)
+}

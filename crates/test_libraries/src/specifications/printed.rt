@@ -1,0 +1,131 @@
+//! Sheets as they are listed and drawn before they are imposed.
+use crate::specifications::answer::Answer;
+use crate::specifications::filled::two_columns;
+use crate::specifications::words::{count, length, paper, row, word};
+use layouts::{ArrangementError, Setting};
+use lengths::{Grains, Number, Paper};
+use pagespec::{Item, Measure, Turn};
+use preview::{Edge, Guide, GuideKind, Places, Reading, Sides, plan_text, preview_text};
+use row_sheets::{booklet_sheets, grid_sheets};
+use sheet_plan::{MadeSheets, MadeSlot};
+use std::alloc::{AllocError, Global};
+
+pub fn run(out: &mut Answer, words: &[String]) -> Option<()> {
+    match word(words, 0)? {
+        "booklet_plan" => booklet_plan(out, words)?,
+        "grid_plan" => grid_plan(out, words)?,
+        "preview" => folded_sheet(out, &paper(words, 1)?)?,
+        _ => return None,
+    }
+    Some(())
+}
+
+/// The plan of a booklet of a row.
+fn booklet_plan(out: &mut Answer, words: &[String]) -> Option<()> {
+    let setting = two_columns()?;
+    let row = row_behind(out.alloc, words, 2)?;
+    let made = booklet_sheets(out.alloc, &setting, &[], false, row.as_slice());
+    let flip = Edge::Short;
+    tell(
+        out,
+        made,
+        &reading(Sides::Both { flip }, &setting),
+        count(words, 1)?,
+    );
+    Some(())
+}
+
+/// The plan of a row in cells; the second page has a paper of its own.
+fn grid_plan(out: &mut Answer, words: &[String]) -> Option<()> {
+    let setting = two_columns()?;
+    let row = row_behind(out.alloc, words, 3)?;
+    let papers = [lengths::a4(), paper(words, 2)?, lengths::a4()];
+    let made = grid_sheets(out.alloc, &setting, &papers, 2, row.as_slice());
+    tell(out, made, &reading(Sides::One, &setting), count(words, 1)?);
+    Some(())
+}
+
+/// The row that follows this many words.
+fn row_behind(alloc: Global, words: &[String], first: usize) -> Option<Vec<Option<u32>>> {
+    row(alloc, words.get(first..)?)
+}
+
+fn reading(sides: Sides, setting: &Setting) -> Reading {
+    let places = Places::Cells {
+        grid: setting.grid,
+        order: setting.order,
+    };
+    Reading { sides, places }
+}
+
+/// The plan of sheets, this many of which are listed.
+fn tell(
+    out: &mut Answer,
+    made: Result<MadeSheets, ArrangementError>,
+    reading: &Reading,
+    most: u32,
+) {
+    match made {
+        Ok(sheets) => add(out, plan_text(out.alloc, &sheets, reading, most)),
+        Err(error) => out.refusal(error),
+    }
+}
+
+fn add(out: &mut Answer, text: Result<Vec<u8>, AllocError>) {
+    match text {
+        Ok(text) => {
+            let added = out.bytes.extend_from_slice(text.as_slice());
+            out.note(added.is_ok());
+        }
+        Err(_) => out.note(false),
+    }
+}
+
+/// The picture of a sheet of this paper with a page and a blank, folded half way up.
+fn folded_sheet(out: &mut Answer, paper: &Paper) -> Option<()> {
+    let alloc = out.alloc;
+    match one_sheet(alloc, 2, paper) {
+        Ok(sheets) => {
+            let fold = fold()?;
+            let sides = Sides::Both { flip: Edge::Short };
+            add(out, preview_text(alloc, &sheets, sides, &[fold], 40));
+        }
+        Err(_) => out.note(false),
+    }
+    Some(())
+}
+
+/// A fold across a sheet that is 100 points wide and 200 points high.
+fn fold() -> Option<Guide> {
+    let (left, side) = (points("0")?, points("100")?);
+    Some(Guide {
+        kind: GuideKind::Fold,
+        start: (left, side),
+        end: (side, side),
+    })
+}
+
+fn points(text: &str) -> Option<Grains> {
+    length(text, 127_000_000_000)
+}
+
+/// A page as it is.
+const WHOLE: Item = Item {
+    page: 0,
+    from_end: false,
+    turn: Turn::None,
+    scale: Number::ONE,
+    offset: (Measure::ZERO, Measure::ZERO),
+};
+
+/// A sheet of this paper, with this page unmoved, and a blank.
+fn one_sheet(alloc: Global, page: u32, paper: &Paper) -> Result<MadeSheets, AllocError> {
+    let mut sheets = MadeSheets::new(alloc);
+    let placed = MadeSlot::Placed {
+        page,
+        item: WHOLE,
+        paper: *paper,
+    };
+    sheets.push(paper, &[placed, MadeSlot::Blank])?;
+    Ok(sheets)
+}

@@ -1,0 +1,106 @@
+//! Specifications: what is read, refused and written.
+use crate::specifications::answer::Answer;
+use crate::specifications::words::{specification, word};
+use pagespec::{Item, Measure, Spec, SpecError, read_spec, write_spec};
+use std::alloc::{AllocError, Global};
+
+pub fn run(out: &mut Answer, words: &[String]) -> Option<()> {
+    match word(words, 0)? {
+        "read_spec" => {
+            if let Some(spec) = specification(out, words, 1) {
+                items(out, &spec);
+            }
+        }
+        "write_spec" => {
+            if let Some(spec) = specification(out, words, 1) {
+                written(out, &spec);
+            }
+        }
+        "syntax" => syntax(out, word(words, 1)?),
+        "no_memory_for_a_specification" => out.line(SpecError::NoMemory),
+        _ => return None,
+    }
+    Some(())
+}
+
+/// The modulo, and the items of each group.
+fn items(out: &mut Answer, spec: &Spec) {
+    out.line(format_args!("modulo {}", spec.modulo()));
+    for (number, group) in spec.groups().iter().enumerate() {
+        out.line(format_args!("group {number}"));
+        for item in group.iter() {
+            item_line(out, item);
+        }
+    }
+}
+
+fn item_line(out: &mut Answer, item: &Item) {
+    out.show(format_args!("  page {}", item.page));
+    out.text(if item.from_end { " from the end" } else { "" });
+    let scale = item.scale.billionths();
+    out.show(format_args!(", {:?}, scale {scale}, offset", item.turn));
+    measure(out, item.offset.0);
+    measure(out, item.offset.1);
+    out.text("\n");
+}
+
+fn measure(out: &mut Answer, measure: Measure) {
+    let number = measure.number.billionths();
+    out.show(format_args!(" {number} {:?}", measure.unit));
+}
+
+/// The canonical text.
+pub fn written(out: &mut Answer, spec: &Spec) {
+    match write_spec(out.alloc, spec) {
+        Ok(text) => out.line(text.as_str()),
+        Err(_) => out.note(false),
+    }
+}
+
+/// Where a text is refused, by the refusal and by a slow search.
+fn syntax(out: &mut Answer, text: &str) {
+    match read_spec(out.alloc, text) {
+        Err(SpecError::Syntax(place)) => out.show(place),
+        Err(error) => out.refusal(error),
+        Ok(_) => out.text("taken"),
+    }
+    match longest_prefix(out.alloc, text) {
+        Ok(longest) => out.line(format_args!(" {longest}")),
+        Err(_) => out.note(false),
+    }
+}
+
+/// The longest prefix that can be continued to a text of the grammar, by trying every prefix with each end that one
+/// may need.
+fn longest_prefix(alloc: Global, text: &str) -> Result<usize, AllocError> {
+    let mut longest = 0;
+    for k in 0..text.len() + 1 {
+        if let Some(prefix) = text.get(..k) {
+            if goes_on(alloc, prefix)? {
+                longest = k;
+            }
+        }
+    }
+    Ok(longest)
+}
+
+/// Whether some end completes it to a text of the grammar.
+fn goes_on(alloc: Global, prefix: &str) -> Result<bool, AllocError> {
+    for end in [
+        "", "0", "0,0)", ",0)", "t,0)", "m,0)", "n,0)", "0)", ")", "t)", "m)", "n)",
+    ] {
+        let mut whole = String::from_str(alloc, prefix)?;
+        whole.push_str(end)?;
+        if !is_stuck(alloc, whole.as_str()) {
+            return Ok(true);
+        }
+    }
+    Ok(false)
+}
+
+fn is_stuck(alloc: Global, text: &str) -> bool {
+    match read_spec(alloc, text) {
+        Err(SpecError::Syntax(_)) => true,
+        _ => false,
+    }
+}

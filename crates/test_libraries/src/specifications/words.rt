@@ -1,0 +1,120 @@
+//! The words of a command.
+use crate::specifications::answer::{Answer, Form};
+use lengths::{Grains, Paper, paper_by_name};
+use pagespec::{Item, Spec, read_spec};
+use std::alloc::{AllocError, Global};
+
+/// The words after `line` or `taken`, which say what is shown of the answer.
+pub fn without_form<'w>(out: &mut Answer, words: &'w [String]) -> &'w [String] {
+    let form = match word(words, 0) {
+        Some("line") => Form::Line,
+        Some("taken") => Form::Taken,
+        _ => return words,
+    };
+    out.form = form;
+    match words {
+        [_, rest @ ..] => rest,
+        [] => words,
+    }
+}
+
+pub fn word(words: &[String], at: usize) -> Option<&str> {
+    Some(words.get(at)?.as_str())
+}
+
+/// A whole number.
+pub fn number(words: &[String], at: usize) -> Option<i128> {
+    number_in(word(words, at)?)
+}
+
+pub fn number_in(text: &str) -> Option<i128> {
+    match text.parse::<i128>() {
+        Ok(number) => Some(number),
+        Err(_) => None,
+    }
+}
+
+/// A number of pages, or of something as small.
+pub fn count(words: &[String], at: usize) -> Option<u32> {
+    u32::try_from(number(words, at)?).ok()
+}
+
+/// A paper: its name, or its sides as `WxH`, in 10^-5 of a point, or in grains if a `g` follows.
+pub fn paper(words: &[String], at: usize) -> Option<Paper> {
+    let text = word(words, at)?;
+    if let Some(paper) = paper_by_name(text) {
+        return Some(paper);
+    }
+    let (sides, unit) = match text.strip_suffix('g') {
+        Some(sides) => (sides, 1),
+        None => (text, 1_270_000),
+    };
+    let (width, height) = sides.split_once('x')?;
+    Paper::new(length(width, unit)?, length(height, unit)?)
+}
+
+/// A length of this many units, each of this many grains.
+pub fn length(text: &str, unit: i128) -> Option<Grains> {
+    Grains::new(number_in(text)?.checked_mul(unit)?)
+}
+
+/// A text, which may be written as `repeat N TEXT BETWEEN FRONT BACK`; the last three may be left out.
+pub fn long_text(alloc: Global, text: &str) -> Option<String> {
+    let mut parts = text.split(' ');
+    if parts.next() != Some("repeat") {
+        return String::from_str(alloc, text).ok();
+    }
+    let times = number_in(parts.next()?)?;
+    let one = parts.next()?;
+    let between = parts.next().unwrap_or("");
+    let front = parts.next().unwrap_or("");
+    let back = parts.next().unwrap_or("");
+    repeated(alloc, [front, one, between, back], times).ok()
+}
+
+/// This many times a text with another between them, after the front and before the back.
+fn repeated(alloc: Global, parts: [&str; 4], times: i128) -> Result<String, AllocError> {
+    let [front, one, between, back] = parts;
+    let mut text = String::from_str(alloc, front)?;
+    for time in 0..times {
+        if time > 0 {
+            text.push_str(between)?;
+        }
+        text.push_str(one)?;
+    }
+    text.push_str(back)?;
+    Ok(text)
+}
+
+/// A specification. If it is refused, the refusal is printed.
+pub fn specification(out: &mut Answer, words: &[String], at: usize) -> Option<Spec> {
+    let text = long_text(out.alloc, word(words, at)?)?;
+    match read_spec(out.alloc, text.as_str()) {
+        Ok(spec) => Some(spec),
+        Err(error) => {
+            out.refusal(error);
+            None
+        }
+    }
+}
+
+/// The first item of a specification.
+pub fn item(alloc: Global, text: &str) -> Option<Item> {
+    match read_spec(alloc, text) {
+        Ok(spec) => spec.groups().first()?.first().copied(),
+        Err(_) => None,
+    }
+}
+
+/// A row of pages, and of blanks, which are `-`.
+pub fn row(alloc: Global, words: &[String]) -> Option<Vec<Option<u32>>> {
+    let mut row = Vec::new(alloc);
+    for word in words {
+        let entry = match word.as_str() {
+            "-" => None,
+            text => Some(text.parse::<u32>().ok()?),
+        };
+        row.push(entry).ok()?;
+    }
+    Some(row)
+}
