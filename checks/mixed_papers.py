@@ -2,7 +2,7 @@
 `checks/pictures --mixed` draws these.
 
 Each page has a mark in each of its four corners, in a colour of its own. Ghostscript draws the document, which shows where the marks are on
-the pages, and the sheets, on which they are looked for. Where they have to be is computed here from what docs/USING.md says, not from what
+the pages, and the sheets, on which they are looked for. Where they have to be is computed here from what docs/RULES.md says, not from what
 impose writes. A selection keeps each page on its own paper; otherwise each page is fitted into its cell by its own sides, in the middle of
 the cell. So it is found if a page is cut off, scaled by another page's paper, turned, or out of its cell. A mark may be off by `OFF` points
 along each edge: programs give papers in whole points, some rounded down, and a picture has 72 dots an inch.

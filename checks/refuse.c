@@ -116,11 +116,15 @@ static int is_refused_as_asked(const void *caller) {
 
 #define REFUSED_AS_ASKED() is_refused_as_asked(__builtin_return_address(0))
 
+/* A run makes a block of this size (imposer, runs.rt), gives it back at once, and does without it if it is refused. So
+ * it isn't among the growths that are asked for. */
+#define KEPT_BLOCK 4194304
+
 void *malloc(size_t size) {
     void *answer;
     if (is_asked(size, &answer))
         return answer;
-    if (REFUSED("alloc") || REFUSED_AS_ASKED()) {
+    if (REFUSED("alloc") || (size != KEPT_BLOCK && REFUSED_AS_ASKED())) {
         errno = ENOMEM;
         return 0;
     }

@@ -3,7 +3,7 @@ in a run of an output. specs/Sheets, Documents, Kept, Unaware and DocumentRun of
 
 A premise has its words, which are those of docs/PICTURES.md, and what is wrong, or None if it is met."""
 from dataclasses import replace
-from machine import ALWAYS, FONTS, PROVED, USERDICT, Graphics, Literal, Machine, Name, Saved, Scanner, Snapshot, Stopped, is_complete
+from machine import ALWAYS, FONTS, PROVED, USERDICT, Machine, Name, Saved, Scanner, Snapshot, Stopped, is_complete
 from parts import Document, comments_apart, drops_in_header, drops_in_page, first_is_complete
 
 # `sheet_names` of specs/Sheets; `restore` is checked after each page.
@@ -32,18 +32,6 @@ def behind_preamble(document, further=False):
 
 def text(names):
     return ", ".join(sorted(name.decode("latin-1") for name in names))
-
-
-def missing_names(document):
-    """Names that are called and that neither the machine has nor the document defines: by its tokens, run or not."""
-    called, literal = set(), set()
-    scanner = Scanner(document.preamble + b"".join(document.pages))
-    while (token := scanner.token()) is not None:
-        if isinstance(token, Name):
-            called.add(token.name)
-        elif isinstance(token, Literal):
-            literal.add(token.name)
-    return called - literal - set(PROVED) - set(ALWAYS)
 
 
 def ground(document, further=False):

@@ -5,8 +5,8 @@ As there, transformations are lists of matrices that are not multiplied, a point
 time, and a painting is its operator with its operands and the graphics state. In all lists here the latest is last.
 
 PROVED are the names that the machine of the crate has, each by its definition. FURTHER are operators of the Reference
-that it lacks, and more general forms of those that it has: `Machine(.., further=True)` has them too. A name in neither
-stops the machine.
+that it lacks, and more general forms of those that it has: `Machine(.., further=True)` has them too. If `further` is an
+object (within.Noted), it is asked to note which are used. A name in neither stops the machine.
 """
 from dataclasses import dataclass, field, replace
 
@@ -525,9 +525,8 @@ class Machine:
     steps: int = 0
     now: object = None
     called: bytes = b""
-    # the names that the step has looked up, and further names that have been used
+    # the names that the step has looked up
     asked: set = field(default_factory=set)
-    used: set = field(default_factory=set)
 
     def __post_init__(self):
         self.scanner = Scanner(self.text, self.further)
@@ -626,6 +625,8 @@ class Machine:
         if self.further:
             from further import system
 
+            if self.further is not True:
+                self.further.finds(self, key)
             return system(key)
         return None
 
@@ -650,6 +651,8 @@ class Machine:
         if self.further:
             from further import OVER, perform
 
+            if self.further is not True:
+                self.further.calls(self, name)
             if name in OVER:
                 return perform(self, name, OVER)
         if name in PROVED:
@@ -659,6 +662,8 @@ class Machine:
                 if not self.further:
                     raise Stopped(f"operands of {name.decode()}") from None
         if self.further:
+            if self.further is not True:
+                self.further.lacks(self, name)
             return perform(self, name)
         raise Stopped(f"operands of {name.decode()}")
 

@@ -18,8 +18,8 @@ use Rattle.pictures.proofs.Tests.{first, second}
 use Rattle.pictures.proofs.Placed.{both_true}
 use Rattle.guarded_pictures.specs.Behind.{operator, save_tokens, clip_tokens, outer_tokens, showpage_tokens, looking_tokens, putting_back_tokens, keeping_tokens}
 use Rattle.guarded_pictures.specs.Behind.{path_tokens as tracing_tokens}
-use Rattle.guarded_pictures.specs.Shelter.{Outer, outer_is, means, all_absent, outer_entries, outer_made, sheltered, outline_tokens}
-use Rattle.guarded_pictures.specs.Pages.{TakesPages, Encloses, Shows, around, placed_at, has_nothing, looked_up, looked_up_first, PageBegins}
+use Rattle.guarded_pictures.specs.Shelter.{Outer, outer_is, means, outer_entries, outer_made, sheltered, outline_tokens}
+use Rattle.guarded_pictures.specs.Pages.{HasGuard, TakesPages, Encloses, Shows, around, placed_at, has_nothing, looked_up, looked_up_first, PageBegins}
 use Rattle.guarded_pictures.proofs.Absent.{known, known_below, keys_differ, through}
 use Rattle.guarded_pictures.proofs.Counting.{counted}
 use Rattle.guarded_pictures.proofs.Steps.{some, by_name}
@@ -28,28 +28,14 @@ use Rattle.guarded_pictures.proofs.Lines.{really, really_saves, asked_name}
 
 -- What is asked after the sheet's save: some dictionary on the stack has a showpage.
 pub record Bears (outers : List Outer) (s : State) : Type 0 where
-  pub number : ℕ
-  pub clip_is : entry_of number (codes "clip") s.work.entries ≡ Some (Procedure clip_tokens)
-  pub clip_alone : all_absent looked_up_first (number ∷ s.work.dictionaries) s.work.entries ≡ true
-  pub path_is : entry_of 0 (codes "ImposePath") s.work.entries ≡ Some (Procedure tracing_tokens)
-  pub names : all_absent looked_up (0 ∷ s.work.dictionaries) s.work.entries ≡ true
+  pub guard : HasGuard s.work s.level
   pub found : ℕ
   pub found_is : holder s.work.dictionaries s.work.entries (codes "showpage") ≡ Some found
   pub encloses : Encloses outers s
   pub numbers : is_same_chain s.graphics.chain s.graphics.chain ≡ true
 
 bears : (outers : List Outer) (s : State) → TakesPages outers s → Bears outers s
-bears outers s h = record {
-  number = h.number;
-  clip_is = h.clip_is;
-  clip_alone = h.clip_alone;
-  path_is = h.path_is;
-  names = h.names;
-  found = 0;
-  found_is = h.userdict_first;
-  encloses = h.encloses;
-  numbers = h.numbers;
-}
+bears outers s h = record { guard = h.guard; found = 0; found_is = h.userdict_first; encloses = h.encloses; numbers = h.numbers }
 
 -- within the sheet's save, where so many dictionaries and matrices have been made
 abbrev pub within : State → List Object → List ℕ → List Entry → ℕ → Graphics → State
@@ -192,16 +178,16 @@ marks_page s os number l guard real =
 -- the sheet's save puts the dictionary that marks a page on the stack, and saves
 page_saves : (outers : List Outer) (s : State) (l : List Token) (h : TakesPages outers s)
     → Runs false (run_of (save_tokens ++ l) (before s (for_save s)))
-    (run_of l (within s (Saved s.level ∷ for_save s) (h.number ∷ s.work.dictionaries) s.work.entries s.work.made s.graphics))
+    (run_of l (within s (Saved s.level ∷ for_save s) (h.guard.number ∷ s.work.dictionaries) s.work.entries s.work.made s.graphics))
 page_saves outers s l h =
     let ds : List ℕ = s.work.dictionaries in
     let es : List Entry = s.work.entries in
-    let end : State = run_of l (within s (Saved s.level ∷ for_save s) (h.number ∷ ds) es s.work.made s.graphics) in
+    let end : State = run_of l (within s (Saved s.level ∷ for_save s) (h.guard.number ∷ ds) es s.work.made s.graphics) in
     let there : State = before s (for_save s) in
-    up_to_test s end l (known_below looked_up 0 ds es h.names (codes "userdict") refl) h.userdict_first h.few_operands
+    up_to_test s end l (known_below looked_up 0 ds es h.guard.names (codes "userdict") refl) h.userdict_first h.guard.few_operands
     (runs_join false (run_of (Name (codes "PStoPSenablepage") ∷ looking (finding l)) there) (run_of (finding l) there) end
     (still_shown outers s (for_save s) (finding l) h.encloses h.shows)
-    (marks_page s (for_save s) h.number l h.guard_is (known looked_up_first (h.number ∷ ds) es h.clip_alone (codes "systemdict") refl)))
+    (marks_page s (for_save s) h.guard.number l h.guard.guard_is (known looked_up_first (h.guard.number ∷ ds) es h.guard.clip_alone (codes "systemdict") refl)))
 
 -- The outline.
 
@@ -500,7 +486,7 @@ clips_round (o ∷ os) s n l g h =
     let start : State = within s s.work.operands ds (put_entries s) s.work.made g in
     let end : ℕ → State = λ d. run_of (noting l) (within s s.work.operands ds (outer_put d o os (put_entries s)) (s.work.made + 1) g) in
     let e = h.encloses in
-    let user = still ds (puts s) s.work.entries (codes "userdict") refl (known_below looked_up 0 ds s.work.entries h.names (codes "userdict") refl) in
+    let user = still ds (puts s) s.work.entries (codes "userdict") refl (known_below looked_up 0 ds s.work.entries h.guard.names (codes "userdict") refl) in
     let runs : (d : ℕ) → s.work.made + 1 ≡ d → Runs false (run_of (outer_tokens ++ noting l) start) (end d) =
     λ d same. subst (λ x. Runs false (run_of (outer_tokens ++ noting l) start) (end x)) same
     (keeps_it s o os (noting l) g user h.found h.found_is e.1 e.2 e.3 (subst (λ x. has_nothing x s.work.entries ≡ true) e.4 e.5)) in
@@ -508,7 +494,7 @@ clips_round (o ∷ os) s n l g h =
     (some 3 (run_of (if_within l) (push (Truth false) start)) (run_of (outer_tokens ++ noting l) start) (end o.dictionary) refl (runs o.dictionary (sym e.4)))
 
 page_clips : (outers : List Outer) (s : State) (n : Numbers) (l : List Token) (h : Bears outers s)
-    → Runs false (run_of (clip_tokens ++ l) (within s s.work.operands (h.number ∷ s.work.dictionaries) (put_entries s) s.work.made (record { chain = (place_in s.graphics n).chain; path = edge n (place_in s.graphics n).chain; clip = s.graphics.clip; settings = s.graphics.settings })))
+    → Runs false (run_of (clip_tokens ++ l) (within s s.work.operands (h.guard.number ∷ s.work.dictionaries) (put_entries s) s.work.made (record { chain = (place_in s.graphics n).chain; path = edge n (place_in s.graphics n).chain; clip = s.graphics.clip; settings = s.graphics.settings })))
     (run_of l (begun outers s n))
 page_clips outers s n l h =
     let ds : List ℕ = s.work.dictionaries in
@@ -521,21 +507,21 @@ page_clips outers s n l h =
     let g : Graphics = on_paper s n path in
     let es : List Entry = round_entries outers s in
     let l1 : List Token = Bound (codes "clip") ∷ Name (codes "PStoPSenablepage") ∷ if_within l in
-    let before_end : State = within s os (h.number ∷ ds) (put_entries s) made bare in
+    let before_end : State = within s os (h.guard.number ∷ ds) (put_entries s) made bare in
     let s1 : State = within s os ds (put_entries s) made bare in
     let s2 : State = within s os ds (put_entries s) made g in
     let round : State = within s os ds es (outer_made outers s.work.made) g in
     let below : Known looked_up (record s.work { entries = es }) =
     known_through looked_up ds (outer_entries outers) (put_entries s) (differ (outer_entries outers) looked_up (outer_apart outers))
-    (known_through looked_up ds (puts s) s.work.entries (differ (puts s) looked_up refl) (known_below looked_up 0 ds s.work.entries h.names)) in
+    (known_through looked_up ds (puts s) s.work.entries (differ (puts s) looked_up refl) (known_below looked_up 0 ds s.work.entries h.guard.names)) in
     let here : Known looked_up (record s.work { dictionaries = 0 ∷ ds; entries = es }) =
     known_through looked_up (0 ∷ ds) (outer_entries outers) (put_entries s) (differ (outer_entries outers) looked_up (outer_apart outers))
-    (known_through looked_up (0 ∷ ds) (puts s) s.work.entries (differ (puts s) looked_up refl) (known looked_up (0 ∷ ds) s.work.entries h.names)) in
-    runs_one false (run_of (clip_tokens ++ l) before_end) (run_of l1 s1) end (ap (λ x. worked x (run_of l1 before_end)) (ended_at h.number ds s.work.entries (codes "showpage") h.found before_end.work h.found_is))
+    (known_through looked_up (0 ∷ ds) (puts s) s.work.entries (differ (puts s) looked_up refl) (known looked_up (0 ∷ ds) s.work.entries h.guard.names)) in
+    runs_one false (run_of (clip_tokens ++ l) before_end) (run_of l1 s1) end (ap (λ x. worked x (run_of l1 before_end)) (ended_at h.guard.number ds s.work.entries (codes "showpage") h.found before_end.work h.found_is))
     (some 1 (run_of l1 s1) (run_of (Name (codes "PStoPSenablepage") ∷ if_within l) s2) end refl
     (runs_join false (run_of (Name (codes "PStoPSenablepage") ∷ if_within l) s2) (run_of (noting l) round) end
     (clips_round outers s n l g h)
-    (page_noted s n l es (outer_made outers s.work.made) below here (outer_path outers (put_entries s) ∙ h.path_is) h.found h.found_is (same_place n s.graphics.chain h.numbers))))
+    (page_noted s n l es (outer_made outers s.work.made) below here (outer_path outers (put_entries s) ∙ h.guard.path_is) h.found h.found_is (same_place n s.graphics.chain h.numbers))))
 
 -- From the sheet's text to the page's own tokens.
 
@@ -547,17 +533,17 @@ abbrev putting : List Token → List Token
 putting l = Name (codes "put") ∷ Name (codes "userdict") ∷ Literal (codes "showpage") ∷ Opens ∷ Closes ∷ Name (codes "put") ∷ l
 
 after_save : (outers : List Outer) (s : State) (l : List Token) (h : Bears outers s)
-    → Runs false (run_of (putting l) (saved_state s h.number)) (run_of l (within s s.work.operands (h.number ∷ s.work.dictionaries) (put_entries s) s.work.made s.graphics))
+    → Runs false (run_of (putting l) (saved_state s h.guard.number)) (run_of l (within s s.work.operands (h.guard.number ∷ s.work.dictionaries) (put_entries s) s.work.made s.graphics))
 after_save outers s l h =
-    let ds : List ℕ = h.number ∷ s.work.dictionaries in
+    let ds : List ℕ = h.guard.number ∷ s.work.dictionaries in
     let es : List Entry = s.work.entries in
     let os : List Object = s.work.operands in
-    let first_names = known looked_up_first ds es h.clip_alone in
+    let first_names = known looked_up_first ds es h.guard.clip_alone in
     let end : State = run_of l (within s os ds (put_entries s) s.work.made s.graphics) in
     let one : List Entry = entry (codes "ImposeSave") (Saved s.level) ∷ [] in
     let l2 : List Token = Name (codes "userdict") ∷ Literal (codes "showpage") ∷ Opens ∷ Closes ∷ Name (codes "put") ∷ l in
     let l3 : List Token = Literal (codes "showpage") ∷ Opens ∷ Closes ∷ Name (codes "put") ∷ l in
-    let s2 : State = saved_state s h.number in
+    let s2 : State = saved_state s h.guard.number in
     let s3 : State = within s os ds (one ++ es) s.work.made s.graphics in
     let s4 : State = within s (Procedure [] ∷ Plain (Literal (codes "showpage")) ∷ Dictionary 0 ∷ os) ds (one ++ es) s.work.made s.graphics in
     by_name (codes "put") l2 s2 (run_of l2 s3) end (system (codes "put")) (first_names (codes "put") refl) refl
@@ -576,12 +562,12 @@ up_to_save s u l user save r =
     (by_name (codes "save") (putting l) s1 (run_of (save_tokens ++ putting l) s1) u (Some (Procedure save_tokens)) save refl r))
 
 saving : (outers : List Outer) (s : State) (l : List Token) (h : TakesPages outers s)
-    → Runs false (run_of (saving_tokens ++ l) s) (run_of l (within s s.work.operands (h.number ∷ s.work.dictionaries) (put_entries s) s.work.made s.graphics))
+    → Runs false (run_of (saving_tokens ++ l) s) (run_of l (within s s.work.operands (h.guard.number ∷ s.work.dictionaries) (put_entries s) s.work.made s.graphics))
 unfolding bears
 saving outers s l h =
-    let end : State = run_of l (within s s.work.operands (h.number ∷ s.work.dictionaries) (put_entries s) s.work.made s.graphics) in
-    up_to_save s end l (known_below looked_up 0 s.work.dictionaries s.work.entries h.names (codes "userdict") refl) h.save_is
-    (runs_join false (run_of (save_tokens ++ putting l) (before s (for_save s))) (run_of (putting l) (saved_state s h.number)) end (page_saves outers s (putting l) h)
+    let end : State = run_of l (within s s.work.operands (h.guard.number ∷ s.work.dictionaries) (put_entries s) s.work.made s.graphics) in
+    up_to_save s end l (known_below looked_up 0 s.work.dictionaries s.work.entries h.guard.names (codes "userdict") refl) h.guard.save_is
+    (runs_join false (run_of (save_tokens ++ putting l) (before s (for_save s))) (run_of (putting l) (saved_state s h.guard.number)) end (page_saves outers s (putting l) h)
     (after_save outers s l (bears outers s h)))
 
 -- the matrix and the paper's edge, up to the clip
@@ -607,7 +593,7 @@ all_put_apart (o ∷ os) made n = refl
 
 -- after the sheet's save, in any such state
 behind_save : (outers : List Outer) (s : State) (n : Numbers) (more : List Token) (h : Bears outers s)
-    → Runs false (run_of (placing_tokens n ++ more) (within s s.work.operands (h.number ∷ s.work.dictionaries) (put_entries s) s.work.made s.graphics)) (run_of more (bordered outers s n n.border))
+    → Runs false (run_of (placing_tokens n ++ more) (within s s.work.operands (h.guard.number ∷ s.work.dictionaries) (put_entries s) s.work.made s.graphics)) (run_of more (bordered outers s n n.border))
 behind_save outers s n more h =
     let ds : List ℕ = s.work.dictionaries in
     let os : List Object = s.work.operands in
@@ -615,16 +601,16 @@ behind_save outers s n more h =
     let chain : List Call = (place_in s.graphics n).chain in
     let end : State = run_of more (bordered outers s n n.border) in
     let clip : List Token = Name (codes "clip") ∷ (behind_clip n n.border ++ more) in
-    let s1 : State = within s os (h.number ∷ ds) (put_entries s) made s.graphics in
-    let s2 : State = within s os (h.number ∷ ds) (put_entries s) made (record { chain = chain; path = edge n chain; clip = s.graphics.clip; settings = s.graphics.settings }) in
+    let s1 : State = within s os (h.guard.number ∷ ds) (put_entries s) made s.graphics in
+    let s2 : State = within s os (h.guard.number ∷ ds) (put_entries s) made (record { chain = chain; path = edge n chain; clip = s.graphics.clip; settings = s.graphics.settings }) in
     let first_known : Known looked_up_first s1.work =
-    known_through looked_up_first (h.number ∷ ds) (puts s) s.work.entries (differ (puts s) looked_up_first refl) (known looked_up_first (h.number ∷ ds) s.work.entries h.clip_alone) in
+    known_through looked_up_first (h.guard.number ∷ ds) (puts s) s.work.entries (differ (puts s) looked_up_first refl) (known looked_up_first (h.guard.number ∷ ds) s.work.entries h.guard.clip_alone) in
     let here : Known looked_up (record s.work { entries = put_entries s }) =
-    known_through looked_up ds (puts s) s.work.entries (differ (puts s) looked_up refl) (known_below looked_up 0 ds s.work.entries h.names) in
+    known_through looked_up ds (puts s) s.work.entries (differ (puts s) looked_up refl) (known_below looked_up 0 ds s.work.entries h.guard.names) in
     let names : Known looked_up (begun outers s n).work =
     known_through looked_up ds (all_put (outer_made outers s.work.made) n ++ outer_entries outers) (put_entries s) (differ (all_put (outer_made outers s.work.made) n ++ outer_entries outers) looked_up (all_put_apart outers (outer_made outers s.work.made) n)) here in
     runs_join false (run_of (up_to_clip n ++ clip) s1) (run_of clip s2) end (straight_runs looked_up_first (up_to_clip n) clip s1 s2 first_known refl)
-    (by_name (codes "clip") (behind_clip n n.border ++ more) s2 (run_of (clip_tokens ++ (behind_clip n n.border ++ more)) s2) end (Some (Procedure clip_tokens)) (ap (λ x. or x (meaning ds (put_entries s) (codes "clip"))) h.clip_is) refl
+    (by_name (codes "clip") (behind_clip n n.border ++ more) s2 (run_of (clip_tokens ++ (behind_clip n n.border ++ more)) s2) end (Some (Procedure clip_tokens)) (ap (λ x. or x (meaning ds (put_entries s) (codes "clip"))) h.guard.clip_is) refl
     (runs_join false (run_of (clip_tokens ++ (behind_clip n n.border ++ more)) s2) (run_of (behind_clip n n.border ++ more) (begun outers s n)) end (page_clips outers s n (behind_clip n n.border ++ more) h)
     (straight_runs looked_up (behind_clip n n.border) more (begun outers s n) (bordered outers s n n.border) names (border_is outers n s n.border))))
 
@@ -633,22 +619,22 @@ unfolding bears
 page_begins outers s n body l h =
     let more : List Token = body ++ l in
     let end : State = run_of more (bordered outers s n n.border) in
-    runs_join false (run_of (saving_tokens ++ (placing_tokens n ++ more)) s) (run_of (placing_tokens n ++ more) (within s s.work.operands (h.number ∷ s.work.dictionaries) (put_entries s) s.work.made s.graphics)) end
+    runs_join false (run_of (saving_tokens ++ (placing_tokens n ++ more)) s) (run_of (placing_tokens n ++ more) (within s s.work.operands (h.guard.number ∷ s.work.dictionaries) (put_entries s) s.work.made s.graphics)) end
     (saving outers s (placing_tokens n ++ more) h)
     (behind_save outers s n more (bears outers s h))
 
 -- where a dictionary has a showpage of its own: after the sheet's save that asks userdict
 pub begins_within : (outers : List Outer) (s t : State) (n : Numbers) (body l : List Token) (h : Bears outers t) → meaning s.work.dictionaries s.work.entries (codes "userdict") ≡ system (codes "userdict")
     → means s (codes "save") ≡ Some (Procedure save_tokens)
-    → ((rest : List Token) → Runs false (run_of (save_tokens ++ rest) (before s (for_save s))) (run_of rest (saved_state t h.number)))
+    → ((rest : List Token) → Runs false (run_of (save_tokens ++ rest) (before s (for_save s))) (run_of rest (saved_state t h.guard.number)))
     → Runs false (run_of (saving_tokens ++ (placing_tokens n ++ (body ++ l))) s) (placed_at (around l n t) (sheltered outers t (outline_tokens n) body))
 begins_within outers s t n body l h user save saves =
     let more : List Token = body ++ l in
-    let middle : State = within t t.work.operands (h.number ∷ t.work.dictionaries) (put_entries t) t.work.made t.graphics in
+    let middle : State = within t t.work.operands (h.guard.number ∷ t.work.dictionaries) (put_entries t) t.work.made t.graphics in
     let end : State = run_of more (bordered outers t n n.border) in
     runs_join false (run_of (saving_tokens ++ (placing_tokens n ++ more)) s) (run_of (placing_tokens n ++ more) middle) end
     (up_to_save s (run_of (placing_tokens n ++ more) middle) (placing_tokens n ++ more) user save
-    (runs_join false (run_of (save_tokens ++ putting (placing_tokens n ++ more)) (before s (for_save s))) (run_of (putting (placing_tokens n ++ more)) (saved_state t h.number)) (run_of (placing_tokens n ++ more) middle)
+    (runs_join false (run_of (save_tokens ++ putting (placing_tokens n ++ more)) (before s (for_save s))) (run_of (putting (placing_tokens n ++ more)) (saved_state t h.guard.number)) (run_of (placing_tokens n ++ more) middle)
     (saves (putting (placing_tokens n ++ more)))
     (after_save outers t (placing_tokens n ++ more) h)))
     (behind_save outers t n more h)

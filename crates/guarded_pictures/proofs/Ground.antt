@@ -1,51 +1,30 @@
 -- Guarded states: after the guard, and after definitions of other names.
-use Rattle.std.specs.Prelude.{Some, None, codes, bytes_eq, if◌then◌else◌}
+use Rattle.rules.specs.Papers.{Paper}
+use Rattle.pictures.specs.Objects.{Token}
+use Rattle.std.specs.Prelude.{Option, Some, None, codes, bytes_eq, if◌then◌else◌}
 use Rattle.std.proofs.lemmas.Slice.Eq.{bytes_eq-Decides}
 use Rattle.std.proofs.Common.{◌≡◌, ℕ, refl, ap, ap₂, ◌∙◌, sym, subst, Bool, true, false, not, ◌&&◌, ◌||◌, ◌==◌, List, [], ◌∷◌, true≢false, arith}
 use Rattle.pictures.specs.Dictionaries.{Entry, entry_of, has}
-use Rattle.pictures.specs.Operators.{holder}
+use Rattle.pictures.specs.Operators.{Work, holder}
 use Rattle.pictures.specs.Sheets.{among}
 use Rattle.pictures.specs.Unaware.{absent}
 use Rattle.pictures.proofs.Tests.{by_test, first, second}
 use Rattle.pictures.proofs.Opening.{name_other}
 use Rattle.guarded_pictures.specs.Shelter.{all_absent}
-use Rattle.guarded_pictures.specs.Pages.{looked_up, looked_up_first, guarded_names, GuardIsEnough, StaysGuarded}
+use Rattle.guarded_pictures.specs.Behind.{behind_guard}
+use Rattle.guarded_pictures.specs.Pages.{HasGuard, looked_up, looked_up_first, guarded_names, GuardIsEnough, StaysGuarded}
+
+guard_is_there : (sheet : Option Paper) (rest : List Token) → HasGuard (behind_guard sheet rest).work 0
+guard_is_there None rest =
+    record { number = 2; save_is = refl; guard_is = refl; clip_is = refl; clip_alone = refl; path_is = refl; names = refl; few_operands = omega arith; operands = refl; dictionaries = refl }
+guard_is_there (Some paper) rest =
+    record { number = 3; save_is = refl; guard_is = refl; clip_is = refl; clip_alone = refl; path_is = refl; names = refl; few_operands = omega arith; operands = refl; dictionaries = refl }
 
 pub guard_is_enough : GuardIsEnough
-guard_is_enough None rest = record {
-  number = 2;
-  save_is = refl;
-  guard_is = refl;
-  clip_is = refl;
-  clip_alone = refl;
-  path_is = refl;
-  names = refl;
-  userdict_first = refl;
-  showpage_is = refl;
-  flag_is = refl;
-  show_is = refl;
-  few_operands = omega arith;
-  operands = refl;
-  dictionaries = refl;
-  graphics = refl;
-}
-guard_is_enough (Some paper) rest = record {
-  number = 3;
-  save_is = refl;
-  guard_is = refl;
-  clip_is = refl;
-  clip_alone = refl;
-  path_is = refl;
-  names = refl;
-  userdict_first = refl;
-  showpage_is = refl;
-  flag_is = refl;
-  show_is = refl;
-  few_operands = omega arith;
-  operands = refl;
-  dictionaries = refl;
-  graphics = refl;
-}
+guard_is_enough None rest =
+    record { guard = guard_is_there None rest; userdict_first = refl; showpage_is = refl; flag_is = refl; show_is = refl; graphics = refl }
+guard_is_enough (Some paper) rest =
+    record { guard = guard_is_there (Some paper) rest; userdict_first = refl; showpage_is = refl; flag_is = refl; show_is = refl; graphics = refl }
 
 -- A name that is none of these is another than each of them.
 
@@ -89,12 +68,48 @@ abbrev pub all_among : List (List ℕ) → List (List ℕ) → Bool
 all_among [] others = true
 all_among (name ∷ names) others = among name others && all_among names others
 
-pub all_differ : (e : Entry) (names : List (List ℕ)) → among e.key guarded_names ≡ false → all_among names guarded_names ≡ true → AllDiffer e names
-all_differ e [] a h = tt
-all_differ e (name ∷ names) a h = (
-  differs e.key name guarded_names a (first (among name guarded_names) (all_among names guarded_names) h),
-  all_differ e names a (second (among name guarded_names) (all_among names guarded_names) h),
+pub all_differ : (e : Entry) (names others : List (List ℕ)) → among e.key others ≡ false → all_among names others ≡ true → AllDiffer e names
+all_differ e [] others a h = tt
+all_differ e (name ∷ names) others a h = (
+  differs e.key name others a (first (among name others) (all_among names others) h),
+  all_differ e names others a (second (among name others) (all_among names others) h),
 )
+
+-- The guard is there still, where another name is defined.
+
+pub picked : (e : Entry) (others : List (List ℕ)) → AllDiffer e others → (name : List ℕ) → among name others ≡ true → bytes_eq e.key name ≡ false
+picked e [] d name h = absurd (true≢false (sym h))
+picked e (other ∷ others) d name h = by_test (bytes_eq name other)
+    (λ same. subst (λ z. bytes_eq e.key z ≡ false) (sym ((bytes_eq-Decides name other).0 same)) d.0)
+    (λ differ. picked e others d.1 name (subst (λ b. (b || among name others) ≡ true) differ h))
+
+pub some_differ : (e : Entry) (others : List (List ℕ)) → AllDiffer e others → (names : List (List ℕ)) → all_among names others ≡ true → AllDiffer e names
+some_differ e others d [] h = tt
+some_differ e others d (name ∷ names) h = (
+  picked e others d name (first (among name others) (all_among names others) h),
+  some_differ e others d names (second (among name others) (all_among names others) h),
+)
+
+abbrev pub guard_names : List (List ℕ)
+guard_names = codes "save" ∷ codes "ImposeGuard" ∷ codes "ImposePath" ∷ looked_up
+
+unfoldable pub guard_stays_there : (w : Work) (level : ℕ) (e : Entry) → AllDiffer e guard_names → HasGuard w level → HasGuard (record w { entries = e ∷ w.entries }) level
+guard_stays_there w level e d g =
+    let ds : List ℕ = w.dictionaries in
+    let es : List Entry = w.entries in
+    let other : (name : List ℕ) → among name guard_names ≡ true → bytes_eq e.key name ≡ false = picked e guard_names d in
+    record {
+      number = g.number;
+      save_is = name_other ds e es (codes "save") (other (codes "save") refl) ∙ g.save_is;
+      guard_is = name_other ds e es (codes "ImposeGuard") (other (codes "ImposeGuard") refl) ∙ g.guard_is;
+      clip_is = entry_other g.number e es (codes "clip") (other (codes "clip") refl) ∙ g.clip_is;
+      clip_alone = all_absent_other looked_up_first (g.number ∷ ds) e es (some_differ e guard_names d looked_up_first refl) ∙ g.clip_alone;
+      path_is = entry_other 0 e es (codes "ImposePath") (other (codes "ImposePath") refl) ∙ g.path_is;
+      names = all_absent_other looked_up (0 ∷ ds) e es (some_differ e guard_names d looked_up refl) ∙ g.names;
+      few_operands = g.few_operands;
+      operands = g.operands;
+      dictionaries = g.dictionaries;
+    }
 
 pub stays_guarded : StaysGuarded
 stays_guarded s e g a =
@@ -102,19 +117,10 @@ stays_guarded s e g a =
     let es : List Entry = s.work.entries in
     let other : (name : List ℕ) → among name guarded_names ≡ true → bytes_eq e.key name ≡ false = λ name h. differs e.key name guarded_names a h in
     record {
-      number = g.number;
-      save_is = name_other ds e es (codes "save") (other (codes "save") refl) ∙ g.save_is;
-      guard_is = name_other ds e es (codes "ImposeGuard") (other (codes "ImposeGuard") refl) ∙ g.guard_is;
-      clip_is = entry_other g.number e es (codes "clip") (other (codes "clip") refl) ∙ g.clip_is;
-      clip_alone = all_absent_other looked_up_first (g.number ∷ ds) e es (all_differ e looked_up_first a refl) ∙ g.clip_alone;
-      path_is = entry_other 0 e es (codes "ImposePath") (other (codes "ImposePath") refl) ∙ g.path_is;
-      names = all_absent_other looked_up (0 ∷ ds) e es (all_differ e looked_up a refl) ∙ g.names;
+      guard = guard_stays_there s.work s.level e (all_differ e guard_names guarded_names a refl) g.guard;
       userdict_first = holder_other ds e es (codes "showpage") (other (codes "showpage") refl) ∙ g.userdict_first;
       showpage_is = name_other ds e es (codes "showpage") (other (codes "showpage") refl) ∙ g.showpage_is;
       flag_is = name_other ds e es (codes "PStoPSenablepage") (other (codes "PStoPSenablepage") refl) ∙ g.flag_is;
       show_is = name_other ds e es (codes "ImposeShow") (other (codes "ImposeShow") refl) ∙ g.show_is;
-      few_operands = g.few_operands;
-      operands = g.operands;
-      dictionaries = g.dictionaries;
       graphics = g.graphics;
     }

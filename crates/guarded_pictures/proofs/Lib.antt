@@ -18,10 +18,8 @@ pub mod SheetsOfSheets
 pub mod Taking
 pub mod Nests
 pub mod Documents
-pub mod Imposed
 pub mod OwnShowpage
 pub mod Silenced
-pub mod ImposedOwn
-pub mod TwoRuns
+pub mod Imposed
 pub mod TwoMadeRuns
 pub mod Examples

@@ -5,12 +5,12 @@ use Rattle.std.proofs.Common.{◌≡◌, ℕ, zero, suc, refl, ap, ◌∙◌, sy
 use Rattle.pictures.specs.Objects.{Token, Literal, Bound, Opens, Closes, Object, Plain, Truth, Procedure, Dictionary}
 use Rattle.pictures.specs.Dictionaries.{Entry, meaning, system, entry_of, has, or, is_lacked}
 use Rattle.pictures.specs.Operators.{holder, located, with_operands}
-use Rattle.pictures.specs.Machine.{State, Runs, worked, and_then}
+use Rattle.pictures.specs.Machine.{State, Runs, worked, steps, and_then}
 use Rattle.pictures.specs.Sheets.{run_of, among, in_userdict}
 use Rattle.pictures.proofs.Runs.{runs_one, runs_none, runs_join}
 use Rattle.pictures.proofs.Tests.{by_test, first, second}
 use Rattle.pictures.proofs.Names.{not_true}
-use Rattle.guarded_pictures.specs.Shelter.{steps, meant}
+use Rattle.guarded_pictures.specs.Shelter.{shelter_step, meant}
 use Rattle.guarded_pictures.specs.NamedPapers.{paper_names, papers_tokens, each_paper, left_if, papers_left, behind_papers, PapersAreLeft, PaperIsNothing}
 use Rattle.guarded_pictures.proofs.Steps.{some}
 use Rattle.guarded_pictures.proofs.Ground.{holder_other}
@@ -153,5 +153,5 @@ papers_are_left = (
 pub paper_is_nothing : PaperIsNothing
 paper_is_nothing s name rest e = (
   page_is_left s name rest e,
-  λ outers outline. (suc zero, ap (λ x. and_then (steps outers outline zero) (meant outers outline x (run_of rest s))) e),
+  λ outers outline. (suc zero, ap (λ x. and_then (steps (shelter_step outers outline) zero) (meant outers outline x (run_of rest s))) e),
 )

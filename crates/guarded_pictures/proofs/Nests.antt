@@ -5,15 +5,17 @@ use Rattle.std.proofs.lemmas.Bool.{ltb-true, lt-ltb}
 use Rattle.pictures.specs.Objects.{Object, Dictionary, Saved, Procedure, Matrix, Truth}
 use Rattle.pictures.specs.Dictionaries.{Entry, entry_of, has, meaning}
 use Rattle.pictures.specs.Operators.{all_old}
-use Rattle.pictures.specs.Machine.{State}
-use Rattle.pictures.specs.Sheets.{Numbers, Shown, in_userdict}
+use Rattle.pictures.specs.Machine.{State, Runs}
+use Rattle.pictures.specs.Sheets.{Numbers, Shown, AllOf, in_userdict}
+use Rattle.pictures.proofs.Runs.{free_are_runs}
+use Rattle.pictures.proofs.Sheets.{Stays, sheets_run}
 use Rattle.pictures.proofs.Tests.{first, second}
 use Rattle.pictures.proofs.Placed.{both_true}
 use Rattle.guarded_pictures.specs.Shelter.{Outer, outer_is, outer_entries, outer_made, outline_tokens, page_matrix, beginning}
-use Rattle.guarded_pictures.specs.SheetsOfSheets.{page_round, page_begun, none_above, none_above_of, none_newer, put_there, AllOlder, TakesSheets, Nest, nest_as_page, AllOf, PaintsNested, SheetsAreTakenWithin, NestsArePrinted}
+use Rattle.guarded_pictures.specs.SheetsOfSheets.{page_round, page_begun, none_above, none_above_of, none_newer, put_there, AllOlder, TakesSheets, Nest, nest_as_page, PaintsNested, SheetsAreTakenWithin, NestsArePrinted}
 use Rattle.guarded_pictures.proofs.PutThere.{means_other, AreNew, outer_kept, above_kept}
-use Rattle.guarded_pictures.proofs.Sheets.{Places, AllPlace, AllSheetsPlace, page_places, sheets_run}
-use Rattle.guarded_pictures.proofs.SheetsOfSheets.{two, flag_entry, outline_entry, matrix_entry, all_entries, unput, are_new, more_made, takes_there, sheet_of_placed}
+use Rattle.guarded_pictures.proofs.Sheets.{page_places, guarded_prints}
+use Rattle.guarded_pictures.proofs.SheetsOfSheets.{two, flag_entry, outline_entry, matrix_entry, all_entries, unput, are_new, more_made, takes_there, sheet_of_placed, all_map}
 
 -- Sheets can be placed within a page.
 
@@ -49,7 +51,7 @@ above_all (name ∷ names) outers s n t h =
     (above_userdict ds name (codes "PStoPSenablepage") (Truth false) (outline_entry n ∷ matrix_entry outers s ∷ below)
     ∙ above_userdict ds name (codes "PStoPSclip") (Procedure (outline_tokens n)) (matrix_entry outers s ∷ below)
     ∙ above_userdict ds name (codes "PStoPSmatrix") (Matrix (page_matrix outers s)) below
-    ∙ above_outers outers ds name s.work.made (two s ++ es) (are_new outers s t.takes.encloses) t.takes.dictionaries
+    ∙ above_outers outers ds name s.work.made (two s ++ es) (are_new outers s t.takes.encloses) t.takes.guard.dictionaries
     ∙ above_userdict ds name (codes "showpage") (Procedure []) (in_userdict (codes "ImposeSave") (Saved s.level) ∷ es) ∙ above_userdict ds name (codes "ImposeSave") (Saved s.level) es
     ∙ first (none_above name ds es) (none_above_of names ds es) h)
     (above_all names outers s n t (second (none_above name ds es) (none_above_of names ds es) h))
@@ -111,25 +113,18 @@ sheets_are_taken_within outers s n t =
 
 -- So any number of them.
 
-all_placed : {A : Type 0} (P : A → Type 0) (f : A → Shown) (s : State) → ((x : A) → P x → Places s (f x)) → (xs : List A) → AllOf P xs → AllPlace s (map f xs)
-all_placed P f s g [] h = tt
-all_placed P f s g (x ∷ xs) h = (g x h.0, all_placed P f s g xs h.1)
-
-nest_places : (depth : ℕ) (outers : List Outer) (s : State) (x : Nest depth) → TakesSheets outers s → PaintsNested depth outers s x → Places s (nest_as_page depth (beginning s) x)
+nest_places : (depth : ℕ) (outers : List Outer) (s : State) (x : Nest depth) → TakesSheets outers s → PaintsNested depth outers s x → Stays (Runs false) s (nest_as_page depth (beginning s) x)
 nest_places zero outers s x t h = page_places outers s x t.takes h
 nest_places (suc depth) outers s (n, xs) t h =
     let inner : List Outer = page_round outers s n ∷ outers in
     let begun : State = page_begun outers s n in
     sheet_of_placed outers s n (map (nest_as_page depth (beginning s)) xs) t
-    (all_placed (PaintsNested depth inner begun) (nest_as_page depth (beginning s)) begun
+    (all_map (PaintsNested depth inner begun) (Stays (Runs false) begun) (nest_as_page depth (beginning s))
     (λ x k. nest_places depth inner begun x (sheets_are_taken_within outers s n t) k) xs h)
-
-all_sheets_placed : (depth : ℕ) (s : State) (xs : List (List (Nest depth))) → TakesSheets [] s → AllOf (AllOf (PaintsNested depth [] s)) xs
-    → AllSheetsPlace s (map (map (nest_as_page depth (beginning s))) xs)
-all_sheets_placed depth s [] t h = tt
-all_sheets_placed depth s (x ∷ xs) t h =
-    (all_placed (PaintsNested depth [] s) (nest_as_page depth (beginning s)) s (λ y k. nest_places depth [] s y t k) x h.0, all_sheets_placed depth s xs t h.1)
 
 pub nests_are_printed : NestsArePrinted
 nests_are_printed depth s xs rest g t e h =
-    sheets_run s (map (map (nest_as_page depth (beginning s))) xs) rest g e (all_sheets_placed depth s xs t h)
+    let as_page : Nest depth → Shown = nest_as_page depth (beginning s) in
+    sheets_run (Runs false) free_are_runs s (map (map as_page) xs) rest (guarded_prints (Runs false) free_are_runs s g) e
+    (all_map (AllOf (PaintsNested depth [] s)) (AllOf (Stays (Runs false) s)) (map as_page)
+    (λ ys k. all_map (PaintsNested depth [] s) (Stays (Runs false) s) as_page (λ y i. nest_places depth [] s y t i) ys k) xs h)

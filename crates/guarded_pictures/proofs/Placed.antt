@@ -6,14 +6,14 @@ use Rattle.pictures.specs.Chains.{is_same_chain}
 use Rattle.pictures.specs.Dictionaries.{system}
 use Rattle.pictures.specs.Operators.{all_old, all_are_old}
 use Rattle.pictures.specs.Machine.{State, Painting, Snapshot, push, Runs, back, save_of}
-use Rattle.pictures.specs.Placing.{picture_at}
-use Rattle.pictures.specs.Sheets.{run_of, Numbers, saving_tokens, placing_tokens, closing_tokens, placed_tokens, LeavesAsItWas, page_picture, place_in, border_in}
-use Rattle.pictures.proofs.Runs.{runs_one, runs_join, runs_none, name_step}
+use Rattle.pictures.specs.Placing.{Place, picture_at}
+use Rattle.pictures.specs.Sheets.{run_of, Numbers, Shown, saving_tokens, placing_tokens, closing_tokens, placed_tokens, LeavesAsItWas, page_picture, place_in, border_in}
+use Rattle.pictures.proofs.Runs.{AreRuns, free_are_runs, runs_one, runs_none, name_step}
 use Rattle.pictures.proofs.Opening.{snapshot_of}
 use Rattle.pictures.proofs.Placed.{both_true}
 use Rattle.guarded_pictures.specs.Shelter.{Outer, sheltered, outline_tokens}
 use Rattle.guarded_pictures.specs.Lines.{clip_to}
-use Rattle.guarded_pictures.specs.Pages.{IsGuarded, TakesPages, Around, around, snapshot_at, placed_at, IsOnPaper, GuardedPageIsPlaced}
+use Rattle.guarded_pictures.specs.Pages.{HasGuard, IsGuarded, TakesPages, Around, around, snapshot_at, placed_at, IsOnPaper, GuardedPageIsPlaced}
 use Rattle.guarded_pictures.proofs.Sheltering.{shelter_commutes}
 use Rattle.guarded_pictures.proofs.Begins.{page_begins, same_place}
 
@@ -73,17 +73,8 @@ on_paper outers s n l g = (
 -- a guarded state is outside all pages
 pub takes_pages : (s : State) → IsGuarded s → TakesPages [] s
 takes_pages s g = record {
-  number = g.number;
-  save_is = g.save_is;
-  guard_is = g.guard_is;
-  clip_is = g.clip_is;
-  clip_alone = g.clip_alone;
-  path_is = g.path_is;
-  names = g.names;
+  guard = g.guard;
   userdict_first = g.userdict_first;
-  few_operands = g.few_operands;
-  operands = g.operands;
-  dictionaries = g.dictionaries;
   encloses = g.flag_is;
   shows = (g.showpage_is, g.show_is);
   clips = sym (ap (λ z. z.clip) g.graphics);
@@ -91,23 +82,38 @@ takes_pages s g = record {
   held = tt;
 }
 
+abbrev pub middle_tokens : Numbers → List Token → List Token → List Token
+middle_tokens n body rest = saving_tokens ++ (placing_tokens n ++ (body ++ (closing_tokens ++ rest)))
+
+pub bracketed : (n : Numbers) (body rest : List Token) → placed_tokens (record { numbers = n; body = body }) ++ rest ≡ middle_tokens n body rest
+bracketed n body rest =
+    append_assoc saving_tokens (placing_tokens n ++ (body ++ closing_tokens)) rest
+    ∙ ap (λ l. saving_tokens ++ l) (append_assoc (placing_tokens n) (body ++ closing_tokens) rest ∙ ap (λ l. placing_tokens n ++ l) (append_assoc body closing_tokens rest))
+
+-- in any machine a page is placed that begins in its place after t, and that paints its picture there
+pub placed_from : (R : State → State → Type 0) → AreRuns R → (outers : List Outer) (s t end : State) (x : Shown) (rest : List Token) → HasGuard t.work t.level
+    → R (run_of (middle_tokens x.placed.numbers x.placed.body rest) s) (placed_at (around (closing_tokens ++ rest) x.placed.numbers t) (sheltered outers t (outline_tokens x.placed.numbers) x.placed.body))
+    → R (placed_at (around (closing_tokens ++ rest) x.placed.numbers t) (sheltered outers t (outline_tokens x.placed.numbers) x.placed.body)) (placed_at (around (closing_tokens ++ rest) x.placed.numbers t) end)
+    → LeavesAsItWas t end → end.painted ≡ x.picture
+    → R (run_of (placed_tokens x.placed ++ rest) s) (record t { left = rest; painted = page_picture t.graphics x ++ t.painted })
+placed_from R m outers s t end x rest g begins runs leaves paints =
+    let n : Numbers = x.placed.numbers in
+    let a : Around = around (closing_tokens ++ rest) n t in
+    let begun : State = placed_at a (sheltered outers t (outline_tokens n) x.placed.body) in
+    let start : State = run_of (middle_tokens n x.placed.body rest) s in
+    let place : Place = place_in t.graphics n in
+    let border : List Painting = border_in t.graphics n n.border in
+    let picture : picture_at place end.painted ++ (border ++ t.painted) ≡ page_picture t.graphics x ++ t.painted =
+    ap (λ ps. picture_at place ps ++ (border ++ t.painted)) paints ∙ sym (append_assoc (picture_at place x.picture) border t.painted) in
+    subst (λ l. R (run_of l s) (record t { left = rest; painted = page_picture t.graphics x ++ t.painted })) (sym (bracketed n x.placed.body rest))
+    (subst (λ ps. R start (record t { left = rest; painted = ps })) picture
+    (m.joined start begun (behind rest n t end.painted) begins
+    (m.joined begun (placed_at a end) (behind rest n t end.painted) runs
+    (m.free (placed_at a end) (behind rest n t end.painted) (closing t end n rest g.operands g.dictionaries leaves)))))
+
 pub guarded_page_is_placed : GuardedPageIsPlaced
 guarded_page_is_placed outers s x rest g h =
     let n : Numbers = x.placed.numbers in
-    let body : List Token = x.placed.body in
     let more : List Token = closing_tokens ++ rest in
-    let a : Around = around more n s in
-    let end : State = record s { left = rest; painted = page_picture s.graphics x ++ s.painted } in
-    let middle : List Token = saving_tokens ++ (placing_tokens n ++ (body ++ more)) in
-    let tokens : placed_tokens x.placed ++ rest ≡ middle =
-    append_assoc saving_tokens (placing_tokens n ++ (body ++ closing_tokens)) rest
-    ∙ ap (λ l. saving_tokens ++ l) (append_assoc (placing_tokens n) (body ++ closing_tokens) rest ∙ ap (λ l. placing_tokens n ++ l) (append_assoc body closing_tokens rest)) in
-    let picture : picture_at (place_in s.graphics n) h.end.painted ++ (border_in s.graphics n n.border ++ s.painted) ≡ page_picture s.graphics x ++ s.painted =
-    ap (λ ps. picture_at (place_in s.graphics n) ps ++ (border_in s.graphics n n.border ++ s.painted)) h.picture_is
-    ∙ sym (append_assoc (picture_at (place_in s.graphics n) x.picture) (border_in s.graphics n n.border) s.painted) in
-    subst (λ l. Runs false (run_of l s) end) (sym tokens)
-    (subst (λ ps. Runs false (run_of middle s) (record s { left = rest; painted = ps })) picture
-    (runs_join false (run_of middle s) (placed_at a (sheltered outers s (outline_tokens n) body)) (behind rest n s h.end.painted) (page_begins outers s n body more g)
-    (runs_join false (placed_at a (sheltered outers s (outline_tokens n) body)) (placed_at a h.end) (behind rest n s h.end.painted)
-    (shelter_commutes n outers a (sheltered outers s (outline_tokens n) body) h.end (on_paper outers s n more g) h.run)
-    (closing s h.end n rest g.operands g.dictionaries h.leaves))))
+    placed_from (Runs false) free_are_runs outers s s h.end x rest g.guard (page_begins outers s n x.placed.body more g)
+    (shelter_commutes n outers (around more n s) (sheltered outers s (outline_tokens n) x.placed.body) h.end (on_paper outers s n more g) h.run) h.leaves h.picture_is

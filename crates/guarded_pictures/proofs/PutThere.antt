@@ -1,6 +1,6 @@
 -- What a page's beginning puts, and what it leaves: each name that isn't put means what it meant.
 use Rattle.std.specs.Prelude.{Option, Some, None, codes, bytes_eq, if◌then◌else◌}
-use Rattle.std.proofs.Common.{◌≡◌, ℕ, ◌+◌, refl, ap, ap₂, ◌∙◌, subst, Bool, true, false, not, true≢false, ◌&&◌, ◌||◌, ◌==◌, List, [], ◌∷◌, ◌++◌, sym, arith}
+use Rattle.std.proofs.Common.{◌≡◌, ℕ, ◌+◌, refl, ap, ap₂, ◌∙◌, subst, Bool, true, false, not, true≢false, ◌&&◌, ◌||◌, ◌==◌, List, [], ◌∷◌, ◌++◌, sym, arith, is_none}
 use Rattle.std.proofs.lemmas.Bool.{eqb-true, ltb-true, ne_eqb}
 use Rattle.pictures.specs.Objects.{Object, Procedure, Matrix}
 use Rattle.pictures.specs.Dictionaries.{Entry, meaning, entry_of, has, or}
@@ -29,7 +29,7 @@ has_other d name e es h = entry_other d e es name (alone e.key name h)
 pub held_other : (ds : List ℕ) (name : List ℕ) (e : Entry) (es : List Entry) → apart e.key (name ∷ []) ≡ true → holder ds (e ∷ es) name ≡ holder ds es name
 held_other ds name e es h = holder_other ds e es name (alone e.key name h)
 
-differ_all : (e : Entry) (names : List (List ℕ)) → apart e.key names ≡ true → AllDiffer e names
+pub differ_all : (e : Entry) (names : List (List ℕ)) → apart e.key names ≡ true → AllDiffer e names
 differ_all e [] h = tt
 differ_all e (name ∷ names) h = (
   not_true (bytes_eq e.key name) (first (not (bytes_eq e.key name)) (apart e.key names) h),
@@ -75,27 +75,13 @@ outers_apart outers names h =
     outer_apart outers names (first outer rest h3) (first clip (outer && rest) h2) (first matrix (clip && (outer && rest)) h1)
 
 -- the latest of what is put in userdict counts
-pub no_entry : (x : Option Object) → not (has x) ≡ true → x ≡ None
-no_entry None h = refl
-no_entry (Some o) h = absurd (true≢false (sym h))
+pub not_has : (x : Option Object) → has x ≡ false → x ≡ None
+not_has None e = refl
+not_has (Some o) e = absurd (true≢false e)
 
 and_false : (a b : Bool) → b ≡ false → (a && b) ≡ false
 and_false true b e = e
 and_false false b e = refl
-
-pub latest : (ds : List ℕ) (es : List Entry) (name : List ℕ) (o : Object) → none_above name ds es ≡ true → meaning ds (in_userdict name o ∷ es) name ≡ Some o
-latest [] es name o h = absurd (true≢false (sym h))
-latest (d ∷ ds) es name o h =
-    let below : Option Object = meaning ds (in_userdict name o ∷ es) name in
-    let here : Option Object = entry_of d name es in
-    let rest : Bool = not (has here) && none_above name ds es in
-    let test : Bool → Option Object = λ b. or (if b then Some o else here) below in
-    by_test (0 == d)
-    (λ t. ap test (both_true (bytes_eq name name) (0 == d) (same_text name) t))
-    (λ f. let more : rest ≡ true = subst (λ b. (b || rest) ≡ true) f h in
-    ap test (and_false (bytes_eq name name) (0 == d) f)
-    ∙ ap (λ x. or x below) (no_entry here (first (not (has here)) (none_above name ds es) more))
-    ∙ latest ds es name o (second (not (has here)) (none_above name ds es) more))
 
 pub latest_holder : (ds : List ℕ) (es : List Entry) (name : List ℕ) (o : Object) → none_above name ds es ≡ true → holder ds (in_userdict name o ∷ es) name ≡ Some 0
 latest_holder [] es name o h = absurd (true≢false (sym h))
@@ -108,8 +94,33 @@ latest_holder (d ∷ ds) es name o h =
     (λ t. ap test (both_true (bytes_eq name name) (0 == d) (same_text name) t) ∙ ap (λ n. Some n) (sym (eqb-true 0 d t)))
     (λ f. let more : rest ≡ true = subst (λ b. (b || rest) ≡ true) f h in
     ap test (and_false (bytes_eq name name) (0 == d) f)
-    ∙ ap (λ x. if has x then Some d else below) (no_entry here (first (not (has here)) (none_above name ds es) more))
+    ∙ ap (λ x. if has x then Some d else below) (not_has here (not_true (has here) (first (not (has here)) (none_above name ds es) more)))
     ∙ latest_holder ds es name o (second (not (has here)) (none_above name ds es) more))
+
+or_first : (x y : Option Object) → has x ≡ true → or x y ≡ x
+or_first None y e = absurd (true≢false (sym e))
+or_first (Some o) y e = refl
+
+same_some : (c d : ℕ) → Some c ≡ Some d → c ≡ d
+same_some c d e = ap (λ x. or_c x) e
+  where
+    or_c : Option ℕ → ℕ
+    or_c None = c
+    or_c (Some n) = n
+
+-- a name means what the first dictionary that has it has
+pub first_means : (ds : List ℕ) (es : List Entry) (key : List ℕ) (d : ℕ) → holder ds es key ≡ Some d → meaning ds es key ≡ entry_of d key es
+first_means [] es key d e = absurd (true≢false (ap is_none e))
+first_means (c ∷ ds) es key d e =
+    let here : Option Object = entry_of c key es in
+    by_test (has here)
+    (λ t. or_first here (meaning ds es key) t ∙ ap (λ n. entry_of n key es) (same_some c d (sym (ap (λ b. if b then Some c else holder ds es key) t) ∙ e)))
+    (λ f. ap (λ x. or x (meaning ds es key)) (not_has here f)
+    ∙ first_means ds es key d (sym (ap (λ b. if b then Some c else holder ds es key) f) ∙ e))
+
+pub latest : (ds : List ℕ) (es : List Entry) (name : List ℕ) (o : Object) → none_above name ds es ≡ true → meaning ds (in_userdict name o ∷ es) name ≡ Some o
+latest ds es name o h =
+    first_means ds (in_userdict name o ∷ es) name 0 (latest_holder ds es name o h) ∙ ap (λ b. if b && true then Some o else entry_of 0 name es) (same_text name)
 
 -- an entry of a dictionary that is newer than those on the stack
 above_new : (ds : List ℕ) (name : List ℕ) (made : ℕ) (e : Entry) (es : List Entry) → e.dictionary ≡ made + 1 → all_old made ds ≡ true → none_above name ds (e ∷ es) ≡ none_above name ds es

@@ -9,20 +9,21 @@ use Rattle.pictures.specs.Dictionaries.{Entry, meaning, entry_of}
 use Rattle.pictures.specs.Operators.{holder, is_old, all_old, all_are_old}
 use Rattle.pictures.specs.Machine.{State, Graphics, Painting, Kept, Runs, chain_of}
 use Rattle.pictures.specs.Placing.{Place, graphics_at, painting_at, picture_at}
-use Rattle.pictures.specs.Sheets.{run_of, among, Numbers, Shown, in_userdict, saving_tokens, placing_tokens, closing_tokens, placed_tokens, sheet_tokens, LeavesAsItWas, page_picture, sheet_picture, place_in, border_in}
-use Rattle.pictures.proofs.Runs.{runs_join}
+use Rattle.pictures.specs.Sheets.{among, Numbers, Shown, AllOf, in_userdict, closing_tokens, sheet_tokens, LeavesAsItWas, page_picture, sheet_picture, place_in, border_in}
+use Rattle.pictures.proofs.Runs.{free_are_runs, runs_join}
+use Rattle.pictures.proofs.Sheets.{Stays, all_stay, all_of, pages_of, pages_run, sheets_run, fresh, still}
 use Rattle.pictures.proofs.Tests.{by_test, first, second}
 use Rattle.pictures.proofs.Opening.{apart}
 use Rattle.pictures.proofs.Placed.{both_true}
 use Rattle.pictures.proofs.Twice.{places_compose}
-use Rattle.guarded_pictures.specs.Shelter.{Outer, outer_is, outer_entries, outer_made, page_matrix, beginning, sheltered, outline_tokens, page_save, all_absent}
+use Rattle.guarded_pictures.specs.Shelter.{Outer, outer_is, outer_entries, outer_made, page_matrix, beginning, sheltered, outline_tokens, page_save, all_absent, PaintsSheltered}
 use Rattle.guarded_pictures.specs.Lines.{clip_to}
-use Rattle.guarded_pictures.specs.Pages.{TakesPages, Encloses, AllHeld, AllSheltered, has_nothing, looked_up, looked_up_first, Around, around}
-use Rattle.guarded_pictures.specs.SheetsOfSheets.{page_round, page_begun, sheet_as_page, none_newer, none_above, none_above_of, put_there, AllOlder, TakesSheets, SheetIsPlaced, SheetIsComposed, Inner, as_pages, AllWithin, AllSheetsWithin, SheetsOfSheetsArePrinted}
+use Rattle.guarded_pictures.specs.Pages.{TakesPages, Encloses, AllHeld, AllSheltered, has_nothing, looked_up, looked_up_first}
+use Rattle.guarded_pictures.specs.SheetsOfSheets.{page_round, page_begun, sheet_as_page, none_newer, none_above, none_above_of, put_there, AllOlder, TakesSheets, SheetIsPlaced, SheetIsComposed, as_pages, AllWithin, SheetsOfSheetsArePrinted}
 use Rattle.guarded_pictures.proofs.Lines.{page_is_left}
 use Rattle.guarded_pictures.proofs.Begins.{all_apart, page_begins, same_place}
-use Rattle.guarded_pictures.proofs.Placed.{behind, closing}
-use Rattle.guarded_pictures.proofs.Sheets.{Places, AllPlace, AllSheetsPlace, still_takes, all_place, pages_of, pages_run, sheets_run}
+use Rattle.guarded_pictures.proofs.Placed.{placed_from}
+use Rattle.guarded_pictures.proofs.Sheets.{still_takes, page_places, guarded_prints}
 use Rattle.guarded_pictures.proofs.PutThere.{means_other, has_other, held_other, absent_others, above_other, over, are_apart, outer_apart, outers_apart, latest, latest_holder, AreNew, outer_kept, above_kept, above_outers}
 
 -- The picture.
@@ -104,7 +105,7 @@ flag_there outers s n t =
     let rest : List Entry = outer_entries outers ++ (two s ++ s.work.entries) in
     latest ds (outline_entry n ∷ matrix_entry outers s ∷ rest) name (Truth false)
     (over (λ x. none_above name ds x) (name ∷ []) (above_other ds name) (outline_entry n ∷ matrix_entry outers s ∷ []) rest refl
-    ∙ above_outers outers ds name s.work.made (two s ++ s.work.entries) (are_new outers s t.takes.encloses) t.takes.dictionaries refl
+    ∙ above_outers outers ds name s.work.made (two s ++ s.work.entries) (are_new outers s t.takes.encloses) t.takes.guard.dictionaries refl
     ∙ above_two ds name s refl ∙ above_name put_there ds s.work.entries t.above name refl)
 
 outline_there : (outers : List Outer) (s : State) (n : Numbers) → TakesSheets outers s → meaning s.work.dictionaries (all_entries outers s n) (codes "PStoPSclip") ≡ Some (Procedure (outline_tokens n))
@@ -115,7 +116,7 @@ outline_there outers s n t =
     means_other ds name flag_entry (outline_entry n ∷ matrix_entry outers s ∷ rest) refl
     ∙ latest ds (matrix_entry outers s ∷ rest) name (Procedure (outline_tokens n))
     (above_other ds name (matrix_entry outers s) rest refl
-    ∙ above_outers outers ds name s.work.made (two s ++ s.work.entries) (are_new outers s t.takes.encloses) t.takes.dictionaries refl
+    ∙ above_outers outers ds name s.work.made (two s ++ s.work.entries) (are_new outers s t.takes.encloses) t.takes.guard.dictionaries refl
     ∙ above_two ds name s refl ∙ above_name put_there ds s.work.entries t.above name refl)
 
 matrix_there : (outers : List Outer) (s : State) (n : Numbers) → TakesSheets outers s → meaning s.work.dictionaries (all_entries outers s n) (codes "PStoPSmatrix") ≡ Some (Matrix (page_matrix outers s))
@@ -125,7 +126,7 @@ matrix_there outers s n t =
     let rest : List Entry = outer_entries outers ++ (two s ++ s.work.entries) in
     over (λ x. meaning ds x name) (name ∷ []) (means_other ds name) (flag_entry ∷ outline_entry n ∷ []) (matrix_entry outers s ∷ rest) refl
     ∙ latest ds rest name (Matrix (page_matrix outers s))
-    (above_outers outers ds name s.work.made (two s ++ s.work.entries) (are_new outers s t.takes.encloses) t.takes.dictionaries refl
+    (above_outers outers ds name s.work.made (two s ++ s.work.entries) (are_new outers s t.takes.encloses) t.takes.guard.dictionaries refl
     ∙ above_two ds name s refl ∙ above_name put_there ds s.work.entries t.above name refl)
 
 outer_there : (outers : List Outer) (s : State) (n : Numbers) → TakesSheets outers s → meaning s.work.dictionaries (all_entries outers s n) (codes "ImposeOuter") ≡ Some (outer_is outers)
@@ -139,7 +140,7 @@ outer_there (o ∷ os) s n t =
     let rest : List Entry = two s ++ s.work.entries in
     over (λ x. meaning ds x name) (name ∷ []) (means_other ds name) (three (o ∷ os) s n) (in_userdict name (Dictionary o.dictionary) ∷ (outer_kept o os ++ rest)) refl
     ∙ latest ds (outer_kept o os ++ rest) name (Dictionary o.dictionary)
-    (above_kept o os ds name s.work.made rest t.takes.encloses.4 t.takes.dictionaries
+    (above_kept o os ds name s.work.made rest t.takes.encloses.4 t.takes.guard.dictionaries
     ∙ above_two ds name s refl ∙ above_name put_there ds s.work.entries t.above name refl)
 
 -- `showpage` does nothing there, and ImposeSave is the sheet's save
@@ -266,17 +267,19 @@ takes_there outers s n t =
     let chain : List Call = (place_in s.graphics n).chain in
     let made = more_made outers s.work.made in
     record {
-      number = g.number;
-      save_is = unput (λ x. meaning ds x (codes "save")) (codes "save" ∷ []) (means_other ds (codes "save")) outers s n refl refl refl ∙ g.save_is;
-      guard_is = unput (λ x. meaning ds x (codes "ImposeGuard")) (codes "ImposeGuard" ∷ []) (means_other ds (codes "ImposeGuard")) outers s n refl refl refl ∙ g.guard_is;
-      clip_is = unput (λ x. entry_of g.number (codes "clip") x) (codes "clip" ∷ []) (has_other g.number (codes "clip")) outers s n refl refl refl ∙ g.clip_is;
-      clip_alone = unput (λ x. all_absent looked_up_first (g.number ∷ ds) x) looked_up_first (absent_others (g.number ∷ ds) looked_up_first) outers s n refl refl refl ∙ g.clip_alone;
-      path_is = unput (λ x. entry_of 0 (codes "ImposePath") x) (codes "ImposePath" ∷ []) (has_other 0 (codes "ImposePath")) outers s n refl refl refl ∙ g.path_is;
-      names = unput (λ x. all_absent looked_up (0 ∷ ds) x) looked_up (absent_others (0 ∷ ds) looked_up) outers s n refl refl refl ∙ g.names;
+      guard = record {
+        number = g.guard.number;
+        save_is = unput (λ x. meaning ds x (codes "save")) (codes "save" ∷ []) (means_other ds (codes "save")) outers s n refl refl refl ∙ g.guard.save_is;
+        guard_is = unput (λ x. meaning ds x (codes "ImposeGuard")) (codes "ImposeGuard" ∷ []) (means_other ds (codes "ImposeGuard")) outers s n refl refl refl ∙ g.guard.guard_is;
+        clip_is = unput (λ x. entry_of g.guard.number (codes "clip") x) (codes "clip" ∷ []) (has_other g.guard.number (codes "clip")) outers s n refl refl refl ∙ g.guard.clip_is;
+        clip_alone = unput (λ x. all_absent looked_up_first (g.guard.number ∷ ds) x) looked_up_first (absent_others (g.guard.number ∷ ds) looked_up_first) outers s n refl refl refl ∙ g.guard.clip_alone;
+        path_is = unput (λ x. entry_of 0 (codes "ImposePath") x) (codes "ImposePath" ∷ []) (has_other 0 (codes "ImposePath")) outers s n refl refl refl ∙ g.guard.path_is;
+        names = unput (λ x. all_absent looked_up (0 ∷ ds) x) looked_up (absent_others (0 ∷ ds) looked_up) outers s n refl refl refl ∙ g.guard.names;
+        few_operands = g.guard.few_operands;
+        operands = operands_old s.work.made (page_matrix outers s) s.level (s.level + 1 + 1) s.work.operands (omega (arith, made)) (omega arith) g.guard.operands;
+        dictionaries = dictionaries_old s.work.made (page_matrix outers s) ds (omega (arith, made)) g.guard.dictionaries;
+      };
       userdict_first = first_there outers s n t;
-      few_operands = g.few_operands;
-      operands = operands_old s.work.made (page_matrix outers s) s.level (s.level + 1 + 1) s.work.operands (omega (arith, made)) (omega arith) g.operands;
-      dictionaries = dictionaries_old s.work.made (page_matrix outers s) ds (omega (arith, made)) g.dictionaries;
       encloses = (flag_there outers s n t, matrix_there outers s n t, outline_there outers s n t, outer_there outers s n t, refl, new_there outers s n t);
       shows = tt;
       clips = ap (λ clips. clip_to n chain ∷ clips) g.clips;
@@ -308,54 +311,48 @@ sheet_leaves outers s n xs ps sheets t = record {
 sheet_upon : (p : Place) (g : Graphics) (xs : List Shown) (before : List Painting) → sheet_picture (graphics_at p g) xs before ≡ picture_at p (sheet_picture g xs []) ++ before
 sheet_upon p g xs before = upon (graphics_at p g) xs [] before ∙ ap (λ ps. ps ++ before) (sym (sheet_is_composed p g xs))
 
-pub sheet_of_placed : (outers : List Outer) (s : State) (n : Numbers) (xs : List Shown) → TakesSheets outers s → AllPlace (page_begun outers s n) xs → Places s (sheet_as_page s n xs)
+pub sheet_of_placed : (outers : List Outer) (s : State) (n : Numbers) (xs : List Shown) → TakesSheets outers s → AllOf (Stays (Runs false) (page_begun outers s n)) xs → Stays (Runs false) s (sheet_as_page s n xs)
 sheet_of_placed outers s n xs t h ps sheets rest =
     let u : State = record s { painted = ps; sheets = sheets } in
-    let body : List Token = sheet_tokens (map (λ x. x.placed) xs) in
     let more : List Token = closing_tokens ++ rest in
-    let a : Around = around more n u in
     let place : Place = place_in s.graphics n in
     let border : List Painting = border_in s.graphics n n.border ++ ps in
     let begun : State = page_begun outers s n in
     let picture : List Painting = sheet_picture (beginning s) xs [] in
-    let end : State = behind rest n u picture in
-    let goal : State = record s { left = rest; painted = page_picture s.graphics (sheet_as_page s n xs) ++ ps; sheets = sheets } in
-    let middle : List Token = saving_tokens ++ (placing_tokens n ++ (body ++ more)) in
-    let tokens : placed_tokens (sheet_as_page s n xs).placed ++ rest ≡ middle =
-    append_assoc saving_tokens (placing_tokens n ++ (body ++ closing_tokens)) rest
-    ∙ ap (λ l. saving_tokens ++ l) (append_assoc (placing_tokens n) (body ++ closing_tokens) rest ∙ ap (λ l. placing_tokens n ++ l) (append_assoc body closing_tokens rest)) in
-    let at : List Token → List Painting → State = λ l painted. record begun { left = l; painted = painted; sheets = sheets } in
+    let at : List Token → List Painting → State = λ l painted. fresh begun l painted sheets in
     let last : List Token = Name (codes "showpage") ∷ more in
     let full : List Painting = sheet_picture begun.graphics xs border in
+    let end : State = at more (picture_at place picture ++ border) in
     let takes = still_takes outers s ps sheets t.takes in
-    subst (λ painted. Runs false (record s { left = placed_tokens (sheet_as_page s n xs).placed ++ rest; painted = ps; sheets = sheets }) (record s { left = rest; painted = painted; sheets = sheets })) (sym (append_assoc (picture_at place picture) (border_in s.graphics n n.border) ps))
-    (subst (λ l. Runs false (run_of l u) end) (sym tokens)
-    (runs_join false (run_of middle u) (at (body ++ more) border) end (page_begins outers u n body more takes)
+    placed_from (Runs false) free_are_runs outers u u (sheet_end outers s n xs) (sheet_as_page s n xs) rest takes.guard
+    (page_begins outers u n (sheet_tokens (map (λ x. x.placed) xs)) more takes)
     (subst (λ l. Runs false (at l border) end) (sym (append_assoc (pages_of xs) (Name (codes "showpage") ∷ []) more))
     (runs_join false (at (pages_of xs ++ last) border) (at last full) end
-    (pages_run xs begun border sheets last h)
-    (runs_join false (at last full) (at more full) end
-    (page_is_left (at more full) (codes "showpage") more (showpage_there outers s n t))
-    (subst (λ painted. Runs false (at more painted) end) (sym (sheet_upon place (beginning s) xs border))
-    (closing u (sheet_end outers s n xs) n rest takes.operands takes.dictionaries (sheet_leaves outers s n xs ps sheets t))))))))
+    (pages_run (Runs false) free_are_runs (still begun) begun.graphics xs 0 border sheets last (all_stay (Runs false) begun xs 0 h))
+    (subst (λ painted. Runs false (at last full) (at more painted)) (sheet_upon place (beginning s) xs border)
+    (page_is_left (at more full) (codes "showpage") more (showpage_there outers s n t)))))
+    (sheet_leaves outers s n xs ps sheets t) refl
 
 pub sheet_places : (outers : List Outer) (s : State) (n : Numbers) (xs : List Shown) → TakesSheets outers s → AllSheltered (page_round outers s n ∷ outers) (page_begun outers s n) xs
-    → Places s (sheet_as_page s n xs)
+    → Stays (Runs false) s (sheet_as_page s n xs)
 sheet_places outers s n xs t h =
-    sheet_of_placed outers s n xs t (all_place (page_round outers s n ∷ outers) (page_begun outers s n) xs (takes_there outers s n t) h)
+    let inner : List Outer = page_round outers s n ∷ outers in
+    let begun : State = page_begun outers s n in
+    sheet_of_placed outers s n xs t
+    (all_of (λ (x : Shown). PaintsSheltered inner begun (outline_tokens x.placed.numbers) x.placed.body x.picture) (Stays (Runs false) begun)
+    (λ x k. page_places inner begun x (takes_there outers s n t) k) xs h)
 
 pub sheet_is_placed : SheetIsPlaced
 sheet_is_placed outers s n xs rest t h = sheet_places outers s n xs t h s.painted s.sheets rest
 
 -- Sheets of sheets.
 
-all_within : (s : State) (xs : List Inner) → TakesSheets [] s → AllWithin s xs → AllPlace s (as_pages s xs)
-all_within s [] t h = tt
-all_within s (x ∷ xs) t h = (sheet_places [] s x.numbers x.pages t h.0, all_within s xs t h.1)
-
-all_sheets_within : (s : State) (xs : List (List Inner)) → TakesSheets [] s → AllSheetsWithin s xs → AllSheetsPlace s (map (as_pages s) xs)
-all_sheets_within s [] t h = tt
-all_sheets_within s (x ∷ xs) t h = (all_within s x t h.0, all_sheets_within s xs t h.1)
+pub all_map : {A B : Type 0} (P : A → Type 0) (Q : B → Type 0) (f : A → B) → ((x : A) → P x → Q (f x)) → (xs : List A) → AllOf P xs → AllOf Q (map f xs)
+all_map P Q f g [] h = tt
+all_map P Q f g (x ∷ xs) h = (g x h.0, all_map P Q f g xs h.1)
 
 pub sheets_of_sheets_are_printed : SheetsOfSheetsArePrinted
-sheets_of_sheets_are_printed s xs rest g t e h = sheets_run s (map (as_pages s) xs) rest g e (all_sheets_within s xs t h)
+sheets_of_sheets_are_printed s xs rest g t e h =
+    sheets_run (Runs false) free_are_runs s (map (as_pages s) xs) rest (guarded_prints (Runs false) free_are_runs s g) e
+    (all_map (AllOf (AllWithin s)) (AllOf (Stays (Runs false) s)) (as_pages s)
+    (λ ys k. all_map (AllWithin s) (Stays (Runs false) s) (λ x. sheet_as_page s x.numbers x.pages) (λ y i. sheet_places [] s y.numbers y.pages t i) ys k) xs h)

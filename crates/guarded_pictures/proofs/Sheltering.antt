@@ -1,6 +1,6 @@
 -- What a page does by itself, the free machine does in the page's place.
 use Rattle.std.specs.Prelude.{Option, Some, None, if◌then◌else◌, codes, nat_lt}
-use Rattle.std.proofs.Common.{◌≡◌, ℕ, zero, suc, ◌+◌, ◌<◌, refl, ap, sym, subst, ◌==◌, ◌∙◌, List, [], ◌∷◌, ◌++◌, map, append_assoc, Bool, true, false, ◌&&◌, true≢false}
+use Rattle.std.proofs.Common.{◌≡◌, ℕ, ◌+◌, ◌<◌, refl, ap, sym, subst, ◌==◌, ◌∙◌, List, [], ◌∷◌, ◌++◌, map, append_assoc, Bool, true, false, ◌&&◌, true≢false}
 use Rattle.std.proofs.lemmas.Bool.{ltb-true, eqb-true}
 use Rattle.std.proofs.lemmas.Slice.Eq.{bytes_eq-Decides}
 use Rattle.pictures.specs.Objects.{Token, Number, Name, Dictionary, Opens, Closes, Bound, Unknown, Object, Procedure, Plain, Matrix, Call, TakesMatrix, SetsMatrix, CopyOperands}
@@ -8,15 +8,15 @@ use Rattle.pictures.specs.Objects.{Saved, Operator, Kind, Computes, Controls, Dr
 use Rattle.pictures.specs.Objects.{Effect, Segments, Transforms, Sets, Paints, PaintsBeside, Shows, Clips, Forgets}
 use Rattle.pictures.specs.Operators.{Work, taken, computed, computed_on, controlled}
 use Rattle.pictures.specs.Dictionaries.{Entry, system, meaning}
-use Rattle.pictures.specs.Machine.{State, Graphics, Snapshot, Kept, Runs, body_of, opened, drawn, worked, running, popped, popped_all, save_of, back, returned, restored, chain_of, set_to, viewed, filled_from, copied, perform, done, step, and_then, may_go_back}
+use Rattle.pictures.specs.Machine.{State, Graphics, Snapshot, Kept, Runs, body_of, opened, drawn, worked, running, popped, popped_all, save_of, back, returned, restored, chain_of, set_to, viewed, filled_from, copied, perform, done, step, may_go_back}
 use Rattle.pictures.specs.Machine.{meant as free_meant, act as free_act}
 use Rattle.pictures.specs.Placing.{Place, graphics_at}
 use Rattle.pictures.specs.Sheets.{run_of, Numbers, zero_text}
-use Rattle.pictures.proofs.Runs.{nothing, runs_one, runs_none, runs_join}
+use Rattle.pictures.proofs.Runs.{nothing, runs_one, runs_none, some_is, follow}
 use Rattle.pictures.proofs.Tests.{first, second}
 use Rattle.pictures.proofs.Commutes.{Extends, body_goes_on}
 use Rattle.guarded_pictures.specs.Behind.{path_tokens, clips_tokens, initclip_tokens, initgraphics_tokens}
-use Rattle.guarded_pictures.specs.Shelter.{Outer, outer_is, is_zero, is_dictionary, is_matrix, is_unknown, keeps_outer, keeps_outers, are_same_tokens, is_procedure, is_no_chain, holds_the_place, all_absent, means, outline_names, outline_tokens, keeps_the_page, is_drawn_anew, unclipped, as_it_began, entered, performed, did, meant, act, step_on, steps}
+use Rattle.guarded_pictures.specs.Shelter.{Outer, outer_is, is_zero, is_dictionary, is_matrix, is_unknown, keeps_outer, keeps_outers, are_same_tokens, is_procedure, is_no_chain, holds_the_place, all_absent, means, outline_names, outline_tokens, keeps_the_page, is_drawn_anew, unclipped, as_it_began, entered, performed, did, meant, act, step_on, shelter_step}
 use Rattle.guarded_pictures.specs.Lines.{Noted, AreNoted, Notes}
 use Rattle.guarded_pictures.specs.Pages.{Around, kept_at, snapshot_at, placed_at, AllHeld, IsOnPaper, ShelterCommutes}
 use Rattle.guarded_pictures.proofs.Tokens.{same_tokens}
@@ -337,20 +337,11 @@ steps_there : (n : Numbers) (outers : List Outer) (a : Around) (ts : List Token)
 steps_there n outers a [] s p = tt
 steps_there n outers a (t ∷ ts) s p = acts n outers a t (record s { left = ts }) p
 
-goes_on : (n : Numbers) (outers : List Outer) (a : Around) (count : ℕ) (x : Option State) (s t : State) → Reaches a x (step false s)
-    → ((r : State) → steps outers (outline_tokens n) count r ≡ Some t → Runs false (placed_at a r) (placed_at a t))
-    → and_then (steps outers (outline_tokens n) count) x ≡ Some t → Runs false s (placed_at a t)
-goes_on n outers a count None s t f h e = absurd (nothing (and_then (steps outers (outline_tokens n) count) None) t refl e)
-goes_on n outers a count (Some r) s t f h e = runs_one false s f.0 (placed_at a t) f.1 (runs_join false f.0 (placed_at a r) (placed_at a t) f.2 (h r e))
-
-all_steps : (n : Numbers) (outers : List Outer) (a : Around) (count : ℕ) (s t : State) → IsOnPaper n outers a → steps outers (outline_tokens n) count s ≡ Some t → Runs false (placed_at a s) (placed_at a t)
-all_steps n outers a zero s t p e = (zero, ap (there a) e)
-  where
-    there : Around → Option State → Option State
-    there a None = None
-    there a (Some s) = Some (placed_at a s)
-all_steps n outers a (suc count) s t p e =
-    goes_on n outers a count (step_on outers (outline_tokens n) s.left s) (placed_at a s) t (steps_there n outers a s.left s p) (λ r k. all_steps n outers a count r t p k) e
+reached : (a : Around) (s t : State) (x : Option State) → Reaches a x (step false s) → x ≡ Some t → Runs false s (placed_at a t)
+reached a s t None f e = absurd (nothing None t refl e)
+reached a s t (Some r) f e = subst (λ u. Runs false s (placed_at a u)) (some_is r t e) (runs_one false s f.0 (placed_at a r) f.1 f.2)
 
 pub shelter_commutes : ShelterCommutes
-shelter_commutes n outers a s t p (count, e) = all_steps n outers a count s t p e
+shelter_commutes n outers a s t p run =
+    follow (shelter_step outers (outline_tokens n)) (step false) (placed_at a)
+    (λ u v e. reached a (placed_at a u) v (shelter_step outers (outline_tokens n) u) (steps_there n outers a u.left u p) e) s t run

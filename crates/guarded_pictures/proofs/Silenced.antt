@@ -1,50 +1,46 @@
 -- Documents that make userdict's showpage do nothing.
-use Rattle.std.specs.Prelude.{Option, Some, None, Ok, codes, decimal, slice_index_or, if◌then◌else◌}
+use Rattle.std.specs.Prelude.{Option, Some, Ok, ℤ, codes, decimal, if◌then◌else◌}
 use Rattle.std.specs.Fmt.{digits}
 use Rattle.std.proofs.lemmas.Bool.{eqb-true}
-use Rattle.std.proofs.Common.{◌≡◌, ℕ, refl, ap, ◌∙◌, sym, subst, Bool, true, false, true≢false, ◌==◌, List, [], ◌∷◌, ◌++◌, map, append_assoc, length}
-use Rattle.rules.specs.Specification.{Item, Spec}
-use Rattle.rules.specs.Sheets.{Slot}
-use Rattle.rules.specs.Signatures.{sheets_in}
+use Rattle.std.proofs.Common.{◌≡◌, ℕ, zero, suc, ◌≤◌, refl, ap, ◌∙◌, sym, subst, true, false, ◌==◌, List, [], ◌∷◌, ◌++◌, length, arith}
+use Rattle.rules.specs.Papers.{Paper}
 use Rattle.rules.specs.Parts.{NestedUnit, preamble, bytes_of}
-use Rattle.rules.specs.Run.{document_of}
-use Rattle.rules.specs.Filters.{preamble_text, trailer_text}
-use Rattle.rules.specs.Output.{Frame, output}
+use Rattle.rules.specs.Run.{document_of, most_input_bytes}
+use Rattle.made_sheets.specs.Made.{MadeSheet}
+use Rattle.made_sheets.specs.Dress.{Dress, undressed}
+use Rattle.made_sheets.specs.MadeOutput.{made_output}
 use Rattle.dsc.specs.Units.{units_of}
 use Rattle.guard.specs.Guard.{guarded}
 use Rattle.guard.proofs.TheGuard.{guard_stays}
 use Rattle.pictures.specs.Objects.{Token, Number, Name, Literal, Bound, Opens, Closes, Object, Plain, Truth, Procedure, Dictionary, Equal}
-use Rattle.pictures.specs.Dictionaries.{Entry, meaning, system, entry_of, has, or}
+use Rattle.pictures.specs.Dictionaries.{Entry, system, entry_of, has}
 use Rattle.pictures.specs.Operators.{holder, with_operands, judged}
 use Rattle.pictures.specs.Calculations.{compared}
-use Rattle.pictures.specs.Chains.{is_same_chain}
 use Rattle.pictures.specs.Machine.{State, Painting, Runs, push, worked}
-use Rattle.pictures.specs.Placing.{picture_at}
-use Rattle.pictures.specs.Scanner.{tokens, IsComplete}
-use Rattle.pictures.specs.Kept.{page_comments_apart, preamble_comments_apart}
-use Rattle.pictures.specs.Pictures.{printed, sheets_tokens}
-use Rattle.pictures.specs.Sheets.{run_of, in_userdict, Numbers, Shown, saving_tokens, placing_tokens, closing_tokens, placed_tokens, sheet_tokens, page_picture, sheet_picture, place_in, border_in}
-use Rattle.pictures.specs.Documents.{started, page_of, body_of_page, shown_slot, shown_sheet, sheet_pictures, OnSlot, OnSlots, OnSheets, all_sheets}
-use Rattle.pictures.proofs.Kept.{kept_runs_alike, preamble_runs_alike}
-use Rattle.pictures.proofs.Output.{output_cut, on_sheets}
-use Rattle.pictures.proofs.More.{runs_with_more}
-use Rattle.pictures.proofs.Runs.{runs_one, runs_join, runs_none}
+use Rattle.pictures.specs.Scanner.{tokens}
+use Rattle.pictures.specs.Kept.{preamble_comments_apart}
+use Rattle.pictures.specs.Pictures.{printed, past_all, sheets_tokens}
+use Rattle.pictures.specs.Sheets.{run_of, in_userdict, Numbers, Shown, closing_tokens}
+use Rattle.pictures.specs.Documents.{started, PreambleRuns, FirstHas, OnSheetsFrom, all_sheets}
+use Rattle.pictures.specs.Imposed.{IsQuiet}
+use Rattle.pictures.proofs.Output.{undressed_is_quiet}
+use Rattle.pictures.proofs.Runs.{free_are_runs, runs_one, runs_join, runs_none}
+use Rattle.pictures.proofs.Sheets.{Places, Prints, fresh, all_sheets_run}
 use Rattle.pictures.proofs.Tests.{by_test}
 use Rattle.pictures.proofs.Opening.{apart}
 use Rattle.guarded_pictures.specs.Behind.{save_tokens, showpage_tokens}
 use Rattle.guarded_pictures.specs.Shelter.{means, outline_tokens, sheltered, PaintsSheltered}
-use Rattle.guarded_pictures.specs.Pages.{looked_up, looked_up_first, Around, around, placed_at, AllSheltered, AllSheetsSheltered, GuardedPagePaints, outline_of}
-use Rattle.guarded_pictures.specs.OwnShowpage.{BeginsWithAPage, FirstHasAPage}
-use Rattle.guarded_pictures.specs.Silenced.{IsSilenced, with_showpage, behind_sheets, ShowpageIsPutBack, SilencedPageIsPlaced, SilencedSheetsArePrinted, SilencedPreambleRuns, SilencedDocumentIsShown}
+use Rattle.guarded_pictures.specs.Pages.{looked_up, looked_up_first, around, PaintsFrom, shown_at}
+use Rattle.guarded_pictures.specs.Silenced.{IsSilenced, with_showpage, showing, ShowpageIsPutBack, SilencedPageIsPlaced, SilencedSheetsArePrinted, SilencedDocumentIsShown}
 use Rattle.guarded_pictures.proofs.Absent.{known, known_below}
 use Rattle.guarded_pictures.proofs.Steps.{some, by_name}
 use Rattle.guarded_pictures.proofs.Begins.{Bears, before, for_save, saved_state, looking, filling, measuring, looked, finding, up_to_test, marks_page, begins_within}
-use Rattle.guarded_pictures.proofs.Lines.{loaded_showpage}
-use Rattle.guarded_pictures.proofs.Placed.{behind, closing, on_paper, takes_pages}
-use Rattle.guarded_pictures.proofs.PutThere.{means_other}
-use Rattle.guarded_pictures.proofs.OwnShowpage.{not_has, some_same, begins_sheets}
-use Rattle.guarded_pictures.proofs.Sheets.{fresh, pages_of, all_place, all_sheets_place, pages_run, all_sheets_run}
+use Rattle.guarded_pictures.proofs.Placed.{placed_from, on_paper, takes_pages}
+use Rattle.guarded_pictures.proofs.PutThere.{means_other, first_means}
+use Rattle.guarded_pictures.proofs.OwnShowpage.{all_sheets_place}
+use Rattle.guarded_pictures.proofs.Sheets.{still_guarded, still_paints, page_places, guarded_prints}
 use Rattle.guarded_pictures.proofs.Sheltering.{shelter_commutes}
+use Rattle.guarded_pictures.proofs.Documents.{states_are_shown, by_specification_shown}
 
 -- The test for an empty showpage, where it is empty.
 
@@ -74,25 +70,6 @@ puts_back s l flag is show user =
 abbrev shows : Entry
 shows = in_userdict (codes "showpage") (Procedure showpage_tokens)
 
-or_first : (x y : Option Object) → has x ≡ true → or x y ≡ x
-or_first None y e = absurd (true≢false (sym e))
-or_first (Some o) y e = refl
-
--- a name means what the first dictionary that has it has
-first_means : (ds : List ℕ) (es : List Entry) (key : List ℕ) (d : ℕ) → holder ds es key ≡ Some d → meaning ds es key ≡ entry_of d key es
-first_means [] es key d e = absurd (true≢false (ap is_none_there (sym e)))
-  where
-    is_none_there : Option ℕ → Bool
-    is_none_there None = false
-    is_none_there (Some m) = true
-first_means (c ∷ ds) es key d e =
-    let here : Option Object = entry_of c key es in
-    by_test (has here)
-    (λ t. let is : Some c ≡ Some d = sym (ap (λ b. if b then Some c else holder ds es key) t) ∙ e in
-    or_first here (meaning ds es key) t ∙ ap (λ n. entry_of n key es) (some_same (Some c) c d refl is))
-    (λ f. ap (λ x. or x (meaning ds es key)) (not_has here f)
-    ∙ first_means ds es key d (sym (ap (λ b. if b then Some c else holder ds es key) f) ∙ e))
-
 -- userdict is the first one with a showpage, as it is with the guard's
 still_first : (ds : List ℕ) (es : List Entry) → holder ds (shows ∷ es) (codes "showpage") ≡ Some 0 → has (entry_of 0 (codes "showpage") es) ≡ true
     → holder ds es (codes "showpage") ≡ Some 0
@@ -115,7 +92,7 @@ as_with s name o other e = sym (means_other s.work.dictionaries name shows s.wor
 
 user_is : (s : State) → IsSilenced s → means s (codes "userdict") ≡ system (codes "userdict")
 user_is s h =
-    as_with s (codes "userdict") (system (codes "userdict")) refl (known_below looked_up 0 s.work.dictionaries (shows ∷ s.work.entries) h.guarded.names (codes "userdict") refl)
+    as_with s (codes "userdict") (system (codes "userdict")) refl (known_below looked_up 0 s.work.dictionaries (shows ∷ s.work.entries) h.guarded.guard.names (codes "userdict") refl)
 
 first_is : (s : State) → IsSilenced s → holder s.work.dictionaries s.work.entries (codes "showpage") ≡ Some 0
 first_is s h = still_first s.work.dictionaries s.work.entries h.guarded.userdict_first (ap has h.empty)
@@ -128,154 +105,60 @@ showpage_is_put_back s rest h =
     let g = h.guarded in
     let os : List Object = for_save s in
     let there : State = before s os in
-    let end : State = run_of rest (saved_state t g.number) in
-    up_to_test s end rest (user_is s h) (first_is s h) g.few_operands
+    let end : State = run_of rest (saved_state t g.guard.number) in
+    up_to_test s end rest (user_is s h) (first_is s h) g.guard.few_operands
     (runs_join false (run_of (Name (codes "PStoPSenablepage") ∷ looking (finding rest)) there) (run_of (finding rest) (before t os)) end
     (puts_back there (finding rest)
     (as_with s (codes "PStoPSenablepage") (Some (Truth true)) refl g.flag_is)
     (first_means ds es (codes "showpage") 0 (first_is s h) ∙ h.empty)
     (as_with s (codes "ImposeShow") (system (codes "showpage")) refl g.show_is)
     (user_is s h))
-    (marks_page t os g.number rest g.guard_is (known looked_up_first (g.number ∷ ds) (shows ∷ es) g.clip_alone (codes "systemdict") refl)))
+    (marks_page t os g.guard.number rest g.guard.guard_is (known looked_up_first (g.guard.number ∷ ds) (shows ∷ es) g.guard.clip_alone (codes "systemdict") refl)))
 
 -- A page.
 
-bears_silenced : (s : State) → IsSilenced s → Bears [] (with_showpage s)
-bears_silenced s h = record {
-  number = h.guarded.number;
-  clip_is = h.guarded.clip_is;
-  clip_alone = h.guarded.clip_alone;
-  path_is = h.guarded.path_is;
-  names = h.guarded.names;
-  found = 0;
-  found_is = h.guarded.userdict_first;
-  encloses = h.guarded.flag_is;
-  numbers = subst (λ l. is_same_chain l l ≡ true) (ap (λ z. z.chain) h.guarded.graphics) refl;
-}
-
 pub silenced_page_is_placed : SilencedPageIsPlaced
-unfolding bears_silenced
 silenced_page_is_placed s x rest h p =
     let t : State = with_showpage s in
     let n : Numbers = x.placed.numbers in
-    let body : List Token = x.placed.body in
     let more : List Token = closing_tokens ++ rest in
-    let a : Around = around more n t in
-    let end : State = record t { left = rest; painted = page_picture s.graphics x ++ s.painted } in
-    let middle : List Token = saving_tokens ++ (placing_tokens n ++ (body ++ more)) in
-    let cut : placed_tokens x.placed ++ rest ≡ middle =
-    append_assoc saving_tokens (placing_tokens n ++ (body ++ closing_tokens)) rest
-    ∙ ap (λ l. saving_tokens ++ l) (append_assoc (placing_tokens n) (body ++ closing_tokens) rest ∙ ap (λ l. placing_tokens n ++ l) (append_assoc body closing_tokens rest)) in
-    let picture : picture_at (place_in s.graphics n) p.end.painted ++ (border_in s.graphics n n.border ++ s.painted) ≡ page_picture s.graphics x ++ s.painted =
-    ap (λ ps. picture_at (place_in s.graphics n) ps ++ (border_in s.graphics n n.border ++ s.painted)) p.picture_is
-    ∙ sym (append_assoc (picture_at (place_in s.graphics n) x.picture) (border_in s.graphics n n.border) s.painted) in
-    let begins : Runs false (run_of middle s) (placed_at a (sheltered [] t (outline_tokens n) body)) =
-    begins_within [] s t n body more (bears_silenced s h) (user_is s h) (as_with s (codes "save") (Some (Procedure save_tokens)) refl h.guarded.save_is)
-    (λ l. showpage_is_put_back s l h) in
-    subst (λ l. Runs false (run_of l s) end) (sym cut)
-    (subst (λ ps. Runs false (run_of middle s) (record t { left = rest; painted = ps })) picture
-    (runs_join false (run_of middle s) (placed_at a (sheltered [] t (outline_tokens n) body)) (behind rest n t p.end.painted) begins
-    (runs_join false (placed_at a (sheltered [] t (outline_tokens n) body)) (placed_at a p.end) (behind rest n t p.end.painted)
-    (shelter_commutes n [] a (sheltered [] t (outline_tokens n) body) p.end (on_paper [] t n more (takes_pages t h.guarded)) p.run)
-    (closing t p.end n rest h.guarded.operands h.guarded.dictionaries p.leaves))))
+    let g = takes_pages t h.guarded in
+    let bears : Bears [] t = record { guard = h.guarded.guard; found = 0; found_is = h.guarded.userdict_first; encloses = h.guarded.flag_is; numbers = g.numbers } in
+    placed_from (Runs false) free_are_runs [] s t p.end x rest h.guarded.guard
+    (begins_within [] s t n x.placed.body more bears (user_is s h) (as_with s (codes "save") (Some (Procedure save_tokens)) refl h.guarded.guard.save_is)
+    (λ l. showpage_is_put_back s l h))
+    (shelter_commutes n [] (around more n t) (sheltered [] t (outline_tokens n) x.placed.body) p.end (on_paper [] t n more g) p.run) p.leaves p.picture_is
 
--- Sheets.
+-- Sheets: the first page puts the showpage there again, and those after it find it.
 
--- the first one
-first_sheet_run : (s : State) (y : Shown) (ys : List Shown) (more : List Token) → IsSilenced s → AllSheltered [] (with_showpage s) (y ∷ ys)
-    → Runs false (run_of (sheet_tokens (map (λ x. x.placed) (y ∷ ys)) ++ more) s) (fresh (with_showpage s) more [] (sheet_picture s.graphics (y ∷ ys) s.painted ∷ s.sheets))
-first_sheet_run s y ys more h k =
-    let t : State = with_showpage s in
-    let g = h.guarded in
-    let showing : List Token = Name (codes "showpage") ∷ more in
-    let now : List Painting = page_picture s.graphics y ++ s.painted in
-    let full : State = fresh t showing (sheet_picture s.graphics ys now) s.sheets in
-    let end : State = fresh t more [] (sheet_picture s.graphics ys now ∷ s.sheets) in
-    subst (λ ts. Runs false (run_of ts s) end) (sym (append_assoc (pages_of (y ∷ ys)) (Name (codes "showpage") ∷ []) more))
-    (subst (λ ts. Runs false (run_of ts s) end) (sym (append_assoc (placed_tokens y.placed) (pages_of ys) showing))
-    (runs_join false (run_of (placed_tokens y.placed ++ (pages_of ys ++ showing)) s) (fresh t (pages_of ys ++ showing) now s.sheets) end
-    (silenced_page_is_placed s y (pages_of ys ++ showing) h k.0)
-    (runs_join false (fresh t (pages_of ys ++ showing) now s.sheets) full end
-    (pages_run ys t now s.sheets showing (all_place [] t ys (takes_pages t g) k.1))
-    (subst (λ z. Runs false full (record end { graphics = z })) g.graphics
-    ((loaded_showpage full (codes "showpage") more g.showpage_is).1 g.flag_is g.show_is)))))
+silenced_anyway : (s : State) (ps : List Painting) (sheets : List (List Painting)) → IsSilenced s → IsSilenced (record s { painted = ps; sheets = sheets })
+silenced_anyway s ps sheets h = record { empty = h.empty; guarded = still_guarded (with_showpage s) ps sheets h.guarded }
 
-sheets_run : (s : State) (xs : List (List Shown)) (rest : List Token) → IsSilenced s → BeginsWithAPage xs → AllSheetsSheltered (with_showpage s) xs → s.painted ≡ []
-    → Runs false (run_of (sheets_tokens xs ++ rest) s) (fresh (behind_sheets xs s) rest [] (printed s.graphics xs s.sheets))
-sheets_run s [] rest h b k e = subst (λ ps. Runs false (record s { left = rest; painted = ps }) (record s { left = rest; painted = [] })) (sym e) (runs_none false (record s { left = rest; painted = [] }))
-sheets_run s ([] ∷ xs) rest h b k e = absurd b
-sheets_run s ((y ∷ ys) ∷ xs) rest h b k e =
-    let t : State = with_showpage s in
-    let x : List Shown = y ∷ ys in
-    let more : List Token = sheets_tokens xs ++ rest in
-    let now : List (List Painting) = sheet_picture s.graphics x [] ∷ s.sheets in
-    let end : State = fresh t rest [] (printed s.graphics xs now) in
-    subst (λ ts. Runs false (run_of ts s) end) (sym (append_assoc (sheet_tokens (map (λ z. z.placed) x)) (sheets_tokens xs) rest))
-    (runs_join false (run_of (sheet_tokens (map (λ z. z.placed) x) ++ more) s) (fresh t more [] now) end
-    (subst (λ ps. Runs false (run_of (sheet_tokens (map (λ z. z.placed) x) ++ more) s) (fresh t more [] (sheet_picture s.graphics x ps ∷ s.sheets))) e
-    (first_sheet_run s y ys more h k.0))
-    (all_sheets_run xs t rest now h.guarded (all_sheets_place t xs (takes_pages t h.guarded) k.1)))
+silenced_places : (s : State) → IsSilenced s → (k : ℕ) (x : Shown) → PaintsSheltered [] (showing s (suc k)) (outline_tokens x.placed.numbers) x.placed.body x.picture → Places (Runs false) (showing s) s.graphics k x
+silenced_places s h zero x p =
+    λ ps sheets rest. silenced_page_is_placed (record s { painted = ps; sheets = sheets }) x rest (silenced_anyway s ps sheets h)
+    (still_paints [] (with_showpage s) ps sheets (outline_tokens x.placed.numbers) x.placed.body x.picture p)
+silenced_places s h (suc k) x p = page_places [] (with_showpage s) x (takes_pages (with_showpage s) h.guarded) p
+
+silenced_prints : (s : State) → IsSilenced s → (k : ℕ) → 1 ≤ k → Prints (Runs false) (showing s k)
+silenced_prints s h zero le = absurd (omega (arith, le))
+silenced_prints s h (suc k) le = guarded_prints (Runs false) free_are_runs (with_showpage s) h.guarded
 
 pub silenced_sheets_are_printed : SilencedSheetsArePrinted
-silenced_sheets_are_printed s xs rest h e b k = sheets_run s xs rest h b k e
+silenced_sheets_are_printed s xs rest h e b k =
+    subst (λ ps. Runs false (record s { left = sheets_tokens xs ++ rest; painted = ps }) (fresh (showing s (past_all 0 xs)) rest [] (printed s.graphics xs s.sheets))) (sym e)
+    (all_sheets_run (Runs false) free_are_runs (showing s) s.graphics 1 (silenced_prints s h) xs 0 rest s.sheets b (all_sheets_place (showing s) s.graphics (silenced_places s h) xs 0 k))
 
 -- Documents.
 
-slot_sheltered : (frame : Frame) (us : List NestedUnit) (picture : ℕ → List Painting) (t : State) (page : Option ℕ) (item : Item) (xs : List Shown)
-    → OnSlot (λ p. GuardedPagePaints frame us t p (picture p)) page → AllSheltered [] t xs → AllSheltered [] t (shown_slot frame us picture page item ++ xs)
-slot_sheltered frame us picture t None item xs h k = k
-slot_sheltered frame us picture t (Some p) item xs (complete, comments, h) k =
-    (subst (λ ts. PaintsSheltered [] t (outline_of frame) ts (picture p)) (sym (kept_runs_alike (page_of us p) comments complete).0) h, k)
-
-slots_sheltered : (frame : Frame) (us : List NestedUnit) (picture : ℕ → List Painting) (t : State) (slots : List Slot)
-    → OnSlots (λ p. GuardedPagePaints frame us t p (picture p)) slots → AllSheltered [] t (shown_sheet frame us picture slots)
-slots_sheltered frame us picture t [] h = tt
-slots_sheltered frame us picture t (slot ∷ slots) h =
-    slot_sheltered frame us picture t slot.page slot.item (shown_sheet frame us picture slots) h.0 (slots_sheltered frame us picture t slots h.1)
-
-sheets_sheltered : (frame : Frame) (us : List NestedUnit) (picture : ℕ → List Painting) (t : State) (all : List (List Slot))
-    → OnSheets (λ p. GuardedPagePaints frame us t p (picture p)) all → AllSheetsSheltered t (map (shown_sheet frame us picture) all)
-sheets_sheltered frame us picture t [] h = tt
-sheets_sheltered frame us picture t (slots ∷ more) h = (slots_sheltered frame us picture t slots h.0, sheets_sheltered frame us picture t more h.1)
-
-behind_shown : (frame : Frame) (us : List NestedUnit) (picture : ℕ → List Painting) (all : List (List Slot)) (s : State) → behind_sheets (map (shown_sheet frame us picture) all) s ≡ behind_sheets all s
-behind_shown frame us picture [] s = refl
-behind_shown frame us picture (slots ∷ more) s = refl
-
--- an accepted document in whose preamble the guard has run
-shown_whole : (frame : Frame) (sides : Option ℕ) (spec : Spec) (text : List ℕ) (us : List NestedUnit) (picture : ℕ → List Painting) (s : State)
-    → document_of text ≡ Ok us → preamble_comments_apart us ≡ true → SilencedPreambleRuns (bytes_of (preamble us)) s → FirstHasAPage (all_sheets sides spec us)
-    → OnSheets (λ p. GuardedPagePaints frame us (with_showpage s) p (picture p)) (all_sheets sides spec us)
-    → Runs false (started (tokens (output frame sides spec us)))
-    (record (behind_sheets (all_sheets sides spec us) s) { left = tokens (trailer_text us); painted = []; sheets = sheet_pictures frame us picture s (all_sheets sides spec us) })
-shown_whole frame sides spec text us picture s doc comments (complete, run, nothing_left, nothing_painted, nothing_printed, silenced) has h =
-    let all : List (List Slot) = all_sheets sides spec us in
-    let first_text : List ℕ = preamble_text (length all) us in
-    let shown : List (List Shown) = map (shown_sheet frame us picture) all in
-    let last : List Token = tokens (trailer_text us) in
-    let more : List Token = sheets_tokens shown ++ last in
-    let alike = preamble_runs_alike (length all) text us doc comments complete in
-    let complete_pages : OnSheets (λ p. IsComplete (body_of_page us p)) all =
-    on_sheets (λ p. GuardedPagePaints frame us (with_showpage s) p (picture p)) (λ p. IsComplete (body_of_page us p)) (λ p q. (kept_runs_alike (page_of us p) q.1 q.0).1) all h in
-    let end : State → State = λ u. record u { left = last; painted = []; sheets = sheet_pictures frame us picture s all } in
-    let first_run : Runs false (started (tokens first_text)) s = subst (λ ts. Runs false (started ts) s) (sym alike.0) run in
-    subst (λ ts. Runs false (started ts) (end (behind_sheets all s))) (sym (output_cut frame sides spec us picture alike.1 complete_pages))
-    (subst (λ u. Runs false (started (tokens first_text ++ more)) (end u)) (behind_shown frame us picture all s)
-    (runs_join false (started (tokens first_text ++ more)) (record s { left = s.left ++ more }) (end (behind_sheets shown s))
-    (runs_with_more more (started (tokens first_text)) s first_run)
-    (subst (λ l. Runs false (record s { left = l ++ more }) (end (behind_sheets shown s))) (sym nothing_left)
-    (silenced_sheets_are_printed s shown last silenced nothing_painted (begins_sheets frame us picture all has) (sheets_sheltered frame us picture (with_showpage s) all h)))))
+pub silenced_is_shown : (sheet : Option Paper) (border : Option ℤ) (dress : Dress) (all : List MadeSheet) (text : List ℕ) (us : List NestedUnit) (picture : ℕ → List Painting) (s : State)
+    → IsQuiet dress → document_of text ≡ Ok us → length (guarded sheet text) ≤ most_input_bytes → preamble_comments_apart (units_of (guarded sheet text)) ≡ true
+    → PreambleRuns IsSilenced (bytes_of (preamble (units_of (guarded sheet text)))) s → FirstHas 1 all → OnSheetsFrom (PaintsFrom border us picture (showing s)) 0 all
+    → Runs false (started (tokens (made_output border dress all (units_of (guarded sheet text))))) (shown_at (showing s) border (units_of (guarded sheet text)) picture all)
+silenced_is_shown sheet border dress all text us picture s quiet doc few comments (complete, run, left, painted, none_printed, silenced) has h =
+    states_are_shown (showing s) 1 sheet border dress all text us picture (silenced_places s silenced) (silenced_prints s silenced) quiet doc few comments complete run left painted has h
 
 pub silenced_document_is_shown : SilencedDocumentIsShown
 silenced_document_is_shown sheet frame sides spec text us picture s doc few comments run has h =
-    let stays = guard_stays sheet text us doc few in
-    let again : List NestedUnit = units_of (guarded sheet text) in
-    let goal : List (List Slot) → Type 0 = λ all. Runs false (started (tokens (output frame sides spec again)))
-    (record (behind_sheets all s) { left = tokens (trailer_text again); painted = []; sheets = sheet_pictures frame again picture s all }) in
-    let same : all_sheets sides spec again ≡ all_sheets sides spec us = ap (λ ps. sheets_in sides spec (length ps)) stays.1.same_pages in
-    let sheets : List (List ℕ) → Type 0 = λ ps. OnSheets (λ p. IsComplete (slice_index_or ps p []) × (page_comments_apart (slice_index_or ps p []) ≡ true)
-    × PaintsSheltered [] (with_showpage s) (outline_of frame) (tokens (slice_index_or ps p [])) (picture p)) (sheets_in sides spec (length ps)) in
-    let firsts : List (List ℕ) → Type 0 = λ ps. FirstHasAPage (sheets_in sides spec (length ps)) in
-    subst goal same
-    (shown_whole frame sides spec (guarded sheet text) again picture s stays.0 comments run
-    (subst firsts (sym stays.1.same_pages) has) (subst sheets (sym stays.1.same_pages) h))
+    by_specification_shown (showing s) frame sides spec us (units_of (guarded sheet text)) picture (guard_stays sheet text us doc few).1.same_pages
+    (silenced_is_shown sheet frame.border undressed (all_sheets frame sides spec us) text us picture s undressed_is_quiet doc few comments run has h)

@@ -1,16 +1,15 @@
 -- Where sheets of sheets can be placed: after the guard, and after definitions of other names.
 use Rattle.std.specs.Prelude.{Some, None, codes, bytes_eq, nat_lt}
 use Rattle.std.proofs.lemmas.Bool.{lt-ltb}
-use Rattle.std.proofs.Common.{◌≡◌, ℕ, ◌+◌, refl, ap, ap₂, ◌∙◌, true, false, not, ◌&&◌, ◌||◌, List, [], ◌∷◌}
+use Rattle.std.proofs.Common.{◌≡◌, ℕ, ◌+◌, refl, ap, ap₂, ◌∙◌, true, false, not, ◌&&◌, List, [], ◌∷◌}
 use Rattle.pictures.specs.Dictionaries.{Entry}
 use Rattle.pictures.specs.Sheets.{among}
 use Rattle.pictures.proofs.Opening.{name_other, apart}
 use Rattle.pictures.proofs.Tests.{first, second}
 use Rattle.pictures.proofs.Placed.{both_true}
 use Rattle.guarded_pictures.specs.Behind.{behind_guard}
-use Rattle.guarded_pictures.specs.Pages.{looked_up, looked_up_first, guarded_names}
 use Rattle.guarded_pictures.specs.SheetsOfSheets.{none_newer, none_above_of, put_there, taken_names, GuardTakesSheets, StaysTakingSheets}
-use Rattle.guarded_pictures.proofs.Ground.{guard_is_enough, nor, differs, all_differ, all_among, entry_other, holder_other, all_absent_other}
+use Rattle.guarded_pictures.proofs.Ground.{guard_is_enough, differs, all_differ, all_among, holder_other, guard_names, guard_stays_there}
 use Rattle.guarded_pictures.proofs.Placed.{takes_pages}
 use Rattle.guarded_pictures.proofs.PutThere.{above_other}
 
@@ -18,15 +17,6 @@ pub guard_takes_sheets : GuardTakesSheets
 guard_takes_sheets None rest = record { takes = takes_pages (behind_guard None rest) (guard_is_enough None rest); above = refl; outermost = refl; restore_is = refl; new = refl; older = tt }
 guard_takes_sheets (Some paper) rest =
     record { takes = takes_pages (behind_guard (Some paper) rest) (guard_is_enough (Some paper) rest); above = refl; outermost = refl; restore_is = refl; new = refl; older = tt }
-
--- none of these is the guard's either
-of_guard : (key : List ℕ) → among key taken_names ≡ false → among key guarded_names ≡ false
-of_guard key a =
-    nor (bytes_eq key (codes "PStoPSclip")) (among key guarded_names)
-    (nor (bytes_eq key (codes "PStoPSmatrix")) (bytes_eq key (codes "PStoPSclip") || among key guarded_names)
-    (nor (bytes_eq key (codes "ImposeOuter")) (bytes_eq key (codes "PStoPSmatrix") || (bytes_eq key (codes "PStoPSclip") || among key guarded_names))
-    (nor (bytes_eq key (codes "ImposeSave")) (bytes_eq key (codes "ImposeOuter") || (bytes_eq key (codes "PStoPSmatrix") || (bytes_eq key (codes "PStoPSclip") || among key guarded_names)))
-    (nor (bytes_eq key (codes "restore")) (bytes_eq key (codes "ImposeSave") || (bytes_eq key (codes "ImposeOuter") || (bytes_eq key (codes "PStoPSmatrix") || (bytes_eq key (codes "PStoPSclip") || among key guarded_names)))) a))))
 
 is_apart : (key name : List ℕ) → bytes_eq key name ≡ false → apart key (name ∷ []) ≡ true
 is_apart key name e = ap (λ b. not b && true) e
@@ -43,21 +33,11 @@ stays_taking_sheets s e t a made =
     let ds : List ℕ = s.work.dictionaries in
     let es : List Entry = s.work.entries in
     let g = t.takes in
-    let b = of_guard e.key a in
     let other : (name : List ℕ) → among name taken_names ≡ true → bytes_eq e.key name ≡ false = λ name h. differs e.key name taken_names a h in
     record {
       takes = record {
-        number = g.number;
-        save_is = name_other ds e es (codes "save") (other (codes "save") refl) ∙ g.save_is;
-        guard_is = name_other ds e es (codes "ImposeGuard") (other (codes "ImposeGuard") refl) ∙ g.guard_is;
-        clip_is = entry_other g.number e es (codes "clip") (other (codes "clip") refl) ∙ g.clip_is;
-        clip_alone = all_absent_other looked_up_first (g.number ∷ ds) e es (all_differ e looked_up_first b refl) ∙ g.clip_alone;
-        path_is = entry_other 0 e es (codes "ImposePath") (other (codes "ImposePath") refl) ∙ g.path_is;
-        names = all_absent_other looked_up (0 ∷ ds) e es (all_differ e looked_up b refl) ∙ g.names;
+        guard = guard_stays_there s.work s.level e (all_differ e guard_names taken_names a refl) g.guard;
         userdict_first = holder_other ds e es (codes "showpage") (other (codes "showpage") refl) ∙ g.userdict_first;
-        few_operands = g.few_operands;
-        operands = g.operands;
-        dictionaries = g.dictionaries;
         encloses = name_other ds e es (codes "PStoPSenablepage") (other (codes "PStoPSenablepage") refl) ∙ g.encloses;
         shows = (
           name_other ds e es (codes "showpage") (other (codes "showpage") refl) ∙ g.shows.0,

@@ -1,16 +1,21 @@
 -- What impose makes of a guarded document on sheets that are reported as one paper, by whatever layout.
-use Rattle.std.specs.Prelude.{◌≡◌, ℕ, ◌≤◌, List, [], ◌∷◌, true, length, map, Option, Ok, ℤ}
+use Rattle.std.specs.Prelude.{◌≡◌, ℕ, ◌≤◌, List, [], ◌∷◌, true, false, length, map, Option, Ok, ℤ}
 use Rattle.rules.specs.Papers.{Paper}
 use Rattle.rules.specs.Parts.{NestedUnit, preamble, bytes_of}
 use Rattle.rules.specs.Run.{document_of, most_input_bytes}
 use Rattle.made_sheets.specs.Made.{MadeSheet}
+use Rattle.made_sheets.specs.MadeOutput.{made_output}
 use Rattle.dsc.specs.Units.{units_of}
 use Rattle.guard.specs.Guard.{guarded}
 use Rattle.papers.specs.Told.{papers_told, telling}
-use Rattle.pictures.specs.Machine.{State, Painting}
+use Rattle.pictures.specs.Machine.{State, Painting, Runs}
+use Rattle.pictures.specs.Scanner.{tokens}
 use Rattle.pictures.specs.Kept.{preamble_comments_apart}
-use Rattle.pictures.specs.Imposed.{IsQuiet, frame_of, OnMadeSheets, MadeIsPrinted}
-use Rattle.guarded_pictures.specs.Pages.{GuardedPreambleRuns, GuardedPagePaints}
+use Rattle.pictures.specs.Documents.{started, frame_of, PreambleRuns, FirstHas, OnSheets, OnSheetsFrom}
+use Rattle.pictures.specs.Imposed.{IsQuiet, MadeIsPrinted}
+use Rattle.guarded_pictures.specs.Pages.{IsGuarded, GuardedPagePaints, PaintsFrom, shown_at}
+use Rattle.guarded_pictures.specs.OwnShowpage.{HasItsOwn, asking}
+use Rattle.guarded_pictures.specs.Silenced.{IsSilenced, showing}
 
 -- all sheets have this paper
 abbrev pub AreOn : Paper → List MadeSheet → Type 0
@@ -37,6 +42,30 @@ MadeDocumentIsShown =
     (picture : ℕ → List Painting) (s : State)
     → AreToldAsOne all → document_of text ≡ Ok us → length (guarded sheet text) ≤ most_input_bytes
     → preamble_comments_apart (units_of (guarded sheet text)) ≡ true
-    → GuardedPreambleRuns (bytes_of (preamble (units_of (guarded sheet text)))) s
-    → OnMadeSheets (λ own p. GuardedPagePaints (frame_of border own) us s p (picture p)) all
+    → PreambleRuns IsGuarded (bytes_of (preamble (units_of (guarded sheet text)))) s
+    → OnSheets (λ own p. GuardedPagePaints (frame_of border own) us s p (picture p)) all
     → MadeIsPrinted border (telling all) all (units_of (guarded sheet text)) picture s
+
+-- the same of a document with a showpage of its own, if the first sheet has a page: a law
+abbrev pub OwnMadeDocumentIsShown : Type 0
+OwnMadeDocumentIsShown =
+    (sheet : Option Paper) (border : Option ℤ) (all : List MadeSheet) (text : List ℕ) (us : List NestedUnit)
+    (picture : ℕ → List Painting) (d : ℕ) (s : State)
+    → AreToldAsOne all → document_of text ≡ Ok us → length (guarded sheet text) ≤ most_input_bytes
+    → preamble_comments_apart (units_of (guarded sheet text)) ≡ true
+    → PreambleRuns (HasItsOwn d) (bytes_of (preamble (units_of (guarded sheet text)))) s
+    → FirstHas 1 all → OnSheetsFrom (PaintsFrom border us picture (asking d s)) 0 all
+    → Runs false (started (tokens (made_output border (telling all) all (units_of (guarded sheet text)))))
+    (shown_at (asking d s) border (units_of (guarded sheet text)) picture all)
+
+-- and of one that leaves userdict's showpage empty: a law
+abbrev pub SilencedMadeDocumentIsShown : Type 0
+SilencedMadeDocumentIsShown =
+    (sheet : Option Paper) (border : Option ℤ) (all : List MadeSheet) (text : List ℕ) (us : List NestedUnit)
+    (picture : ℕ → List Painting) (s : State)
+    → AreToldAsOne all → document_of text ≡ Ok us → length (guarded sheet text) ≤ most_input_bytes
+    → preamble_comments_apart (units_of (guarded sheet text)) ≡ true
+    → PreambleRuns IsSilenced (bytes_of (preamble (units_of (guarded sheet text)))) s
+    → FirstHas 1 all → OnSheetsFrom (PaintsFrom border us picture (showing s)) 0 all
+    → Runs false (started (tokens (made_output border (telling all) all (units_of (guarded sheet text)))))
+    (shown_at (showing s) border (units_of (guarded sheet text)) picture all)

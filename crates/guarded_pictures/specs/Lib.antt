@@ -11,5 +11,4 @@ pub mod OwnShowpage
 pub mod Silenced
 pub mod SheetsOfSheets
 pub mod Imposed
-pub mod ImposedOwn
 pub mod TwoMadeRuns

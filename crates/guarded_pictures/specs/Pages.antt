@@ -1,25 +1,27 @@
 -- The sheets of a guarded document: each page is what it is by itself, placed.
 use Rattle.std.specs.Prelude.{◌≡◌, ℕ, ◌+◌, ◌^◌, ◌<◌, ◌≤◌, List, [], ◌∷◌, ◌++◌, map, Bool, true, false, not, ◌&&◌, ◌==◌}
-use Rattle.std.specs.Prelude.{Option, Some, Ok, codes, length}
+use Rattle.std.specs.Prelude.{suc, ℤ, Option, Some, Ok, codes, length}
 use Rattle.rules.specs.Specification.{Spec}
 use Rattle.rules.specs.Numbers.{points_text}
 use Rattle.rules.specs.Parts.{NestedUnit, preamble, bytes_of}
+use Rattle.rules.specs.Filters.{trailer_text}
 use Rattle.rules.specs.Run.{document_of, most_input_bytes}
 use Rattle.rules.specs.Papers.{Paper}
 use Rattle.dsc.specs.Units.{units_of}
 use Rattle.guard.specs.Guard.{guarded}
 use Rattle.rules.specs.Output.{Frame}
+use Rattle.made_sheets.specs.Made.{MadeSheet}
 use Rattle.pictures.specs.Objects.{Token, Truth, Procedure, Dictionary, Matrix}
-use Rattle.pictures.specs.Dictionaries.{Entry, userdict, system, entry_of}
+use Rattle.pictures.specs.Dictionaries.{Entry, userdict, system, meaning, entry_of}
 use Rattle.pictures.specs.Chains.{is_same_chain}
-use Rattle.pictures.specs.Operators.{holder, all_old, all_are_old}
+use Rattle.pictures.specs.Operators.{Work, holder, all_old, all_are_old}
 use Rattle.pictures.specs.Machine.{State, Snapshot, Kept, Painting, initial, chain_of, Runs}
 use Rattle.pictures.specs.Placing.{Place, graphics_at, picture_at}
 use Rattle.pictures.specs.Scanner.{tokens, IsComplete}
-use Rattle.pictures.specs.Sheets.{Numbers, among, Shown, run_of, saving_tokens, placing_tokens}
+use Rattle.pictures.specs.Sheets.{Numbers, among, Shown, AllOf, run_of, saving_tokens, placing_tokens}
 use Rattle.pictures.specs.Sheets.{placed_tokens, place_in, border_in, page_picture}
-use Rattle.pictures.specs.Pictures.{printed, sheets_tokens}
-use Rattle.pictures.specs.Documents.{started, page_of, OnSheets, all_sheets, IsPrinted}
+use Rattle.pictures.specs.Pictures.{printed, past, sheets_tokens}
+use Rattle.pictures.specs.Documents.{frame_of, page_of, sheet_pictures, pages_past_all, PreambleRuns, OnSheets, all_sheets, IsPrinted}
 use Rattle.pictures.specs.Kept.{page_comments_apart, preamble_comments_apart}
 use Rattle.guarded_pictures.specs.Behind.{behind_guard, save_tokens, clip_tokens, path_tokens, showpage_tokens}
 use Rattle.guarded_pictures.specs.Shelter.{Outer, outer_is, means, all_absent, outline_by, outline_tokens, sheltered}
@@ -42,25 +44,28 @@ looked_up_first =
     ∷ codes "moveto" ∷ codes "lineto" ∷ codes "closepath" ∷ []
 
 -- the guard's names mean what the guard has them mean, and no dictionary on the stack has another meaning for those
--- that a sheet's text uses; nothing on the stacks is newer than the state; and the graphics state is what
--- `initgraphics` makes it
-pub record IsGuarded (s : State) : Type 0 where
+-- that a sheet's text uses; and nothing on the stacks is newer than the state
+pub record HasGuard (w : Work) (level : ℕ) : Type 0 where
   -- the number of the dictionary that marks the beginning of a page
   pub number : ℕ
-  pub save_is : means s (codes "save") ≡ Some (Procedure save_tokens)
-  pub guard_is : means s (codes "ImposeGuard") ≡ Some (Dictionary number)
-  pub clip_is : entry_of number (codes "clip") s.work.entries ≡ Some (Procedure clip_tokens)
-  pub clip_alone : all_absent looked_up_first (number ∷ s.work.dictionaries) s.work.entries ≡ true
-  pub path_is : entry_of userdict (codes "ImposePath") s.work.entries ≡ Some (Procedure path_tokens)
-  pub names : all_absent looked_up (userdict ∷ s.work.dictionaries) s.work.entries ≡ true
+  pub save_is : meaning w.dictionaries w.entries (codes "save") ≡ Some (Procedure save_tokens)
+  pub guard_is : meaning w.dictionaries w.entries (codes "ImposeGuard") ≡ Some (Dictionary number)
+  pub clip_is : entry_of number (codes "clip") w.entries ≡ Some (Procedure clip_tokens)
+  pub clip_alone : all_absent looked_up_first (number ∷ w.dictionaries) w.entries ≡ true
+  pub path_is : entry_of userdict (codes "ImposePath") w.entries ≡ Some (Procedure path_tokens)
+  pub names : all_absent looked_up (userdict ∷ w.dictionaries) w.entries ≡ true
+  -- so many can be written down
+  pub few_operands : length w.operands + 2 < 10 ^ 64
+  pub operands : all_are_old w.made level w.operands ≡ true
+  pub dictionaries : all_old w.made w.dictionaries ≡ true
+
+-- and `showpage` is the guard's, outside all pages; and the graphics state is what `initgraphics` makes it
+pub record IsGuarded (s : State) : Type 0 where
+  pub guard : HasGuard s.work s.level
   pub userdict_first : holder s.work.dictionaries s.work.entries (codes "showpage") ≡ Some userdict
   pub showpage_is : means s (codes "showpage") ≡ Some (Procedure showpage_tokens)
   pub flag_is : means s (codes "PStoPSenablepage") ≡ Some (Truth true)
   pub show_is : means s (codes "ImposeShow") ≡ system (codes "showpage")
-  -- so many can be written down
-  pub few_operands : length s.work.operands + 2 < 10 ^ 64
-  pub operands : all_are_old s.work.made s.level s.work.operands ≡ true
-  pub dictionaries : all_old s.work.made s.work.dictionaries ≡ true
   pub graphics : initial s.graphics ≡ s.graphics
 
 -- What a guarded state is come to by.
@@ -166,17 +171,8 @@ Shows (o ∷ os) s = Unit {0}
 
 -- these pages are round those that are placed there
 pub record TakesPages (outers : List Outer) (s : State) : Type 0 where
-  pub number : ℕ
-  pub save_is : means s (codes "save") ≡ Some (Procedure save_tokens)
-  pub guard_is : means s (codes "ImposeGuard") ≡ Some (Dictionary number)
-  pub clip_is : entry_of number (codes "clip") s.work.entries ≡ Some (Procedure clip_tokens)
-  pub clip_alone : all_absent looked_up_first (number ∷ s.work.dictionaries) s.work.entries ≡ true
-  pub path_is : entry_of userdict (codes "ImposePath") s.work.entries ≡ Some (Procedure path_tokens)
-  pub names : all_absent looked_up (userdict ∷ s.work.dictionaries) s.work.entries ≡ true
+  pub guard : HasGuard s.work s.level
   pub userdict_first : holder s.work.dictionaries s.work.entries (codes "showpage") ≡ Some userdict
-  pub few_operands : length s.work.operands + 2 < 10 ^ 64
-  pub operands : all_are_old s.work.made s.level s.work.operands ≡ true
-  pub dictionaries : all_old s.work.made s.work.dictionaries ≡ true
   pub encloses : Encloses outers s
   pub shows : Shows outers s
   pub clips : s.graphics.clip ≡ clips_to outers []
@@ -222,28 +218,17 @@ GuardedPageIsPlaced =
     (record s { left = rest; painted = page_picture s.graphics x ++ s.painted })
 
 abbrev pub AllSheltered : List Outer → State → List Shown → Type 0
-AllSheltered outers s [] = Unit {0}
-AllSheltered outers s (x ∷ xs) =
-    PaintsSheltered outers s (outline_tokens x.placed.numbers) x.placed.body x.picture × AllSheltered outers s xs
-
-abbrev pub AllSheetsSheltered : State → List (List Shown) → Type 0
-AllSheetsSheltered s [] = Unit {0}
-AllSheetsSheltered s (x ∷ xs) = AllSheltered [] s x × AllSheetsSheltered s xs
+AllSheltered outers s xs =
+    AllOf (λ (x : Shown). PaintsSheltered outers s (outline_tokens x.placed.numbers) x.placed.body x.picture) xs
 
 -- each sheet is printed with the pictures of its pages, placed, and the machine is where it was: a law
 abbrev pub GuardedSheetsArePrinted : Type 0
 GuardedSheetsArePrinted =
-    (s : State) (xs : List (List Shown)) (rest : List Token) → IsGuarded s → s.painted ≡ [] → AllSheetsSheltered s xs
+    (s : State) (xs : List (List Shown)) (rest : List Token) → IsGuarded s → s.painted ≡ [] → AllOf (AllSheltered [] s) xs
     → Runs false (run_of (sheets_tokens xs ++ rest) s)
     (record s { left = rest; sheets = printed s.graphics xs s.sheets })
 
 -- Documents.
-
--- the preamble ends between tokens, and the machine is then here, with nothing painted or printed
-abbrev pub GuardedPreambleRuns : List ℕ → State → Type 0
-GuardedPreambleRuns text s =
-    IsComplete text × Runs false (started (tokens text)) s × (s.left ≡ []) × (s.painted ≡ []) × (s.sheets ≡ [])
-    × IsGuarded s
 
 -- the outline of the paper
 abbrev pub outline_of : Frame → List Token
@@ -256,14 +241,39 @@ GuardedPagePaints frame us s p picture =
     IsComplete (page_of us p) × (page_comments_apart (page_of us p) ≡ true)
     × PaintsSheltered [] s (outline_of frame) (tokens (page_of us p)) picture
 
+-- If pages leave something: the state after so many is given.
+
+-- each page paints its picture by itself in the state in which it begins
+abbrev pub AllShelteredFrom : (ℕ → State) → ℕ → List Shown → Type 0
+AllShelteredFrom at k [] = Unit {0}
+AllShelteredFrom at k (x ∷ xs) =
+    PaintsSheltered [] (at (suc k)) (outline_tokens x.placed.numbers) x.placed.body x.picture × AllShelteredFrom at (suc k) xs
+
+abbrev pub AllSheetsShelteredFrom : (ℕ → State) → ℕ → List (List Shown) → Type 0
+AllSheetsShelteredFrom at k [] = Unit {0}
+AllSheetsShelteredFrom at k (xs ∷ more) = AllShelteredFrom at k xs × AllSheetsShelteredFrom at (past k xs) more
+
+abbrev pub PaintsFrom : Option ℤ → List NestedUnit → (ℕ → List Painting) → (ℕ → State) → ℕ → Paper → ℕ → Type 0
+PaintsFrom border us picture at k own p = GuardedPagePaints (frame_of border own) us (at (suc k)) p (picture p)
+
+-- the state after the sheets of a document, with the trailer to run
+abbrev pub shown_at : (ℕ → State) → Option ℤ → List NestedUnit → (ℕ → List Painting) → List MadeSheet → State
+shown_at at border us picture all = record (at (pages_past_all 0 all)) {
+  left = tokens (trailer_text us);
+  painted = [];
+  sheets = sheet_pictures border us picture (at 0) all;
+}
+
+-- The laws of documents.
+
 -- Of an accepted document in whose preamble the guard has run: if each page paints a picture by itself, then the
 -- machine prints of the output, sheet by sheet, those pictures, placed: a law
 abbrev pub GuardedSheetsShowThePages : Type 0
 GuardedSheetsShowThePages =
     (frame : Frame) (sides : Option ℕ) (spec : Spec) (text : List ℕ) (us : List NestedUnit)
     (picture : ℕ → List Painting) (s : State)
-    → document_of text ≡ Ok us → preamble_comments_apart us ≡ true → GuardedPreambleRuns (bytes_of (preamble us)) s
-    → OnSheets (λ p. GuardedPagePaints frame us s p (picture p)) (all_sheets sides spec us)
+    → document_of text ≡ Ok us → preamble_comments_apart us ≡ true → PreambleRuns IsGuarded (bytes_of (preamble us)) s
+    → OnSheets (λ own p. GuardedPagePaints (frame_of frame.border own) us s p (picture p)) (all_sheets frame sides spec us)
     → IsPrinted frame sides spec us picture s
 
 -- What impose makes of an accepted document, with the guard put in: its own pages are shown, if the preamble with the
@@ -274,6 +284,6 @@ GuardedDocumentIsShown =
     (picture : ℕ → List Painting) (s : State)
     → document_of text ≡ Ok us → length (guarded sheet text) ≤ most_input_bytes
     → preamble_comments_apart (units_of (guarded sheet text)) ≡ true
-    → GuardedPreambleRuns (bytes_of (preamble (units_of (guarded sheet text)))) s
-    → OnSheets (λ p. GuardedPagePaints frame us s p (picture p)) (all_sheets sides spec us)
+    → PreambleRuns IsGuarded (bytes_of (preamble (units_of (guarded sheet text)))) s
+    → OnSheets (λ own p. GuardedPagePaints (frame_of frame.border own) us s p (picture p)) (all_sheets frame sides spec us)
     → IsPrinted frame sides spec (units_of (guarded sheet text)) picture s

@@ -1,30 +1,25 @@
 -- Sheets of sheets: the sheets of one document are the pages of another one, which is imposed with the guard too. Each
 -- page is in its inner place, and with that in the outer one.
-use Rattle.std.specs.Prelude.{◌≡◌, ℕ, ◌+◌, ◌<◌, ◌≤◌, List, [], ◌∷◌, ◌++◌, map, length, Bool, true, false, not, ◌&&◌, ◌||◌, ◌==◌}
-use Rattle.std.specs.Prelude.{zero, suc, Option, Some, Ok, codes, slice_index_or, nat_lt}
-use Rattle.rules.specs.Specification.{Item, Spec}
-use Rattle.rules.specs.Sheets.{Slot}
+use Rattle.std.specs.Prelude.{◌≡◌, ℕ, ◌+◌, ◌<◌, List, [], ◌∷◌, ◌++◌, map, Bool, true, false, not, ◌&&◌, ◌||◌, ◌==◌}
+use Rattle.std.specs.Prelude.{zero, suc, Option, Some, codes, nat_lt}
+use Rattle.rules.specs.Specification.{Item}
+use Rattle.rules.specs.Parts.{NestedUnit}
+use Rattle.rules.specs.Output.{Frame}
 use Rattle.rules.specs.Papers.{Paper}
-use Rattle.rules.specs.Parts.{NestedUnit, preamble, page_run, bytes_of}
-use Rattle.rules.specs.Run.{document_of, most_input_bytes, most_pages}
-use Rattle.rules.specs.Output.{Frame, output}
-use Rattle.dsc.specs.Units.{units_of}
-use Rattle.imposed_again.specs.Again.{depth_behind}
-use Rattle.guard.specs.Guard.{guarded}
-use Rattle.pictures.specs.Objects.{Token}
 use Rattle.pictures.specs.Dictionaries.{Entry, userdict, system, entry_of, has}
+use Rattle.pictures.specs.Objects.{Token}
 use Rattle.pictures.specs.Machine.{State, Painting, Graphics, Runs}
 use Rattle.pictures.specs.Placing.{Place, graphics_at, picture_at}
 use Rattle.pictures.specs.Scanner.{tokens, IsComplete}
-use Rattle.pictures.specs.Sheets.{Numbers, among, Shown, run_of, placed_tokens, place_in, page_picture, sheet_picture, sheet_tokens}
+use Rattle.pictures.specs.Sheets.{Numbers, among, Shown, AllOf, run_of, placed_tokens, place_in, page_picture, sheet_picture, sheet_tokens}
 use Rattle.pictures.specs.Pictures.{printed, sheets_tokens}
-use Rattle.pictures.specs.Documents.{numbers_of, page_of, shown_sheet, OnSheets, all_sheets, IsPrinted}
-use Rattle.pictures.specs.Kept.{page_comments_apart, preamble_comments_apart}
+use Rattle.pictures.specs.Documents.{numbers_of, page_of}
+use Rattle.pictures.specs.Kept.{page_comments_apart}
 use Rattle.guarded_pictures.specs.Shelter.{Outer, outer_is, means, outline_tokens, page_matrix, beginning, sheltered}
 use Rattle.guarded_pictures.specs.Shelter.{PaintsSheltered}
 use Rattle.guarded_pictures.specs.Behind.{behind_guard}
 use Rattle.guarded_pictures.specs.Pages.{IsGuarded, TakesPages, AllSheltered, placed_at, around, outline_of}
-use Rattle.guarded_pictures.specs.Pages.{GuardedPreambleRuns, guarded_names, defined}
+use Rattle.guarded_pictures.specs.Pages.{guarded_names, defined}
 
 -- A page that a sheet of another document is.
 
@@ -133,20 +128,15 @@ pub record Inner : Type 0 where
 abbrev pub as_pages : State → List Inner → List Shown
 as_pages s xs = map (λ x. sheet_as_page s x.numbers x.pages) xs
 
-abbrev pub AllWithin : State → List Inner → Type 0
-AllWithin s [] = Unit {0}
-AllWithin s (x ∷ xs) =
-    AllSheltered (page_round [] s x.numbers ∷ []) (page_begun [] s x.numbers) x.pages × AllWithin s xs
-
-abbrev pub AllSheetsWithin : State → List (List Inner) → Type 0
-AllSheetsWithin s [] = Unit {0}
-AllSheetsWithin s (x ∷ xs) = AllWithin s x × AllSheetsWithin s xs
+-- each of its pages, within it, paints its picture by itself
+abbrev pub AllWithin : State → Inner → Type 0
+AllWithin s x = AllSheltered (page_round [] s x.numbers ∷ []) (page_begun [] s x.numbers) x.pages
 
 -- sheets of sheets are printed, each with the pictures of its sheets, placed: a law
 abbrev pub SheetsOfSheetsArePrinted : Type 0
 SheetsOfSheetsArePrinted =
     (s : State) (xs : List (List Inner)) (rest : List Token) → IsGuarded s → TakesSheets [] s → s.painted ≡ []
-    → AllSheetsWithin s xs
+    → AllOf (AllOf (AllWithin s)) xs
     → Runs false (run_of (sheets_tokens (map (as_pages s) xs) ++ rest) s)
     (record s { left = rest; sheets = printed s.graphics (map (as_pages s) xs) s.sheets })
 
@@ -164,10 +154,6 @@ nest_as_page (suc depth) g (n, xs) = record {
   placed = record { numbers = n; body = sheet_tokens (map (λ x. x.placed) (map (nest_as_page depth g) xs)) };
   picture = sheet_picture g (map (nest_as_page depth g) xs) [];
 }
-
-abbrev pub AllOf : {A : Type 0} → (A → Type 0) → List A → Type 0
-AllOf P [] = Unit {0}
-AllOf P (x ∷ xs) = P x × AllOf P xs
 
 -- each of its pages, within all sheets round it, paints its picture by itself
 abbrev pub PaintsNested : (depth : ℕ) → List Outer → State → Nest depth → Type 0
@@ -190,11 +176,6 @@ NestsArePrinted =
 
 -- Two runs: impose puts the guard into what a run wrote, and imposes it.
 
--- the sheets of the run before, each with its own picture; there is no other one
-abbrev pub run_picture : Frame → List NestedUnit → (ℕ → List Painting) → State → List (List Slot) → ℕ → List Painting
-run_picture frame us picture s all p =
-    sheet_picture (beginning s) (shown_sheet frame us picture (slice_index_or all p [])) []
-
 -- the page, as the first document has it, paints this by itself within whatever place on the outer paper; its text ends
 -- between tokens, and so does what comes before each of its lines that is dropped
 abbrev pub PagePaintsWithin : (inner : Frame) → List NestedUnit → (outer : Frame) → State → ℕ → List Painting → Type 0
@@ -203,26 +184,3 @@ PagePaintsWithin inner us outer s p picture =
     × ((item : Item)
     → PaintsSheltered (page_round [] s (numbers_of outer item) ∷ []) (page_begun [] s (numbers_of outer item))
     (outline_of inner) (tokens (page_of us p)) picture)
-
--- the units of what a run wrote, with the guard put in
-abbrev pub units_again : Option Paper → Frame → Option ℕ → Spec → List NestedUnit → List NestedUnit
-units_again sheet frame sides spec us = units_of (guarded sheet (output frame sides spec us))
-
--- Of an accepted document whose last page leaves no embedded document open: what is written of its output, with the guard
--- put in, shows the sheets of the first run, each as the picture of its pages, placed, if each page that is on one
--- paints its picture by itself there. A law
-abbrev pub TwoRunsAreShown : Type 0
-TwoRunsAreShown =
-    (sheet : Option Paper) (inner outer : Frame) (sides outer_sides : Option ℕ) (spec outer_spec : Spec) (text : List ℕ)
-    (us : List NestedUnit) (picture : ℕ → List Painting) (s : State)
-    → document_of text ≡ Ok us → depth_behind (page_run us) ≡ 0
-    → 0 < length (all_sheets sides spec us) → length (all_sheets sides spec us) ≤ most_pages
-    → length (output inner sides spec us) ≤ most_input_bytes
-    → length (guarded sheet (output inner sides spec us)) ≤ most_input_bytes
-    → preamble_comments_apart (units_again sheet inner sides spec us) ≡ true
-    → GuardedPreambleRuns (bytes_of (preamble (units_again sheet inner sides spec us))) s → TakesSheets [] s
-    → OnSheets (λ p. PagePaintsWithin inner us outer s p (picture p)) (all_sheets sides spec us)
-    → OnSheets (λ p. page_comments_apart (page_of (units_again sheet inner sides spec us) p) ≡ true)
-    (all_sheets outer_sides outer_spec (units_again sheet inner sides spec us))
-    → IsPrinted outer outer_sides outer_spec (units_again sheet inner sides spec us)
-    (run_picture inner us picture s (all_sheets sides spec us)) s

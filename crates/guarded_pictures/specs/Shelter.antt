@@ -10,7 +10,7 @@ use Rattle.pictures.specs.Objects.{Procedure, Dictionary, Matrix, Saved, Operato
 use Rattle.pictures.specs.Dictionaries.{Entry, meaning, system}
 use Rattle.pictures.specs.Chains.{is_same_chain}
 use Rattle.pictures.specs.Machine.{State, Graphics, Segment, Snapshot, Kept, Painting, push, body_of, opened, chain_of}
-use Rattle.pictures.specs.Machine.{viewed, reset, perform, may_precede, and_then}
+use Rattle.pictures.specs.Machine.{viewed, reset, perform, may_precede, RunsBy}
 use Rattle.pictures.specs.Sheets.{Numbers, zero_text, in_userdict, LeavesAsItWas}
 use Rattle.pictures.specs.Unaware.{absent}
 use Rattle.guarded_pictures.specs.Behind.{path_tokens, clips_tokens, initclip_tokens, initgraphics_tokens}
@@ -271,12 +271,11 @@ abbrev pub step_on : List Outer → List Token → List Token → State → Opti
 step_on outers outline [] s = None
 step_on outers outline (t ∷ ts) s = act outers outline t (record s { left = ts })
 
-abbrev pub steps : List Outer → List Token → ℕ → State → Option State
-steps outers outline zero s = Some s
-steps outers outline (suc count) s = and_then (steps outers outline count) (step_on outers outline s.left s)
+abbrev pub shelter_step : List Outer → List Token → State → Option State
+shelter_step outers outline s = step_on outers outline s.left s
 
 abbrev pub RunsSheltered : List Outer → List Token → State → State → Type 0
-RunsSheltered outers outline s t = (count : ℕ) × (steps outers outline count s ≡ Some t)
+RunsSheltered outers outline s t = RunsBy (shelter_step outers outline) s t
 
 -- from a state after the preamble, or where a page of the sheet begins within these, the page paints this by itself
 pub record PaintsSheltered (outers : List Outer) (s : State) (outline body : List Token) (picture : List Painting) : Type 0 where

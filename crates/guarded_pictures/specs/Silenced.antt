@@ -1,27 +1,25 @@
 -- Documents that make userdict's showpage do nothing in their prolog, and print by one that they have loaded before, as
 -- CUPS' filters write them.
-use Rattle.std.specs.Prelude.{◌≡◌, ℕ, ◌≤◌, List, [], ◌∷◌, ◌++◌, false, true, Option, Some, Ok, codes, length}
+use Rattle.std.specs.Prelude.{◌≡◌, ℕ, zero, suc, ◌≤◌, List, [], ◌++◌, false, true, Option, Some, Ok, codes, length}
 use Rattle.rules.specs.Specification.{Spec}
 use Rattle.rules.specs.Papers.{Paper}
 use Rattle.rules.specs.Parts.{NestedUnit, preamble, bytes_of}
 use Rattle.rules.specs.Run.{document_of, most_input_bytes}
-use Rattle.rules.specs.Filters.{trailer_text}
 use Rattle.rules.specs.Output.{Frame, output}
 use Rattle.dsc.specs.Units.{units_of}
 use Rattle.guard.specs.Guard.{guarded}
 use Rattle.pictures.specs.Objects.{Token, Procedure}
 use Rattle.pictures.specs.Dictionaries.{userdict, entry_of}
 use Rattle.pictures.specs.Machine.{State, Painting, Runs, saved}
-use Rattle.pictures.specs.Scanner.{tokens, IsComplete}
+use Rattle.pictures.specs.Scanner.{tokens}
 use Rattle.pictures.specs.Sheets.{Shown, run_of, placed_tokens, page_picture, in_userdict}
-use Rattle.pictures.specs.Pictures.{printed, sheets_tokens}
-use Rattle.pictures.specs.Documents.{started, OnSheets, all_sheets, sheet_pictures}
+use Rattle.pictures.specs.Pictures.{printed, past_all, Begins, sheets_tokens}
+use Rattle.pictures.specs.Documents.{started, PreambleRuns, FirstHas, OnSheetsFrom, all_sheets}
 use Rattle.pictures.specs.Kept.{preamble_comments_apart}
 use Rattle.guarded_pictures.specs.Behind.{save_tokens, showpage_tokens}
 use Rattle.guarded_pictures.specs.Shelter.{outline_tokens, PaintsSheltered}
 use Rattle.guarded_pictures.specs.Lines.{at_sheet_save, marked}
-use Rattle.guarded_pictures.specs.Pages.{IsGuarded, defined, AllSheetsSheltered, GuardedPagePaints}
-use Rattle.guarded_pictures.specs.OwnShowpage.{BeginsWithAPage, FirstHasAPage}
+use Rattle.guarded_pictures.specs.Pages.{IsGuarded, defined, AllSheetsShelteredFrom, PaintsFrom, shown_at}
 
 -- with the guard's showpage in userdict again
 abbrev pub with_showpage : State → State
@@ -37,7 +35,7 @@ abbrev pub ShowpageIsPutBack : Type 0
 ShowpageIsPutBack =
     (s : State) (rest : List Token) (h : IsSilenced s)
     → Runs false (run_of (save_tokens ++ rest) (at_sheet_save s))
-    (saved (run_of rest (marked h.guarded.number (with_showpage (at_sheet_save s)))))
+    (saved (run_of rest (marked h.guarded.guard.number (with_showpage (at_sheet_save s)))))
 
 -- a placed page paints what it paints by itself after that, placed, and the guard's showpage stays: a law
 abbrev pub SilencedPageIsPlaced : Type 0
@@ -47,25 +45,18 @@ SilencedPageIsPlaced =
     → Runs false (run_of (placed_tokens x.placed ++ rest) s)
     (record (with_showpage s) { left = rest; painted = page_picture s.graphics x ++ s.painted })
 
--- the state after these sheets
-abbrev pub behind_sheets : {A : Type 0} → List A → State → State
-behind_sheets [] s = s
-behind_sheets (x ∷ xs) s = with_showpage s
+-- the state after so many pages
+abbrev pub showing : State → ℕ → State
+showing s zero = s
+showing s (suc k) = with_showpage s
 
 -- each sheet is printed with the pictures of its pages, placed, if the first one has a page: a law
 abbrev pub SilencedSheetsArePrinted : Type 0
 SilencedSheetsArePrinted =
-    (s : State) (xs : List (List Shown)) (rest : List Token) → IsSilenced s → s.painted ≡ [] → BeginsWithAPage xs
-    → AllSheetsSheltered (with_showpage s) xs
+    (s : State) (xs : List (List Shown)) (rest : List Token) → IsSilenced s → s.painted ≡ [] → Begins 1 0 xs
+    → AllSheetsShelteredFrom (showing s) 0 xs
     → Runs false (run_of (sheets_tokens xs ++ rest) s)
-    (record (behind_sheets xs s) { left = rest; painted = []; sheets = printed s.graphics xs s.sheets })
-
--- Documents.
-
-abbrev pub SilencedPreambleRuns : List ℕ → State → Type 0
-SilencedPreambleRuns text s =
-    IsComplete text × Runs false (started (tokens text)) s × (s.left ≡ []) × (s.painted ≡ []) × (s.sheets ≡ [])
-    × IsSilenced s
+    (record (showing s (past_all 0 xs)) { left = rest; painted = []; sheets = printed s.graphics xs s.sheets })
 
 -- Of what impose makes of such a document, with the guard put in: a machine prints, sheet by sheet, the pictures of the
 -- document's pages, placed, if the first sheet has a page: a law
@@ -75,12 +66,8 @@ SilencedDocumentIsShown =
     (picture : ℕ → List Painting) (s : State)
     → document_of text ≡ Ok us → length (guarded sheet text) ≤ most_input_bytes
     → preamble_comments_apart (units_of (guarded sheet text)) ≡ true
-    → SilencedPreambleRuns (bytes_of (preamble (units_of (guarded sheet text)))) s
-    → FirstHasAPage (all_sheets sides spec us)
-    → OnSheets (λ p. GuardedPagePaints frame us (with_showpage s) p (picture p)) (all_sheets sides spec us)
+    → PreambleRuns IsSilenced (bytes_of (preamble (units_of (guarded sheet text)))) s
+    → FirstHas 1 (all_sheets frame sides spec us)
+    → OnSheetsFrom (PaintsFrom frame.border us picture (showing s)) 0 (all_sheets frame sides spec us)
     → Runs false (started (tokens (output frame sides spec (units_of (guarded sheet text)))))
-    (record (behind_sheets (all_sheets sides spec us) s) {
-      left = tokens (trailer_text (units_of (guarded sheet text)));
-      painted = [];
-      sheets = sheet_pictures frame (units_of (guarded sheet text)) picture s (all_sheets sides spec us);
-    })
+    (shown_at (showing s) frame.border (units_of (guarded sheet text)) picture (all_sheets frame sides spec us))

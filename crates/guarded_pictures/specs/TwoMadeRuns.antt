@@ -1,6 +1,8 @@
--- Two runs that make sheets by whatever layouts, one run on what the other wrote.
+-- Two runs, by whatever layouts or by specifications, one run on what the other wrote.
 use Rattle.std.specs.Prelude.{◌≡◌, ℕ, ◌<◌, ◌≤◌, List, [], length, true, Option, Ok, ℤ, pos, slice_index_or}
 use Rattle.rules.specs.Papers.{Paper}
+use Rattle.rules.specs.Specification.{Spec}
+use Rattle.rules.specs.Output.{Frame, output}
 use Rattle.rules.specs.Parts.{NestedUnit, preamble, page_run, bytes_of}
 use Rattle.rules.specs.Run.{document_of, most_input_bytes, most_pages}
 use Rattle.made_sheets.specs.Made.{MadeSheet}
@@ -12,11 +14,11 @@ use Rattle.imposed_again.specs.MadeAgain.{IsTameDress}
 use Rattle.guard.specs.Guard.{guarded}
 use Rattle.pictures.specs.Machine.{State, Painting}
 use Rattle.pictures.specs.Sheets.{sheet_picture}
-use Rattle.pictures.specs.Documents.{page_of}
+use Rattle.pictures.specs.Documents.{frame_of, page_of, shown_sheet, PreambleRuns, OnSlots, OnSheets, all_sheets, IsPrinted}
 use Rattle.pictures.specs.Kept.{page_comments_apart, preamble_comments_apart}
-use Rattle.pictures.specs.Imposed.{IsQuiet, frame_of, made_sheet_shown, OnMadeSlots, OnMadeSheets, MadeIsPrinted}
+use Rattle.pictures.specs.Imposed.{IsQuiet, MadeIsPrinted}
 use Rattle.guarded_pictures.specs.Shelter.{beginning}
-use Rattle.guarded_pictures.specs.Pages.{GuardedPreambleRuns}
+use Rattle.guarded_pictures.specs.Pages.{IsGuarded}
 use Rattle.guarded_pictures.specs.SheetsOfSheets.{TakesSheets, PagePaintsWithin}
 
 -- the units of what a run wrote, with the guard put in
@@ -32,13 +34,13 @@ sheet_at all p = slice_index_or all p empty_sheet
 
 -- its own picture
 abbrev pub made_run_picture : Option ℤ → List NestedUnit → (ℕ → List Painting) → State → List MadeSheet → ℕ → List Painting
-made_run_picture border us picture s all p = sheet_picture (beginning s) (made_sheet_shown border us picture (sheet_at all p)) []
+made_run_picture border us picture s all p = sheet_picture (beginning s) (shown_sheet border us picture (sheet_at all p)) []
 
 -- each page on a sheet of the first run paints its picture by itself within whatever place of a page with this paper
 abbrev pub SheetPaintsWithin :
     Option ℤ → List MadeSheet → List NestedUnit → (ℕ → List Painting) → Option ℤ → State → Paper → ℕ → Type 0
 SheetPaintsWithin border all us picture outer_border s paper q =
-    OnMadeSlots (λ own p. PagePaintsWithin (frame_of border own) us (frame_of outer_border paper) s p (picture p))
+    OnSlots (λ own p. PagePaintsWithin (frame_of border own) us (frame_of outer_border paper) s p (picture p))
     (sheet_at all q).slots
 
 -- Of an accepted document whose last page leaves no embedded document open, and of runs that add no lines but comments,
@@ -54,8 +56,28 @@ TwoMadeRunsAreShown =
     → 0 < length all → length all ≤ most_pages → length (made_output border dress all us) ≤ most_input_bytes
     → length (guarded sheet (made_output border dress all us)) ≤ most_input_bytes
     → preamble_comments_apart (written_again sheet border dress all us) ≡ true
-    → GuardedPreambleRuns (bytes_of (preamble (written_again sheet border dress all us))) s → TakesSheets [] s
-    → OnMadeSheets (λ paper q. page_comments_apart (page_of (written_again sheet border dress all us) q) ≡ true) outer_all
-    → OnMadeSheets (SheetPaintsWithin border all us picture outer_border s) outer_all
+    → PreambleRuns IsGuarded (bytes_of (preamble (written_again sheet border dress all us))) s → TakesSheets [] s
+    → OnSheets (λ paper q. page_comments_apart (page_of (written_again sheet border dress all us) q) ≡ true) outer_all
+    → OnSheets (SheetPaintsWithin border all us picture outer_border s) outer_all
     → MadeIsPrinted outer_border outer_dress outer_all (written_again sheet border dress all us)
     (made_run_picture border us picture s all) s
+
+abbrev pub units_again : Option Paper → Frame → Option ℕ → Spec → List NestedUnit → List NestedUnit
+units_again sheet frame sides spec us = units_of (guarded sheet (output frame sides spec us))
+
+-- the same of two specifications, if each page that is on a sheet of the first run paints its picture by itself there
+abbrev pub TwoRunsAreShown : Type 0
+TwoRunsAreShown =
+    (sheet : Option Paper) (inner outer : Frame) (sides outer_sides : Option ℕ) (spec outer_spec : Spec) (text : List ℕ)
+    (us : List NestedUnit) (picture : ℕ → List Painting) (s : State)
+    → document_of text ≡ Ok us → depth_behind (page_run us) ≡ 0 → 0 < length (all_sheets inner sides spec us)
+    → length (all_sheets inner sides spec us) ≤ most_pages
+    → length (output inner sides spec us) ≤ most_input_bytes
+    → length (guarded sheet (output inner sides spec us)) ≤ most_input_bytes
+    → preamble_comments_apart (units_again sheet inner sides spec us) ≡ true
+    → PreambleRuns IsGuarded (bytes_of (preamble (units_again sheet inner sides spec us))) s → TakesSheets [] s
+    → OnSheets (λ own p. PagePaintsWithin (frame_of inner.border own) us outer s p (picture p)) (all_sheets inner sides spec us)
+    → OnSheets (λ own p. page_comments_apart (page_of (units_again sheet inner sides spec us) p) ≡ true)
+    (all_sheets outer outer_sides outer_spec (units_again sheet inner sides spec us))
+    → IsPrinted outer outer_sides outer_spec (units_again sheet inner sides spec us)
+    (made_run_picture inner.border us picture s (all_sheets inner sides spec us)) s

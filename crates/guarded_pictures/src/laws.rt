@@ -1,8 +1,8 @@
 //! Laws of the guard, run by a machine. The functions do nothing.
 ghost use Rattle.guarded_pictures.specs.Behind.{GuardDefines};
 ghost use Rattle.guarded_pictures.specs.ByItself.{ByItselfAsTheOperators};
-ghost use Rattle.guarded_pictures.specs.Imposed.{MadeDocumentIsShown, OnePaperIsToldAsOne, TellingIsQuiet};
-ghost use Rattle.guarded_pictures.specs.ImposedOwn.{OwnMadeDocumentIsShown};
+ghost use Rattle.guarded_pictures.specs.Imposed.{MadeDocumentIsShown, OnePaperIsToldAsOne, OwnMadeDocumentIsShown};
+ghost use Rattle.guarded_pictures.specs.Imposed.{SilencedMadeDocumentIsShown, TellingIsQuiet};
 ghost use Rattle.guarded_pictures.specs.NamedPapers.{PaperIsNothing, PapersAreLeft};
 ghost use Rattle.guarded_pictures.specs.OwnShowpage.{OwnPageIsPlaced, OwnSheetsArePrinted, OwnShowpageIsShown};
 ghost use Rattle.guarded_pictures.specs.Pages.{GuardIsEnough, GuardedDocumentIsShown, GuardedPageIsPlaced};
@@ -12,8 +12,8 @@ ghost use Rattle.guarded_pictures.specs.Silenced.{ShowpageIsPutBack, SilencedDoc
 ghost use Rattle.guarded_pictures.specs.Silenced.{SilencedPageIsPlaced, SilencedSheetsArePrinted};
 ghost use Rattle.guarded_pictures.specs.SheetsOfSheets.{SheetIsComposed, SheetIsPlaced, SheetsOfSheetsArePrinted};
 ghost use Rattle.guarded_pictures.specs.SheetsOfSheets.{NestsArePrinted, SheetsAreTakenWithin};
-ghost use Rattle.guarded_pictures.specs.SheetsOfSheets.{GuardTakesSheets, StaysTakingSheets, TwoRunsAreShown};
-ghost use Rattle.guarded_pictures.specs.TwoMadeRuns.{TwoMadeRunsAreShown};
+ghost use Rattle.guarded_pictures.specs.SheetsOfSheets.{GuardTakesSheets, StaysTakingSheets};
+ghost use Rattle.guarded_pictures.specs.TwoMadeRuns.{TwoMadeRunsAreShown, TwoRunsAreShown};
 ghost use Rattle.guarded_pictures.specs.Lines.{AskingShows, AsksUserdict, ClipIsThePages, DefaultIsThePages};
 ghost use Rattle.guarded_pictures.specs.Lines.{DeviceIsHanded, DeviceIsLeft, GraphicsAreThePages, GuardedTwice, LoadedShowpage};
 ghost use Rattle.guarded_pictures.specs.Lines.{MatrixIsThePages, OuterIsKept, PageIsLeft, SaveSaves, ShowpageStaysAName};
@@ -203,6 +203,11 @@ pub fn silenced_sheets_are_printed()
 /// A machine prints of what impose makes of such a document, sheet by sheet, what its pages paint by themselves, placed.
 pub fn silenced_document_is_shown()
     ensures { SilencedDocumentIsShown }
+{}
+
+/// And so it prints what impose makes of such a document on sheets that are reported as one paper, by whatever layout.
+pub fn silenced_made_document_is_shown()
+    ensures { SilencedMadeDocumentIsShown }
 {}
 
 /// After the guard's text the state is one in which sheets of sheets can be placed.

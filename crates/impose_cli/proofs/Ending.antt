@@ -1,14 +1,35 @@
--- What comes of a task that was run.
-use Rattle.std.proofs.Common.{◌≡◌, ◌∙◌, ℕ, ap, sym, subst, refl, List, Option, Some, None, Ok}
-use Rattle.std.specs.Prelude.{length}
-use Rattle.std.specs.Io.KnownBytes.{Appends, Keeps}
+-- What comes of a task by a specification.
+use Rattle.std.proofs.Common.{◌≡◌, ◌∙◌, ℕ, ap, arith, sym, subst, refl, inl, inr, Bool, false, List, Option, None, Result, Ok, Err}
+use Rattle.std.specs.Prelude.{length, option_map, string_bytes}
+use Rattle.std.specs.Io.KnownBytes.{Appends}
 use Rattle.rules.specs.Papers.{Paper}
 use Rattle.rules.specs.Admissible.{Takes, most_slots}
 use Rattle.rules.specs.Parts.{pages}
 use Rattle.rules.specs.Run.{document_of, plan_in}
 use Rattle.rules.specs.Signatures.{sheets_in}
 use Rattle.rules.specs.Output.{output}
-use Rattle.imposer.specs.Runs.{Accepted, Reports, frame_of}
+use Rattle.rules.specs.Specification.{Spec}
+use Rattle.rules.specs.Parts.{NestedUnit}
+use Rattle.rules.specs.Sheets.{Plan}
+use Rattle.sheet_plan.specs.Plans.{planned, planned_in}
+use Rattle.sheet_plan.specs.Refusals.{Refuses, RefusesIn}
+use Rattle.sheet_plan.specs.declared.error.PlanError.{PlanError}
+use Rattle.sheet_text.specs.Jobs.{JobView, of_frame}
+use Rattle.sheet_writer.specs.Sinks.{fresh_sink}
+use Rattle.imposer.proofs.Made.{job_answers}
+use Rattle.imposer.proofs.Refusals.{refused_plan}
+use Rattle.imposer.specs.Outcomes.{of_plan}
+use Rattle.imposer.specs.Runs.{Accepted, Reports, frame_of, request}
+use Rattle.imposer.specs.Workers.{AreOptions, AreWorkers}
+use Rattle.imposer.specs.declared.outcome.RunError.{RunError}
+use Rattle.impose_said.specs.declared.fault.Fault.{Fault}
+use Rattle.impose_said.specs.declared.fault.Fault.TheVariants as fault
+use Rattle.impose_said.specs.declared.finished.Done.{Done}
+use Rattle.impose_cli.specs.Abouts.{reported_by}
+use Rattle.impose_cli.specs.Endings.{Comes, IsImposed, RefusesImposing, RefusesSpecRun, RefusesTaskRun, Runs, WritesJob, WritesTask}
+use Rattle.impose_cli.specs.Refusals.{RefusesTask}
+use Rattle.impose_cli.specs.declared.runs.About.{About}
+use Rattle.impose_cli.proofs.Coming.{comes_as, comes_refused, comes_reported}
 use Rattle.imposer.specs.declared.outcome.Report.{Report}
 use Rattle.impose_cli.specs.ToldPages.{told_pages}
 use Rattle.impose_cli.specs.Tasks.{FinishesSpec, IsPlaced, IsSpec, IsTask, asked_by}
@@ -17,10 +38,6 @@ use Rattle.impose_words.specs.declared.request.Layout.{Layout}
 use Rattle.impose_words.specs.declared.request.Layout.TheVariants as layout
 use Rattle.impose_words.specs.declared.request.Request.{Request}
 use Rattle.impose_cli.specs.declared.task.Task.{Task}
-
-pub stays : (known : Option (List ℕ)) → Keeps known known
-stays None = tt
-stays (Some xs) = refl
 
 -- a specification that is named is what is run, without signatures
 placed_as_named : (l : Layout) (s : Spacing) (named : List ℕ) (page_paper sheet_paper : Paper) (pages : ℕ) (text : List ℕ) (sides : Option ℕ) → IsSpec l named
@@ -63,3 +80,69 @@ finishes r input task told old new report named is tells h =
       report = subst (λ s. Reports (record { paper = task.options.paper; border = r.border }) s spec units report) p.1
           (subst (λ b. Reports (record { paper = task.options.paper; border = b }) task.options.sides spec units report) is.border h.3.1);
     }
+
+-- ---- what comes of a request
+
+-- a request whose layout is a specification is refused as one by it
+by_spec : (l : Layout) (text : List ℕ) (r : Request) (input : List ℕ) (f : Fault) → IsSpec l text → RefusesSpecRun r input f → RefusesImposing l r input f
+by_spec (layout.Spec specs) text r input f is h = h
+by_spec (layout.NUp cells) text r input f is h = absurd is
+by_spec (layout.Cards cells) text r input f is h = absurd is
+by_spec (layout.Stack cells duplex) text r input f is h = absurd is
+by_spec (layout.Notes pages) text r input f is h = absurd is
+by_spec (layout.Poster columns on) text r input f is h = absurd is
+by_spec (layout.Booklet signing long_edge) text r input f is h = absurd is
+by_spec layout.Selection text r input f is h = absurd is
+by_spec (layout.SpecRow specs signing) text r input f is h = absurd is
+
+-- there is no task
+pub spec_stops : (r : Request) (input : List ℕ) (tells : Bool) (f : Fault) (outcome : Result Done Fault) (has_output : Bool) (written : Option (List ℕ)) → ((text : List ℕ) × IsSpec r.layout text) → outcome ≡ Err f → has_output ≡ false
+    → RefusesTask r input f → Runs r input tells outcome has_output written
+spec_stops r input tells f outcome has_output written named is none why =
+    comes_refused (RefusesImposing r.layout r input) (IsImposed r input) _ tells f outcome has_output written is none (by_spec r.layout named.0 r input f named.1 (inl why))
+
+abbrev pub about_spec : Task → (told : Option ℕ) → About
+about_spec t told = record { page_paper = t.options.paper; origin = t.origin; cut = None; behind = t.behind; told = told }
+
+-- what comes of its run comes of the request
+pub spec_runs : (r : Request) (input : List ℕ) (t : Task) (told : Option ℕ) (tells : Bool) (outcome : Result Done Fault) (left : Result Report Fault) (has_output : Bool) (name written : Option (List ℕ))
+    → ((text : List ℕ) × IsSpec r.layout text) → IsTask r input t → told ≡ told_pages input → outcome ≡ reported_by (about_spec t told) left → name ≡ option_map string_bytes r.outfile
+    → Comes (RefusesTaskRun t) (WritesTask t) name tells left has_output written → Runs r input tells outcome has_output written
+spec_runs r input t told tells outcome left has_output name written text is tells_it reports named h =
+    subst (λ o. Runs r input tells o has_output written) (sym reports)
+    (comes_reported (RefusesTaskRun t) (RefusesImposing r.layout r input) (WritesTask t) (IsImposed r input) (about_spec t told) (option_map string_bytes r.outfile) tells left has_output written
+    (λ f why. by_spec r.layout text.0 r input f text.1 (inr (record { task = t; is_task = is; refused = why })))
+    (λ old new report done. inl (finishes r input t told old new report text is tells_it done))
+    (subst (λ n. Comes (RefusesTaskRun t) (WritesTask t) n tells left has_output written) named h))
+
+-- a task of a request that names a specification has no signatures, and so many workers
+pub sides_of : (r : Request) (input : List ℕ) (t : Task) → ((text : List ℕ) × IsSpec r.layout text) → IsTask r input t → t.options.sides ≡ None
+sides_of r input t text is = (placed_as_named r.layout r.spacing text.0 _ _ _ _ _ text.1 is.placed).1
+
+pub workers_of : (r : Request) (input : List ℕ) (t : Task) → IsTask r input t → AreWorkers t.options.workers
+workers_of r input t is = subst AreWorkers (sym is.workers) (record { a_preparer = omega arith; few_preparers = omega arith; an_imposer = omega arith; few_imposers = omega arith })
+
+-- its plan is refused
+pub plan_refused : (t : Task) (spec : Spec) (us : List NestedUnit) (n : ℕ) (e : PlanError) (f : Fault) (error : RunError) → f ≡ fault.Run error → error ≡ of_plan e → t.options.sides ≡ None
+    → AreOptions t.options → Takes most_slots (string_bytes t.spec) spec → document_of t.text.items ≡ Ok us → n ≡ length (pages us) → Refuses spec n e → RefusesTaskRun t f
+plan_refused t spec us n e f error is named sides options takes document count why =
+    let said = refused_plan (asked_by t) e spec us n options takes document count (subst (λ s. RefusesIn s spec n e) (sym sides) why) in
+    (of_plan e, is ∙ ap fault.Run named, said.0, said.1)
+
+-- what comes of its sheets comes of the task
+pub job_comes : (t : Task) (spec : Spec) (us : List NestedUnit) (plan : Plan) (n : ℕ) (job : JobView) (name : Option (List ℕ)) (tells : Bool) (outcome : Result Report Fault) (has_output : Bool) (written : Option (List ℕ))
+    → t.options.sides ≡ None → AreOptions t.options → Takes most_slots (string_bytes t.spec) spec → document_of t.text.items ≡ Ok us → n ≡ length (pages us)
+    → plan ≡ planned spec n → plan_in None spec n ≡ Ok (sheets_in None spec n) → job ≡ of_frame plan us (frame_of t.options)
+    → Comes (λ f. ⊥) (WritesJob job) name tells outcome has_output written → Comes (RefusesTaskRun t) (WritesTask t) name tells outcome has_output written
+job_comes t spec us plan n job name tells outcome has_output written sides options takes document count is_plan accepted is_job h =
+    comes_as (λ f. ⊥) (RefusesTaskRun t) (WritesJob job) (WritesTask t) name tells outcome has_output written
+    (λ f none. absurd none)
+    (λ old new report done. (job_answers (asked_by t) t.options (record { spec = spec; document = us }) plan n job (fresh_sink old) (fresh_sink new) (Ok report)
+    (record { same_options = refl; options = options; takes = takes; document = document }) count
+    (subst (λ s. plan ≡ planned_in s spec n) (sym sides) is_plan) (subst (λ s. plan_in s spec n ≡ Ok (sheets_in s spec n)) (sym sides) accepted) is_job
+    (done.0, refl, done.1)).0)
+    h
+
+-- what is asked of a run by a task's parts
+pub asked_as : (t : Task) (spec input : List ℕ) → spec ≡ string_bytes t.spec → input ≡ t.text.items → request t.options spec input ≡ asked_by t
+asked_as t spec input named text = ap (λ s. request t.options s input) named ∙ ap (λ i. request t.options (string_bytes t.spec) i) text

@@ -2,6 +2,7 @@ pub mod Placing
 pub mod OnePaper
 pub mod Noted
 pub mod Counted
+pub mod Coming
 pub mod Ending
 pub mod Rows
 pub mod SpecRows

@@ -1,6 +1,7 @@
 -- What comes of a look at a task.
 use Rattle.std.proofs.Common.{inr, subst, sym, List, ℕ}
-use Rattle.impose_cli.specs.Looks.{RefusesRowLook, RefusesTaskLook, TellsRow, TellsTask}
+use Rattle.impose_cli.specs.Endings.{RefusesRow, RefusesRowTaskRun}
+use Rattle.impose_cli.specs.Looks.{TellsRow, TellsTask}
 use Rattle.impose_cli.specs.RowTasks.{ArePapersOf, IsRowTask}
 use Rattle.impose_said.specs.declared.fault.Fault.{Fault}
 use Rattle.impose_cli.specs.declared.look.Look.{Look}
@@ -19,5 +20,5 @@ tells_row r input t look text is h = record {
   told = h.2;
 }
 
-pub refuses_row : (r : Request) (input : List ℕ) (t : RowTask) (f : Fault) → IsRowTask r input t → RefusesTaskLook r t f → RefusesRowLook r input f
+pub refuses_row : (r : Request) (input : List ℕ) (t : RowTask) (f : Fault) → IsRowTask r input t → RefusesRowTaskRun r t f → RefusesRow r input f
 refuses_row r input t f is h = inr (record { task = t; is_task = is; refused = h })

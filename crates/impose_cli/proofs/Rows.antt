@@ -1,6 +1,10 @@
 -- What comes of a task with a row, and of a request.
-use Rattle.std.proofs.Common.{◌≡◌, ◌⊎◌, ◌∙◌, ap, sym, subst, refl, inl, inr, false, ◌∷◌, List, ℕ, Option, Some, None, Result, Ok, Err, IfOk}
-use Rattle.std.specs.Prelude.{length, option_map}
+use Rattle.std.proofs.Common.{◌≡◌, ◌⊎◌, ◌∙◌, ap, sym, subst, refl, inl, inr, Bool, false, ◌∷◌, List, ℕ, Option, Some, None, Result, Ok, Err}
+use Rattle.std.specs.Prelude.{length, option_map, string_bytes}
+use Rattle.std.specs.Io.KnownBytes.{Appends}
+use Rattle.made_sheets.specs.Made.{MadeSheet}
+use Rattle.made_sheets.specs.MadePlans.{made_plan_of}
+use Rattle.dressing.specs.declared.strokes.Stroke.{Stroke}
 use Rattle.rules.specs.Papers.{Paper}
 use Rattle.std.proofs.lemmas.List.{length-map}
 use Rattle.papers.specs.Media.{header, trailer_lines}
@@ -10,10 +14,19 @@ use Rattle.dsc.proofs.Slices.{text_whole}
 use Rattle.rules.specs.Parts.{NestedUnit, bytes_of, pages}
 use Rattle.rules.specs.Run.{document_of}
 use Rattle.rows.specs.Sewing.{signing_of}
-use Rattle.sheet_writer.specs.Sinks.{SinkView}
 use Rattle.imposer.specs.declared.outcome.Report.{Report}
 use Rattle.row_runs.specs.declared.run.RowJob.{RowJob}
-use Rattle.impose_cli.specs.Endings.{Ends, EndsBeforeRow, EndsBeforeRun, EndsBySpec, EndsInRow, EndsInRun, EndsTask, FailsAs, Finishes}
+use Rattle.row_runs.specs.Runs.{Imposes, page_count, strokes_on}
+use Rattle.row_runs.specs.Sheets.{AreAsked}
+use Rattle.row_runs.specs.SheetsRuns.{ReportsOn, told_output}
+use Rattle.row_runs.specs.Standing.{StandAsLaid}
+use Rattle.row_runs.specs.declared.error.AskedError.{AskedError}
+use Rattle.row_runs.proofs.Refused.{sheets_refused}
+use Rattle.impose_cli.specs.Abouts.{reported_by}
+use Rattle.impose_cli.specs.Endings.{Comes, IsImposed, RefusesImposing, RefusesRow, RefusesRowJob, RefusesRowTaskRun, Runs}
+use Rattle.impose_cli.specs.Faults.{of_asked}
+use Rattle.impose_cli.specs.declared.runs.About.{About}
+use Rattle.impose_cli.proofs.Coming.{RefusesThese, WritesThese, comes_as, comes_refused, comes_reported}
 use Rattle.papers.specs.AsOne.{as_one, kinds, paper_among}
 use Rattle.papers.specs.declared.cuts.Cut.{Cut}
 use Rattle.papers.specs.Names.{paper_named}
@@ -23,7 +36,7 @@ use Rattle.impose_said.specs.Faults.{without_memory}
 use Rattle.dsc.specs.PagesBehind.{pages_behind}
 use Rattle.impose_said.specs.declared.finished.PaperOrigin.{PaperOrigin}
 use Rattle.impose_cli.specs.ToldPages.{told_pages}
-use Rattle.impose_cli.specs.Tasks.{HasBehind, HasPages, IsSpec}
+use Rattle.impose_cli.specs.Tasks.{HasBehind, HasPages}
 use Rattle.impose_said.specs.declared.fault.Fault.TheVariants as fault
 use Rattle.impose_cli.specs.Refusals.{RefusesDocument, RefusesLaying, RefusesRowTask, RefusesSides}
 use Rattle.impose_cli.specs.RowTasks.{ArePapersOf, cut_in, papers_in, row_paper, sheet_paper_in, text_for, FinishesRow, ImposesTask, IsJobOf, IsRowJob, IsRowPaper, IsRowTask, LaysRows}
@@ -32,8 +45,7 @@ use Rattle.impose_words.specs.declared.request.Layout.{Layout}
 use Rattle.impose_words.specs.declared.request.Layout.TheVariants as layout
 use Rattle.impose_words.specs.declared.request.Request.{Request}
 use Rattle.impose_cli.specs.declared.row_task.RowTask.{RowTask}
-use Rattle.impose_said.specs.declared.finished.Finished.{Finished}
-use Rattle.impose_cli.proofs.Ending.{stays}
+use Rattle.impose_said.specs.declared.finished.Done.{Done}
 
 pub is_row_job : (r : Request) (input : List ℕ) (t : RowTask) (job : RowJob) → IsRowTask r input t → IsJobOf r t job → IsRowJob r input t.page_paper job
 is_row_job r input t job is of = record {
@@ -106,45 +118,56 @@ finishes_row r input t told old new report is tells h = record {
   imposes = h.2;
 }
 
--- a request whose layout lays rows fails as one on its row
-on_row : (l : Layout) (r : Request) (input : List ℕ) (old new : SinkView) (f : Fault) → LaysRows l → EndsBeforeRow r input old new f ⊎ EndsInRow r input old new f
-    → FailsAs l r input old new f
-on_row (layout.NUp cells) r input old new f rows h = h
-on_row (layout.Cards cells) r input old new f rows h = h
-on_row (layout.Stack cells duplex) r input old new f rows h = h
-on_row (layout.Notes pages) r input old new f rows h = h
-on_row (layout.Poster columns on) r input old new f rows h = h
-on_row (layout.Booklet signing long_edge) r input old new f rows h = h
-on_row layout.Selection r input old new f rows h = h
-on_row (layout.Spec specs) r input old new f rows h = absurd rows
-on_row (layout.SpecRow specs signing) r input old new f rows h = absurd rows
+-- a request whose layout lays rows is refused as one on its row
+on_row : (l : Layout) (r : Request) (input : List ℕ) (f : Fault) → LaysRows l → RefusesRow r input f → RefusesImposing l r input f
+on_row (layout.NUp cells) r input f rows h = h
+on_row (layout.Cards cells) r input f rows h = h
+on_row (layout.Stack cells duplex) r input f rows h = h
+on_row (layout.Notes pages) r input f rows h = h
+on_row (layout.Poster columns on) r input f rows h = h
+on_row (layout.Booklet signing long_edge) r input f rows h = h
+on_row layout.Selection r input f rows h = h
+on_row (layout.Spec specs) r input f rows h = absurd rows
+on_row (layout.SpecRow specs signing) r input f rows h = absurd rows
 
-pub stops_before : (r : Request) (input : List ℕ) (sink : SinkView) (f : Fault) → LaysRows r.layout → RefusesRowTask r input f → Ends r input sink sink (Err f)
-stops_before r input sink f rows h = on_row r.layout r input sink sink f rows (inl (record { refused = h; unwritten = (stays sink.bytes, refl) }))
+-- there is no task
+pub row_stops : (r : Request) (input : List ℕ) (tells : Bool) (f : Fault) (outcome : Result Done Fault) (has_output : Bool) (written : Option (List ℕ)) → LaysRows r.layout → outcome ≡ Err f → has_output ≡ false
+    → RefusesRowTask r input f → Runs r input tells outcome has_output written
+row_stops r input tells f outcome has_output written rows is none why =
+    comes_refused (RefusesImposing r.layout r input) (IsImposed r input) _ tells f outcome has_output written is none (on_row r.layout r input f rows (inl why))
 
-pub stops_in : (r : Request) (input : List ℕ) (t : RowTask) (old new : SinkView) (f : Fault) → LaysRows r.layout → IsRowTask r input t → EndsTask r t old new f
-    → Ends r input old new (Err f)
-stops_in r input t old new f rows is h = on_row r.layout r input old new f rows (inr (record { task = t; is_task = is; ended = h }))
+-- what is reported of a task with a row
+abbrev pub about_row : RowTask → (told : Option ℕ) → About
+about_row t told = record { page_paper = t.page_paper; origin = t.origin; cut = t.cut; behind = t.behind; told = told }
 
--- a request whose layout is a specification fails as one by it
-by_spec : (l : Layout) (text : List ℕ) (r : Request) (input : List ℕ) (old new : SinkView) (f : Fault) → IsSpec l text
-    → EndsBeforeRun r input old new f ⊎ EndsInRun r input old new f → FailsAs l r input old new f
-by_spec (layout.Spec specs) text r input old new f is h = h
-by_spec (layout.NUp cells) text r input old new f is h = absurd is
-by_spec (layout.Cards cells) text r input old new f is h = absurd is
-by_spec (layout.Stack cells duplex) text r input old new f is h = absurd is
-by_spec (layout.Notes pages) text r input old new f is h = absurd is
-by_spec (layout.Poster columns on) text r input old new f is h = absurd is
-by_spec (layout.Booklet signing long_edge) text r input old new f is h = absurd is
-by_spec layout.Selection text r input old new f is h = absurd is
-by_spec (layout.SpecRow specs signing) text r input old new f is h = absurd is
+-- what comes of its run comes of the request
+pub row_runs : (r : Request) (input : List ℕ) (t : RowTask) (told : Option ℕ) (tells : Bool) (outcome : Result Done Fault) (left : Result Report Fault) (has_output : Bool) (written : Option (List ℕ))
+    → LaysRows r.layout → IsRowTask r input t → told ≡ told_pages input → outcome ≡ reported_by (about_row t told) left
+    → Comes (RefusesRowTaskRun r t) (ImposesTask r t) (option_map string_bytes r.outfile) tells left has_output written → Runs r input tells outcome has_output written
+row_runs r input t told tells outcome left has_output written rows is tells_it reports h =
+    subst (λ o. Runs r input tells o has_output written) (sym reports)
+    (comes_reported (RefusesRowTaskRun r t) (RefusesImposing r.layout r input) (ImposesTask r t) (IsImposed r input) (about_row t told) (option_map string_bytes r.outfile) tells left has_output written
+    (λ f why. on_row r.layout r input f rows (inr (record { task = t; is_task = is; refused = why })))
+    (λ old new report done. inr (inl (finishes_row r input t told old new report is tells_it done))) h)
 
-pub spec_ends : (r : Request) (input : List ℕ) (old new : SinkView) (result : Result Finished Fault) → ((text : List ℕ) × IsSpec r.layout text) → EndsBySpec r input old new result
-    → Ends r input old new result
-spec_ends r input old new (Ok done) is h = (inl h.0, h.1)
-spec_ends r input old new (Err f) is h = by_spec r.layout is.0 r input old new f is.1 h
+-- what comes of its sheets, if these are asked for, comes of a job
+pub made_comes : (job : RowJob) (made : List MadeSheet) (strokes : List Stroke) (name : Option (List ℕ)) (tells : Bool) (outcome : Result Report Fault) (has_output : Bool) (written : Option (List ℕ))
+    → AreAsked (page_count job) job.papers.now job.asked made → StandAsLaid job.asked.laying made → strokes ≡ strokes_on job
+    → Comes (RefusesThese (page_count job) made) (WritesThese (page_count job) job.border strokes made job.document.now) name tells outcome has_output written
+    → Comes (RefusesRowJob job) (Imposes job) name tells outcome has_output written
+made_comes job made strokes name tells outcome has_output written asked stand marked h =
+    comes_as (RefusesThese (page_count job) made) (RefusesRowJob job) (WritesThese (page_count job) job.border strokes made job.document.now) (Imposes job) name tells outcome has_output written
+    (λ f why. (why.0, why.1, sheets_refused job made why.0 asked why.2))
+    (λ old new report done. record {
+      made = made;
+      planned = record { asked = asked; stand = stand; planned = done.0 };
+      written = subst (λ s. Appends old new (told_output job.border s made job.document.now)) marked done.1;
+      report = subst (λ s. ReportsOn job.border s made job.document.now report) marked done.2;
+    }) h
 
-pub ends_finished : (r : Request) (input : List ℕ) (old new : SinkView) (result : Result Finished Fault) → Ends r input old new result
-    → IfOk result (Finishes r input old.bytes new.bytes)
-ends_finished r input old new (Ok done) h = h.0
-ends_finished r input old new (Err f) h = tt
+-- what comes of its job comes of a task
+pub task_comes : (r : Request) (t : RowTask) (job : RowJob) (name other : Option (List ℕ)) (tells : Bool) (outcome : Result Report Fault) (has_output : Bool) (written : Option (List ℕ))
+    → Comes (RefusesRowJob job) (Imposes job) name tells outcome has_output written → name ≡ other → IsJobOf r t job → Comes (RefusesRowTaskRun r t) (ImposesTask r t) other tells outcome has_output written
+task_comes r t job name other tells outcome has_output written h named is =
+    subst (λ n. Comes (RefusesRowTaskRun r t) (ImposesTask r t) n tells outcome has_output written) named
+    (comes_as (RefusesRowJob job) (RefusesRowTaskRun r t) (Imposes job) (ImposesTask r t) name tells outcome has_output written (λ f why. inr (job, is, why)) (λ old new report done. (job, is, done)) h)

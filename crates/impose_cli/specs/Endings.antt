@@ -1,93 +1,157 @@
--- How a request ended, with what was seen of its sink before and after it.
-use Rattle.std.specs.Prelude.{◌≡◌, ◌⊎◌, List, ℕ, Option, Result, Ok, Err}
-use Rattle.sheet_writer.specs.Sinks.{SinkView, IsUntouched}
-use Rattle.imposer.specs.Runs.{FailedIn, HasWritten, IsRefusal}
+-- How a request ends that is to be imposed: it is refused, and there is no output; or there is something to write, and it was
+-- written, or its first bytes were, or no output could be created.
+use Rattle.std.specs.Prelude.{◌≡◌, ◌⊎◌, ⊤, ℕ, ◌≤◌, ◌++◌, List, [], length, take, Bool, false, Option, Some, Result, Ok, Err, IfSome, option_map, string_bytes}
+use Rattle.std.specs.Io.KnownBytes.{Appends}
+use Rattle.rules.specs.Parts.{pages}
+use Rattle.rules.specs.Output.{output}
+use Rattle.made_sheets.specs.MadePlans.{made_plan_of}
+use Rattle.sheet_text.specs.Jobs.{JobView, output_of}
+use Rattle.world.specs.Outputs.{told_if}
+use Rattle.imposer.specs.Gathering.{ReportsOf}
+use Rattle.imposer.specs.Runs.{Accepted, IsRefusal, IsUnwritten, Reports, frame_of}
+use Rattle.imposer.specs.declared.outcome.Report.{Report}
 use Rattle.imposer.specs.declared.outcome.RunError.{RunError}
-use Rattle.row_runs.specs.Runs.{FailedWith, RefusesRun, WroteWith, page_count}
+use Rattle.imposer.specs.declared.outcome.RunError.TheVariants as run
+use Rattle.row_runs.specs.Runs.{RefusesRun, page_count}
+use Rattle.row_runs.specs.SheetsRuns.{RefusesSheets, ReportsIn, output_in}
 use Rattle.row_runs.specs.declared.error.AskedError.{AskedError}
+use Rattle.row_runs.specs.declared.planned.SheetJob.{SheetJob}
 use Rattle.row_runs.specs.declared.run.RowJob.{RowJob}
 use Rattle.impose_said.specs.Faults.{without_memory}
 use Rattle.impose_cli.specs.Faults.{of_asked}
 use Rattle.impose_cli.specs.Tasks.{FinishesSpec, IsTask, asked_by}
 use Rattle.impose_cli.specs.RowTasks.{FinishesRow, IsJobOf, IsRowTask}
-use Rattle.impose_cli.specs.SpecRows.{EndsSpecRow, FinishesSpecRow}
-use Rattle.impose_cli.specs.Refusals.{IsRefusedFor, RefusesRowTask, RefusesTask}
-use Rattle.dsc.specs.declared.errors.DscError.{DscError}
-use Rattle.imposer.specs.Outcomes.{of_document as of_read}
+use Rattle.impose_cli.specs.SpecRows.{FinishesSpecRow, RefusesSpecRowRun}
+use Rattle.impose_cli.specs.Refusals.{RefusesRowTask, RefusesTask, RefusesText}
 use Rattle.impose_cli.specs.declared.row_task.RowTask.{RowTask}
+use Rattle.impose_cli.specs.declared.task.Task.{Task}
 use Rattle.impose_words.specs.declared.request.Layout.{Layout}
 use Rattle.impose_words.specs.declared.request.Layout.TheVariants as layout
 use Rattle.impose_words.specs.declared.request.Request.{Request}
 use Rattle.impose_said.specs.declared.fault.Fault.{Fault}
 use Rattle.impose_said.specs.declared.fault.Fault.TheVariants as fault
-use Rattle.impose_cli.specs.declared.task.Task.{Task}
+use Rattle.impose_said.specs.declared.finished.Done.{Done}
+use Rattle.impose_said.specs.declared.finished.Done.TheVariants as done
 use Rattle.impose_said.specs.declared.finished.Finished.{Finished}
 
--- the fault was found before the run: it is why there is no task. Nothing was written, and no write failed
-pub record EndsBeforeRun (r : Request) (input : List ℕ) (old new : SinkView) (f : Fault) : Type 0 where
-  pub refused : RefusesTask r input f
-  pub unwritten : IsUntouched old new
+-- ---- what is written
 
--- the same of a task with a row
-pub record EndsBeforeRow (r : Request) (input : List ℕ) (old new : SinkView) (f : Fault) : Type 0 where
-  pub refused : RefusesRowTask r input f
-  pub unwritten : IsUntouched old new
+-- what holds of the number of bytes that a fault says were written: after a failed write, and if memory ran out
+abbrev pub AfterWrite : Fault → (failed spent : ℕ → Type 0) → Type 0
+AfterWrite (fault.Write n cause) failed spent = failed n
+AfterWrite (fault.Run (run.NoMemory n)) failed spent = spent n
+AfterWrite other failed spent = ⊥
 
--- the fault is the error of the run of the request's task: it names the first check that fails; as much of the output
--- was written as it says, which is nothing at a refusal; and the sink failed once if a write did
-pub record EndsInRun (r : Request) (input : List ℕ) (old new : SinkView) (f : Fault) : Type 0 where
+-- no output could be created
+abbrev pub IsUncreated : Fault → (has_output : Bool) → Type 0
+IsUncreated f has_output = AfterWrite f (λ n. (n ≡ 0) × (has_output ≡ false)) (λ n. ⊥)
+
+-- nor was there memory for its buffer
+abbrev pub IsNotCreated : {T : Type 0} → Result T Fault → (has_output : Bool) → Type 0
+IsNotCreated (Ok x) has_output = ⊥
+IsNotCreated (Err f) has_output = ((f ≡ without_memory) × (has_output ≡ false)) ⊎ IsUncreated f has_output
+
+-- the output has the first bytes of this text, so many, if it reports what it has
+abbrev pub HasFirst : (old new : Option (List ℕ)) → (text : List ℕ) → (n : ℕ) → Type 0
+HasFirst old new text n = IfSome old (λ start. (n ≤ length text) × (new ≡ Some (start ++ take n text)))
+
+-- memory ran out, or a write failed: it has as many as the fault says
+abbrev pub HasFront : (old new : Option (List ℕ)) → (text : List ℕ) → Fault → Type 0
+HasFront old new text f = AfterWrite f (HasFirst old new text) (HasFirst old new text)
+
+-- the fault says that memory ran out or a write failed after so many bytes
+abbrev pub TellsCount : {T : Type 0} → (n : ℕ) → Result T Fault → Type 0
+TellsCount n (Ok x) = ⊥
+TellsCount n (Err f) = AfterWrite f (λ m. m ≡ n) (λ m. m ≡ n)
+
+-- what is said of an error of a run, after so many bytes: that memory ran out, or that a write failed
+abbrev pub IsSaidOf : RunError → (n : ℕ) → Fault → Type 0
+IsSaidOf (run.NoMemory k) n f = AfterWrite f (λ m. ⊥) (λ m. m ≡ n)
+IsSaidOf other n f = AfterWrite f (λ m. m ≡ n) (λ m. ⊥)
+
+-- What comes of what is to be written to the output of this name. It was written whole; or it is refused, and there is no
+-- output; or a whole output would have this text, and none could be created, or one has its front. `Refuses` says why it is
+-- refused, and `Wrote` what a whole output was before and is now.
+abbrev pub Comes : {T : Type 0} → (Refuses : Fault → Type 0) → (Wrote : (old new : Option (List ℕ)) → T → Type 0)
+    → (name : Option (List ℕ)) → (tells : Bool) → Result T Fault → (has_output : Bool) → (written : Option (List ℕ)) → Type 0
+Comes {T} Refuses Wrote name tells (Ok what) has_output written = Wrote (told_if tells name []) written what
+Comes {T} Refuses Wrote name tells (Err f) has_output written =
+    (Refuses f × (has_output ≡ false))
+    ⊎ ((text : List ℕ) × (what : T) × Wrote (Some []) (Some text) what
+    × (IsNotCreated {T = T} (Err f) has_output ⊎ HasFront (told_if tells name []) written text f))
+
+-- ---- the sheets of a job
+
+abbrev pub WritesJob : JobView → (old new : Option (List ℕ)) → Report → Type 0
+WritesJob j old new report = Appends old new (output_of j) × ReportsOf j report
+
+abbrev pub RefusesPlan : SheetJob → Fault → Type 0
+RefusesPlan j f = let n = length (pages j.document.now) in
+    (error : AskedError) × (f ≡ of_asked n error) × RefusesSheets n j.sheets.now error
+
+abbrev pub WritesSheets : SheetJob → (old new : Option (List ℕ)) → Report → Type 0
+WritesSheets j old new report = (made_plan_of (length (pages j.document.now)) j.sheets.now ≡ Ok j.sheets.now)
+    × Appends old new (output_in j) × ReportsIn j report
+
+-- ---- by a specification
+
+-- the fault names the first check of a run of the task that fails
+abbrev pub RefusesTaskRun : Task → Fault → Type 0
+RefusesTaskRun t f = (error : RunError) × (f ≡ fault.Run error) × IsRefusal (asked_by t) error × IsUnwritten error
+
+-- exactly the output of the task's specification was appended, and the report has its numbers
+abbrev pub WritesTask : Task → (old new : Option (List ℕ)) → Report → Type 0
+WritesTask t old new report = Accepted (asked_by t) (λ spec us.
+    Appends old new (output (frame_of t.options) t.options.sides spec us)
+    × Reports (frame_of t.options) t.options.sides spec us report)
+
+pub record RefusesInTask (r : Request) (input : List ℕ) (f : Fault) : Type 0 where
   pub task : Task
   pub is_task : IsTask r input task
-  pub error : RunError
-  pub is_run : f ≡ fault.Run error
-  pub refused : IsRefusal (asked_by task) error
-  pub written : HasWritten (asked_by task) old new error
-  pub failed : FailedIn error old new
+  pub refused : RefusesTaskRun task f
 
--- memory ran out before the run of a task with a row, or its text is refused: with its guard a document may be too long
-abbrev pub RefusesText : (text : List ℕ) → Fault → Type 0
-RefusesText text f = (f ≡ without_memory) ⊎ ((e : DscError) × (f ≡ fault.Run (of_read e)) × IsRefusedFor text e)
+-- there is no task, or its run is refused
+abbrev pub RefusesSpecRun : Request → (input : List ℕ) → Fault → Type 0
+RefusesSpecRun r input f = RefusesTask r input f ⊎ RefusesInTask r input f
 
-pub record StopsBeforeRow (r : Request) (t : RowTask) (old new : SinkView) (f : Fault) : Type 0 where
-  pub refused : RefusesText t.text.items f
-  pub unwritten : IsUntouched old new
+-- ---- on the row of a layout
 
--- the fault is the error of the run on the task's row, of which the same holds
-pub record StopsInRow (r : Request) (t : RowTask) (old new : SinkView) (f : Fault) : Type 0 where
-  pub job : RowJob
-  pub is_job : IsJobOf r t job
-  pub error : AskedError
-  pub is_run : f ≡ of_asked (page_count job) error
-  pub refused : RefusesRun job error
-  pub written : WroteWith job old new error
-  pub failed : FailedWith error old new
+-- the fault names the first check of a job that fails
+abbrev pub RefusesRowJob : RowJob → Fault → Type 0
+RefusesRowJob job f = (error : AskedError) × (f ≡ of_asked (page_count job) error) × RefusesRun job error
 
-abbrev pub EndsTask : Request → RowTask → (old new : SinkView) → Fault → Type 0
-EndsTask r t old new f = StopsBeforeRow r t old new f ⊎ StopsInRow r t old new f
+-- the text of a task is refused, or its job
+abbrev pub RefusesRowTaskRun : Request → RowTask → Fault → Type 0
+RefusesRowTaskRun r t f = RefusesText t.text.items f ⊎ ((job : RowJob) × IsJobOf r t job × RefusesRowJob job f)
 
--- the fault is that of a task with a row
-pub record EndsInRow (r : Request) (input : List ℕ) (old new : SinkView) (f : Fault) : Type 0 where
+pub record RefusesInRow (r : Request) (input : List ℕ) (f : Fault) : Type 0 where
   pub task : RowTask
   pub is_task : IsRowTask r input task
-  pub ended : EndsTask r task old new f
+  pub refused : RefusesRowTaskRun r task f
 
--- how a request ended that names a specification
-abbrev pub EndsBySpec : Request → (input : List ℕ) → (old new : SinkView) → Result Finished Fault → Type 0
-EndsBySpec r input old new (Ok done) = FinishesSpec r input old.bytes new.bytes done × (new.failures ≡ old.failures)
-EndsBySpec r input old new (Err f) = EndsBeforeRun r input old new f ⊎ EndsInRun r input old new f
+-- there is no task, or its run is refused
+abbrev pub RefusesRow : Request → (input : List ℕ) → Fault → Type 0
+RefusesRow r input f = RefusesRowTask r input f ⊎ RefusesInRow r input f
+
+-- ---- all of them
 
 -- the request was carried out, by its specification, on its row, or by its specification on its row
 abbrev pub Finishes : Request → (input : List ℕ) → (old new : Option (List ℕ)) → Finished → Type 0
 Finishes r input old new done =
     FinishesSpec r input old new done ⊎ (FinishesRow r input old new done ⊎ FinishesSpecRow r input old new done)
 
--- how a request failed: by its specification, by that on its row, or on the row of another layout
-abbrev pub FailsAs : Layout → Request → (input : List ℕ) → (old new : SinkView) → Fault → Type 0
-FailsAs (layout.Spec specs) r input old new f = EndsBeforeRun r input old new f ⊎ EndsInRun r input old new f
-FailsAs (layout.SpecRow specs signing) r input old new f = EndsSpecRow r input old new f
-FailsAs other r input old new f = EndsBeforeRow r input old new f ⊎ EndsInRow r input old new f
+abbrev pub IsImposed : Request → (input : List ℕ) → (old new : Option (List ℕ)) → Done → Type 0
+IsImposed r input old new (done.Imposed finished) = Finishes r input old new finished
+IsImposed r input old new other = ⊥
 
--- the request was carried out and no write failed; or its fault was found before the run, or is the run's
-abbrev pub Ends : Request → (input : List ℕ) → (old new : SinkView) → Result Finished Fault → Type 0
-Ends r input old new (Ok done) = Finishes r input old.bytes new.bytes done × (new.failures ≡ old.failures)
-Ends r input old new (Err f) = FailsAs r.layout r input old new f
+-- its first fault: by its specification, by that on its row, or on the row of another layout
+abbrev pub RefusesImposing : Layout → Request → (input : List ℕ) → Fault → Type 0
+RefusesImposing (layout.Spec specs) r input f = RefusesSpecRun r input f
+RefusesImposing (layout.SpecRow specs signing) r input f = RefusesSpecRowRun r input f
+RefusesImposing other r input f = RefusesRow r input f
+
+-- what comes of a request to impose this input
+abbrev pub Runs : Request → (input : List ℕ) → (tells : Bool) → Result Done Fault → (has_output : Bool)
+    → (written : Option (List ℕ)) → Type 0
+Runs r input tells outcome has_output written =
+    Comes (RefusesImposing r.layout r input) (IsImposed r input) (option_map string_bytes r.outfile) tells outcome has_output written

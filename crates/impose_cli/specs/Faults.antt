@@ -8,7 +8,7 @@ use Rattle.rows.specs.declared.error.RowError.TheVariants as row
 use Rattle.row_runs.specs.declared.error.AskedError.{AskedError}
 use Rattle.row_runs.specs.declared.error.AskedError.TheVariants as asked
 use Rattle.imposer.specs.Outcomes.{of_document as of_read}
-use Rattle.imposer.specs.declared.outcome.RunError.TheVariants as run
+use Rattle.impose_said.specs.Faults.{without_memory}
 use Rattle.impose_said.specs.declared.fault.Packing.{Packing}
 use Rattle.impose_said.specs.declared.fault.Packing.TheVariants as packing
 use Rattle.impose_said.specs.declared.fault.Fault.{Fault}
@@ -25,8 +25,7 @@ of_asked pages (asked.Row e) = of_row pages e
 of_asked pages (asked.Arrangement e) = fault.Layout e
 of_asked pages (asked.Poster e) = fault.Poster e
 of_asked pages (asked.Sheets e) = fault.Sheets e
-of_asked pages (asked.NoMemory written) = fault.Run (run.NoMemory written)
-of_asked pages (asked.Write written) = fault.Run (run.Write written)
+of_asked pages asked.NoMemory = without_memory
 
 abbrev pub is_pdf : (input : List ℕ) → Bool
 is_pdf input = starts_with nat_eq input (codes "%PDF-")

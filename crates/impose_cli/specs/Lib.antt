@@ -8,6 +8,7 @@ pub mod RowTasks
 pub mod Refusals
 pub mod SpecRows
 pub mod Endings
+pub mod Abouts
 pub mod Looks
 pub mod Unread
 pub mod Laws

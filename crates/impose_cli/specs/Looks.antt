@@ -1,16 +1,10 @@
 -- What is reported of a request in place of carrying it out: the plan of its sheets, or their picture.
-use Rattle.std.specs.Prelude.{⊤, ◌≡◌, ◌⊎◌, ℕ, List, Option}
+use Rattle.std.specs.Prelude.{⊤, ℕ, List, Option}
 use Rattle.rules.specs.Papers.{Paper}
 use Rattle.papers.specs.declared.cuts.Cut.{Cut}
-use Rattle.row_runs.specs.Looks.{RefusesLook, TellsPicture, TellsPlan}
-use Rattle.row_runs.specs.Runs.{page_count}
-use Rattle.row_runs.specs.declared.error.AskedError.{AskedError}
+use Rattle.row_runs.specs.Looks.{TellsPicture, TellsPlan}
 use Rattle.row_runs.specs.declared.run.RowJob.{RowJob}
-use Rattle.impose_cli.specs.Endings.{RefusesText}
-use Rattle.impose_cli.specs.Faults.{of_asked}
-use Rattle.impose_cli.specs.Refusals.{RefusesRowTask}
-use Rattle.impose_cli.specs.RowTasks.{ArePapersOf, IsJobOf, IsRowJob, IsRowPaper, IsRowTask, LaysRows}
-use Rattle.impose_said.specs.declared.fault.Fault.{Fault}
+use Rattle.impose_cli.specs.RowTasks.{ArePapersOf, IsJobOf, IsRowJob, IsRowPaper, LaysRows}
 use Rattle.impose_cli.specs.declared.look.Look.{Look}
 use Rattle.impose_cli.specs.declared.look.Look.TheVariants.{Plan, Picture}
 use Rattle.impose_words.specs.declared.request.Layout.{Layout}
@@ -48,23 +42,3 @@ pub record TellsRow (r : Request) (input : List ℕ) (look : Look) (text : List 
   pub papers : ArePapersOf r input job.papers.now cut
   pub is_job : IsRowJob r input page_paper.0 job
   pub told : Tells look job text
-
--- the fault is that of the run of a task's job
-pub record RefusesJob (r : Request) (t : RowTask) (f : Fault) : Type 0 where
-  pub job : RowJob
-  pub is_job : IsJobOf r t job
-  pub error : AskedError
-  pub is_fault : f ≡ of_asked (page_count job) error
-  pub refused : RefusesLook job error
-
-abbrev pub RefusesTaskLook : Request → RowTask → Fault → Type 0
-RefusesTaskLook r t f = RefusesText t.text.items f ⊎ RefusesJob r t f
-
-pub record RefusesInTask (r : Request) (input : List ℕ) (f : Fault) : Type 0 where
-  pub task : RowTask
-  pub is_task : IsRowTask r input task
-  pub refused : RefusesTaskLook r task f
-
--- the fault was found before there was a task, or is the task's, as if it were carried out
-abbrev pub RefusesRowLook : Request → (input : List ℕ) → Fault → Type 0
-RefusesRowLook r input f = RefusesRowTask r input f ⊎ RefusesInTask r input f

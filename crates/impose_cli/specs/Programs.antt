@@ -3,15 +3,13 @@ use Rattle.std.specs.Prelude.{⊤, ◌≡◌, ◌⊎◌, ◌<◌, ℕ, List, [],
 use Rattle.std.specs.Prelude.{codes, option_map, string_bytes}
 use Rattle.std.specs.Io.KnownBytes.{Appends}
 use Rattle.clap.specs.Words.{Text}
-use Rattle.imposer.specs.declared.outcome.RunError.TheVariants as run
-use Rattle.sheet_writer.specs.Sinks.{SinkView, fresh_sink}
-use Rattle.world.specs.Outputs.{IsFrontOf, told_if}
+use Rattle.world.specs.Outputs.{told_if}
 use Rattle.world.specs.Input.{IsFirst, most_bytes}
 use Rattle.rules.specs.Papers.{Paper}
 use Rattle.papers.specs.Home.{home_paper}
-use Rattle.impose_cli.specs.Endings.{Ends, Finishes}
+use Rattle.impose_cli.specs.Endings.{AfterWrite, IsUncreated, RefusesRow, Runs}
 use Rattle.impose_said.specs.Faults.{without_memory}
-use Rattle.impose_cli.specs.Looks.{RefusesRowLook, TellsRow}
+use Rattle.impose_cli.specs.Looks.{TellsRow}
 use Rattle.impose_cli.specs.Refusals.{HasOnePaper, RefusesTask}
 use Rattle.impose_said.specs.Statuses.{fault_status}
 use Rattle.impose_cli.specs.Tasks.{IsTask}
@@ -55,71 +53,17 @@ IsHome variable gives home =
 
 -- ---- faults
 
--- a write failed
-abbrev pub IsFailedWrite : Fault → Type 0
-IsFailedWrite (fault.Write written cause) = ⊤
-IsFailedWrite other = ⊥
-
--- memory ran out after so many bytes
-abbrev pub IsNoMemory : Fault → Type 0
-IsNoMemory f = (written : ℕ) × (f ≡ fault.Run (run.NoMemory written))
-
--- the run says that a write failed
-abbrev pub IsRunWrite : Fault → Type 0
-IsRunWrite f = (written : ℕ) × (f ≡ fault.Run (run.Write written))
-
 -- the input couldn't be opened or read
 abbrev pub IsReading : Fault → Type 0
 IsReading (fault.Read cause) = ⊤
 IsReading (fault.Run e) = fault.Run e ≡ without_memory
 IsReading other = ⊥
 
--- ---- the run
-
--- What is said of the fault of a run: the fault as it is, and then nothing was created; out of memory, with how much
--- was written; or a failed write, if one failed: the run says so, or there is an output although the run refused.
-abbrev pub IsSaidAs : Fault → Result Done Fault → (has_output : Bool) → Type 0
-IsSaidAs f (Ok what) has_output = ⊥
-IsSaidAs f (Err said) has_output =
-    ((said ≡ f) × (has_output ≡ false))
-    ⊎ ((IsNoMemory f × IsNoMemory said) ⊎ (IsFailedWrite said × (IsRunWrite f ⊎ (has_output ≡ true))))
-
--- the same of a run that ended so: if it finished, its last bytes couldn't be written
-abbrev pub IsSaidOf : Result Finished Fault → Result Done Fault → (has_output : Bool) → Type 0
-IsSaidOf (Ok finished) (Ok what) has_output = ⊥
-IsSaidOf (Ok finished) (Err said) has_output = IsFailedWrite said
-IsSaidOf (Err f) outcome has_output = IsSaidAs f outcome has_output
-
--- The run of a request that didn't come to its end: it ended in some way, with all that a run promises, and that is
--- said. The output has a first part of what the run handed on.
-pub record BreaksOff (r : Request) (input : List ℕ) (tells : Bool) (outcome : Result Done Fault) (has_output : Bool)
-    (written : Option (List ℕ)) : Type 0 where
-  pub ended : Result Finished Fault
-  pub sink : SinkView
-  pub ends : Ends r input (fresh_sink (told_if tells (option_map string_bytes r.outfile) [])) sink ended
-  pub part : has_output ≡ true → IsFrontOf written sink.bytes
-  pub said : IsSaidOf ended outcome has_output
-
--- What comes of a request to impose this input. If it was imposed, the output tells its name and exactly the output
--- that is defined; else there was no memory for a buffer, and nothing was created; or the run broke off.
-abbrev pub RunsInto : Request → (input : List ℕ) → (tells : Bool) → Result Done Fault → (has_output : Bool)
-    → (written : Option (List ℕ)) → Type 0
-RunsInto r input tells (Ok (done.Imposed finished)) has_output written =
-    Finishes r input (told_if tells (option_map string_bytes r.outfile) []) written finished
-RunsInto r input tells (Ok done.Printed) has_output written = ⊥
-RunsInto r input tells (Ok done.Shown) has_output written = ⊥
-RunsInto r input tells (Err f) has_output written =
-    ((f ≡ without_memory) × (has_output ≡ false)) ⊎ BreaksOff r input tells (Err f) has_output written
+-- ---- texts
 
 -- a write failed, and the fault says after how many bytes of the text: these were written
 abbrev pub BreaksAt : (old new : Option (List ℕ)) → (text : List ℕ) → Fault → Type 0
-BreaksAt old new text (fault.Write n cause) = (n < length text) × Appends old new (take n text)
-BreaksAt old new text other = ⊥
-
--- no output could be created
-abbrev pub IsUncreated : Fault → (has_output : Bool) → Type 0
-IsUncreated (fault.Write n cause) has_output = (n ≡ 0) × (has_output ≡ false)
-IsUncreated other has_output = ⊥
+BreaksAt old new text f = AfterWrite f (λ n. (n < length text) × Appends old new (take n text)) (λ n. ⊥)
 
 -- a text wasn't written whole to the output of this name
 abbrev pub FailsToWrite : (name : Option (List ℕ)) → (text : List ℕ) → (tells : Bool) → Fault → (has_output : Bool)
@@ -159,7 +103,7 @@ Shows l name r input tells (Ok done.Printed) has_output written = ⊥
 Shows l name r input tells (Ok done.Shown) has_output written =
     (text : List ℕ) × TellsRow r input l text × Appends (told_if tells name []) written text
 Shows l name r input tells (Err f) has_output written =
-    (RefusesRowLook r input f × (has_output ≡ false))
+    (RefusesRow r input f × (has_output ≡ false))
     ⊎ ((text : List ℕ) × TellsRow r input l text × FailsToWrite name text tells f has_output written)
 
 -- ---- all of it
@@ -168,7 +112,7 @@ Shows l name r input tells (Err f) has_output written =
 -- its own file
 abbrev pub Makes : Product → Request → (input : List ℕ) → (tells : Bool) → Result Done Fault → (has_output : Bool)
     → (written : Option (List ℕ)) → Type 0
-Makes product.Sheets r input tells outcome has_output written = RunsInto r input tells outcome has_output written
+Makes product.Sheets r input tells outcome has_output written = Runs r input tells outcome has_output written
 Makes product.Specification r input tells outcome has_output written = Prints r input tells outcome has_output written
 Makes product.Plan r input tells outcome has_output written =
     Shows look.Plan None r input tells outcome has_output written
@@ -183,6 +127,12 @@ CarriesOut r gives tells outcome has_output written =
     ((f : Fault) × (outcome ≡ Err f) × (has_output ≡ false) × (RefusesRequest r f ⊎ (MayBeRead r × IsReading f)))
     ⊎ ((input : List ℕ) × IsFirst most_bytes (gives (option_map string_bytes r.infile)) input × MayBeRead r
     × Makes r.product r input tells outcome has_output written)
+
+-- an output that exists is that of a request that was carried out, or for which a write failed or memory ran out: what is
+-- refused has none
+abbrev pub IsCreatedFor : Result Done Fault → (has_output : Bool) → Type 0
+IsCreatedFor (Ok what) has_output = ⊤
+IsCreatedFor (Err f) has_output = (has_output ≡ false) ⊎ AfterWrite f (λ n. ⊤) (λ n. ⊤)
 
 -- How the program ends: the words are refused, and nothing was created; or they make a request, with the paper at home,
 -- and this comes of it.

@@ -6,6 +6,7 @@ use Rattle.rows.specs.Sewing.{MayBeSewn}
 use Rattle.imposer.specs.declared.outcome.RunError.TheVariants as run
 use Rattle.dsc.specs.declared.errors.DscError.{DscError}
 use Rattle.dsc.specs.Faults as dsc
+use Rattle.imposer.specs.Outcomes.{of_document as of_read}
 use Rattle.impose_said.specs.Faults.{without_memory}
 use Rattle.impose_cli.specs.Faults.{of_document}
 use Rattle.impose_words.specs.Choices.{is_said}
@@ -30,6 +31,10 @@ IsRefusedFor input e = IfSome (dsc.fault_told e) (λ f. document_of input ≡ Er
 abbrev pub RefusesDocument : (input : List ℕ) → Fault → Type 0
 RefusesDocument input f = (why : DscError) × (f ≡ of_document why input) × IsRefusedFor input why
     × dsc.PassedFirstChecks why input
+
+-- the text that is imposed is refused for this reason: with its guard a document may be too long
+abbrev pub RefusesText : (text : List ℕ) → Fault → Type 0
+RefusesText text f = (why : DscError) × (f ≡ fault.Run (of_read why)) × IsRefusedFor text why
 
 -- ---- the layout
 

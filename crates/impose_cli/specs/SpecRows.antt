@@ -6,19 +6,15 @@ use Rattle.rows.specs.Choices.{choice_of}
 use Rattle.rows.specs.Sewing.{MayBeSewn}
 use Rattle.rows.specs.declared.sewing.Signing.{Signing}
 use Rattle.sheet_text.specs.Jobs.{is_border}
-use Rattle.sheet_writer.specs.Sinks.{SinkView, IsUntouched}
 use Rattle.imposer.specs.declared.outcome.Report.{Report}
 use Rattle.imposer.specs.declared.outcome.RunError.TheVariants as run
-use Rattle.row_runs.specs.BySpec.{ImposesBySpec, RefusesBySpec, WroteBySpec, pages_of}
-use Rattle.row_runs.specs.Runs.{FailedWith}
+use Rattle.row_runs.specs.BySpec.{ImposesBySpec, RefusesBySpec, pages_of}
 use Rattle.row_runs.specs.declared.by_spec.SpecJob.{SpecJob}
 use Rattle.row_runs.specs.declared.error.AskedError.{AskedError}
 use Rattle.impose_words.specs.Choices.{choice_in}
 use Rattle.impose_said.specs.Faults.{without_memory}
 use Rattle.impose_cli.specs.Faults.{of_asked}
-use Rattle.dsc.specs.declared.errors.DscError.{DscError}
-use Rattle.imposer.specs.Outcomes.{of_document as of_read}
-use Rattle.impose_cli.specs.Refusals.{IsRefusedFor, RefusesDocument}
+use Rattle.impose_cli.specs.Refusals.{RefusesDocument, RefusesText}
 use Rattle.impose_cli.specs.Tasks.{HasBehind, HasPages, page_paper_found, sheet_paper_found, taken_text}
 use Rattle.impose_cli.specs.ToldPages.{told_pages}
 use Rattle.impose_cli.specs.Unread.{RefusesSpecification}
@@ -102,35 +98,19 @@ RefusesSpecRowTask r input f =
     × (RefusesSpecRow r.layout f
     ⊎ (((f ≡ fault.Run run.Options) × (is_border r.border ≡ false)) ⊎ (f ≡ without_memory))))
 
--- the fault is the error of the run on the row: it names the first check that fails; as much of the output was written as
--- it says, which is nothing at a refusal; and the sink failed once if a write did
-pub record StopsInSpecRow (r : Request) (t : SpecRowTask) (old new : SinkView) (f : Fault) : Type 0 where
-  pub job : SpecJob
-  pub is_job : IsSpecJobOf r t job
-  pub error : AskedError
-  pub is_run : f ≡ of_asked (pages_of job) error
-  pub refused : RefusesBySpec job error
-  pub written : WroteBySpec job old new error
-  pub failed : FailedWith error old new
+-- the fault names the first check of a job that fails
+abbrev pub RefusesSpecRowJob : SpecJob → Fault → Type 0
+RefusesSpecRowJob job f = (error : AskedError) × (f ≡ of_asked (pages_of job) error) × RefusesBySpec job error
 
--- or memory ran out before it, or the task's text is refused
-pub record StopsBeforeSpecRow (r : Request) (t : SpecRowTask) (old new : SinkView) (f : Fault) : Type 0 where
-  pub refused : (f ≡ without_memory) ⊎ ((e : DscError) × (f ≡ fault.Run (of_read e)) × IsRefusedFor t.text.items e)
-  pub unwritten : IsUntouched old new
+-- the text of a task is refused, or its job
+abbrev pub RefusesSpecTaskRun : Request → SpecRowTask → Fault → Type 0
+RefusesSpecTaskRun r t f = RefusesText t.text.items f ⊎ ((job : SpecJob) × IsSpecJobOf r t job × RefusesSpecRowJob job f)
 
-abbrev pub EndsSpecTask : Request → SpecRowTask → (old new : SinkView) → Fault → Type 0
-EndsSpecTask r t old new f = StopsBeforeSpecRow r t old new f ⊎ StopsInSpecRow r t old new f
-
-pub record EndsInSpecRow (r : Request) (input : List ℕ) (old new : SinkView) (f : Fault) : Type 0 where
+pub record RefusesInSpecRow (r : Request) (input : List ℕ) (f : Fault) : Type 0 where
   pub task : SpecRowTask
   pub is_task : IsSpecRowTask r input task
-  pub ended : EndsSpecTask r task old new f
+  pub refused : RefusesSpecTaskRun r task f
 
--- there is no task, nothing was written, and no write failed
-pub record EndsBeforeSpecRow (r : Request) (input : List ℕ) (old new : SinkView) (f : Fault) : Type 0 where
-  pub refused : RefusesSpecRowTask r input f
-  pub unwritten : IsUntouched old new
-
--- the fault was found before the run, or is the run's
-abbrev pub EndsSpecRow : Request → (input : List ℕ) → (old new : SinkView) → Fault → Type 0
-EndsSpecRow r input old new f = EndsBeforeSpecRow r input old new f ⊎ EndsInSpecRow r input old new f
+-- there is no task, or its run is refused
+abbrev pub RefusesSpecRowRun : Request → (input : List ℕ) → Fault → Type 0
+RefusesSpecRowRun r input f = RefusesSpecRowTask r input f ⊎ RefusesInSpecRow r input f

@@ -1,14 +1,14 @@
 //! A look at what a request would impose.
 ghost use Rattle.std.specs.Prelude.{IfErr, IfOk, IfSome};
 ghost use Rattle.rows.specs.Sewing.{MayBeSewn};
-ghost use Rattle.row_runs.specs.Looks.{RefusesLook};
+ghost use Rattle.row_runs.specs.Runs.{RefusesRun};
 ghost use Rattle.row_runs.specs.Sheets.{MayBeAsked, MayBeLaid};
-ghost use Rattle.impose_cli.specs.Looks.{RefusesRowLook, RefusesTaskLook, Tells, TellsRow, TellsTask};
+ghost use Rattle.impose_cli.specs.Endings.{RefusesRow, RefusesRowTaskRun};
+ghost use Rattle.impose_cli.specs.Looks.{Tells, TellsRow, TellsTask};
 ghost use Rattle.impose_cli.specs.RowTasks.{LaysRows};
 
 use crate::roomy_text::RoomyText;
 use crate::row_task::{RowTask, asked_fault_of, row_task};
-use crate::task::WORKERS;
 use dsc::Document;
 use impose_said::Fault;
 use impose_words::Request;
@@ -29,7 +29,7 @@ pub enum Look {
 }
 
 /// The plan or the picture of the sheets on which the layout of a request lays its row of this document. What a run of
-/// the request would refuse is refused as it does, but for a write.
+/// the request would refuse is refused as it does.
 pub fn look_text(
     alloc: Global,
     request: &Request,
@@ -38,7 +38,7 @@ pub fn look_text(
 ) -> Result<Vec<u8>, Fault>
     requires rows { LaysRows request.now.layout }
     ensures told { IfOk result (λ text. TellsRow request.now input.items look text.items) }
-    ensures refused { IfErr result (RefusesRowLook request.now input.items) }
+    ensures refused { IfErr result (RefusesRow request.now input.items) }
 {
     let task = match row_task(alloc, request, input) {
         Ok(task) => task,
@@ -55,7 +55,7 @@ fn task_text(alloc: Global, request: &Request, task: &RowTask, look: Look) -> Re
     requires laid { MayBeLaid task.now.laying }
     requires sewn { IfSome task.now.signing MayBeSewn }
     ensures told { IfOk result (λ text. TellsTask request.now task.now look text.items) }
-    ensures refused { IfErr result (RefusesTaskLook request.now task.now) }
+    ensures refused { IfErr result (RefusesRowTaskRun request.now task.now) }
 {
     let document = match Document::read(alloc, task.text.as_slice()) {
         Ok(document) => document,
@@ -73,7 +73,6 @@ fn task_text(alloc: Global, request: &Request, task: &RowTask, look: Look) -> Re
         },
         border: request.border,
         marks: request.marks,
-        workers: WORKERS,
     };
     match job_text(alloc, &job, look) {
         Ok(text) => Ok(text),
@@ -85,7 +84,7 @@ fn task_text(alloc: Global, request: &Request, task: &RowTask, look: Look) -> Re
 fn job_text(alloc: Global, job: &RowJob<'_, '_>, look: Look) -> Result<Vec<u8>, AskedError>
     requires asked { MayBeAsked job.now.asked }
     ensures told { IfOk result (λ text. Tells look job.now text.items) }
-    ensures refused { IfErr result (RefusesLook job.now) }
+    ensures refused { IfErr result (RefusesRun job.now) }
 {
     match look {
         Look::Plan => row_plan(alloc, job, MOST_TOLD),

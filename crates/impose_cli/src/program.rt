@@ -1,25 +1,25 @@
 //! The whole program, over the files and standard streams around it.
-ghost use Rattle.std.specs.Prelude.{◌≡◌, false, is_some, map, option_and_then, option_map, string_bytes};
-ghost use Rattle.std.specs.Prelude.{Some, Err, IfOk, IfErr, OnOk};
+ghost use Rattle.std.specs.Prelude.{◌≡◌, is_some, map, option_and_then, option_map, string_bytes};
+ghost use Rattle.std.specs.Prelude.{Some, IfOk, IfErr, OnOk};
 ghost use Rattle.std.specs.Io.KnownBytes.{Appends};
 ghost use Rattle.world.specs.Input.{IsFirst, most_bytes};
 ghost use Rattle.impose_cli.specs.Looks.{MayBeMade};
-ghost use Rattle.impose_cli.specs.Programs.{BreaksAt, CarriesOut, EndsProgram, IsHome, IsReading, IsSaidAs, Makes};
-ghost use Rattle.impose_cli.specs.Programs.{Prints, RunsInto, Shows, Writes, most_home_bytes, status_of};
+ghost use Rattle.impose_cli.specs.Programs.{BreaksAt, CarriesOut, EndsProgram, IsCreatedFor, IsHome, IsReading, Makes};
+ghost use Rattle.impose_cli.specs.Programs.{Prints, Shows, Writes, most_home_bytes, status_of};
 ghost use Rattle.impose_cli.specs.RowTasks.{LaysRows};
 ghost use Rattle.impose_said.specs.declared.fault.Fault.TheVariants as faults;
 
 use crate::keeping_reader::KeepingReader;
+use crate::left::{Left, closed, stopped};
 use crate::look::{Look, look_text};
 use crate::printed::printed_task;
 use crate::roomy_text::RoomyText;
-use crate::row_task::run_request;
+use crate::runs::run_request;
 use crate::task::task_for;
 use crate::unread::check_request;
 use command_words::name_of;
 use impose_said::{Done, Fault, fault_status};
 use impose_words::{Product, Request, read_command};
-use imposer::RunError;
 use lengths::Paper;
 use papers::home_paper;
 use std::alloc::Global;
@@ -27,10 +27,7 @@ use std::io;
 use std::io::{ErrorKind, Read, Write};
 use std::sync::Wait;
 use std::thread::Threads;
-use world::{
-    Late, ReadFault, ReadSource, World, abandon, created_late, read_input, read_input_behind,
-    write_out,
-};
+use world::{ReadFault, ReadSource, World, read_input, read_input_behind};
 
 /// How the program ended.
 #[derive(Drop)]
@@ -57,20 +54,12 @@ impl<W: World> Ended<W> {
     }
 }
 
-/// What came of a request.
-#[derive(Drop)]
-struct Left<W: World> {
-    outcome: Result<Done, Fault>,
-    world: Option<W>,
-    output: Option<W::Output>,
-}
-
 /// The program: it reads the words, of which the first is its name, finds the paper at home by the value of `PAPERSIZE`
 /// and by `/etc/papersize`, and checks what it asks for; then it reads its input whole and closes it; then it imposes,
 /// or prints the specification, or writes the plan or the picture of the sheets.
 ///
-/// The output is created when its first byte is to be written, so that a request that is refused creates none, and
-/// input and output may be one file.
+/// The output is created when nothing is left to refuse, so that a request that is refused creates none, and input and
+/// output may be one file.
 pub fn impose<R: Threads + Wait + Sync, W: World>(
     rt: &R,
     alloc: Global,
@@ -80,6 +69,9 @@ pub fn impose<R: Threads + Wait + Sync, W: World>(
 ) -> Ended<W>
     ensures ended { EndsProgram (map string_bytes words.now) paper_size.now (W.gives world) (W.tells world)
         result.request result.outcome (is_some result.output) (option_and_then W.Output.contents result.output) }
+    // What is refused has created no output. One that exists has all that was to be written, or a write failed or memory
+    // ran out.
+    ensures created { IsCreatedFor result.outcome (is_some result.output) }
 {
     match read_command(alloc, words) {
         Ok(read) => {
@@ -151,7 +143,7 @@ fn carry_out<R: Threads + Wait + Sync, W: World>(
     alloc: Global,
     request: &Request,
     world: W,
-) -> Left<W>
+) -> Left<W, Done>
     requires { MayBeMade request.now.product request.now.layout }
     ensures { CarriesOut request.now (W.gives world) (W.tells world) result.outcome (is_some result.output)
         (option_and_then W.Output.contents result.output) }
@@ -173,30 +165,18 @@ fn make<R: Threads + Wait + Sync, W: World>(
     request: &Request,
     input: RoomyText,
     world: W,
-) -> Left<W>
+) -> Left<W, Done>
     requires { MayBeMade request.now.product request.now.layout }
     ensures { Makes request.now.product request.now input.items (W.tells world) result.outcome (is_some result.output)
         (option_and_then W.Output.contents result.output) }
 {
     match &request.product {
-        Product::Sheets => run_into(rt, alloc, request, input, world),
+        Product::Sheets => run_request(rt, alloc, request, input, world),
         Product::Specification => print_input(alloc, request, input, world),
         Product::Plan => show_input(alloc, request, input, Look::Plan, None, world),
         Product::Picture(file) => {
             show_input(alloc, request, input, Look::Picture, name_of(file), world)
         }
-    }
-}
-
-/// Nothing was created.
-fn stopped<W: World>(fault: Fault, world: W) -> Left<W>
-    ensures outcome { result.outcome ≡ Err fault }
-    ensures output { is_some result.output ≡ false }
-{
-    Left {
-        outcome: Err(fault),
-        world: Some(world),
-        output: None,
     }
 }
 
@@ -232,7 +212,12 @@ fn read_from<I: Read + Drop>(alloc: Global, input: I) -> Result<RoomyText, Fault
 }
 
 /// Prints the specification, with the line of pstops, to standard output.
-fn print_input<W: World>(alloc: Global, request: &Request, input: RoomyText, world: W) -> Left<W>
+fn print_input<W: World>(
+    alloc: Global,
+    request: &Request,
+    input: RoomyText,
+    world: W,
+) -> Left<W, Done>
     ensures { Prints request.now input.items (W.tells world) result.outcome (is_some result.output)
         (option_and_then W.Output.contents result.output) }
 {
@@ -255,7 +240,7 @@ fn show_input<W: World>(
     look: Look,
     name: Option<&str>,
     world: W,
-) -> Left<W>
+) -> Left<W, Done>
     requires rows { LaysRows request.now.layout }
     ensures { Shows look (option_map (λ n. n.now) name.entry) request.now input.items (W.tells world) result.outcome
         (is_some result.output) (option_and_then W.Output.contents result.output) }
@@ -267,7 +252,7 @@ fn show_input<W: World>(
 }
 
 /// Writes a text to the output of that name, which is created for it.
-fn write_text<W: World>(name: Option<&str>, text: &[u8], done: Done, world: W) -> Left<W>
+fn write_text<W: World>(name: Option<&str>, text: &[u8], done: Done, world: W) -> Left<W, Done>
     ensures { Writes (option_map (λ n. n.now) name.entry) text.now done (W.tells world) result.outcome
         (is_some result.output) (option_and_then W.Output.contents result.output) }
 {
@@ -276,8 +261,8 @@ fn write_text<W: World>(name: Option<&str>, text: &[u8], done: Done, world: W) -
         Err(refused) => return stopped(failed_at(0, refused.cause), refused.world),
     };
     match write_whole(&mut output, text) {
-        Ok(()) => wrote(Ok(done), output),
-        Err(fault) => wrote(Err(fault), output),
+        Ok(()) => closed(Ok(done), Some(output)),
+        Err(fault) => closed(Err(fault), Some(output)),
     }
 }
 
@@ -297,17 +282,6 @@ fn write_whole<O: Write>(output: &mut O, text: &[u8]) -> Result<(), Fault>
     Ok(())
 }
 
-fn wrote<W: World>(outcome: Result<Done, Fault>, output: W::Output) -> Left<W>
-    ensures outcome { result.outcome ≡ outcome }
-    ensures output { result.output ≡ Some output }
-{
-    Left {
-        outcome,
-        world: None,
-        output: Some(output),
-    }
-}
-
 /// A write failed after so many bytes.
 fn failed_at(written: usize, cause: io::Error) -> Fault
     ensures { result ≡ faults.Write written (Some cause) }
@@ -315,80 +289,5 @@ fn failed_at(written: usize, cause: io::Error) -> Fault
     Fault::Write {
         written: written as u64,
         cause: Some(cause),
-    }
-}
-
-/// How much of the output is written at once, in bytes, if sheets are smaller.
-const WRITTEN_AT_ONCE: usize = 16_384;
-
-/// Imposes into the output that the request names, which is created at its first byte.
-fn run_into<R: Threads + Wait + Sync, W: World>(
-    rt: &R,
-    alloc: Global,
-    request: &Request,
-    input: RoomyText,
-    world: W,
-) -> Left<W>
-    ensures { RunsInto request.now input.items (W.tells world) result.outcome (is_some result.output)
-        (option_and_then W.Output.contents result.output) }
-{
-    let name = name_of(&request.outfile);
-    let mut sink = match created_late(alloc, WRITTEN_AT_ONCE, name, world) {
-        Ok(sink) => sink,
-        Err(world) => return stopped(Fault::no_memory(), world),
-    };
-    match run_request(rt, alloc, request, input, &mut sink) {
-        Ok(done) => {
-            let (is_whole, late) = write_out(sink);
-            // What was written lies in an output.
-            if is_whole && late.output.is_some() {
-                close(Ok(Done::Imposed(done)), late)
-            } else {
-                failed_write(late)
-            }
-        }
-        Err(fault) => broken_off(fault, abandon(sink)),
-    }
-}
-
-/// How a run ended that didn't finish, by the fault and by how much of its output was written.
-fn broken_off<W: World>(fault: Fault, late: Late<'_, W>) -> Left<W>
-    ensures said { IsSaidAs fault result.outcome (is_some result.output) }
-    ensures output { result.output ≡ late.entry.output }
-{
-    match fault {
-        Fault::Run(RunError::NoMemory { .. }) => {
-            let written = late.written;
-            close(Err(Fault::Run(RunError::NoMemory { written })), late)
-        }
-        Fault::Run(RunError::Write { .. }) => failed_write(late),
-        fault if late.output.is_none() => close(Err(fault), late),
-        // Nothing is refused once the first byte is to be written, so a write failed.
-        _ => failed_write(late),
-    }
-}
-
-fn failed_write<W: World>(late: Late<'_, W>) -> Left<W>
-    ensures outcome { result.outcome ≡ Err (faults.Write late.entry.written late.entry.cause) }
-    ensures output { result.output ≡ late.entry.output }
-{
-    Left {
-        outcome: Err(Fault::Write {
-            written: late.written,
-            cause: late.cause,
-        }),
-        world: late.world,
-        output: late.output,
-    }
-}
-
-fn close<W: World>(outcome: Result<Done, Fault>, late: Late<'_, W>) -> Left<W>
-    ensures outcome { result.outcome ≡ outcome }
-    ensures output { result.output ≡ late.entry.output }
-{
-    Left {
-        outcome,
-        world: late.world,
-        output: late.output,
     }
 }

@@ -1,11 +1,11 @@
-//! Runs of requests: by a specification, or on a row of pages that a layout lays on sheets.
-ghost use Rattle.std.specs.Prelude.{◌≡◌, ◌≤◌, ◌&&◌, ◌⊎◌, ℕ, length, IfErr, IfOk, IfSome, IsTrue, None, Ok, OnOk};
-ghost use Rattle.rules.specs.Parts.{bytes_of};
+//! What is imposed of a row of pages that a layout lays on sheets, and how.
+ghost use Rattle.std.specs.Prelude.{◌≡◌, ◌≤◌, ◌&&◌, ◌⊎◌, ℕ, length, IfErr, IfOk, IfSome, IsTrue, None, Ok};
+ghost use Rattle.std.specs.Prelude.{is_some, option_and_then, option_map, string_bytes};
 ghost use Rattle.rows.specs.Sewing.{MayBeSewn};
 ghost use Rattle.row_runs.specs.Sheets.{MayBeLaid};
+ghost use Rattle.impose_cli.specs.Endings.{Comes, RefusesRowTaskRun};
+ghost use Rattle.rules.specs.Parts.{bytes_of};
 ghost use Rattle.sheet_text.specs.Jobs.{is_border};
-ghost use Rattle.sheet_writer.specs.Sinks.{IsCountable};
-ghost use Rattle.impose_cli.specs.Endings.{Ends, EndsTask, Finishes};
 ghost use Rattle.impose_said.specs.Faults.{without_memory};
 ghost use Rattle.impose_cli.specs.Faults.{of_asked as asked_fault, of_row as row_fault};
 ghost use Rattle.rules.specs.Run.{most_pages};
@@ -22,78 +22,24 @@ ghost use Rattle.impose_cli.specs.Tasks.{HasBehind, HasPages, page_paper_found};
 ghost use Rattle.dsc.specs.PagesBehind.{pages_behind};
 
 use crate::laying::{laying_for, papers_for, signing_for};
+use crate::left::{Left, stopped};
 use crate::roomy_text::RoomyText;
-use crate::spec_row::run_spec_row;
+use crate::runs::impose_job;
 use crate::taken::papers_taken;
-use crate::task::{WORKERS, of_document, paper_of_pages, run_spec, text_to_impose};
-use crate::told_pages::told_pages;
+use crate::task::{of_document, paper_of_pages, text_to_impose};
+use command_words::name_of;
 use dsc::Document;
-use impose_said::{Fault, Finished, PaperOrigin};
+use impose_said::{Fault, PaperOrigin};
 use impose_words::{Layout, PageChoice, Request};
-use imposer::{Open, Report, RunError, Sink};
+use imposer::{Report, RunError};
 use lengths::{Grains, Paper};
 use papers::{Cut, as_one, cut_by, first_instead_of, own_papers};
-use row_runs::{Asked, AskedError, Laying, RowJob, impose_row};
+use row_runs::{Asked, AskedError, Laying, RowJob};
 use rows::{RowError, Signing, imposed_row};
 use std::alloc::{AllocError, Global};
 use std::sync::Wait;
 use std::thread::Threads;
-
-/// Carries a request out for this document: a document that is refused is refused first, then a layout that there isn't,
-/// and then what the run refuses. Nothing is written before all of it is checked.
-pub fn run_request<R: Threads + Wait + Sync, S: Sink>(
-    rt: &R,
-    alloc: Global,
-    request: &Request,
-    input: RoomyText,
-    sink: &mut S,
-) -> Result<Finished, Fault>
-    requires countable { IsCountable (S.seen sink.old) }
-    // Exactly the output was appended that is defined for the request's specification, or for its row, and the guarded
-    // document.
-    ensures finished { IfOk result (Finishes request.now input.items (S.seen sink.old).bytes (S.seen sink.new).bytes) }
-    // It was carried out and no write failed; or a fault was found before the run, and nothing was written; or the fault
-    // is the run's, which names the first check that fails, or says after how many bytes memory ran out or a write
-    // failed.
-    ensures ended { Ends request.now input.items (S.seen sink.old) (S.seen sink.new) result }
-{
-    match &request.layout {
-        Layout::Spec(_) => run_spec(rt, alloc, request, input, sink),
-        Layout::SpecRow { .. } => run_spec_row(rt, alloc, request, input, sink),
-        _ => run_row(rt, alloc, request, input, sink),
-    }
-}
-
-/// Carries a request out whose layout lays rows on sheets.
-fn run_row<R: Threads + Wait + Sync, S: Sink>(
-    rt: &R,
-    alloc: Global,
-    request: &Request,
-    input: RoomyText,
-    sink: &mut S,
-) -> Result<Finished, Fault>
-    requires countable { IsCountable (S.seen sink.old) }
-    requires rows { LaysRows request.now.layout }
-    ensures ended { Ends request.now input.items (S.seen sink.old) (S.seen sink.new) result }
-{
-    let told = told_pages(input.as_slice());
-    let task = match row_task(alloc, request, input) {
-        Ok(task) => task,
-        Err(fault) => return Err(fault),
-    };
-    let report = match impose_task(rt, alloc, request, &task, sink) {
-        Ok(report) => report,
-        Err(fault) => return Err(fault),
-    };
-    Ok(Finished {
-        report,
-        page_paper: task.page_paper,
-        origin: task.origin,
-        cut: task.cut,
-        behind: task.behind,
-        told,
-    })
-}
+use world::World;
 
 /// What is imposed of a row of pages, and how.
 #[derive(Drop)]
@@ -101,13 +47,13 @@ pub struct RowTask {
     /// The document, with the guard in it if it is asked for.
     pub(crate) text: RoomyText,
     pub(crate) page_paper: Paper,
-    origin: PaperOrigin,
+    pub(crate) origin: PaperOrigin,
     /// The papers of its pages.
     pub(crate) papers: Vec<Paper>,
     /// The pages that the paper cuts which is named for them.
-    cut: Option<Cut>,
+    pub(crate) cut: Option<Cut>,
     /// How many pages follow its trailer.
-    behind: usize,
+    pub(crate) behind: usize,
     pub(crate) laying: Laying,
     pub(crate) signing: Option<Signing>,
 }
@@ -370,26 +316,24 @@ pub(crate) fn is_drawn(border: Option<Grains>) -> bool
 }
 
 /// Imposes a task.
-fn impose_task<R: Threads + Wait + Sync, S: Sink>(
+pub(crate) fn impose_task<R: Threads + Wait + Sync, W: World>(
     rt: &R,
     alloc: Global,
     request: &Request,
     task: &RowTask,
-    sink: &mut S,
-) -> Result<Report, Fault>
-    requires countable { IsCountable (S.seen sink.old) }
+    world: W,
+) -> Left<W, Report>
     requires laid { MayBeLaid task.now.laying }
     requires sewn { IfSome task.now.signing MayBeSewn }
     requires border { IsTrue (is_border request.now.border) }
-    ensures finished { IfOk result (ImposesTask request.now task.now (S.seen sink.old).bytes (S.seen sink.new).bytes) }
-    ensures ended { IfErr result (EndsTask request.now task.now (S.seen sink.old) (S.seen sink.new)) }
-    ensures steady { OnOk result ((S.seen sink.new).failures ≡ (S.seen sink.old).failures) }
+    ensures { Comes (RefusesRowTaskRun request.now task.now) (ImposesTask request.now task.now)
+        (option_map string_bytes request.now.outfile) (W.tells world) result.outcome
+        (is_some result.output) (option_and_then W.Output.contents result.output) }
 {
     let document = match Document::read(alloc, task.text.as_slice()) {
         Ok(document) => document,
-        Err(error) => return Err(Fault::Run(RunError::from(error))),
+        Err(error) => return stopped(Fault::Run(RunError::from(error)), world),
     };
-    let pages = document.pages();
     let job = RowJob {
         document: &document,
         papers: task.papers.as_slice(),
@@ -401,12 +345,8 @@ fn impose_task<R: Threads + Wait + Sync, S: Sink>(
         },
         border: request.border,
         marks: request.marks,
-        workers: WORKERS,
     };
-    match impose_row(rt, alloc, &job, &Open, sink) {
-        Ok(report) => Ok(report),
-        Err(error) => Err(asked_fault_of(error, pages)),
-    }
+    impose_job(rt, alloc, &job, name_of(&request.outfile), world)
 }
 
 /// What an error of the run is for a document with so many pages.
@@ -418,8 +358,7 @@ pub(crate) fn asked_fault_of(error: AskedError, pages: u32) -> Fault
         AskedError::Arrangement(error) => Fault::Layout(error),
         AskedError::Poster(error) => Fault::Poster(error),
         AskedError::Sheets(error) => Fault::Sheets(error),
-        AskedError::NoMemory { written } => Fault::Run(RunError::NoMemory { written }),
-        AskedError::Write { written } => Fault::Run(RunError::Write { written }),
+        AskedError::NoMemory => Fault::no_memory(),
     }
 }
 

@@ -1,77 +1,52 @@
-//! Runs by a specification on a row of pages.
-ghost use Rattle.std.specs.Prelude.{◌≡◌, ◌⊎◌, List, ℕ, IfErr, IfOk, IfSome, IsTrue, OnOk, string_bytes};
+//! What is imposed by a specification on a row of pages, and how.
+ghost use Rattle.std.specs.Prelude.{List, ℕ, IfErr, IfOk, IfSome, IsTrue, is_some, option_and_then, option_map, string_bytes};
+ghost use Rattle.sheet_text.specs.Jobs.{is_border};
+ghost use Rattle.impose_cli.specs.Endings.{Comes};
 ghost use Rattle.rules.specs.Admissible.{Takes, most_slots};
 ghost use Rattle.rows.specs.Sewing.{MayBeSewn};
-ghost use Rattle.sheet_text.specs.Jobs.{is_border};
-ghost use Rattle.sheet_writer.specs.Sinks.{IsCountable};
-ghost use Rattle.impose_cli.specs.Endings.{Ends};
-ghost use Rattle.impose_cli.specs.SpecRows.{EndsSpecTask, ImposesSpecTask, IsSpecRow, IsSpecRowTask, LaysSpecRow};
-ghost use Rattle.impose_cli.specs.SpecRows.{RefusesSpecRow, RefusesSpecRowTask};
+ghost use Rattle.impose_cli.specs.SpecRows.{ImposesSpecTask, IsSpecRow, IsSpecRowTask, LaysSpecRow};
+ghost use Rattle.impose_cli.specs.SpecRows.{RefusesSpecRow, RefusesSpecRowTask, RefusesSpecTaskRun};
 
 use crate::laying::may_be_sewn;
+use crate::left::{Left, stopped};
 use crate::roomy_text::RoomyText;
-use crate::row_task::{asked_fault_of, is_drawn};
-use crate::task::{WORKERS, pages_of, paper_of_pages, paper_of_sheets, text_to_impose};
-use crate::told_pages::told_pages;
+use crate::row_task::is_drawn;
+use crate::runs::impose_spec_job;
+use crate::task::{pages_of, paper_of_pages, paper_of_sheets, text_to_impose};
+use command_words::name_of;
 use dsc::Document;
-use impose_said::{Fault, Finished, PaperOrigin};
+use impose_said::{Fault, PaperOrigin};
 use impose_words::{Layout, Request};
-use imposer::{Open, Report, RunError, Sink};
+use imposer::{Report, RunError};
 use lengths::Paper;
 use pagespec::{Spec, read_spec};
-use row_runs::{SpecJob, impose_spec_row};
+use row_runs::SpecJob;
 use rows::Signing;
 use std::alloc::Global;
 use std::sync::Wait;
 use std::thread::Threads;
-
-/// Carries a request out whose layout is a specification on a row.
-pub(crate) fn run_spec_row<R: Threads + Wait + Sync, S: Sink>(
-    rt: &R,
-    alloc: Global,
-    request: &Request,
-    input: RoomyText,
-    sink: &mut S,
-) -> Result<Finished, Fault>
-    requires countable { IsCountable (S.seen sink.old) }
-    requires rows { LaysSpecRow request.now.layout }
-    ensures ended { Ends request.now input.items (S.seen sink.old) (S.seen sink.new) result }
-{
-    let told = told_pages(input.as_slice());
-    let task = match spec_row_task(alloc, request, input) {
-        Ok(task) => task,
-        Err(fault) => return Err(fault),
-    };
-    let report = match impose_spec_task(rt, alloc, request, &task, sink) {
-        Ok(report) => report,
-        Err(fault) => return Err(fault),
-    };
-    Ok(Finished {
-        report,
-        page_paper: task.page_paper,
-        origin: task.origin,
-        cut: None,
-        behind: task.behind,
-        told,
-    })
-}
+use world::World;
 
 /// What is imposed by a specification on a row of pages.
 #[derive(Drop)]
 pub struct SpecRowTask {
     /// The document, with the guard in it if it is asked for.
-    text: RoomyText,
-    spec: Spec,
-    signing: Option<Signing>,
-    page_paper: Paper,
-    sheet_paper: Paper,
-    origin: PaperOrigin,
+    pub(crate) text: RoomyText,
+    pub(crate) spec: Spec,
+    pub(crate) signing: Option<Signing>,
+    pub(crate) page_paper: Paper,
+    pub(crate) sheet_paper: Paper,
+    pub(crate) origin: PaperOrigin,
     /// How many pages follow the document's trailer.
-    behind: usize,
+    pub(crate) behind: usize,
 }
 
 /// The request for this document, and the fault if it is found before the run.
-fn spec_row_task(alloc: Global, request: &Request, input: RoomyText) -> Result<SpecRowTask, Fault>
+pub(crate) fn spec_row_task(
+    alloc: Global,
+    request: &Request,
+    input: RoomyText,
+) -> Result<SpecRowTask, Fault>
     requires rows { LaysSpecRow request.now.layout }
     ensures is_task { IfOk result (IsSpecRowTask request.now input.items) }
     ensures refused { IfErr result (RefusesSpecRowTask request.now input.items) }
@@ -126,25 +101,23 @@ fn spec_and_signing(alloc: Global, layout: &Layout) -> Result<(Spec, Option<Sign
 }
 
 /// Imposes a task.
-fn impose_spec_task<R: Threads + Wait + Sync, S: Sink>(
+pub(crate) fn impose_spec_task<R: Threads + Wait + Sync, W: World>(
     rt: &R,
     alloc: Global,
     request: &Request,
     task: &SpecRowTask,
-    sink: &mut S,
-) -> Result<Report, Fault>
-    requires countable { IsCountable (S.seen sink.old) }
+    world: W,
+) -> Left<W, Report>
     requires sewn { IfSome task.now.signing MayBeSewn }
     requires border { IsTrue (is_border request.now.border) }
-    ensures finished { IfOk result (ImposesSpecTask request.now task.now (S.seen sink.old).bytes (S.seen sink.new).bytes) }
-    ensures ended { IfErr result (EndsSpecTask request.now task.now (S.seen sink.old) (S.seen sink.new)) }
-    ensures steady { OnOk result ((S.seen sink.new).failures ≡ (S.seen sink.old).failures) }
+    ensures { Comes (RefusesSpecTaskRun request.now task.now) (ImposesSpecTask request.now task.now)
+        (option_map string_bytes request.now.outfile) (W.tells world) result.outcome
+        (is_some result.output) (option_and_then W.Output.contents result.output) }
 {
     let document = match Document::read(alloc, task.text.as_slice()) {
         Ok(document) => document,
-        Err(error) => return Err(Fault::Run(RunError::from(error))),
+        Err(error) => return stopped(Fault::Run(RunError::from(error)), world),
     };
-    let pages = document.pages();
     let job = SpecJob {
         document: &document,
         spec: &task.spec,
@@ -153,10 +126,6 @@ fn impose_spec_task<R: Threads + Wait + Sync, S: Sink>(
         sheet: task.sheet_paper,
         page: task.page_paper,
         border: request.border,
-        workers: WORKERS,
     };
-    match impose_spec_row(rt, alloc, &job, &Open, sink) {
-        Ok(report) => Ok(report),
-        Err(error) => Err(asked_fault_of(error, pages)),
-    }
+    impose_spec_job(rt, alloc, &job, name_of(&request.outfile), world)
 }

@@ -1,7 +1,5 @@
 //! What is imposed, and how: the request for a document.
 ghost use Rattle.std.specs.Prelude.{◌≡◌, ◌⊎◌, ℕ, List, ◌<◌, ◌≤◌, IfErr, IfOk, None, OnOk, Some, option_map, string_bytes, unwrap_or};
-ghost use Rattle.std.specs.Io.KnownBytes.{Appends};
-ghost use Rattle.rules.specs.Output.{output};
 ghost use Rattle.rules.specs.Run.{most_pages};
 ghost use Rattle.made_sheets.specs.Choice.{sides_for};
 ghost use Rattle.rows.specs.Sewing.{signing_of};
@@ -9,16 +7,13 @@ ghost use Rattle.layouts.specs.Grids.{bound};
 ghost use Rattle.layouts.specs.Laws.{IsBound};
 ghost use Rattle.layouts.specs.Refusals.{why_not_bound};
 ghost use Rattle.layouts.specs.declared.error.ArrangementError.{ArrangementError};
-ghost use Rattle.sheet_writer.specs.Sinks.{IsCountable};
-ghost use Rattle.imposer.specs.Runs.{Accepted, FailedIn, HasWritten, IsRefusal, Reports, frame_of};
 ghost use Rattle.impose_said.specs.Faults.{without_memory};
 ghost use Rattle.impose_cli.specs.Faults.{of_document as document_fault, of_other_input, of_unpacked, packing_of as packed_by};
 ghost use Rattle.impose_cli.specs.RowTasks.{has_specification as is_made_for};
-ghost use Rattle.impose_cli.specs.Tasks.{HasBehind, HasPages, IsPlaced, IsTask, IsWritten, asked_by, page_paper_found};
-ghost use Rattle.impose_cli.specs.Tasks.{IsSpec, sheet_paper_found, taken_text};
+ghost use Rattle.impose_cli.specs.Tasks.{HasBehind, HasPages, IsPlaced, IsTask, IsWritten, page_paper_found};
+ghost use Rattle.impose_cli.specs.Tasks.{sheet_paper_found, taken_text};
 ghost use Rattle.impose_cli.specs.Refusals.{HasOnePaper, HasOtherPapers, RefusesDocument, RefusesLayout, RefusesTask};
 ghost use Rattle.impose_words.specs.Choices.{is_said as says};
-ghost use Rattle.impose_cli.specs.Endings.{EndsBySpec};
 ghost use Rattle.impose_cli.specs.Unread.{IsPossible, IsSpecification, RefusesSpecification, RefusesUnread};
 ghost use Rattle.impose_words.specs.declared.request.Layout.TheVariants as layout;
 ghost use Rattle.impose_said.specs.declared.fault.Fault.TheVariants as faults;
@@ -26,20 +21,17 @@ ghost use Rattle.impose_said.specs.declared.fault.Fault.TheVariants as faults;
 use crate::laying::{laying_for, papers_for};
 use crate::roomy_text::RoomyText;
 use crate::row_task::has_one_paper;
-use crate::told_pages::told_pages;
 use dressing::Marks;
 use dsc::{Document, DscError};
-use impose_said::{Fault, Finished, Packing, PaperOrigin};
+use impose_said::{Fault, Packing, PaperOrigin};
 use impose_words::{Layout, PageChoice, Request, Spacing};
-use imposer::{Open, Options, Report, RunError, Sink, Workers, run};
+use imposer::{Options, RunError, Workers};
 use layouts::{Binding, Cells, Papers, arrange, bind};
 use lengths::Paper;
 use pagespec::{Spec, read_spec, write_spec};
 use papers::document_paper;
 use rows::{Signing, auto_sides};
 use std::alloc::{AllocError, Global};
-use std::sync::Wait;
-use std::thread::Threads;
 
 /// What is imposed, and how.
 #[derive(Debug, Drop)]
@@ -406,62 +398,4 @@ fn sides_of(signing: Signing, pages: u32) -> u32
         Signing::OfSides(sides) => sides,
         Signing::Auto => auto_sides(pages as usize),
     }
-}
-
-/// Carries a request out by the specification that it names.
-pub(crate) fn run_spec<R: Threads + Wait + Sync, S: Sink>(
-    rt: &R,
-    alloc: Global,
-    request: &Request,
-    input: RoomyText,
-    sink: &mut S,
-) -> Result<Finished, Fault>
-    requires countable { IsCountable (S.seen sink.old) }
-    requires spec { (text : List ℕ) × IsSpec request.now.layout text }
-    ensures ended { EndsBySpec request.now input.items (S.seen sink.old) (S.seen sink.new) result }
-{
-    let told = told_pages(input.as_slice());
-    let task = match task_for(alloc, request, input) {
-        Ok(task) => task,
-        Err(fault) => return Err(fault),
-    };
-    let report = match run_task(rt, alloc, &task, sink) {
-        Ok(report) => report,
-        Err(error) => return Err(Fault::Run(error)),
-    };
-    Ok(Finished {
-        report,
-        page_paper: task.options.paper,
-        origin: task.origin,
-        cut: None,
-        behind: task.behind,
-        told,
-    })
-}
-
-/// Imposes a task.
-fn run_task<R: Threads + Wait + Sync, S: Sink>(
-    rt: &R,
-    alloc: Global,
-    task: &Task,
-    sink: &mut S,
-) -> Result<Report, RunError>
-    requires countable { IsCountable (S.seen sink.old) }
-    ensures finished { IfOk result (λ report. Accepted (asked_by task.now) (λ spec us.
-        Appends (S.seen sink.old).bytes (S.seen sink.new).bytes (output (frame_of task.now.options) task.now.options.sides spec us)
-        × Reports (frame_of task.now.options) task.now.options.sides spec us report)) }
-    ensures refused { IfErr result (IsRefusal (asked_by task.now)) }
-    ensures written { IfErr result (HasWritten (asked_by task.now) (S.seen sink.old) (S.seen sink.new)) }
-    ensures steady { OnOk result ((S.seen sink.new).failures ≡ (S.seen sink.old).failures) }
-    ensures failed { IfErr result (λ e. FailedIn e (S.seen sink.old) (S.seen sink.new)) }
-{
-    run(
-        rt,
-        alloc,
-        task.text.as_slice(),
-        task.spec.as_str(),
-        &task.options,
-        &Open,
-        sink,
-    )
 }

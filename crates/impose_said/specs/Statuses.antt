@@ -12,7 +12,7 @@ use Rattle.rows.specs.declared.error.RowError.{RowError}
 use Rattle.rows.specs.declared.error.RowError.TheVariants as row
 use Rattle.sheet_plan.specs.declared.error.MadeError.{MadeError}
 use Rattle.sheet_plan.specs.declared.error.MadeError.TheVariants as made
-use Rattle.run_statuses.specs.Statuses.{run_status}
+use Rattle.imposer.specs.Statuses.{run_status}
 use Rattle.impose_words.specs.declared.fault.CommandFault.{CommandFault}
 use Rattle.impose_words.specs.declared.fault.CommandFault.TheVariants as command
 use Rattle.impose_said.specs.declared.fault.Fault.{Fault}

@@ -13,14 +13,13 @@ use impose_words::{
     CellOption, CommandFault, GridCommand, Layout, LengthOption, PageChoice, PaperOption, Product,
     ProductOption, Request, number_in,
 };
-use imposer::RunError;
+use imposer::{RunError, run_status};
 use layouts::ArrangementError;
 use lengths::Paper;
 use pagespec::SpecError;
 use papers::{PaperError, name_list, read_paper};
 use row_sheets::PosterError;
 use rows::RowError;
-use run_statuses::run_status;
 use sheet_plan::{MadeError, PlanError};
 use std::alloc::{AllocError, Global};
 use std::io;

@@ -10,3 +10,4 @@ pub mod Texts
 pub mod Holdings
 pub mod HandedOn
 pub mod Ends
+pub mod RunStatuses

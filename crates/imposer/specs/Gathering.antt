@@ -7,6 +7,7 @@ use Rattle.histories.specs.Seats.{whole_share}
 use Rattle.sheet_plan.specs.Places.{born_complete}
 use Rattle.gather_table.specs.Shared.{TableView, SeatView, IsSeat, IsSeatOf}
 use Rattle.handover.specs.Passes.{QueueView, PassView, IsPass, IsPassOf}
+use Rattle.run_steps.specs.Gathered.{IsGathered, IsHandedOn, AreAllPut}
 use Rattle.sheet_text.specs.Jobs.{JobView, output_of}
 use Rattle.sheet_writer.specs.Sinks.{SinkView}
 use Rattle.sheet_writer.specs.Writing.{WroteFirst, Stands}
@@ -43,6 +44,11 @@ WrotePartOf job old new e = AfterError e ⊥ (WroteFirst job old new) (WroteFirs
 abbrev pub HandsBackTokens : {T : Type 0} → RunError → Option T → Type 0
 HandsBackTokens e tokens = AfterError e ⊥ (λ written. IsNone tokens) (λ written. IsSomeAnd tokens (λ t. ⊤))
 
+-- the tokens of a gathering come back, but after out of memory
+abbrev pub TokensComeBack : Gathered → Type 0
+TokensComeBack gathered = MatchResult gathered.outcome (λ _. IsSomeAnd gathered.tokens (λ t. ⊤))
+    (λ e. HandsBackTokens e gathered.tokens)
+
 -- what the answer says of a sink, which took the whole output or a part of it
 abbrev pub Answers : JobView → (old new : SinkView) → Result Report RunError → Type 0
 Answers job old new (Ok report) = Appends old.bytes new.bytes (output_of job) × (new.failures ≡ old.failures)
@@ -62,13 +68,19 @@ pub record AreWhole (table : TableView) (queue : QueueView) (its_seat : SeatView
   pub seat_share : its_seat.share ≡ whole_share
   pub pass_share : its_pass.share ≡ whole_share
 
+-- what a gathering leaves whose tokens come back: they have all shares, each sheet was put once at most, and if each page
+-- got a receipt, all was called that the pages need; each complete sheet was put exactly once, if there was room
+abbrev pub Leaves : TableView → QueueView → (HasRoom : Type 0) → Gathered → Type 0
+Leaves table queue HasRoom gathered = IfSome gathered.tokens (λ t. AreWhole table queue t.0 t.1
+    × IsHandedOn t.1.front × (IsNone gathered.unshelved → IsGathered table.layout t.0.front)
+    × (HasRoom → AreAllPut table.layout t.0.front t.1.front))
+
 -- how a run answers whose workers have ended, wherever its collector began
 abbrev pub Concludes : JobView → (old new : SinkView) → Progress → Result Report RunError → Type 0
 Concludes job old new p outcome = (start : SinkView) → Stands job start old p → Answers job start new outcome
 
 -- what the workers had comes back, but after out of memory
 pub record HandsBack (ended : Holding) (gathered : Gathered) : Type 0 where
-  pub tokens : MatchResult gathered.outcome (λ _. IsSomeAnd gathered.tokens (λ t. ⊤)) (λ e.
-      HandsBackTokens e gathered.tokens)
+  pub tokens : TokensComeBack gathered
   pub same : IfSome gathered.tokens (λ t. (t.0 ≡ ended.tokens.seat) × (t.1 ≡ ended.tokens.pass))
   pub unshelved : gathered.unshelved ≡ ended.unshelved

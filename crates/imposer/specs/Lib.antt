@@ -3,6 +3,7 @@
 pub mod Workers
 pub mod Faults
 pub mod Outcomes
+pub mod Statuses
 pub mod Runs
 pub mod Gathering
 pub mod Tokens

@@ -22,7 +22,7 @@ ghost use Rattle.run_steps.specs.Gathered.{HasPages, IsGathered, IsHandedOn, Are
 ghost use Rattle.imposer.specs.Desks.{IsDeskOf};
 ghost use Rattle.imposer.specs.Promises.{HavePutBlankSheets, IsEnough, IsHeld};
 ghost use Rattle.imposer.specs.Rooms.{HasRoomForAll};
-ghost use Rattle.imposer.specs.Gathering.{IsFreshSeat, IsFreshPass, ReportsOf, WrotePartOf, HandsBackTokens, AreWhole};
+ghost use Rattle.imposer.specs.Gathering.{IsFreshSeat, IsFreshPass, ReportsOf, WrotePartOf, AreWhole, Leaves, TokensComeBack};
 ghost use Rattle.imposer.specs.Gathering.{Answers, Concludes, HandsBack, GivesUp};
 
 use crate::channel::{Channel, RuledJob, Texts, Ticket};
@@ -95,8 +95,7 @@ pub fn gather<'j, 'd, R: Threads + Wait + Sync, G: Gate + Sync, S: Sink>(
     ensures failed { IfErr result.outcome (λ e. FailedIn e (S.seen sink.old) (S.seen sink.new)) }
 
     // Seat and pass come back whole, but after out of memory.
-    ensures handed_back { MatchResult result.outcome (λ _. IsSomeAnd result.tokens (λ t. ⊤)) (λ e.
-        HandsBackTokens e result.tokens) }
+    ensures handed_back { TokensComeBack result }
     ensures whole { IfSome result.tokens (λ t. AreWhole table.now ready.now t.0 t.1) }
 
     // One publish for each page, one mark for each needed slot, one closing for each group of a wide sheet that has
@@ -138,12 +137,9 @@ pub(crate) fn gather_on<'d, R: Threads + Wait + Sync, G: Gate + Sync, S: Sink>(
     requires workers { AreWorkers workers }
     requires countable { IsCountable (S.seen sink.old) }
     ensures outcome { Answers floor.now.job.now (S.seen sink.old) (S.seen sink.new) result.outcome }
-    ensures tokens { MatchResult result.outcome (λ _. IsSomeAnd result.tokens (λ t. ⊤)) (λ e.
-        HandsBackTokens e result.tokens) }
-    ensures whole { IfSome result.tokens (λ t. AreWhole floor.now.table.now floor.now.ready.now t.0 t.1
-        × IsHandedOn t.1.front × (IsNone result.unshelved → IsGathered floor.now.table.now.layout t.0.front)
-        × (HasRoomForAll floor.now.table.now.layout workers.preparers tokens.pass
-        → AreAllPut floor.now.table.now.layout t.0.front t.1.front)) }
+    ensures tokens { TokensComeBack result }
+    ensures whole { Leaves floor.now.table.now floor.now.ready.now
+        (HasRoomForAll floor.now.table.now.layout workers.preparers tokens.pass) result }
     ensures unshelved { IfSome result.unshelved (IsOn floor.now.shelf.now) }
 {
     // Each shows that it keeps what every seat and every pass keeps.
@@ -186,10 +182,8 @@ pub(crate) fn gather_run<'d, R: Threads + Wait + Sync, G: Gate + Sync, S: Sink>(
     requires workers { AreWorkers workers }
     requires countable { IsCountable (S.seen sink.old) }
     ensures outcome { Answers floor.now.job.now (S.seen sink.old) (S.seen sink.new) result.outcome }
-    ensures tokens { MatchResult result.outcome (λ _. IsSomeAnd result.tokens (λ t. ⊤)) (λ e.
-        HandsBackTokens e result.tokens) }
-    ensures put { IfSome result.tokens (λ t. IsHandedOn t.1.front
-        × AreAllPut floor.now.table.now.layout t.0.front t.1.front) }
+    ensures tokens { TokensComeBack result }
+    ensures whole { Leaves floor.now.table.now floor.now.ready.now ⊤ result }
 {
     gather_on(rt, floor, tokens, workers, sink)
 }
@@ -209,11 +203,8 @@ fn gather_as<'r, 'd, T: Texts + Send + Sync, R: Threads + Wait + Sync, G: Gate +
         → HasRoomForAll shared.now.table.now.layout workers.preparers tokens.pass }
     requires countable { IsCountable (S.seen sink.old) }
     ensures outcome { Answers shared.now.job.now (S.seen sink.old) (S.seen sink.new) result.outcome }
-    ensures tokens { MatchResult result.outcome (λ _. IsSomeAnd result.tokens (λ t. ⊤)) (λ e.
-        HandsBackTokens e result.tokens) }
-    ensures whole { IfSome result.tokens (λ t. AreWhole shared.now.table.now shared.now.ready.now t.0 t.1
-        × IsHandedOn t.1.front × (IsNone result.unshelved → IsGathered shared.now.table.now.layout t.0.front)
-        × (IsTrue shared.now.by_right → AreAllPut shared.now.table.now.layout t.0.front t.1.front)) }
+    ensures tokens { TokensComeBack result }
+    ensures whole { Leaves shared.now.table.now shared.now.ready.now (IsTrue shared.now.by_right) result }
     ensures unshelved { IfSome result.unshelved (IsOn shared.now.shelf.now) }
 {
     let job = shared.job;
@@ -228,7 +219,10 @@ fn gather_as<'r, 'd, T: Texts + Send + Sync, R: Threads + Wait + Sync, G: Gate +
         sending,
     } = setup;
     let supplies = supplies_of(shared.alloc, workers, tokens, sending);
-    gather_at(rt, shared, &channel, desk, supplies, sink)
+    let gathered = gather_at(rt, shared, &channel, desk, supplies, sink);
+    // By a call, so that what becomes of its parts is proved once, and not here.
+    drop(channel);
+    gathered
 }
 
 /// What is given out to the workers: the tokens, and the ticket for sending.
@@ -257,7 +251,8 @@ fn supplies_of<'r, 'd>(
 }
 
 /// `gather`, once the sheets without pages are on the queue: the workers work with these supplies, the collector writes
-/// at this desk what they finish, and when all have ended the run is answered.
+/// at this desk what they finish, and when all have ended the run is answered. The collector's state is taken apart, so that
+/// what became of the sink is known.
 fn gather_at<'r, 'd, T: Texts + Send + Sync, R: Threads + Wait + Sync, G: Gate + Sync, S: Sink>(
     rt: &R,
     shared: &Shared<'_, 'r, '_, 'd, G>,
@@ -278,13 +273,8 @@ fn gather_at<'r, 'd, T: Texts + Send + Sync, R: Threads + Wait + Sync, G: Gate +
     requires desk { IsDeskOf shared.now.job.now desk }
     requires countable { IsCountable (S.seen sink.old) }
     ensures outcome { Answers shared.now.job.now (S.seen sink.old) (S.seen sink.new) result.outcome }
-    ensures tokens { MatchResult result.outcome (λ _. IsSomeAnd result.tokens (λ t. ⊤)) (λ e.
-        HandsBackTokens e result.tokens) }
-    ensures whole { IfSome result.tokens (λ t. AreWhole shared.now.table.now shared.now.ready.now t.0 t.1
-        × IsHandedOn t.1.front
-        × (IsNone result.unshelved → IsGathered shared.now.table.now.layout t.0.front)
-        × (IsTrue shared.now.by_right
-        → AreAllPut shared.now.table.now.layout t.0.front t.1.front)) }
+    ensures tokens { TokensComeBack result }
+    ensures whole { Leaves shared.now.table.now shared.now.ready.now (IsTrue shared.now.by_right) result }
     ensures unshelved { IfSome result.unshelved (IsOn shared.now.shelf.now) }
 {
     let job = shared.job;
@@ -317,7 +307,6 @@ fn gather_at<'r, 'd, T: Texts + Send + Sync, R: Threads + Wait + Sync, G: Gate +
     let mut ended = None;
     let mut state = gather_by(rt, &input, &input, supplies, state, &mut ended);
     let gathered = finish(shared.alloc, job, &mut state, trailer.as_slice(), ended);
-    // Taken apart, so that what became of the sink is known.
     let CollectorState {
         sink: _,
         early: _,
@@ -325,6 +314,8 @@ fn gather_at<'r, 'd, T: Texts + Send + Sync, R: Threads + Wait + Sync, G: Gate +
         ticket: _,
         progress: _,
     } = state;
+    drop(early);
+    drop(receiving);
     gathered
 }
 

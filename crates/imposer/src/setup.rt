@@ -1,5 +1,5 @@
 //! What is made before the workers of a run start.
-ghost use Rattle.std.specs.Prelude.{IfOk};
+ghost use Rattle.std.specs.Prelude.{IfOk, ◌<◌};
 ghost use Rattle.crossbeam_channel.specs.Claims.{IsSeatAt};
 ghost use Rattle.crossbeam_channel.specs.Ends.{sends_on, receives_on};
 ghost use Rattle.imposer.specs.Desks.{IsDeskOf};
@@ -41,22 +41,12 @@ impl<'r, T: Texts> Setup<'r, T> {
         let trailer = job.document().trailer_text()?;
         let room = job.sheets().min(window).max(1);
         let early = Early::new(alloc, room)?;
-        let spent = ArrayQueue::new(alloc, room as usize)?;
-        let (sender, receiver, mut receiving) = bounded_with::<_, _, SheetRule<T>, Global>(
-            alloc,
-            room as usize,
-        )?;
-        let sending = sender.another::<SheetRule<T>>(&mut receiving);
+        let (channel, sending, receiving) = channel_of(alloc, room as usize)?;
         let desk = Desk {
             header,
             trailer,
             early,
             receiving,
-        };
-        let channel = Channel {
-            sender,
-            receiver,
-            spent,
         };
         Ok(Setup {
             desk,
@@ -64,4 +54,26 @@ impl<'r, T: Texts> Setup<'r, T> {
             sending,
         })
     }
+}
+
+/// A channel for so many messages, with a ticket for sending and one for receiving.
+fn channel_of<'r, T: Texts>(
+    alloc: Global,
+    room: usize,
+) -> Result<(Channel<'r, T>, Ticket<'r>, Ticket<'r>), AllocError>
+    requires room { 0 < room }
+    ensures sending { IfOk result (λ made. IsSeatAt (sends_on made.0.sender) made.1) }
+    ensures receiving { IfOk result (λ made. IsSeatAt (receives_on made.0.receiver) made.2) }
+{
+    let spent = ArrayQueue::new(alloc, room)?;
+    let (sender, receiver, mut receiving) = bounded_with::<_, _, SheetRule<T>, Global>(
+        alloc, room,
+    )?;
+    let sending = sender.another::<SheetRule<T>>(&mut receiving);
+    let channel = Channel {
+        sender,
+        receiver,
+        spent,
+    };
+    Ok((channel, sending, receiving))
 }

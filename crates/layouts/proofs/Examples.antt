@@ -1,6 +1,6 @@
 -- Worked examples.
 use Rattle.std.proofs.Common.{◌≡◌, refl}
-use Rattle.std.specs.Prelude.{codes, ℤ, pos, true, false, [], ◌∷◌, None, Some, Option}
+use Rattle.std.specs.Prelude.{codes, ℤ, pos, true, false, None, Some, Option}
 use Rattle.std.specs.Fmt.{digits}
 use Rattle.rules.specs.Papers.{Paper, points}
 use Rattle.rules.specs.Specification.{canonical}

@@ -1,10 +1,12 @@
 -- Pages of several papers, each fitted into its cell.
-use Rattle.std.proofs.Common.{arith, rules, ◌≡◌, ◌≢◌, ℕ, suc, zero, ◌*◌, ◌/◌, ◌%◌, ◌<◌, ◌≤◌, Bool, true, false, Option, None, refl, sym, ap, subst, ◌∙◌, [], ◌∷◌}
-use Rattle.std.specs.Prelude.{◌&&◌, ◌==◌, not, nat_le, nat_lt, nat_abs, if◌then◌else◌, is_none, map, IsTrue}
+use Rattle.std.proofs.Common.{arith, rules, ◌≡◌, ◌≢◌, ℕ, suc, zero, ◌*◌, ◌/◌, ◌%◌, ◌<◌, ◌≤◌, Bool, true, false, List, Option, Some, None, inl, inr, refl, sym, ap, subst, ◌∙◌, [], ◌∷◌}
+use Rattle.std.specs.Prelude.{◌&&◌, ◌==◌, not, nat_le, nat_lt, nat_abs, if◌then◌else◌, is_none, map}
 use Rattle.std.specs.List.{range_with_len}
 use Rattle.lengths.proofs.Numbers.{same_byte}
+use Rattle.rules.specs.Admissible.{most_slots}
 use Rattle.rules.specs.Papers.{Paper}
 use Rattle.rules.specs.Specification.{Item, Spec}
+use Rattle.pagespec.specs.Made.{IsWritable}
 use Rattle.layouts.specs.declared.arrangement.Arrangement.{Arrangement}
 use Rattle.layouts.specs.declared.arrangement.Binding.{Binding}
 use Rattle.layouts.specs.declared.arrangement.Cells.{Cells}
@@ -17,9 +19,9 @@ use Rattle.layouts.specs.declared.error.ArrangementError.TheVariants as why
 use Rattle.layouts.specs.declared.setting.Setting.{Setting}
 use Rattle.layouts.specs.Placed.{Room, IsInside, AreApart, stands}
 use Rattle.layouts.specs.Cells.{Grid, size, kept, scale_in, item_in, run_in, read_rows, row_of, column_of}
-use Rattle.layouts.specs.Grids.{beside, leaf_order, alone, is_same, is_itself, room_of, grid, grid_of, better, best_grid, best_of, best_formed, scale_for, count_of, rounded_up, rounded_down, arranged, sides_in}
-use Rattle.layouts.specs.Refusals.{first_of, is_count, are_reached, is_length, is_shown, is_near, why_no_scale, why_not_arranged, why_not_bound, folds_short}
-use Rattle.layouts.specs.Laws.{IsPaper, HasPlace, IsExact, IsHalfTurnOf, IsInCell, IsInMiddle, cell_at, ComesInRun, ComesInRunBefore, IsNotTiny, Allows, IsChosen}
+use Rattle.layouts.specs.Grids.{beside, leaf_order, alone, is_same, is_itself, room_of, grid, grid_of, better, best_grid, best_of, best_formed, scale_for, count_of, rounded_up, rounded_down, arranged, bound, sides_in}
+use Rattle.layouts.specs.Refusals.{first_of, is_count, are_reached, is_length, is_shown, why_no_scale, why_not_arranged, why_not_bound, folds_short, IsFault}
+use Rattle.layouts.specs.Laws.{IsArranged, IsBound, IsPaper, HasPlace, IsExact, IsHalfTurnOf, IsInCell, IsInMiddle, cell_at, ComesInRun, ComesInRunBefore, IsNotTiny, Allows, IsChosen}
 use Rattle.layouts.specs.Fitted.{is_whole, past_cell, scale_on, fitted, fitted_back, setting_of, binding_setting_of, why_no_scale_on, why_not_fitted, IsFitted, FittedStands, FittedIsApart, FittedIsInOrder, ArrangedIsFitted, HaveOneFold, halves, BoundIsFitted}
 use Rattle.layouts.proofs.Folds.{fold, in_middle as fold_in_middle, fold_on_sheet, lies_before, lies_behind, turned_behind, turned_before}
 use Rattle.layouts.proofs.InGrid.{fits, cells, room_in, both_true}
@@ -31,7 +33,8 @@ use Rattle.layouts.proofs.Backs.{back_inside, back_is_half_turn, half_turned_apa
 use Rattle.layouts.proofs.BestGrid.{allowed, best_has_cells, best_of_one, one_upright}
 use Rattle.layouts.proofs.Printing.{printed_as_it_is}
 use Rattle.layouts.proofs.LaidOut.{SameSides, same_sides, one_each, itself_in, itself_exact, itself_large_at, some_each, read_best, read_square, is_chosen, enough}
-use Rattle.layouts.proofs.Possible.{passed, one_way, either_way, no_scale, good_scale, place, cells_made, itself_made, is_alone}
+use Rattle.layouts.proofs.Possible.{at_most, passed, one_way, either_way, no_scale, good_scale, made, cells_made, cells_laid_out, itself_made, itself_laid_out, is_alone, leaves_laid_out}
+use Rattle.layouts.proofs.Writable.{IsMade, grid_writable, itself_writable, leaves_writable}
 
 -- ---- a page on a sheet of its own paper
 
@@ -102,16 +105,11 @@ whole_fitted t page k is on within h =
 
 -- ---- a page in a cell
 
-pub record HasScale (t : Setting) (page : Paper) : Type 0 where
-  pub place : HasPlace page t.room t.grid (scale_on t page)
-  pub near : IsTrue (is_near t.room (scale_on t page))
-
-pub has_scale : (t : Setting) (page : Paper) → why_no_scale_on t page ≡ None → HasScale t page
+pub has_scale : (t : Setting) (page : Paper) → why_no_scale_on t page ≡ None → IsMade page t.room t.grid (scale_on t page)
 has_scale t page h =
     let one = passed (are_reached page && are_reached t.room.paper) why.SideTooLong (first_of (is_shown page t.room) why.NothingLeftOfPage (why_no_scale t.room (scale_on t page) (scale_in page t.room t.grid))) h in
     let two = passed (is_shown page t.room) why.NothingLeftOfPage (why_no_scale t.room (scale_on t page) (scale_in page t.room t.grid)) one.1 in
-    let good = good_scale t.room (scale_on t page) (scale_in page t.room t.grid) two.1 in
-    record { place = place page t.room t.grid (scale_on t page) two.0 good; near = good.near }
+    made page t.room t.grid (scale_on t page) two.0 (good_scale t.room (scale_on t page) (scale_in page t.room t.grid) two.1)
 
 pub cell_fitted : (t : Setting) (page : Paper) (k : ℕ) → IsPaper page → IsPaper t.room.paper → k < size t.grid → why_no_scale_on t page ≡ None
     → IsFitted t page k (item_in page t.room t.grid t.order (scale_on t page) k)
@@ -261,12 +259,13 @@ one_group n f = record { modulo = n; groups = map f (range_with_len 0 n) ∷ [] 
 abbrev single : Item → Spec
 single i = record { modulo = 1; groups = (i ∷ []) ∷ [] }
 
-at_least_one : (n : ℕ) → is_count n ≡ true → 1 ≤ n
-at_least_one n h = search (rules, both_true (nat_le 1 n) (nat_le n 1_024) h)
+counts : (n : ℕ) → is_count n ≡ true → (1 ≤ n) × (n ≤ 1_024)
+counts n h = let both = both_true (nat_le 1 n) (nat_le n 1_024) h in (at_most 1 n both.0, at_most n 1_024 both.1)
 
 -- what holds where nothing refuses
 record NothingRefuses (page sheet : Paper) (a : Arrangement) : Type 0 where
   pub some : 1 ≤ count_of a.cells
+  pub few : count_of a.cells ≤ 1_024
   pub reached : are_reached page && are_reached sheet ≡ true
   pub shown : is_shown page (room_of sheet a.margin a.gap a.trim) ≡ true
   pub behind : (let room = room_of sheet a.margin a.gap a.trim in
@@ -285,7 +284,8 @@ nothing_refuses page sheet a h =
     let two = passed (are_reached page && are_reached sheet) why.SideTooLong second one.1 in
     let three = passed (is_length a.margin && is_length a.gap && is_length a.trim) why.LengthOutOfRange third two.1 in
     let four = passed (is_shown page room) why.NothingLeftOfPage last three.1 in
-    record { some = at_least_one (count_of a.cells) one.0; reached = two.0; shown = four.0; behind = four.1 }
+    let n = counts (count_of a.cells) one.0 in
+    record { some = n.0; few = n.1; reached = two.0; shown = four.0; behind = four.1 }
 
 abbrev ArrangedSo : (page sheet : Paper) → Arrangement → Type 0
 ArrangedSo page sheet a = (why_not_fitted (setting_of page sheet a) page ≡ None) × (arranged page sheet a ≡ one_group (count_of a.cells) (fitted (setting_of page sheet a) page))
@@ -354,6 +354,46 @@ arranged_is_fitted page sheet a h =
     (λ e. whole_so page sheet a e (ap (λ b. b && not g.turned) (same ∙ e) ∙ ap not (alone_upright page sheet a holds.shown e)))
     (λ e. cells_so page sheet a holds e (ap (λ b. b && not g.turned) (same ∙ e)))
 
+-- what is arranged can be written, and is laid out as it is asked for
+abbrev Stands : (page sheet : Paper) → Arrangement → Type 0
+Stands page sheet a = IsWritable most_slots (arranged page sheet a) × IsArranged page sheet a (arranged page sheet a)
+
+pub arranged_stands : (page sheet : Paper) (a : Arrangement) → IsPaper page → IsPaper sheet → why_not_arranged page sheet a ≡ None → Stands page sheet a
+arranged_stands page sheet a is on h =
+    let holds = nothing_refuses page sheet a h in
+    let room = room_of sheet a.margin a.gap a.trim in
+    let g = grid_of page room a.order.turned a.cells in
+    let largest = scale_in page room g in
+    let s = scale_for a.scale largest in
+    by_test (is_itself page sheet a)
+    (λ e. (subst (IsWritable most_slots) (sym (itself_made page sheet a e)) (itself_writable most_slots (omega arith)), itself_laid_out page sheet a is on e))
+    (λ e.
+    let scaled : why_no_scale room s largest ≡ None = sym (either_way (is_itself page sheet a) None _ e) ∙ holds.behind in
+    let fit = made page room g s holds.shown (good_scale room s largest scaled) in
+    let few = holds.few in (
+      subst (IsWritable most_slots) (sym (cells_made page sheet a e))
+          (grid_writable most_slots page room g a.order s (count_of a.cells) holds.some (omega (arith, few)) few (enough page room a.order.turned a.cells holds.some) fit),
+      cells_laid_out page sheet a is on holds.some e fit.place,
+    ))
+
+-- it is each page in its cell
+pub arranged_made : (page sheet : Paper) (a : Arrangement) (t : Setting) (n : ℕ) (groups : List (List Item)) → why_not_arranged page sheet a ≡ None → t ≡ setting_of page sheet a → n ≡ count_of a.cells
+    → groups ≡ map (fitted t page) (range_with_len 0 n) ∷ [] → record { modulo = n; groups = groups } ≡ arranged page sheet a
+arranged_made page sheet a t n groups h e f g =
+    ap (λ gs. record { modulo = n; groups = gs }) g
+    ∙ (ap (λ m. one_group m (fitted t page)) f ∙ (ap (λ u. one_group (count_of a.cells) (fitted u page)) e ∙ sym (arranged_is_fitted page sheet a h).1))
+
+pub one_paper_fits : (page sheet : Paper) (a : Arrangement) (t : Setting) → why_not_arranged page sheet a ≡ None → t ≡ setting_of page sheet a → why_not_fitted t page ≡ None
+one_paper_fits page sheet a t h e = subst (λ u. why_not_fitted u page ≡ None) (sym e) (arranged_is_fitted page sheet a h).0
+
+-- where nothing refuses, only memory does
+pub no_fault : (one other : Option ArrangementError) (e : ArrangementError) → one ≡ None → IsFault one e → IsFault other e
+no_fault one other e none (inl h) = inl h
+no_fault one other e none (inr h) = absurd (none_some e (sym none ∙ h))
+  where
+    none_some : (e : ArrangementError) → None ≡ Some e → ⊥
+    none_some e h = cc
+
 -- ---- leaves
 
 -- the halves of a sheet, by their parts
@@ -362,8 +402,9 @@ pub halves_made : (sheet : Paper) (b : Binding) (room : Room) (g : Grid) (o : Or
 halves_made sheet b room g o e f h = cc (e, f, h)
 
 -- what nothing refuses for leaves, nothing refuses in their halves
-pub halves_fit : (page sheet : Paper) (b : Binding) → why_not_bound page sheet b ≡ None → why_no_scale_on (binding_setting_of sheet b) page ≡ None
-halves_fit page sheet b h =
+leaves_fit : (page sheet : Paper) (b : Binding) → why_not_bound page sheet b ≡ None
+    → (folds_short page (room_of sheet b.margin b.gap b.trim) ≡ true) × (why_no_scale_on (binding_setting_of sheet b) page ≡ None)
+leaves_fit page sheet b h =
     let room = room_of sheet b.margin b.gap b.trim in
     let largest = scale_in page room (beside true) in
     let fourth = first_of (folds_short page room) why.FoldOnLongEdge (why_no_scale room largest largest) in
@@ -373,7 +414,10 @@ halves_fit page sheet b h =
     let two = passed (is_length b.margin && is_length b.gap && is_length b.trim) why.LengthOutOfRange third one.1 in
     let three = passed (is_shown page room) why.NothingLeftOfPage fourth two.1 in
     let four = passed (folds_short page room) why.FoldOnLongEdge (why_no_scale room largest largest) three.1 in
-    one_way (are_reached page && are_reached sheet) _ _ one.0 ∙ (one_way (is_shown page room) _ _ three.0 ∙ four.1)
+    (four.0, one_way (are_reached page && are_reached sheet) _ _ one.0 ∙ (one_way (is_shown page room) _ _ three.0 ∙ four.1))
+
+pub halves_fit : (page sheet : Paper) (b : Binding) → why_not_bound page sheet b ≡ None → why_no_scale_on (binding_setting_of sheet b) page ≡ None
+halves_fit page sheet b h = (leaves_fit page sheet b h).1
 
 sides_fitted : (page : Paper) (sheet : Paper) (b : Binding) (e : Bool) → sides_in page (room_of sheet b.margin b.gap b.trim) (leaf_order b.right_to_left) e ≡ halves (binding_setting_of sheet b) page e
 sides_fitted page sheet b false = refl
@@ -381,6 +425,27 @@ sides_fitted page sheet b true = refl
 
 pub bound_is_fitted : BoundIsFitted
 bound_is_fitted page sheet b h = (halves_fit page sheet b h, sides_fitted page sheet b b.long_edge)
+
+-- what is bound can be written, and is laid out as it is asked for
+pub bound_stands : (page sheet : Paper) (b : Binding) → IsPaper page → IsPaper sheet → why_not_bound page sheet b ≡ None → IsWritable most_slots (bound page sheet b) × IsBound page sheet b (bound page sheet b)
+bound_stands page sheet b is on h =
+    let fit = leaves_fit page sheet b h in
+    let fits = has_scale (binding_setting_of sheet b) page fit.1 in (
+      leaves_writable most_slots page (room_of sheet b.margin b.gap b.trim) (leaf_order b.right_to_left) b.long_edge (omega arith) fits,
+      leaves_laid_out page sheet b is on fit.0 fits.place,
+    )
+
+-- it is each page in its half
+pub bound_made : (page sheet : Paper) (b : Binding) (t : Setting) (long_edge : Bool) (spec : Spec) → why_not_bound page sheet b ≡ None → t ≡ binding_setting_of sheet b → b.long_edge ≡ long_edge
+    → spec ≡ halves t page long_edge → spec ≡ bound page sheet b
+bound_made page sheet b t long_edge spec h e f g =
+    g ∙ (ap (λ u. halves u page long_edge) e ∙ (ap (halves (binding_setting_of sheet b) page) (sym f) ∙ sym (bound_is_fitted page sheet b h).1))
+
+pub halves_have_scale : (page sheet : Paper) (b : Binding) (t : Setting) → why_not_bound page sheet b ≡ None → t ≡ binding_setting_of sheet b → why_no_scale_on t page ≡ None
+halves_have_scale page sheet b t h e = subst (λ u. why_no_scale_on u page ≡ None) (sym e) (halves_fit page sheet b h)
+
+pub halves_have_place : (page sheet : Paper) (b : Binding) (t : Setting) → why_not_bound page sheet b ≡ None → t ≡ binding_setting_of sheet b → why_not_fitted t page ≡ None
+halves_have_place page sheet b t h e = subst (λ u. why_not_fitted u page ≡ None) (sym e) (bound_is_fitted page sheet b h).0
 
 pub one_fold : (page sheet : Paper) (b : Binding) → why_not_bound page sheet b ≡ None → HaveOneFold (binding_setting_of sheet b) b.right_to_left
 one_fold page sheet b h =

@@ -1,14 +1,14 @@
 -- A page stands in its cell.
-use Rattle.std.proofs.Common.{arith, ◌≡◌, ◌∙◌, ℕ, ◌+◌, ◌-◌, ◌*◌, ◌<◌, ◌≤◌, Bool, true, false, refl, sym, subst}
-use Rattle.std.specs.Prelude.{ℤ, pos, negsuc, ◌≤ℤ◌, ◌+ℤ◌, ◌-ℤ◌, ◌*ℤ◌, neg_ℤ, nat_abs, if◌then◌else◌, ◌==◌}
+use Rattle.std.proofs.Common.{arith, ℕ, ◌+◌, ◌-◌, ◌*◌, ◌≤◌, Bool, true, false, sym, subst}
+use Rattle.std.specs.Prelude.{ℤ, pos, negsuc, ◌≤ℤ◌, ◌+ℤ◌, ◌-ℤ◌, nat_abs, if◌then◌else◌, ◌==◌}
 use Rattle.std.proofs.lemmas.Int.{ints}
 use Rattle.rules.specs.Papers.{Paper}
-use Rattle.rules.specs.Specification.{Item, Upright, Left}
+use Rattle.rules.specs.Specification.{Upright, Left}
 use Rattle.rules.specs.Placement.{Point}
 use Rattle.layouts.specs.Placed.{Room, fine, stands, IsOfPage}
 use Rattle.layouts.specs.Cells.{Grid, kept, step, trimmed, to_right, to_top, item_at, row_of, column_of}
 use Rattle.layouts.specs.Laws.{Cell, HasPlace, LiesInCell, IsInCell, GridIsInCell, cell_at}
-use Rattle.layouts.proofs.AlongSide.{in_cell, moved_back, kept_at}
+use Rattle.layouts.proofs.AlongSide.{in_cell, moved_back}
 use Rattle.layouts.proofs.Sides.{of_sides, placed, point, far, start, end, between}
 use Rattle.layouts.proofs.OnSide.{HasCell, cell, shown, from_start, from_end, ends}
 use Rattle.layouts.proofs.InGrid.{cells, fits, sides_are}

@@ -15,6 +15,5 @@ pub mod Folds
 mod Writable
 mod LaidOut
 mod Possible
-mod Complete
 pub mod Fitting
 mod Examples

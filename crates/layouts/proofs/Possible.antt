@@ -1,19 +1,18 @@
 -- Where nothing refuses, and what follows from that.
-use Rattle.std.proofs.Common.{arith, rules, ◌≡◌, inl, inr, ℕ, ◌+◌, ◌*◌, ◌/◌, ◌<◌, ◌≤◌, Bool, true, false, Option, Some, None, refl, sym, ap, subst, ◌∙◌}
-use Rattle.std.specs.Prelude.{ℤ, pos, negsuc, nat_abs, IsTrue, ◌&&◌, ◌||◌, ◌==◌, nat_le, nat_lt, if◌then◌else◌, is_none}
+use Rattle.std.proofs.Common.{arith, rules, ◌≡◌, ℕ, ◌*◌, ◌<◌, ◌≤◌, Bool, true, false, Option, Some, None, refl, sym, ap, subst, ◌∙◌}
+use Rattle.std.specs.Prelude.{ℤ, nat_abs, IsTrue, ◌&&◌, ◌==◌, nat_le, nat_lt, if◌then◌else◌, is_none}
 use Rattle.lengths.proofs.Numbers.{same_byte}
-use Rattle.rules.specs.Papers.{Paper, is_side}
+use Rattle.rules.specs.Papers.{Paper}
 use Rattle.layouts.specs.declared.arrangement.Arrangement.{Arrangement}
 use Rattle.layouts.specs.declared.arrangement.Binding.{Binding}
-use Rattle.layouts.specs.declared.arrangement.Cells.TheVariants.{AtLeast}
 use Rattle.layouts.specs.declared.error.ArrangementError.{ArrangementError}
 use Rattle.layouts.specs.declared.error.ArrangementError.TheVariants as why
-use Rattle.layouts.specs.Placed.{Room, bare}
-use Rattle.layouts.specs.Cells.{Grid, scale_in, whole, trimmed}
-use Rattle.layouts.specs.Grids.{best_grid, beside, is_same, is_itself, room_of, grid_of, scale_for, count_of, rounded_up, rounded_down, arranged, in_cells, plain, bound, plain_binding}
+use Rattle.layouts.specs.Placed.{Room}
+use Rattle.layouts.specs.Cells.{Grid, scale_in}
+use Rattle.layouts.specs.Grids.{beside, is_same, is_itself, room_of, grid_of, scale_for, count_of, rounded_up, rounded_down, arranged, in_cells, bound}
 use Rattle.layouts.specs.Refusals.{first_of, is_count, are_reached, is_length, is_shown, is_near, is_scale, why_no_scale, why_no_sheet, why_not_arranged, why_not_bound, folds_short}
 use Rattle.layouts.specs.Laws.{IsPaper, HasPlace, IsArranged, IsArrangedIn, IsBound}
-use Rattle.layouts.proofs.InGrid.{both_true, room_in, both_reached}
+use Rattle.layouts.proofs.InGrid.{both_true, room_in}
 use Rattle.layouts.proofs.Writable.{IsMade, scale_range}
 use Rattle.layouts.proofs.LaidOut.{SameSides, same_sides, itself, itself_arranged, cells_arranged, sides_laid_out, sides_folded, beside_large}
 
@@ -70,7 +69,7 @@ pub record IsGoodScale (room : Room) (s largest : ℕ) : Type 0 where
   pub fits : s ≤ largest
   pub near : IsTrue (is_near room s)
 
-at_most : (a b : ℕ) → nat_le a b ≡ true → a ≤ b
+pub at_most : (a b : ℕ) → nat_le a b ≡ true → a ≤ b
 at_most a b e = search (rules, e)
 
 pub good_scale : (room : Room) (s largest : ℕ) → why_no_scale room s largest ≡ None → IsGoodScale room s largest
@@ -131,15 +130,22 @@ arranged_by : (page sheet : Paper) (a : Arrangement) → 1 ≤ count_of a.cells 
 arranged_by page sheet a some most h =
     counted page sheet a _ some most ∙ sheet_on page sheet a.margin a.gap a.trim (arranged_reasons page sheet a) h
 
-pub itself_possible : (page sheet : Paper) (a : Arrangement) → 1 ≤ count_of a.cells → count_of a.cells ≤ 1_024 → why_no_sheet page sheet a.margin a.gap a.trim None ≡ None → is_itself page sheet a ≡ true
-    → why_not_arranged page sheet a ≡ None
-itself_possible page sheet a some most h is = arranged_by page sheet a some most h ∙ one_way (is_itself page sheet a) None _ is
-
 pub cells_reasons : (page sheet : Paper) (a : Arrangement) → 1 ≤ count_of a.cells → count_of a.cells ≤ 1_024 → why_no_sheet page sheet a.margin a.gap a.trim None ≡ None → is_itself page sheet a ≡ false
     → (let room = room_of sheet a.margin a.gap a.trim in
     let largest = scale_in page room (grid_of page room a.order.turned a.cells) in
     why_not_arranged page sheet a ≡ why_no_scale room (scale_for a.scale largest) largest)
 cells_reasons page sheet a some most h is = arranged_by page sheet a some most h ∙ either_way (is_itself page sheet a) None _ is
+
+-- why there is no scale is why nothing is arranged
+pub scale_refused : (page sheet : Paper) (a : Arrangement) (room : Room) (grid : Grid) (largest : ℕ) (error : ArrangementError) → 1 ≤ count_of a.cells → count_of a.cells ≤ 1_024
+    → why_no_sheet page sheet a.margin a.gap a.trim None ≡ None → is_itself page sheet a ≡ false
+    → room ≡ room_of sheet a.margin a.gap a.trim → grid ≡ grid_of page room a.order.turned a.cells → largest ≡ scale_in page room grid
+    → why_no_scale room (scale_for a.scale largest) largest ≡ Some error → why_not_arranged page sheet a ≡ Some error
+scale_refused page sheet a room grid largest error some few good not e f g h =
+    let r = room_of sheet a.margin a.gap a.trim in
+    let all : largest ≡ scale_in page r (grid_of page r a.order.turned a.cells) = g ∙ (ap (scale_in page room) f ∙ ap (λ x. scale_in page x (grid_of page x a.order.turned a.cells)) e) in
+    cells_reasons page sheet a some few good not
+    ∙ (ap (λ l. why_no_scale r (scale_for a.scale l) l) (sym all) ∙ (ap (λ x. why_no_scale x (scale_for a.scale largest) largest) (sym e) ∙ h))
 
 -- what it is to be the page itself
 pub record IsAlone (page sheet : Paper) (a : Arrangement) : Type 0 where
@@ -208,6 +214,16 @@ pub leaves_possible : (page sheet : Paper) (b : Binding) → why_no_sheet page s
     let largest = scale_in page room (beside true) in
     why_not_bound page sheet b ≡ why_no_scale room largest largest)
 leaves_possible page sheet b h folds = leaves_reasons page sheet b h ∙ one_way (folds_short page (room_of sheet b.margin b.gap b.trim)) _ _ folds
+
+-- what is found of a scale is found of leaves
+pub leaf_reason : (page sheet : Paper) (b : Binding) (room : Room) (largest : ℕ) (found : Option ArrangementError) → why_no_sheet page sheet b.margin b.gap b.trim None ≡ None
+    → room ≡ room_of sheet b.margin b.gap b.trim → folds_short page room ≡ true → largest ≡ scale_in page room (beside true) → why_no_scale room largest largest ≡ found
+    → why_not_bound page sheet b ≡ found
+leaf_reason page sheet b room largest found good e folds g h =
+    let r = room_of sheet b.margin b.gap b.trim in
+    let all : largest ≡ scale_in page r (beside true) = g ∙ ap (λ x. scale_in page x (beside true)) e in
+    leaves_possible page sheet b good (ap (folds_short page) (sym e) ∙ folds)
+    ∙ (ap (λ l. why_no_scale r l l) (sym all) ∙ (ap (λ x. why_no_scale x largest largest) (sym e) ∙ h))
 
 no_wider : (w h : ℕ) → IsTrue (nat_le w h) → w ≤ h
 no_wider w h e = search (rules, e)

@@ -134,13 +134,17 @@ pub record HaveOneFold (t : Setting) (right_to_left : Bool) : Type 0 where
       → LiesBefore t.room (2 * whole (nat_abs t.room.paper.height) - twice) page
       (fitted_back t page (if right_to_left then 0 else 1))
 
+-- page 2 + k, where page k stands if the sheet is turned by half
+abbrev pub back_of : Setting → (page : Paper) → (k : ℕ) → Item
+back_of t page k = record (fitted_back t page k) { page = 2 + k }
+
 -- pages of one paper in the two halves, on fronts alone or on both sides of leaves
 abbrev pub halves : Setting → (page : Paper) → (long_edge : Bool) → Spec
 halves t page false = record { modulo = 2; groups = map (fitted t page) (range_with_len 0 2) ∷ [] }
 halves t page true = record {
   modulo = 4;
   groups = map (fitted t page) (range_with_len 0 2)
-      ∷ map (λ k. record (fitted_back t page k) { page = 2 + k }) (range_with_len 0 2) ∷ [];
+      ∷ map (back_of t page) (range_with_len 0 2) ∷ [];
 }
 
 -- what is bound for pages of one paper is each of them in its half: a law

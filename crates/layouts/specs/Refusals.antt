@@ -1,6 +1,6 @@
 -- Why there is no layout.
-use Rattle.std.specs.Prelude.{◌≡◌, ◌⊎◌, ℕ, ◌+◌, ◌*◌, ℤ, pos, int_le, nat_abs, Bool, true, false, ◌&&◌, ◌||◌, nat_le, nat_lt}
-use Rattle.std.specs.Prelude.{◌==◌, if◌then◌else◌, Option, Some, None}
+use Rattle.std.specs.Prelude.{◌≡◌, ◌⊎◌, ℕ, ◌+◌, ◌*◌, ℤ, pos, int_le, nat_abs, Bool, true, false, ◌&&◌, nat_le, nat_lt}
+use Rattle.std.specs.Prelude.{if◌then◌else◌, Option, Some, None}
 use Rattle.rules.specs.Papers.{Paper}
 use Rattle.layouts.specs.Placed.{Room}
 use Rattle.layouts.specs.declared.arrangement.Arrangement.{Arrangement}

@@ -1,22 +1,26 @@
 //! Pages in cells and on leaves, as they are asked for.
-ghost use Rattle.std.specs.Prelude.{◌≡◌, IfOk, IfErr, OnOk, Some, None, IsTrue};
+ghost use Rattle.std.specs.Prelude.{◌≡◌, ◌⊎◌, ◌≤◌, IfOk, IfErr, OnOk, Some, None, IsTrue, map, ◌∷◌, []};
+ghost use Rattle.std.specs.List.{range_with_len};
 ghost use Rattle.rules.specs.Papers.{is_paper};
+ghost use Rattle.pagespec.specs.Items.{groups_of, item_of};
+ghost use Rattle.layouts.specs.Cells.{size};
+ghost use Rattle.layouts.specs.Fitted.{back_of, fitted, why_no_scale_on, why_not_fitted};
 ghost use Rattle.layouts.specs.Laws.{IsPaper, IsArranged, IsBound};
-ghost use Rattle.layouts.specs.Grids.{arranged, bound, is_same, is_itself as is_page_itself, count_of};
+ghost use Rattle.layouts.specs.Grids.{arranged, bound, is_same, is_itself as is_page_itself};
 ghost use Rattle.layouts.specs.Grids.{room_of, rounded_up as rounded_up_of, rounded_down as rounded_down_of};
 ghost use Rattle.layouts.specs.Grids.{scale_for, above_zero, leaf_order as leaf_order_of};
 ghost use Rattle.layouts.specs.Refusals.{why_not_arranged, why_not_bound, IsFault};
 ghost use Rattle.layouts.specs.Refusals.{are_reached, folds_short, why_no_sheet, why_no_scale, is_shown as are_shown};
 
 use super::arrangement::{Arrangement, Binding, Order, Papers, Run, Turned};
-use super::best::grid_of;
 use super::error::ArrangementError;
 use super::grid::Grid;
-use super::item::{Layout, alone, is_near};
+use super::item::is_near;
 use super::room::{Room, is_length};
 use super::scale::{is_scale, scale_in, side};
+use super::setting::Setting;
 use lengths::{Grains, Number, Paper};
-use pagespec::Spec;
+use pagespec::{Item, Spec};
 use std::alloc::Global;
 
 /// How many pages a sheet takes at most.
@@ -38,44 +42,14 @@ pub fn arrange(
     ensures possible { OnOk result (why_not_arranged papers.now.page papers.now.sheet arrangement.now ≡ None) }
     ensures refused { IfErr result (IsFault (why_not_arranged papers.now.page papers.now.sheet arrangement.now)) }
 {
-    let found = sheet_in(
-        papers,
-        arrangement.margin,
-        arrangement.gap,
-        arrangement.trim,
-    );
-    let order = arrangement.order;
-    let cells = arrangement.cells;
-    let count = cells.count();
-    if count < 1 || MOST_ON_SHEET < count {
-        return Err(ArrangementError::CellsOutOfRange);
-    }
-    let room = match found {
-        Ok(room) => room,
+    let setting = match Setting::of(papers, arrangement) {
+        Ok(setting) => setting,
         Err(error) => return Err(error),
     };
-    if is_itself(papers, &room, arrangement) {
-        return match alone(alloc) {
-            Ok(groups) => Ok(Spec::of_groups(1, groups)),
-            Err(_) => Err(ArrangementError::NoMemory),
-        };
-    }
-    let grid = grid_of(&papers.page, &room, order.turned, cells);
-    let largest = scale_in(&papers.page, &room, grid);
-    let scale = match scale_found(&room, arrangement.scale, largest) {
-        Ok(scale) => scale,
-        Err(error) => return Err(error),
-    };
-    let layout = Layout {
-        page: papers.page,
-        room,
-        grid,
-        order,
-        scale,
-    };
-    match layout.groups_in(alloc, count as u32) {
+    let count = arrangement.cells.count();
+    match one_side(alloc, &setting, &papers.page, count as u32) {
         Ok(groups) => Ok(Spec::of_groups(count as u32, groups)),
-        Err(_) => Err(ArrangementError::NoMemory),
+        Err(error) => Err(error),
     }
 }
 
@@ -90,37 +64,130 @@ pub fn bind(alloc: Global, papers: &Papers, binding: &Binding) -> Result<Spec, A
     ensures possible { OnOk result (why_not_bound papers.now.page papers.now.sheet binding.now ≡ None) }
     ensures refused { IfErr result (IsFault (why_not_bound papers.now.page papers.now.sheet binding.now)) }
 {
-    let room = match sheet_in(papers, binding.margin, binding.gap, binding.trim) {
-        Ok(room) => room,
+    let setting = match Setting::of_binding(papers, binding) {
+        Ok(setting) => setting,
         Err(error) => return Err(error),
-    };
-    if !is_fold_short(&papers.page, &room) {
-        return Err(ArrangementError::FoldOnLongEdge);
-    }
-    let grid = Grid::beside(true);
-    let largest = scale_in(&papers.page, &room, grid);
-    let scale = match scale_found(&room, None, largest) {
-        Ok(scale) => scale,
-        Err(error) => return Err(error),
-    };
-    let layout = Layout {
-        page: papers.page,
-        room,
-        grid,
-        order: leaf_order(binding.right_to_left),
-        scale,
     };
     if binding.long_edge {
-        match layout.sides_in(alloc) {
+        match leaf(alloc, &setting, &papers.page) {
             Ok(groups) => Ok(Spec::of_groups(4, groups)),
-            Err(_) => Err(ArrangementError::NoMemory),
+            Err(error) => Err(error),
         }
     } else {
-        match layout.groups_in(alloc, 2) {
+        match one_side(alloc, &setting, &papers.page, 2) {
             Ok(groups) => Ok(Spec::of_groups(2, groups)),
-            Err(_) => Err(ArrangementError::NoMemory),
+            Err(error) => Err(error),
         }
     }
+}
+
+/// One side of a sheet: so many pages, each in its cell.
+fn one_side(
+    alloc: Global,
+    setting: &Setting,
+    page_paper: &Paper,
+    n: u32,
+) -> Result<Vec<Vec<Item>>, ArrangementError>
+    requires { n ≤ size setting.now.grid }
+    ensures made { IfOk result (λ groups. groups_of groups.items
+        ≡ map (fitted setting.now page_paper.now) (range_with_len 0 n) ∷ []) }
+    ensures refused { IfErr result (IsFault (why_not_fitted setting.now page_paper.now)) }
+{
+    let items = match fronts(alloc, setting, page_paper, n) {
+        Ok(items) => items,
+        Err(error) => return Err(error),
+    };
+    let mut groups = Vec::new(alloc);
+    match groups.push(items) {
+        Ok(()) => Ok(groups),
+        Err(_) => Err(ArrangementError::NoMemory),
+    }
+}
+
+/// The two sides of a leaf, of which the second is turned by half.
+fn leaf(
+    alloc: Global,
+    setting: &Setting,
+    page_paper: &Paper,
+) -> Result<Vec<Vec<Item>>, ArrangementError>
+    requires { 2 ≤ size setting.now.grid }
+    ensures made { IfOk result (λ groups. groups_of groups.items
+        ≡ map (fitted setting.now page_paper.now) (range_with_len 0 2)
+        ∷ map (back_of setting.now page_paper.now) (range_with_len 0 2) ∷ []) }
+    ensures refused { IfErr result (λ error. IsFault (why_not_fitted setting.now page_paper.now) error
+        ⊎ IsFault (why_no_scale_on setting.now page_paper.now) error) }
+{
+    let front = match fronts(alloc, setting, page_paper, 2) {
+        Ok(front) => front,
+        Err(error) => return Err(error),
+    };
+    let back = match backs(alloc, setting, page_paper) {
+        Ok(back) => back,
+        Err(error) => return Err(error),
+    };
+    let mut groups = Vec::new(alloc);
+    match groups.push(front) {
+        Ok(()) => (),
+        Err(_) => return Err(ArrangementError::NoMemory),
+    }
+    match groups.push(back) {
+        Ok(()) => Ok(groups),
+        Err(_) => Err(ArrangementError::NoMemory),
+    }
+}
+
+/// So many pages, each in its cell.
+fn fronts(
+    alloc: Global,
+    setting: &Setting,
+    page_paper: &Paper,
+    n: u32,
+) -> Result<Vec<Item>, ArrangementError>
+    requires { n ≤ size setting.now.grid }
+    ensures made { IfOk result (λ items. map item_of items.items
+        ≡ map (fitted setting.now page_paper.now) (range_with_len 0 n)) }
+    ensures refused { IfErr result (IsFault (why_not_fitted setting.now page_paper.now)) }
+{
+    let mut items = Vec::new(alloc);
+    for k in 0..n {
+        let item = match setting.item(page_paper, k) {
+            Ok(item) => item,
+            Err(error) => return Err(error),
+        };
+        match items.push(item) {
+            Ok(()) => (),
+            Err(_) => return Err(ArrangementError::NoMemory),
+        }
+    }
+    Ok(items)
+}
+
+/// The two pages of a back, on a sheet that is turned by half.
+fn backs(
+    alloc: Global,
+    setting: &Setting,
+    page_paper: &Paper,
+) -> Result<Vec<Item>, ArrangementError>
+    requires { 2 ≤ size setting.now.grid }
+    ensures made { IfOk result (λ items. map item_of items.items
+        ≡ map (back_of setting.now page_paper.now) (range_with_len 0 2)) }
+    ensures refused { IfErr result (IsFault (why_no_scale_on setting.now page_paper.now)) }
+{
+    let mut items = Vec::new(alloc);
+    for k in 0..2 {
+        let item = match setting.back_item(page_paper, k) {
+            Ok(item) => item,
+            Err(error) => return Err(error),
+        };
+        match items.push(Item {
+            page: 2 + k,
+            ..item
+        }) {
+            Ok(()) => (),
+            Err(_) => return Err(ArrangementError::NoMemory),
+        }
+    }
+    Ok(items)
 }
 
 /// From the left, or from the right if the booklet is bound there.

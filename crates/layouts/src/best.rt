@@ -2,7 +2,7 @@
 ghost use Rattle.std.specs.Prelude.{◌≡◌, ◌<◌, ◌≤◌, IsTrue};
 ghost use Rattle.layouts.specs.Refusals.{is_shown, is_count};
 ghost use Rattle.layouts.specs.Grids.{best_of as best_of_turn, better as better_of, best_grid as best_grid_of};
-ghost use Rattle.layouts.specs.Grids.{best_formed as best_formed_of, grid_of as grid_for, count_of};
+ghost use Rattle.layouts.specs.Grids.{grid_of as grid_for, count_of};
 
 use super::arrangement::{Cells, Turned};
 use super::grid::Grid;

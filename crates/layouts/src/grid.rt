@@ -1,6 +1,6 @@
 //! Rows and columns.
 ghost use Rattle.std.specs.Prelude.{◌≡◌, ◌*◌, ◌<◌, ◌≤◌};
-ghost use Rattle.layouts.specs.Cells.{size as size_of, read_columns};
+ghost use Rattle.layouts.specs.Cells.{size as size_of};
 ghost use Rattle.layouts.specs.Grids.{grid, formed as formed_of, beside as beside_of};
 
 use super::arrangement::Turned;

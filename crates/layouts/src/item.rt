@@ -1,12 +1,11 @@
 //! Pages in the cells of a grid.
-ghost use Rattle.std.specs.Prelude.{◌≡◌, ◌+◌, ◌-◌, ◌*◌, pos, IfOk, ◌<◌, ◌≤◌, ◌+ℤ◌, ◌-ℤ◌, if◌then◌else◌, nat_abs, IsTrue, map, ◌∷◌, []};
-ghost use Rattle.std.specs.List.{range_with_len};
+ghost use Rattle.std.specs.Prelude.{◌≡◌, ◌+◌, ◌-◌, ◌*◌, pos, ◌<◌, ◌≤◌, ◌+ℤ◌, ◌-ℤ◌, if◌then◌else◌, nat_abs, IsTrue};
 ghost use Rattle.rules.specs.Numbers.{greatest_number};
 ghost use Rattle.rules.specs.Papers.{is_side};
-ghost use Rattle.pagespec.specs.Items.{item_of, measure_of, groups_of};
+ghost use Rattle.pagespec.specs.Items.{item_of, measure_of};
 ghost use Rattle.layouts.specs.Grids.{alone as alone_of};
 ghost use Rattle.layouts.specs.Cells.{size, in_points, slack as slack_of, slack_x, slack_y, kept as kept_of, high};
-ghost use Rattle.layouts.specs.Cells.{step_across, step_down, trimmed as trimmed_of, whole as whole_of, in_grid};
+ghost use Rattle.layouts.specs.Cells.{step_across, step_down, trimmed as trimmed_of, whole as whole_of};
 ghost use Rattle.layouts.specs.Cells.{corner_x, corner_y, to_right as to_right_of, to_top as to_top_of};
 ghost use Rattle.layouts.specs.Cells.{read_columns as read_columns_of, read_rows as read_rows_of, read_row, read_column};
 ghost use Rattle.layouts.specs.Cells.{row_of, column_of, item_in as item_of_grid, back_in as back_of_grid};
@@ -19,7 +18,6 @@ use super::room::Room;
 use super::scale::{cells, counted, kept, side, steps};
 use lengths::{Grains, Number, Paper, Unit};
 use pagespec::{Item, Measure, Turn};
-use std::alloc::{AllocError, Global};
 
 /// Pages of one paper and one scale, in 10^-9, in the cells of a grid.
 #[derive(Drop)]
@@ -32,7 +30,7 @@ pub struct Layout {
 }
 
 /// A whole number of 10^-5 of a point.
-fn points(n: i64) -> Measure
+pub fn points(n: i64) -> Measure
     requires { nat_abs n ≤ 9_999_999_999 }
     ensures { measure_of result ≡ in_points n }
 {
@@ -62,7 +60,7 @@ pub fn slack(cell: u64, side: u64, scale: u64) -> u128
 }
 
 /// The columns and the rows as one reads the sheet.
-fn read_sides(turned: Turned, grid: Grid) -> (u32, u32)
+pub fn read_sides(turned: Turned, grid: Grid) -> (u32, u32)
     ensures columns { result.0 ≡ read_columns_of turned grid }
     ensures rows { result.1 ≡ read_rows_of turned grid }
     ensures size { result.1 * result.0 ≡ size grid }
@@ -237,71 +235,6 @@ impl Layout {
             offset: (distance(x, width), distance(y, height)),
         }
     }
-
-    /// The pages of a sheet in their cells, in order.
-    fn items_in(&self, alloc: Global, n: u32) -> Result<Vec<Item>, AllocError>
-        requires place { HasPlace self.now.page self.now.room self.now.grid self.now.scale }
-        requires near { IsTrue (are_near self.now.room self.now.scale) }
-        requires scale { self.now.scale ≤ greatest_number }
-        requires cells { n ≤ size self.now.grid }
-        ensures { IfOk result (λ items. map item_of items.items
-            ≡ map (item_of_grid self.now.page self.now.room self.now.grid self.now.order self.now.scale)
-            (range_with_len 0 n)) }
-    {
-        let mut items = Vec::new(alloc);
-        for k in 0..n {
-            items.push(self.item_in(k))?;
-        }
-        Ok(items)
-    }
-
-    /// The two pages of a back, on a sheet that is turned by half.
-    fn backs_in(&self, alloc: Global) -> Result<Vec<Item>, AllocError>
-        requires place { HasPlace self.now.page self.now.room self.now.grid self.now.scale }
-        requires near { IsTrue (are_near self.now.room self.now.scale) }
-        requires scale { self.now.scale ≤ greatest_number }
-        requires cells { 2 ≤ size self.now.grid }
-        ensures { IfOk result (λ items. map item_of items.items
-            ≡ map (back_of_grid self.now.page self.now.room self.now.grid self.now.order self.now.scale 2)
-            (range_with_len 0 2)) }
-    {
-        let mut items = Vec::new(alloc);
-        for k in 0..2 {
-            items.push(self.back_in(2, k))?;
-        }
-        Ok(items)
-    }
-
-    /// One group of these pages.
-    pub fn groups_in(&self, alloc: Global, n: u32) -> Result<Vec<Vec<Item>>, AllocError>
-        requires place { HasPlace self.now.page self.now.room self.now.grid self.now.scale }
-        requires near { IsTrue (are_near self.now.room self.now.scale) }
-        requires scale { self.now.scale ≤ greatest_number }
-        requires cells { n ≤ size self.now.grid }
-        ensures { IfOk result (λ groups. groups_of groups.items
-            ≡ (in_grid self.now.page self.now.room self.now.grid self.now.order self.now.scale n).groups) }
-    {
-        let mut groups = Vec::new(alloc);
-        groups.push(self.items_in(alloc, n)?)?;
-        Ok(groups)
-    }
-
-    /// The two sides of a leaf, of which the second is turned by half.
-    pub fn sides_in(&self, alloc: Global) -> Result<Vec<Vec<Item>>, AllocError>
-        requires place { HasPlace self.now.page self.now.room self.now.grid self.now.scale }
-        requires near { IsTrue (are_near self.now.room self.now.scale) }
-        requires scale { self.now.scale ≤ greatest_number }
-        requires cells { 2 ≤ size self.now.grid }
-        ensures { IfOk result (λ groups. groups_of groups.items ≡
-            map (item_of_grid self.now.page self.now.room self.now.grid self.now.order self.now.scale) (range_with_len 0 2)
-            ∷ map (back_of_grid self.now.page self.now.room self.now.grid self.now.order self.now.scale 2)
-            (range_with_len 0 2) ∷ []) }
-    {
-        let mut groups = Vec::new(alloc);
-        groups.push(self.items_in(alloc, 2)?)?;
-        groups.push(self.backs_in(alloc)?)?;
-        Ok(groups)
-    }
 }
 
 /// How far a page is moved whose corner, less what is trimmed, is to stand there: turned pages are moved to the right, as
@@ -354,17 +287,6 @@ pub fn number(billionths: u64) -> Number
         Some(number) => number,
         None => unreachable!(),
     }
-}
-
-/// One group of the first page, as it is.
-pub fn alone(alloc: Global) -> Result<Vec<Vec<Item>>, AllocError>
-    ensures { IfOk result (λ groups. groups_of groups.items ≡ (alone_of 0 ∷ []) ∷ []) }
-{
-    let mut groups = Vec::new(alloc);
-    let mut items = Vec::new(alloc);
-    items.push(whole_page(0))?;
-    groups.push(items)?;
-    Ok(groups)
 }
 
 /// A page as it is; it is counted from 0.

@@ -16,5 +16,7 @@ pub use arrangement::{Arrangement, Binding, Cells, Order, Papers, Run, Turned};
 pub use arranging::{arrange, bind};
 pub use error::ArrangementError;
 pub use grid::Grid;
+pub use item::{number, points, read_sides};
 pub use room::Room;
+pub use scale::{is_scale, side};
 pub use setting::Setting;

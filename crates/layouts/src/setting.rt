@@ -40,6 +40,7 @@ impl Setting {
         ensures sheet { IsPaper papers.now.sheet }
         ensures made { IfOk result (λ t. t ≡ setting_of papers.now.page papers.now.sheet arrangement.now) }
         ensures cells { IfOk result (λ t. count_of arrangement.now.cells ≤ size t.grid) }
+        ensures few { OnOk result (count_of arrangement.now.cells ≤ 1_024) }
         ensures chosen { IfOk result (λ t. IsChosen papers.now.page t.room arrangement.now.order.turned
             arrangement.now.cells (scale_of papers.now.page t.room t.grid) t.grid) }
         ensures possible { OnOk result (why_not_arranged papers.now.page papers.now.sheet arrangement.now ≡ None) }

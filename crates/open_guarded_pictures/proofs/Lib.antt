@@ -2,6 +2,5 @@ pub mod Sheltering
 pub mod Operators
 pub mod Placed
 pub mod Sheets
-pub mod Documents
 pub mod Imposed
 pub mod Examples

@@ -10,13 +10,14 @@ use Rattle.papers.specs.Told.{telling}
 use Rattle.pictures.specs.Operators.{Work}
 use Rattle.pictures.specs.Machine.{State, Painting}
 use Rattle.pictures.specs.Kept.{preamble_comments_apart}
-use Rattle.pictures.specs.Imposed.{frame_of, OnMadeSheets}
+use Rattle.pictures.specs.Documents.{frame_of, OnSheets}
+use Rattle.guarded_pictures.specs.Pages.{IsGuarded}
 use Rattle.guarded_pictures.specs.Imposed.{AreToldAsOne}
 use Rattle.open_pictures.specs.Machine.{Further}
 use Rattle.open_pictures.specs.Blindness.{RunsPreambles}
-use Rattle.open_pictures.specs.Documents.{OpenMadeIsPrinted}
+use Rattle.open_pictures.specs.Documents.{OpenPreambleRuns, OpenMadeIsPrinted}
 use Rattle.open_guarded_pictures.specs.Shelter.{IsPlacelessThere}
-use Rattle.open_guarded_pictures.specs.Pages.{OpenGuardedPreambleRuns, OpenGuardedPagePaints}
+use Rattle.open_guarded_pictures.specs.Pages.{OpenGuardedPagePaints}
 
 -- What impose writes of such sheets, with the guard put in: the document's own pages are shown, each on its own paper,
 -- with any further operators that are placeless there, and any for the preamble: a law
@@ -26,6 +27,6 @@ OpenMadeDocumentIsShown =
     (us : List NestedUnit) (picture : ℕ → List Painting) (s : State)
     → IsPlacelessThere x → RunsPreambles x z → AreToldAsOne all → document_of text ≡ Ok us → length (guarded sheet text) ≤ most_input_bytes
     → preamble_comments_apart (units_of (guarded sheet text)) ≡ true
-    → OpenGuardedPreambleRuns z w (bytes_of (preamble (units_of (guarded sheet text)))) s
-    → OnMadeSheets (λ own p. OpenGuardedPagePaints x (frame_of border own) us s p (picture p)) all
+    → OpenPreambleRuns z w IsGuarded (bytes_of (preamble (units_of (guarded sheet text)))) s
+    → OnSheets (λ own p. OpenGuardedPagePaints x (frame_of border own) us s p (picture p)) all
     → OpenMadeIsPrinted z w border (telling all) all (units_of (guarded sheet text)) picture s

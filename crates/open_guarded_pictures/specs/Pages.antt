@@ -13,12 +13,12 @@ use Rattle.pictures.specs.Machine.{State, Painting}
 use Rattle.pictures.specs.Scanner.{tokens, IsComplete}
 use Rattle.pictures.specs.Kept.{page_comments_apart, preamble_comments_apart}
 use Rattle.pictures.specs.Sheets.{Shown, run_of, page_picture, placed_tokens}
-use Rattle.pictures.specs.Documents.{page_of, OnSheets, all_sheets}
+use Rattle.pictures.specs.Documents.{frame_of, page_of, OnSheets, all_sheets}
 use Rattle.guarded_pictures.specs.Shelter.{Outer, outline_tokens}
 use Rattle.guarded_pictures.specs.Pages.{IsGuarded, TakesPages, outline_of}
 use Rattle.open_pictures.specs.Machine.{Further, OpenRuns}
 use Rattle.open_pictures.specs.Blindness.{RunsPreambles}
-use Rattle.open_pictures.specs.Documents.{begun, OpenIsPrinted}
+use Rattle.open_pictures.specs.Documents.{OpenPreambleRuns, OpenIsPrinted}
 use Rattle.open_guarded_pictures.specs.Shelter.{IsPlacelessThere, OpenPaintsSheltered}
 
 -- a placed page of a guarded document paints on the sheet what it paints by itself, placed, after its border, whatever
@@ -29,12 +29,6 @@ OpenGuardedPageIsPlaced =
     → OpenPaintsSheltered x outers s (outline_tokens y.placed.numbers) y.placed.body y.picture
     → OpenRuns x false (run_of (placed_tokens y.placed ++ rest) s)
     (record s { left = rest; painted = page_picture s.graphics y ++ s.painted })
-
--- the preamble ends between tokens, and the machine is then here, with nothing painted or printed
-abbrev pub OpenGuardedPreambleRuns : Further → Work → List ℕ → State → Type 0
-OpenGuardedPreambleRuns x w text s =
-    IsComplete text × OpenRuns x false (begun w (tokens text)) s × (s.left ≡ []) × (s.painted ≡ []) × (s.sheets ≡ [])
-    × IsGuarded s
 
 -- the page, as the document has it, paints this by itself; its text ends between tokens, and so does what is before each
 -- of its lines that is dropped
@@ -51,8 +45,8 @@ OpenGuardedSheetsShowThePages =
     (x z : Further) (w : Work) (frame : Frame) (sides : Option ℕ) (spec : Spec) (text : List ℕ) (us : List NestedUnit)
     (picture : ℕ → List Painting) (s : State)
     → IsPlacelessThere x → RunsPreambles x z → document_of text ≡ Ok us → preamble_comments_apart us ≡ true
-    → OpenGuardedPreambleRuns z w (bytes_of (preamble us)) s
-    → OnSheets (λ p. OpenGuardedPagePaints x frame us s p (picture p)) (all_sheets sides spec us)
+    → OpenPreambleRuns z w IsGuarded (bytes_of (preamble us)) s
+    → OnSheets (λ own p. OpenGuardedPagePaints x (frame_of frame.border own) us s p (picture p)) (all_sheets frame sides spec us)
     → OpenIsPrinted z w frame sides spec us picture s
 
 -- What impose makes of an accepted document, with the guard put in, with any such operators: its own pages are shown: a
@@ -63,6 +57,6 @@ OpenGuardedDocumentIsShown =
     (us : List NestedUnit) (picture : ℕ → List Painting) (s : State)
     → IsPlacelessThere x → RunsPreambles x z → document_of text ≡ Ok us → length (guarded sheet text) ≤ most_input_bytes
     → preamble_comments_apart (units_of (guarded sheet text)) ≡ true
-    → OpenGuardedPreambleRuns z w (bytes_of (preamble (units_of (guarded sheet text)))) s
-    → OnSheets (λ p. OpenGuardedPagePaints x frame us s p (picture p)) (all_sheets sides spec us)
+    → OpenPreambleRuns z w IsGuarded (bytes_of (preamble (units_of (guarded sheet text)))) s
+    → OnSheets (λ own p. OpenGuardedPagePaints x (frame_of frame.border own) us s p (picture p)) (all_sheets frame sides spec us)
     → OpenIsPrinted z w frame sides spec (units_of (guarded sheet text)) picture s

@@ -1,23 +1,19 @@
 -- A page of a guarded document by itself, in a machine with further operators.
-use Rattle.std.specs.Prelude.{◌≡◌, ℕ, zero, suc, List, Option, Some, None, false}
+use Rattle.std.specs.Prelude.{◌≡◌, ℕ, List, Option, Some, None, false}
 use Rattle.pictures.specs.Objects.{Token, Effect}
-use Rattle.pictures.specs.Machine.{State, Painting, Kept, step, and_then}
+use Rattle.pictures.specs.Machine.{State, Painting, Kept, step, RunsBy}
 use Rattle.pictures.specs.Sheets.{Numbers, LeavesAsItWas}
-use Rattle.guarded_pictures.specs.Shelter.{Outer, sheltered, step_on, outline_tokens}
+use Rattle.guarded_pictures.specs.Shelter.{Outer, sheltered, shelter_step, outline_tokens}
 use Rattle.guarded_pictures.specs.Pages.{Around, placed_at, IsOnPaper}
 use Rattle.open_pictures.specs.Machine.{Further, or_further, OpenRuns}
 use Rattle.open_pictures.specs.Operators.{Sight, Outcome, Blind, Table, Stop, entry, TakesOthers, by_table, Answer, answering}
 
 -- one step: what the page does by itself, and what the further operators do where the free machine stops
 abbrev pub open_shelter_step : Further → List Outer → (outline : List Token) → State → Option State
-open_shelter_step x outers outline s = or_further (step false s) (step_on outers outline s.left s) (x s)
-
-abbrev pub open_shelter_steps : Further → List Outer → List Token → ℕ → State → Option State
-open_shelter_steps x outers outline zero s = Some s
-open_shelter_steps x outers outline (suc n) s = and_then (open_shelter_steps x outers outline n) (open_shelter_step x outers outline s)
+open_shelter_step x outers outline s = or_further (step false s) (shelter_step outers outline s) (x s)
 
 abbrev pub OpenRunsSheltered : Further → List Outer → List Token → State → State → Type 0
-OpenRunsSheltered x outers outline s t = (n : ℕ) × (open_shelter_steps x outers outline n s ≡ Some t)
+OpenRunsSheltered x outers outline s t = RunsBy (open_shelter_step x outers outline) s t
 
 -- What is asked of further operators under the guard: in the place of a page, where matrices that the page has filled are
 -- placed too, they do the same, placed

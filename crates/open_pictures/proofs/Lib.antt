@@ -9,5 +9,4 @@ pub mod Output
 pub mod Own
 pub mod Imposed
 pub mod Operators
-pub mod Closed
 pub mod Examples

@@ -36,9 +36,6 @@ all_struck_at : (a : Around) (xs : List Stroke) (s : State) → all_struck xs (s
 all_struck_at a [] s = refl
 all_struck_at a (x ∷ xs) s = ap (all_struck xs) (struck_at a x.effect x.call s) ∙ all_struck_at a xs (struck x s)
 
-begun_with : Outcome → State → State
-begun_with o s = record s { left = o.next ++ s.left; work = o.work; kept = o.kept }
-
 comes_there : (a : Around) (s t : State) (r : Option Outcome) → come_to r s ≡ Some t → come_to r (state_at a s) ≡ Some (state_at a t)
 comes_there a s t None e = absurd (never t e)
 comes_there a s t (Some o) e =

@@ -1,5 +1,5 @@
 -- Documents in a machine with further operators.
-use Rattle.std.specs.Prelude.{◌≡◌, ℕ, List, [], ◌∷◌, Option, Some, false, true, Ok, ℤ, codes}
+use Rattle.std.specs.Prelude.{◌≡◌, ℕ, List, [], ◌∷◌, Option, false, true, Ok, ℤ}
 use Rattle.rules.specs.Specification.{Spec}
 use Rattle.rules.specs.Parts.{NestedUnit, preamble, bytes_of}
 use Rattle.rules.specs.Run.{document_of}
@@ -8,17 +8,17 @@ use Rattle.rules.specs.Output.{Frame, output}
 use Rattle.made_sheets.specs.Made.{MadeSheet}
 use Rattle.made_sheets.specs.Dress.{Dress}
 use Rattle.made_sheets.specs.MadeOutput.{made_output}
-use Rattle.pictures.specs.Imposed.{IsQuiet, OnMadeSheets, made_pictures}
-use Rattle.pictures.specs.Objects.{Token, Name}
-use Rattle.pictures.specs.Dictionaries.{meaning, system, userdict}
+use Rattle.pictures.specs.Imposed.{IsQuiet}
+use Rattle.pictures.specs.Objects.{Token}
+use Rattle.pictures.specs.Dictionaries.{userdict}
 use Rattle.pictures.specs.Operators.{Work}
-use Rattle.pictures.specs.Machine.{State, Painting, shipped}
+use Rattle.pictures.specs.Machine.{State, Painting}
 use Rattle.pictures.specs.Scanner.{tokens, IsComplete}
 use Rattle.pictures.specs.Sheets.{IsGround, run_of}
-use Rattle.pictures.specs.Documents.{started, page_of, OnSheets, all_sheets, sheet_pictures}
-use Rattle.pictures.specs.Kept.{page_comments_apart, preamble_comments_apart}
-use Rattle.pictures.specs.Unaware.{IsPlainGround, absent, is_in, none_before}
-use Rattle.open_pictures.specs.Machine.{Further, OpenRuns, open_unaware_steps}
+use Rattle.pictures.specs.Documents.{started, OnSheets, all_sheets, sheet_pictures}
+use Rattle.pictures.specs.Kept.{preamble_comments_apart}
+use Rattle.pictures.specs.Unaware.{IsPlainGround, PrintsBy, PagePrintsBy}
+use Rattle.open_pictures.specs.Machine.{Further, open_step, OpenRuns, open_unaware_step}
 use Rattle.open_pictures.specs.Blindness.{IsBlind, RunsPreambles}
 use Rattle.open_pictures.specs.Sheets.{OpenPaintsAlone}
 
@@ -31,47 +31,18 @@ begun w ts = record (started ts) { work = w }
 abbrev pub plain_work : Work
 plain_work = record { operands = []; dictionaries = userdict ∷ []; entries = []; made = 0 }
 
--- the preamble ends between tokens, and the machine is then here, with nothing painted or printed
-abbrev pub OpenPreambleRuns : Further → Work → List ℕ → State → Type 0
-OpenPreambleRuns x w text s =
+-- the preamble ends between tokens, and the machine is then in a state of which this is so, with nothing painted or printed
+abbrev pub OpenPreambleRuns : Further → Work → (State → Type 0) → List ℕ → State → Type 0
+OpenPreambleRuns x w P text s =
     IsComplete text × OpenRuns x false (begun w (tokens text)) s × (s.left ≡ []) × (s.painted ≡ []) × (s.sheets ≡ [])
-    × IsGround s
+    × P s
 
--- what comes after a page's showpage ends the page: EndsThePage of crates/pictures, with these runs
-pub record OpenEndsThePage (x : Further) (s at : State) (after : List Token) : Type 0 where
-  pub printed : State
-  pub printed_run : OpenRuns x false (shipped (run_of after at)) printed
-  pub printed_left : printed.left ≡ []
-  pub printed_nothing : printed.painted ≡ []
-  pub printed_once : printed.sheets ≡ at.painted ∷ at.sheets
-  pub placed : State
-  pub count : ℕ
-  pub placed_run : open_unaware_steps x count (run_of after at) ≡ Some placed
-  pub placed_left : placed.left ≡ []
-  pub placed_nothing : placed.painted ≡ at.painted
-  pub operands : placed.work.operands ≡ s.work.operands
-  pub dictionaries : placed.work.dictionaries ≡ s.work.dictionaries
-  pub saves : none_before s.level placed.saves ≡ true
-  pub save_name : absent placed.work.dictionaries placed.work.entries (codes "ImposeSave") ≡ true
-  pub restore_name : meaning placed.work.dictionaries placed.work.entries (codes "restore") ≡ system (codes "restore")
+-- after the preamble the page prints this of itself
+abbrev pub OpenPrintsItself : Further → State → List Token → List Painting → Type 0
+OpenPrintsItself x s body picture = PrintsBy (open_step x false) (open_unaware_step x) s body picture
 
--- after the preamble the page runs up to its showpage, which is found by its name; what comes after that ends the page
-pub record OpenPrintsItself (x : Further) (s : State) (body : List Token) (picture : List Painting) : Type 0 where
-  pub at : State
-  pub count : ℕ
-  pub run : open_unaware_steps x count (run_of body s) ≡ Some at
-  pub after : List Token
-  pub last : at.left ≡ Name (codes "showpage") ∷ after
-  pub has_userdict : is_in userdict at.work.dictionaries ≡ true
-  pub showpage : absent at.work.dictionaries at.work.entries (codes "showpage") ≡ true
-  pub picture_is : at.painted ≡ picture
-  pub ends : OpenEndsThePage x s at after
-
--- the page, as the document has it, prints this of itself
 abbrev pub OpenPagePrints : Further → List NestedUnit → State → ℕ → List Painting → Type 0
-OpenPagePrints x us s p picture =
-    IsComplete (page_of us p) × (page_comments_apart (page_of us p) ≡ true)
-    × OpenPrintsItself x s (tokens (page_of us p)) picture
+OpenPagePrints x us s p picture = PagePrintsBy (open_step x false) (open_unaware_step x) us s p picture
 
 -- from the state s these tokens print one sheet, with this picture, and leave the next one empty
 abbrev pub OpenPrintsSheet : Further → State → List Token → List Painting → Type 0
@@ -92,7 +63,7 @@ OpenIsPrinted x w frame sides spec us picture s =
     OpenRuns x false (begun w (tokens (output frame sides spec us)))
     (record s {
       left = tokens (trailer_text us);
-      sheets = sheet_pictures frame us picture s (all_sheets sides spec us);
+      sheets = sheet_pictures frame.border us picture s (all_sheets frame sides spec us);
     })
 
 -- Of an accepted document, with any further operators x that are blind, and any z for the preamble: if a machine runs the
@@ -103,8 +74,8 @@ OpenSheetsShowThePages =
     (x z : Further) (w : Work) (frame : Frame) (sides : Option ℕ) (spec : Spec) (text : List ℕ) (us : List NestedUnit)
     (picture : ℕ → List Painting) (s : State)
     → IsBlind x → RunsPreambles x z → document_of text ≡ Ok us
-    → preamble_comments_apart us ≡ true → OpenPreambleRuns z w (bytes_of (preamble us)) s → IsPlainGround s
-    → OnSheets (λ p. OpenPagePrints x us s p (picture p)) (all_sheets sides spec us)
+    → preamble_comments_apart us ≡ true → OpenPreambleRuns z w IsGround (bytes_of (preamble us)) s → IsPlainGround s
+    → OnSheets (λ paper p. OpenPagePrints x us s p (picture p)) (all_sheets frame sides spec us)
     → OpenIsPrinted z w frame sides spec us picture s
 
 -- a machine runs the output of these made sheets up to the trailer, and has then printed these pictures
@@ -112,7 +83,7 @@ abbrev pub OpenMadeIsPrinted :
     Further → Work → Option ℤ → Dress → List MadeSheet → List NestedUnit → (ℕ → List Painting) → State → Type 0
 OpenMadeIsPrinted x w border dress all us picture s =
     OpenRuns x false (begun w (tokens (made_output border dress all us)))
-    (record s { left = tokens (trailer_text us); sheets = made_pictures border us picture s all })
+    (record s { left = tokens (trailer_text us); sheets = sheet_pictures border us picture s all })
 
 -- the same of any made sheets, each page on a paper of its own, if no lines are added but comments: a law
 abbrev pub OpenMadeSheetsShowThePages : Type 0
@@ -120,6 +91,6 @@ OpenMadeSheetsShowThePages =
     (x z : Further) (w : Work) (border : Option ℤ) (dress : Dress) (all : List MadeSheet) (text : List ℕ)
     (us : List NestedUnit) (picture : ℕ → List Painting) (s : State)
     → IsBlind x → RunsPreambles x z → IsQuiet dress → document_of text ≡ Ok us
-    → preamble_comments_apart us ≡ true → OpenPreambleRuns z w (bytes_of (preamble us)) s → IsPlainGround s
-    → OnMadeSheets (λ paper p. OpenPagePrints x us s p (picture p)) all
+    → preamble_comments_apart us ≡ true → OpenPreambleRuns z w IsGround (bytes_of (preamble us)) s → IsPlainGround s
+    → OnSheets (λ paper p. OpenPagePrints x us s p (picture p)) all
     → OpenMadeIsPrinted z w border dress all us picture s

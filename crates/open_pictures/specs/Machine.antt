@@ -1,6 +1,6 @@
 -- The machine of crates/pictures with further operators: what is done where that machine stops is a parameter.
-use Rattle.std.specs.Prelude.{◌≡◌, ℕ, zero, suc, Bool, false, Option, Some, None}
-use Rattle.pictures.specs.Machine.{State, step, and_then}
+use Rattle.std.specs.Prelude.{Bool, false, Option, Some, None}
+use Rattle.pictures.specs.Machine.{State, step, RunsBy}
 use Rattle.pictures.specs.Unaware.{unaware_step}
 
 -- what is done in a state in which the machine of crates/pictures stops, if anything is
@@ -16,22 +16,13 @@ or_further (Some t) own further = own
 abbrev pub open_step : Further → (held : Bool) → State → Option State
 open_step x held s = or_further (step false s) (step held s) (x s)
 
--- so many steps
-abbrev pub open_steps : Further → Bool → ℕ → State → Option State
-open_steps x held zero s = Some s
-open_steps x held (suc n) s = and_then (open_steps x held n) (open_step x held s)
-
 -- runs from one state to another
 abbrev pub OpenRuns : Further → (held : Bool) → State → State → Type 0
-OpenRuns x held s t = (n : ℕ) × (open_steps x held n s ≡ Some t)
+OpenRuns x held s t = RunsBy (open_step x held) s t
 
 -- one step of a held machine that asks for none of the names that the sheet's text puts
 abbrev pub open_unaware_step : Further → State → Option State
 open_unaware_step x s = or_further (step false s) (unaware_step s) (x s)
-
-abbrev pub open_unaware_steps : Further → ℕ → State → Option State
-open_unaware_steps x zero s = Some s
-open_unaware_steps x (suc n) s = and_then (open_unaware_steps x n) (open_unaware_step x s)
 
 -- no further operators: the machine of crates/pictures
 abbrev pub none_further : Further

@@ -1,11 +1,11 @@
 -- Pages and sheets in a machine with further operators: the definitions of crates/pictures, with this machine's runs.
-use Rattle.std.specs.Prelude.{◌≡◌, List, [], ◌∷◌, ◌++◌, false, true}
+use Rattle.std.specs.Prelude.{◌≡◌, List, [], ◌++◌, false, true}
 use Rattle.pictures.specs.Objects.{Token}
 use Rattle.pictures.specs.Machine.{State, Painting}
 use Rattle.pictures.specs.Placing.{Around, state_at}
-use Rattle.pictures.specs.Sheets.{Shown, IsGround, LeavesAsItWas, alone, run_of, page_picture, placed_tokens}
+use Rattle.pictures.specs.Sheets.{Shown, AllOf, IsGround, PaintsBy, run_of, page_picture, placed_tokens}
 use Rattle.pictures.specs.Pictures.{printed, sheets_tokens}
-use Rattle.open_pictures.specs.Machine.{Further, OpenRuns}
+use Rattle.open_pictures.specs.Machine.{Further, open_step, OpenRuns}
 use Rattle.open_pictures.specs.Blindness.{IsPlaceless}
 
 -- what a held machine does in a state, a free one does in the state placed, with any further operators that are
@@ -16,19 +16,8 @@ OpenPlacingCommutes =
     → OpenRuns x false (state_at a s) (state_at a t)
 
 -- from a state after the preamble the page paints this by itself
-pub record OpenPaintsAlone (x : Further) (s : State) (body : List Token) (picture : List Painting) : Type 0 where
-  pub end : State
-  pub run : OpenRuns x true (alone s body) end
-  pub leaves : LeavesAsItWas s end
-  pub picture_is : end.painted ≡ picture
-
-abbrev pub OpenAllPaint : Further → State → List Shown → Type 0
-OpenAllPaint x s [] = Unit {0}
-OpenAllPaint x s (y ∷ ys) = OpenPaintsAlone x s y.placed.body y.picture × OpenAllPaint x s ys
-
-abbrev pub OpenAllSheetsPaint : Further → State → List (List Shown) → Type 0
-OpenAllSheetsPaint x s [] = Unit {0}
-OpenAllSheetsPaint x s (ys ∷ more) = OpenAllPaint x s ys × OpenAllSheetsPaint x s more
+abbrev pub OpenPaintsAlone : Further → State → List Token → List Painting → Type 0
+OpenPaintsAlone x s body picture = PaintsBy (open_step x true) s body picture
 
 -- a placed page paints on the sheet what it paints by itself, placed, after its border; and all else is as it was: a law
 abbrev pub OpenPageIsPlaced : Type 0
@@ -42,6 +31,6 @@ OpenPageIsPlaced =
 abbrev pub OpenSheetsArePrinted : Type 0
 OpenSheetsArePrinted =
     (x : Further) (s : State) (ys : List (List Shown)) (rest : List Token) → IsPlaceless x → IsGround s → s.painted ≡ []
-    → OpenAllSheetsPaint x s ys
+    → AllOf (AllOf (λ (y : Shown). OpenPaintsAlone x s y.placed.body y.picture)) ys
     → OpenRuns x false (run_of (sheets_tokens ys ++ rest) s)
     (record s { left = rest; sheets = printed s.graphics ys s.sheets })

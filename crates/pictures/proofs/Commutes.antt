@@ -1,15 +1,15 @@
 -- A machine in a placed state does what it does in the state, placed.
 use Rattle.std.specs.Prelude.{Option, Some, None}
-use Rattle.std.proofs.Common.{◌≡◌, ℕ, zero, suc, refl, ap, ◌∙◌, sym, subst, ◌==◌, if◌then◌else◌, List, [], ◌∷◌, ◌++◌, map, append_assoc, Bool, true, false}
+use Rattle.std.proofs.Common.{◌≡◌, ℕ, zero, suc, refl, ap, sym, subst, ◌==◌, if◌then◌else◌, List, [], ◌∷◌, ◌++◌, map, append_assoc, Bool, true, false}
 use Rattle.pictures.specs.Objects.{Token, Name, Opens, Closes, Bound, Unknown, Object, Procedure, Plain}
 use Rattle.pictures.specs.Objects.{Saved, Operator, Kind, Computes, Controls, Draws, PushesGraphics, PopsGraphics, PopsAllGraphics, Looks, Saves, Restores, Ships, Resets, Copies, CopyOperands, Matrix, Call}
 use Rattle.pictures.specs.Objects.{Effect, Segments, Transforms, Sets, Paints, PaintsBeside, Shows, Clips, Forgets}
 use Rattle.pictures.specs.Operators.{Work, taken, computed, computed_on, controlled}
 use Rattle.pictures.specs.Dictionaries.{meaning, system}
-use Rattle.pictures.specs.Machine.{State, Graphics, Snapshot, keep, body_of, opened, drawn, worked, running, popped, popped_all, save_of, back, returned, restored, chain_of, filled_from, copied, perform, done, meant, act, step_on, step, steps, and_then, may_go_back}
+use Rattle.pictures.specs.Machine.{State, Graphics, Snapshot, keep, body_of, opened, drawn, worked, running, popped, popped_all, save_of, back, returned, restored, chain_of, filled_from, copied, perform, done, meant, act, step_on, step, may_go_back}
 use Rattle.pictures.specs.Placing.{Around, state_at, snapshot_at, graphics_at}
 use Rattle.pictures.specs.Pictures.{PlacingCommutes}
-use Rattle.pictures.proofs.Runs.{nothing}
+use Rattle.pictures.proofs.Runs.{follow_steps}
 
 -- if the one goes on, the other does, placed
 abbrev pub Follows : Around → Option State → Option State → Type 0
@@ -150,18 +150,6 @@ steps_on a s (t ∷ ts) = acts a t (record s { left = ts })
 pub steps_there : (a : Around) (s : State) → Follows a (step true s) (step false (state_at a s))
 steps_there a s = steps_on a s s.left
 
-goes_on : (a : Around) (n : ℕ) (x y : Option State) (t : State) → Follows a x y → ((s : State) → x ≡ Some s → steps true n s ≡ Some t → steps false n (state_at a s) ≡ Some (state_at a t))
-    → and_then (steps true n) x ≡ Some t → and_then (steps false n) y ≡ Some (state_at a t)
-goes_on a n None y t f h e = absurd (nothing (and_then (steps true n) None) t refl e)
-goes_on a n (Some s) y t f h e = ap (and_then (steps false n)) f ∙ h s refl e
-
-all_steps : (a : Around) (n : ℕ) (s t : State) → steps true n s ≡ Some t → steps false n (state_at a s) ≡ Some (state_at a t)
-all_steps a zero s t e = ap (state_there a) e
-  where
-    state_there : Around → Option State → Option State
-    state_there a None = None
-    state_there a (Some s) = Some (state_at a s)
-all_steps a (suc n) s t e = goes_on a n (step true s) (step false (state_at a s)) t (steps_there a s) (λ r _ k. all_steps a n r t k) e
-
 pub placing_commutes : PlacingCommutes
-placing_commutes a s t (n, e) = (n, all_steps a n s t e)
+placing_commutes a s t run =
+    follow_steps (step true) (step false) (state_at a) (λ u v e. subst (λ r. Follows a r (step false (state_at a u))) e (steps_there a u)) s t run

@@ -10,12 +10,15 @@ use Rattle.rules.specs.Sheets.{Slot, blocks, place, page_at}
 use Rattle.rules.specs.Signatures.{signature_row, page_in_signature, row_len, entry_in, sheets_in}
 use Rattle.rules.specs.Parts.{NestedUnit, preamble, pages, trailer, bytes_of}
 use Rattle.rules.specs.Run.{document_of}
+use Rattle.rules.specs.Papers.{Paper}
+use Rattle.rules.specs.Output.{Frame}
+use Rattle.made_sheets.specs.Made.{MadeSlot, made_slot, made_of}
 use Rattle.rules.proofs.Whole.{parts_make_text}
 use Rattle.pictures.specs.Objects.{Token}
 use Rattle.pictures.specs.Machine.{State, Painting, Runs}
 use Rattle.pictures.specs.Scanner.{Between, ended, tokens, IsComplete}
 use Rattle.pictures.specs.Sheets.{run_of, with_more}
-use Rattle.pictures.specs.Documents.{started, page_of, OnSlot, OnSlots, OnSheets}
+use Rattle.pictures.specs.Documents.{started, page_of, pages_past, OnSlotsFrom, OnSheetsFrom, OnSheets, all_sheets}
 use Rattle.pictures.specs.DocumentRun.{ComesTo, PrintsSheet, pages_before, PagesAreIndependent, OnPages, page_pictures, PagesArePrinted}
 use Rattle.pictures.specs.Unaware.{PagePrints, SheetsShowTheDocument}
 use Rattle.pictures.proofs.Runs.{runs_join, runs_none}
@@ -24,7 +27,8 @@ use Rattle.pictures.proofs.Scanned.{tokens_join}
 use Rattle.pictures.proofs.NumberTokens.{Reads, reads_join}
 use Rattle.pictures.proofs.Output.{complete_read}
 use Rattle.pictures.proofs.Kept.{cut_of}
-use Rattle.pictures.proofs.Own.{prints, sheets_show_the_pages}
+use Rattle.pictures.proofs.Own.{prints}
+use Rattle.pictures.proofs.Imposed.{sheets_show_the_pages}
 
 -- Runs to an end, one after the other.
 
@@ -121,67 +125,88 @@ pages_are_printed text us picture s e (complete, come, painted, sheets) h same =
 
 -- All pages on sheets are pages of the document.
 
-page_on : (P : ℕ → Type 0) (n place : ℕ) (b : Bool) → ((p : ℕ) → p < n → P p) → (b ≡ true → place < n) → OnSlot P (if b then Some place else None)
+abbrev Each : {A : Type 0} → (A → Type 0) → List A → Type 0
+Each P [] = Unit {0}
+Each P (x ∷ xs) = P x × Each P xs
+
+each_of : {A B : Type 0} (P : B → Type 0) (f : A → B) (xs : List A) → ((x : A) → P (f x)) → Each P (map f xs)
+each_of P f [] h = tt
+each_of P f (x ∷ xs) h = (h x, each_of P f xs h)
+
+each_join : {B : Type 0} (P : B → Type 0) (xs ys : List B) → Each P xs → Each P ys → Each P (xs ++ ys)
+each_join P [] ys h k = k
+each_join P (x ∷ xs) ys h k = (h.0, each_join P xs ys h.1 k)
+
+each_part : {A B : Type 0} (P : B → Type 0) (f : A → List B) (xs : List A) → ((x : A) → Each P (f x)) → Each P (flat_map f xs)
+each_part P f [] h = tt
+each_part P f (x ∷ xs) h = each_join P (f x) (flat_map f xs) (h x) (each_part P f xs h)
+
+abbrev OnPage : (ℕ → Type 0) → Option ℕ → Type 0
+OnPage P None = Unit {0}
+OnPage P (Some p) = P p
+
+page_on : (P : ℕ → Type 0) (n place : ℕ) (b : Bool) → ((p : ℕ) → p < n → P p) → (b ≡ true → place < n) → OnPage P (if b then Some place else None)
 page_on P n place true h k = h place (k refl)
 page_on P n place false h k = tt
 
-page_at_on : (P : ℕ → Type 0) (n place : ℕ) → ((p : ℕ) → p < n → P p) → OnSlot P (page_at n place)
+page_at_on : (P : ℕ → Type 0) (n place : ℕ) → ((p : ℕ) → p < n → P p) → OnPage P (page_at n place)
 page_at_on P n place h = page_on P n place (nat_lt place n) h (λ e. ltb-true place n e)
 
-abbrev AllOn : (ℕ → Type 0) → List (Option ℕ) → Type 0
-AllOn P [] = Unit {0}
-AllOn P (x ∷ xs) = OnSlot P x × AllOn P xs
-
-all_on_join : (P : ℕ → Type 0) (xs ys : List (Option ℕ)) → AllOn P xs → AllOn P ys → AllOn P (xs ++ ys)
-all_on_join P [] ys h k = k
-all_on_join P (x ∷ xs) ys h k = (h.0, all_on_join P xs ys h.1 k)
-
-all_on_map : {X : Type 0} (P : ℕ → Type 0) (f : X → Option ℕ) (xs : List X) → ((x : X) → OnSlot P (f x)) → AllOn P (map f xs)
-all_on_map P f [] h = tt
-all_on_map P f (x ∷ xs) h = (h x, all_on_map P f xs h)
-
-all_on_parts : {X : Type 0} (P : ℕ → Type 0) (f : X → List (Option ℕ)) (xs : List X) → ((x : X) → AllOn P (f x)) → AllOn P (flat_map f xs)
-all_on_parts P f [] h = tt
-all_on_parts P f (x ∷ xs) h = all_on_join P (f x) (flat_map f xs) (h x) (all_on_parts P f xs h)
-
-entry_of_row : (P : ℕ → Type 0) (row : List (Option ℕ)) (e : ℕ) → AllOn P row → OnSlot P (slice_index_or row e None)
+entry_of_row : (P : ℕ → Type 0) (row : List (Option ℕ)) (e : ℕ) → Each (OnPage P) row → OnPage P (slice_index_or row e None)
 entry_of_row P [] e h = tt
 entry_of_row P (x ∷ row) zero h = h.0
 entry_of_row P (x ∷ row) (suc e) h = entry_of_row P row e h.1
 
-entry_on : (P : ℕ → Type 0) (sides : Option ℕ) (n e : ℕ) → ((p : ℕ) → p < n → P p) → OnSlot P (entry_in sides n e)
+entry_on : (P : ℕ → Type 0) (sides : Option ℕ) (n e : ℕ) → ((p : ℕ) → p < n → P p) → OnPage P (entry_in sides n e)
 entry_on P None n e h = page_at_on P n e h
 entry_on P (Some s) n e h =
     entry_of_row P (signature_row s n) e
-    (all_on_parts P (λ b. map (λ i. page_at n (b * s + page_in_signature s i)) (range_with_len 0 s)) (range_with_len 0 (blocks s n))
-    (λ b. all_on_map P (λ i. page_at n (b * s + page_in_signature s i)) (range_with_len 0 s) (λ i. page_at_on P n (b * s + page_in_signature s i) h)))
+    (each_part (OnPage P) (λ b. map (λ i. page_at n (b * s + page_in_signature s i)) (range_with_len 0 s)) (range_with_len 0 (blocks s n))
+    (λ b. each_of (OnPage P) (λ i. page_at n (b * s + page_in_signature s i)) (range_with_len 0 s) (λ i. page_at_on P n (b * s + page_in_signature s i) h)))
 
-slots_on : (P : ℕ → Type 0) (f : Item → Slot) (items : List Item) → ((i : Item) → OnSlot P (f i).page) → OnSlots P (map f items)
-slots_on P f [] h = tt
-slots_on P f (i ∷ items) h = (h i, slots_on P f items h)
+abbrev OnRow : (ℕ → Type 0) → List Slot → Type 0
+OnRow P slots = Each (λ (slot : Slot). OnPage P slot.page) slots
 
-sheets_on : {X : Type 0} (P : ℕ → Type 0) (f : X → List Slot) (xs : List X) → ((x : X) → OnSlots P (f x)) → OnSheets P (map f xs)
-sheets_on P f [] h = tt
-sheets_on P f (x ∷ xs) h = (h x, sheets_on P f xs h)
+slot_on : (P : Paper → ℕ → Type 0) (paper : Paper) (page : Option ℕ) (item : Item) (slots : List MadeSlot) (k : ℕ) → OnPage (P paper) page → ((j : ℕ) → OnSlotsFrom (λ i. P) j slots)
+    → OnSlotsFrom (λ i. P) k (made_slot paper page item ∷ slots)
+slot_on P paper None item slots k h f = f k
+slot_on P paper (Some p) item slots k h f = (h, f (suc k))
 
-sheets_join : (P : ℕ → Type 0) (xs ys : List (List Slot)) → OnSheets P xs → OnSheets P ys → OnSheets P (xs ++ ys)
-sheets_join P [] ys h k = k
-sheets_join P (x ∷ xs) ys h k = (h.0, sheets_join P xs ys h.1 k)
+slots_on : (P : Paper → ℕ → Type 0) (paper : Paper) (slots : List Slot) (k : ℕ) → OnRow (P paper) slots → OnSlotsFrom (λ i. P) k (map (λ slot. made_slot paper slot.page slot.item) slots)
+slots_on P paper [] k h = tt
+slots_on P paper (slot ∷ slots) k h =
+    slot_on P paper slot.page slot.item (map (λ next. made_slot paper next.page next.item) slots) k h.0 (λ j. slots_on P paper slots j h.1)
 
-blocks_on : {X : Type 0} (P : ℕ → Type 0) (f : X → List (List Slot)) (xs : List X) → ((x : X) → OnSheets P (f x)) → OnSheets P (flat_map f xs)
-blocks_on P f [] h = tt
-blocks_on P f (x ∷ xs) h = sheets_join P (f x) (flat_map f xs) (h x) (blocks_on P f xs h)
+sheets_on : (P : Paper → ℕ → Type 0) (paper : Paper) (all : List (List Slot)) (k : ℕ) → Each (OnRow (P paper)) all → OnSheetsFrom (λ i. P) k (made_of paper all)
+sheets_on P paper [] k h = tt
+sheets_on P paper (slots ∷ all) k h = (slots_on P paper slots k h.0, sheets_on P paper all (pages_past k (map (λ slot. made_slot paper slot.page slot.item) slots)) h.1)
 
-pub on_all_sheets : (P : ℕ → Type 0) (sides : Option ℕ) (spec : Spec) (n : ℕ) → ((p : ℕ) → p < n → P p) → OnSheets P (sheets_in sides spec n)
-on_all_sheets P sides spec n h =
+each : {A : Type 0} (P : A → Type 0) → ((x : A) → P x) → (xs : List A) → Each P xs
+each P f [] = tt
+each P f (x ∷ xs) = (f x, each P f xs)
+
+-- what is so of all pages on this paper is so of those on sheets
+pub everywhere_on : (P : Paper → ℕ → Type 0) (paper : Paper) → ((p : ℕ) → P paper p) → (all : List (List Slot)) → OnSheets P (made_of paper all)
+everywhere_on P paper f all =
+    sheets_on P paper all 0 (each (OnRow (P paper)) (λ slots. each (λ (slot : Slot). OnPage (P paper) slot.page) (λ slot. of_page slot.page) slots) all)
+  where
+    of_page : (page : Option ℕ) → OnPage (P paper) page
+    of_page None = tt
+    of_page (Some p) = f p
+
+on_all_sheets : (P : ℕ → Type 0) (frame : Frame) (sides : Option ℕ) (spec : Spec) (us : List NestedUnit) → OnPages P us → OnSheets (λ own p. P p) (all_sheets frame sides spec us)
+on_all_sheets P frame sides spec us h =
+    let n : ℕ = length (pages us) in
     let slot : ℕ → Item → Slot = λ b i. record { page = entry_in sides n (place spec.modulo (row_len sides n) b i); item = i } in
-    blocks_on P (λ b. map (λ g. map (slot b) g) spec.groups) (range_with_len 0 (blocks spec.modulo (row_len sides n)))
-    (λ b. sheets_on P (λ g. map (slot b) g) spec.groups (λ g. slots_on P (slot b) g (λ i. entry_on P sides n (place spec.modulo (row_len sides n) b i) h)))
+    sheets_on (λ own. P) frame.paper (sheets_in sides spec n) 0
+    (each_part (OnRow P) (λ b. map (λ g. map (slot b) g) spec.groups) (range_with_len 0 (blocks spec.modulo (row_len sides n)))
+    (λ b. each_of (OnRow P) (λ g. map (slot b) g) spec.groups
+    (λ g. each_of (λ (x : Slot). OnPage P x.page) (slot b) g (λ i. entry_on P sides n (place spec.modulo (row_len sides n) b i) h))))
 
 pub sheets_show_the_document : SheetsShowTheDocument
 sheets_show_the_document frame sides spec text us picture s e apart (complete, run, left, painted, printed, ground) plain h same = (
   pages_are_printed text us picture s e (complete, (run, left), painted, printed)
-      (λ p l. ((h p l).0, prints s (tokens (page_of us p)) (picture p) plain (h p l).2)) same,
+      (λ p l. ((h p l).0, prints s (tokens (page_of us p)) (picture p) (h p l).2)) same,
   sheets_show_the_pages frame sides spec text us picture s e apart (complete, run, left, painted, printed, ground) plain
-      (on_all_sheets (λ p. PagePrints us s p (picture p)) sides spec (length (pages us)) h),
+      (on_all_sheets (λ p. PagePrints us s p (picture p)) frame sides spec us h),
 )

@@ -10,17 +10,17 @@ abbrev or_s : State → Option State → State
 or_s s None = s
 or_s s (Some t) = t
 
-stands : (n : ℕ) (s u : State) → s.left ≡ [] → steps false (suc n) s ≡ Some u → ⊥
+stands : (n : ℕ) (s u : State) → s.left ≡ [] → steps (step false) (suc n) s ≡ Some u → ⊥
 stands n s u e f =
-    nothing (steps false (suc n) s) u (ap (λ l. and_then (steps false n) (step_on false l s)) e) f
+    nothing (steps (step false) (suc n) s) u (ap (λ l. and_then (steps (step false) n) (step_on false l s)) e) f
 
 further : (m n : ℕ) (x : Option State) (t u : State)
-    → ((s : State) → steps false m s ≡ Some t → steps false n s ≡ Some u → t ≡ u)
-    → and_then (steps false m) x ≡ Some t → and_then (steps false n) x ≡ Some u → t ≡ u
-further m n None t u h e f = absurd (nothing (and_then (steps false m) None) t refl e)
+    → ((s : State) → steps (step false) m s ≡ Some t → steps (step false) n s ≡ Some u → t ≡ u)
+    → and_then (steps (step false) m) x ≡ Some t → and_then (steps (step false) n) x ≡ Some u → t ≡ u
+further m n None t u h e f = absurd (nothing (and_then (steps (step false) m) None) t refl e)
 further m n (Some s) t u h e f = h s e f
 
-once : (m n : ℕ) (s t u : State) → steps false m s ≡ Some t → t.left ≡ [] → steps false n s ≡ Some u → u.left ≡ [] → t ≡ u
+once : (m n : ℕ) (s t u : State) → steps (step false) m s ≡ Some t → t.left ≡ [] → steps (step false) n s ≡ Some u → u.left ≡ [] → t ≡ u
 once zero zero s t u e p f q = sym (ap (or_s s) e) ∙ ap (or_s s) f
 once zero (suc n) s t u e p f q = absurd (stands n s u (ap (λ x. (or_s s x).left) e ∙ p) f)
 once (suc m) zero s t u e p f q = absurd (stands m s t (ap (λ x. (or_s s x).left) f ∙ q) e)

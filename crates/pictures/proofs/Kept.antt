@@ -21,7 +21,7 @@ use Rattle.pictures.proofs.Tests.{by_test, first, second}
 use Rattle.pictures.proofs.Scanned.{scan_behind}
 use Rattle.pictures.proofs.LinesRead.{begins, more_begins, header_begins, body_begins, HasNone, unit_read}
 use Rattle.pictures.proofs.NumberTokens.{Reads, reads_join}
-use Rattle.pictures.proofs.Output.{count_line}
+use Rattle.pictures.proofs.Comments.{count_line}
 
 -- a complete text, followed by another
 complete_then : (a b : List ℕ) → IsComplete a → scan_from Between (a ++ b) ≡ behind (scan_from Between a).0 (scan_from Between b)

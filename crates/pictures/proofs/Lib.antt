@@ -10,6 +10,7 @@ pub mod Sheets
 pub mod Scanned
 pub mod NumberTokens
 pub mod OpeningTokens
+pub mod Comments
 pub mod Output
 pub mod Readings
 pub mod LinesRead

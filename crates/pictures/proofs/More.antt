@@ -1,14 +1,14 @@
 -- More tokens after those that are left change nothing, except that they are left too.
 use Rattle.std.specs.Prelude.{Option, Some, None}
-use Rattle.std.proofs.Common.{◌≡◌, ℕ, zero, suc, refl, ap, ◌∙◌, sym, if◌then◌else◌, List, [], ◌∷◌, ◌++◌, append_assoc, Bool, true, false}
+use Rattle.std.proofs.Common.{◌≡◌, ℕ, refl, ap, sym, subst, if◌then◌else◌, List, [], ◌∷◌, ◌++◌, append_assoc, Bool, true, false}
 use Rattle.pictures.specs.Objects.{Token, Name, Opens, Closes, Bound, Unknown, Object, Procedure, Plain, Matrix, Dictionary, View, TakesMatrix, SetsMatrix, DefaultMatrix, InitialMatrix, InitialClip, ClipOutline, PathElements, SetsDevice, ErasesPage, Call}
 use Rattle.pictures.specs.Objects.{Saved, Operator, Kind, Computes, Controls, Draws, PushesGraphics, PopsGraphics, PopsAllGraphics, Looks, Saves, Restores, Ships, Resets, Copies, CopyOperands}
 use Rattle.pictures.specs.Objects.{Effect}
 use Rattle.pictures.specs.Operators.{Work, with_operands, taken, computed, computed_on, controlled}
 use Rattle.pictures.specs.Dictionaries.{meaning, system}
-use Rattle.pictures.specs.Machine.{State, Graphics, Snapshot, Clip, body_of, opened, drawn, worked, running, popped, popped_all, viewed, set_to, outlined, traced, chain_of, filled_from, copied, path_tokens, save_of, back, returned, restored, perform, done, meant, act, step_on, step, steps, and_then, Runs, may_go_back}
+use Rattle.pictures.specs.Machine.{State, Graphics, Snapshot, Clip, body_of, opened, drawn, worked, running, popped, popped_all, viewed, set_to, outlined, traced, chain_of, filled_from, copied, path_tokens, save_of, back, returned, restored, perform, done, meant, act, step_on, step, Runs, may_go_back}
 use Rattle.pictures.specs.Sheets.{with_more}
-use Rattle.pictures.proofs.Runs.{nothing}
+use Rattle.pictures.proofs.Runs.{follow_steps}
 use Rattle.pictures.proofs.Commutes.{Extends, body_goes_on}
 
 -- where the one goes on, the other does
@@ -126,18 +126,6 @@ steps_on : (more : List Token) (s : State) (ts : List Token) → Follows more (s
 steps_on more s [] = tt
 steps_on more s (t ∷ ts) = acts more t (record s { left = ts })
 
-goes_on : (more : List Token) (n : ℕ) (x y : Option State) (t : State) → Follows more x y → ((s : State) → steps false n s ≡ Some t → steps false n (with_more more s) ≡ Some (with_more more t))
-    → and_then (steps false n) x ≡ Some t → and_then (steps false n) y ≡ Some (with_more more t)
-goes_on more n None y t f h e = absurd (nothing (and_then (steps false n) None) t refl e)
-goes_on more n (Some s) y t f h e = ap (and_then (steps false n)) f ∙ h s e
-
-all_steps : (more : List Token) (n : ℕ) (s t : State) → steps false n s ≡ Some t → steps false n (with_more more s) ≡ Some (with_more more t)
-all_steps more zero s t e = ap there e
-  where
-    there : Option State → Option State
-    there None = None
-    there (Some s) = Some (with_more more s)
-all_steps more (suc n) s t e = goes_on more n (step false s) (step false (with_more more s)) t (steps_on more s s.left) (λ r k. all_steps more n r t k) e
-
 pub runs_with_more : (more : List Token) (s t : State) → Runs false s t → Runs false (with_more more s) (with_more more t)
-runs_with_more more s t (n, e) = (n, all_steps more n s t e)
+runs_with_more more s t run =
+    follow_steps (step false) (step false) (with_more more) (λ u v e. subst (λ r. Follows more r (step false (with_more more u))) e (steps_on more u u.left)) s t run

@@ -15,7 +15,7 @@ use Rattle.std.specs.Prelude.{nat_le, decimal, flat_map}
 use Rattle.std.specs.List.{take-map, drop-map}
 use Rattle.std.proofs.lemmas.List.{map-append, length-map}
 use Rattle.std.proofs.Common.{◌++◌, take, drop}
-use Rattle.pictures.specs.Operators.{are_there, rolled, rolling, shift, filled, made_of, Work, with_operands, collected, gathered, below_mark, cleared, nth, loaded, bound_to, bound, define, ended, computed_on, controlled_on, times, judged, located, known_there, sort_of, objects_compared, are_literal, holder, element, turned, counting}
+use Rattle.pictures.specs.Operators.{are_there, rolled, rolling, shift, filled, made_of, Work, with_operands, collected, gathered, below_mark, cleared, nth, loaded, bound_to, bound, define, ended, computed_on, controlled_on, times, judged, located, known_there, objects_compared, are_literal, holder, element, turned, counting}
 use Rattle.pictures.specs.Sheets.{among, in_userdict}
 use Rattle.pictures.specs.Unaware.{put_names, names_in, none_among, asked_by}
 use Rattle.pictures.specs.Shifted.{up, ups, two, Agree, up_work}
@@ -125,10 +125,6 @@ located_goes n (Some d) b c w es a = (es, refl, a)
 located_goes n None true c w es a = (es, refl, a)
 located_goes n None false true w es a = tt
 located_goes n None false false w es a = (es, refl, a)
-
-sort_up : (o : Object) → sort_of (up o) ≡ sort_of o
-sort_up (Saved level) = refl
-sort_up o = refl
 
 compared_up : (c : Comparison) (o p : Object) → objects_compared c (up o) (up p) ≡ objects_compared c o p
 compared_up c (Saved level) (Saved m) = refl

@@ -1,8 +1,6 @@
 -- A printed number, followed by something that ends a word, is a token.
 use Rattle.std.specs.Prelude.{ℤ, decimal, nat_abs, nat_lt, if◌then◌else◌}
 use Rattle.std.proofs.Common.{◌≡◌, ℕ, zero, suc, ◌+◌, ◌/◌, ◌%◌, ◌^◌, lt→ltb, T, ◌<◌, ◌≤◌, refl, ap, ◌∙◌, sym, subst, Bool, true, false, ◌&&◌, ◌==◌, List, [], ◌∷◌, ◌++◌, append_assoc, append-nil, reverse, length, drop, arith, eq-or-lt_of_le, ⊎_elim}
-use Rattle.std.proofs.lemmas.List.Elements.{All-head, All-tail}
-use Rattle.std.specs.List.{AllPass}
 use Rattle.std.specs.Fmt.{digits, digits_onto, digit_glyph}
 use Rattle.std.specs.Char.{is_ascii_digit}
 use Rattle.rules.specs.Numbers.{printed, fraction_text, is_negative, without_last_zeros, decimals_of, points_text, scale_text, rounded}
@@ -45,11 +43,6 @@ AllRegular (b ∷ bs) = (class_of b ≡ Regular) × AllRegular bs
 abbrev pub AllDigits : List ℕ → Type 0
 AllDigits [] = Unit {0}
 AllDigits (d ∷ ds) = IsPlainDigit d × AllDigits ds
-
-all_digits : (ds : List ℕ) → AllPass is_ascii_digit ds → AllDigits ds
-all_digits [] h = tt
-all_digits (d ∷ ds) h =
-    (digit d (All-head (λ x. is_ascii_digit x ≡ true) d ds h), all_digits ds (All-tail (λ x. is_ascii_digit x ≡ true) d ds h))
 
 regular_append : (a b : List ℕ) → AllRegular a → AllRegular b → AllRegular (a ++ b)
 regular_append [] b h k = k

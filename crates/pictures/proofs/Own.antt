@@ -1,31 +1,25 @@
 -- What a page prints by itself is what it paints by itself.
-use Rattle.std.specs.Prelude.{nat_lt, Option, Some, None, Ok, if◌then◌else◌, codes, option_map, bytes_eq}
+use Rattle.std.specs.Prelude.{nat_lt, Option, Some, None, if◌then◌else◌, codes, option_map, bytes_eq}
 use Rattle.std.proofs.lemmas.Slice.Eq.{bytes_eq-Decides}
-use Rattle.std.proofs.Common.{◌≡◌, ℕ, zero, suc, refl, ap, ap₂, ◌∙◌, sym, subst, Bool, true, false, not, ◌&&◌, ◌||◌, ◌==◌, List, [], ◌∷◌, true≢false, eqb-true, length, ◌+◌, arith}
+use Rattle.std.proofs.Common.{◌≡◌, ℕ, refl, ap, ap₂, ◌∙◌, sym, subst, Bool, true, false, not, ◌&&◌, ◌||◌, ◌==◌, List, [], ◌∷◌, true≢false, eqb-true, ◌+◌, arith}
 use Rattle.pictures.specs.Objects.{Token, Name, Opens, Closes, Bound, Unknown, Object, Plain, Procedure, Saved, Operator, Kind, Effect}
 use Rattle.pictures.specs.Objects.{Computes, Controls, Draws, PushesGraphics, PopsGraphics, PopsAllGraphics, Looks, Saves, Restores, Ships, Resets, Copies, CopyOperands, Matrix, Call}
 use Rattle.pictures.specs.Dictionaries.{Entry, meaning, system, entry_of, or, has}
 use Rattle.pictures.specs.Operators.{Work, taken, computed, computed_on, controlled}
-use Rattle.pictures.specs.Machine.{State, Graphics, Snapshot, Painting, body_of, opened, drawn, worked, running, popped, popped_all, save_of, back, returned, restored, chain_of, filled_from, copied, perform, done, meant, act, step_on, step, and_then, may_go_back, initial, shipped, Runs}
-use Rattle.pictures.specs.Sheets.{run_of, alone, entries_before, PaintsAlone}
+use Rattle.pictures.specs.Machine.{State, Graphics, Snapshot, Painting, body_of, opened, drawn, worked, running, popped, popped_all, save_of, back, returned, restored, chain_of, filled_from, copied, perform, done, meant, act, step_on, step, may_go_back, initial, shipped, RunsBy}
+use Rattle.pictures.specs.Sheets.{run_of, alone, entries_before, PaintsBy, PaintsAlone}
 use Rattle.pictures.specs.DocumentRun.{PrintsSheet}
-use Rattle.pictures.specs.Unaware.{put_names, none_among, asked_on, unaware_step, unaware_steps, absent, is_in, IsPlainGround, EndsThePage, PrintsItself, none_before, OwnPicture, PagePrints, SheetsShowThePages}
-use Rattle.rules.specs.Sheets.{Slot}
-use Rattle.rules.specs.Signatures.{sheets_in}
-use Rattle.rules.specs.Parts.{NestedUnit, pages, preamble, bytes_of}
-use Rattle.rules.specs.Filters.{preamble_text}
-use Rattle.rules.specs.Run.{document_of}
-use Rattle.pictures.specs.Kept.{preamble_comments_apart}
-use Rattle.pictures.proofs.Kept.{kept_runs_alike, preamble_runs_alike}
+use Rattle.pictures.specs.Unaware.{put_names, none_among, asked_on, unaware_step, absent, is_in, IsPlainGround, EndsBy, PrintsBy, PrintsItself, none_before, OwnPicture, PagePrints}
+use Rattle.rules.specs.Parts.{NestedUnit}
+use Rattle.pictures.proofs.Kept.{kept_runs_alike}
 use Rattle.pictures.specs.Scanner.{tokens}
-use Rattle.pictures.specs.Documents.{started, page_of, PreambleRuns, PagePaints}
-use Rattle.pictures.proofs.Output.{output_is_printed, on_sheets}
+use Rattle.pictures.specs.Documents.{page_of, PagePaints}
 use Rattle.pictures.proofs.Tests.{first, second}
-use Rattle.pictures.proofs.Runs.{nothing, runs_join, runs_one, runs_none}
+use Rattle.pictures.proofs.Runs.{nothing, by_join, by_none, by_one, follow_steps, all_stayed}
 use Rattle.pictures.proofs.Shifted.{ups_same, entry_same, system_same}
 use Rattle.pictures.proofs.Names.{meaning_agrees, not_true}
 use Rattle.pictures.specs.Shifted.{up, ups, two, Agree, AllAgree, up_shot, up_shots, up_state}
-use Rattle.pictures.proofs.Unaware.{all_steps_free, all_steps_go}
+use Rattle.pictures.proofs.Unaware.{unaware_free, AlwaysGoesOn, all_go, always_goes}
 use Rattle.std.proofs.lemmas.Bool.{ne_eqb, ltb-false}
 
 -- A held machine prints nothing.
@@ -115,22 +109,12 @@ keeps_step : (ts : List Token) (s : State) → Keeps s (step_on true ts s)
 keeps_step [] s = tt
 keeps_step (t ∷ ts) s = keeps_act t (record s { left = ts })
 
-keeps_unaware : (b : Bool) (s : State) (x : Option State) → Keeps s x → Keeps s (if b then x else None)
-keeps_unaware true s x k = k
-keeps_unaware false s x k = tt
+keeps_unaware : (b : Bool) (s t : State) (x : Option State) → Keeps s x → (if b then x else None) ≡ Some t → t.sheets ≡ s.sheets
+keeps_unaware true s t x k e = subst (λ r. Keeps s r) e k
+keeps_unaware false s t x k e = absurd (nothing None t refl e)
 
-keeps_on : (n : ℕ) (s t : State) (x : Option State) → Keeps s x → ((r : State) → unaware_steps n r ≡ Some t → t.sheets ≡ r.sheets) → and_then (unaware_steps n) x ≡ Some t → t.sheets ≡ s.sheets
-keeps_on n s t None k f e = absurd (nothing (and_then (unaware_steps n) None) t refl e)
-keeps_on n s t (Some r) k f e = f r e ∙ k
-
-keeps_sheets : (n : ℕ) (s t : State) → unaware_steps n s ≡ Some t → t.sheets ≡ s.sheets
-keeps_sheets zero s t e = sym (ap (sheets_or s) e)
-  where
-    sheets_or : State → Option State → List (List Painting)
-    sheets_or s None = s.sheets
-    sheets_or s (Some t) = t.sheets
-keeps_sheets (suc n) s t e =
-    keeps_on n s t (unaware_step s) (keeps_unaware (none_among (asked_on s.left s) put_names) s (step true s) (keeps_step s.left s)) (λ r f. keeps_sheets n r t f) e
+pub unaware_keeps : (s t : State) → unaware_step s ≡ Some t → t.sheets ≡ s.sheets
+unaware_keeps s t e = keeps_unaware (none_among (asked_on s.left s) put_names) s t (step true s) (keeps_step s.left s) e
 
 -- Names that no dictionary on the stack has.
 
@@ -199,37 +183,45 @@ up_missing n (es ∷ ess) (shot ∷ shots) e =
     (ne_eqb (shot.level + 1) n (λ k. omega (arith, ltb-false shot.level n newer, k)))
     ∙ up_missing n ess shots (second (not (nat_lt shot.level n)) (none_before n shots) e)
 
-pub prints : (s : State) (body : List Token) (picture : List Painting) → IsPlainGround s → PrintsItself s body picture → PrintsSheet s body picture
-prints s body picture p q =
-    let t : State = shipped (run_of q.after q.at) in (
+-- In any machine that goes on where the free one does.
+
+pub prints_by : (free unaware : State → Option State) → ((s t : State) → step false s ≡ Some t → free s ≡ Some t) → ((s t : State) → unaware s ≡ Some t → free s ≡ Some t)
+    → ((s t : State) → unaware s ≡ Some t → t.sheets ≡ s.sheets) → (s : State) (body : List Token) (picture : List Painting) → PrintsBy free unaware s body picture
+    → (t : State) × (RunsBy free (run_of body s) t × (t.left ≡ [])) × (t.painted ≡ []) × (t.sheets ≡ picture ∷ s.sheets)
+prints_by free unaware own goes silent s body picture q =
+    let t : State = shipped (run_of q.after q.at) in
+    let ships : step false q.at ≡ Some t =
+    ap (λ l. step_on false l q.at) q.last ∙ ap (λ x. meant false x (run_of q.after q.at)) (absent_means q.at.work.dictionaries q.at.work.entries (codes "showpage") q.showpage) in (
       q.ends.printed,
       (
-        runs_join false (run_of body s) q.at q.ends.printed (q.count, all_steps_free q.count (run_of body s) q.at q.run)
-            (runs_one false q.at t q.ends.printed (ap (λ l. step_on false l q.at) q.last ∙ ap (λ x. meant false x (run_of q.after q.at)) (absent_means q.at.work.dictionaries q.at.work.entries (codes "showpage") q.showpage)) q.ends.printed_run),
+        by_join free (run_of body s) q.at q.ends.printed (follow_steps unaware free (λ u. u) goes (run_of body s) q.at (q.count, q.run))
+            (by_one free q.at t q.ends.printed (own q.at t ships) q.ends.printed_run),
         q.ends.printed_left,
       ),
       q.ends.printed_nothing,
-      q.ends.printed_once ∙ ap₂ (λ x xs. x ∷ xs) q.picture_is (keeps_sheets q.count (run_of body s) q.at q.run),
+      q.ends.printed_once ∙ ap₂ (λ x xs. x ∷ xs) q.picture_is (all_stayed unaware (λ u. u.sheets) silent q.count (run_of body s) q.at q.run),
     )
 
-paints : (s : State) (body : List Token) (picture : List Painting) → IsPlainGround s → PrintsItself s body picture → PaintsAlone s body picture
-paints s body picture p q =
+pub paints_by : (free held unaware : State → Option State) → ((s t : State) → step false s ≡ Some t → step true s ≡ Some t → held s ≡ Some t) → AlwaysGoesOn held unaware
+    → (s : State) (body : List Token) (picture : List Painting) → IsPlainGround s → PrintsBy free unaware s body picture → PaintsBy held s body picture
+paints_by free held unaware own goes s body picture p q =
     let n : ℕ = s.level in
-    let z = all_steps_go n q.count (run_of body s) q.at (entries_before s) [] (begins s p) (subst (λ x. AllAgree n [] x) (sym p.saves) tt) q.run in
+    let z = all_go held unaware goes n q.count (run_of body s) q.at (entries_before s) [] (begins s p) (subst (λ x. AllAgree n [] x) (sym p.saves) tt) q.run in
     let near : State = up_state z.0 z.1 q.at in
     let there : State = run_of q.after near in
     let last : State = q.ends.placed in
-    let y = all_steps_go n q.ends.count (run_of q.after q.at) last z.0 z.1 z.3 z.4 q.ends.placed_run in
+    let y = all_go held unaware goes n q.ends.count (run_of q.after q.at) last z.0 z.1 z.3 z.4 q.ends.placed_run in
     let end : State = up_state y.0 y.1 last in
     let userdict : is_in 0 last.work.dictionaries ≡ true = ap (is_in 0) q.ends.dictionaries ∙ p.has_userdict in
-    let run : Runs true (up_state (entries_before s) [] (run_of body s)) end =
-    runs_join true (up_state (entries_before s) [] (run_of body s)) near end (q.count, z.2)
-    (runs_one true near there end
-    (ap (λ l. step_on true l near) q.last ∙ ap (λ x. meant true x there) (two_found n z.0 q.at.work.entries q.at.work.dictionaries (codes "showpage") (Procedure []) z.3 (λ d. refl) q.showpage q.has_userdict))
+    let found = two_found n z.0 q.at.work.entries q.at.work.dictionaries (codes "showpage") (Procedure []) z.3 (λ d. refl) q.showpage q.has_userdict in
+    let run : RunsBy held (up_state (entries_before s) [] (run_of body s)) end =
+    by_join held (up_state (entries_before s) [] (run_of body s)) near end (q.count, z.2)
+    (by_one held near there end
+    (own near there (ap (λ l. step_on false l near) q.last ∙ ap (λ x. meant false x there) found) (ap (λ l. step_on true l near) q.last ∙ ap (λ x. meant true x there) found))
     (q.ends.count, y.2)) in
     record {
       end = end;
-      run = subst (λ x. Runs true x end) (same_start s body p) run;
+      run = subst (λ x. RunsBy held x end) (same_start s body p) run;
       leaves = record {
         nothing_left = q.ends.placed_left;
         operands = ap ups q.ends.operands ∙ ups_same s.work.operands p.operands;
@@ -243,12 +235,12 @@ paints s body picture p q =
 
 -- nothing follows the page's showpage
 pub nothing_behind :
-    (s at : State) → at.work.operands ≡ s.work.operands → at.work.dictionaries ≡ s.work.dictionaries → none_before s.level at.saves ≡ true
+    (free unaware : State → Option State) (s at : State) → at.work.operands ≡ s.work.operands → at.work.dictionaries ≡ s.work.dictionaries → none_before s.level at.saves ≡ true
     → absent at.work.dictionaries at.work.entries (codes "ImposeSave") ≡ true
-    → meaning at.work.dictionaries at.work.entries (codes "restore") ≡ system (codes "restore") → EndsThePage s at []
-nothing_behind s at operands dictionaries saves save_name restore_name = record {
+    → meaning at.work.dictionaries at.work.entries (codes "restore") ≡ system (codes "restore") → EndsBy free unaware s at []
+nothing_behind free unaware s at operands dictionaries saves save_name restore_name = record {
   printed = shipped (run_of [] at);
-  printed_run = runs_none false (shipped (run_of [] at));
+  printed_run = by_none free (shipped (run_of [] at));
   printed_left = refl;
   printed_nothing = refl;
   printed_once = refl;
@@ -264,22 +256,18 @@ nothing_behind s at operands dictionaries saves save_name restore_name = record 
   restore_name = restore_name;
 }
 
+-- The machine of the laws.
+
+pub prints : (s : State) (body : List Token) (picture : List Painting) → PrintsItself s body picture → PrintsSheet s body picture
+prints s body picture q = prints_by (step false) unaware_step (λ s t e. e) unaware_free unaware_keeps s body picture q
+
+paints : (s : State) (body : List Token) (picture : List Painting) → IsPlainGround s → PrintsItself s body picture → PaintsAlone s body picture
+paints s body picture p q = paints_by (step false) (step true) unaware_step (λ s t e k. k) always_goes s body picture p q
+
 pub own_picture : OwnPicture
-own_picture s body picture p q = (prints s body picture p q, paints s body picture p q)
+own_picture s body picture p q = (prints s body picture q, paints s body picture p q)
 
 pub page_paints : (us : List NestedUnit) (s : State) (p : ℕ) (picture : List Painting) → IsPlainGround s → PagePrints us s p picture → PagePaints us s p picture
 page_paints us s p picture g (complete, apart, q) =
     let alike = kept_runs_alike (page_of us p) apart complete in
     (alike.1, subst (λ ts. PaintsAlone s ts picture) (sym alike.0) (paints s (tokens (page_of us p)) picture g q))
-
-pub preamble_runs : (sheets : ℕ) (text : List ℕ) (us : List NestedUnit) (s : State) → document_of text ≡ Ok us → preamble_comments_apart us ≡ true
-    → PreambleRuns (bytes_of (preamble us)) s → PreambleRuns (preamble_text sheets us) s
-preamble_runs sheets text us s d a (complete, run, left, painted, printed, ground) =
-    let alike = preamble_runs_alike sheets text us d a complete in
-    (alike.1, subst (λ ts. Runs false (started ts) s) (sym alike.0) run, left, painted, printed, ground)
-
-pub sheets_show_the_pages : SheetsShowThePages
-sheets_show_the_pages frame sides spec text us picture s d a r g h =
-    let all : List (List Slot) = sheets_in sides spec (length (pages us)) in
-    output_is_printed frame sides spec us picture s (preamble_runs (length all) text us s d a r)
-    (on_sheets (λ p. PagePrints us s p (picture p)) (λ p. PagePaints us s p (picture p)) (λ p q. page_paints us s p (picture p) g q) all h)

@@ -3,7 +3,7 @@ use Rattle.std.specs.Prelude.{Option, Some, None, if◌then◌else◌, bytes_eq,
 use Rattle.std.proofs.Common.{◌≡◌, ℕ, zero, suc, ◌+◌, refl, ap, ap₂, ◌∙◌, sym, Bool, true, false, not, ◌&&◌, ◌==◌, List, [], ◌∷◌, true≢false, arith}
 use Rattle.pictures.specs.Objects.{Token, Text, Hexadecimal, Object, Plain, Mark}
 use Rattle.pictures.specs.Objects.{Saved, Want, ANumber, AText, AnArray, AMatrix, AFont, AName, ATruth}
-use Rattle.pictures.specs.Dictionaries.{Entry, system, entry_of, has, systemdict}
+use Rattle.pictures.specs.Dictionaries.{Entry, system, entry_of, systemdict}
 use Rattle.pictures.specs.Operators.{taken, fits, also, collected, onto, below_mark, nth, all_are_old, is_old}
 use Rattle.pictures.specs.Unaware.{is_saved, no_saved, no_saved_in}
 use Rattle.pictures.specs.Shifted.{up, ups}
@@ -78,10 +78,6 @@ is_old_up made level o = refl
 pub all_are_old_up : (made level : ℕ) (os : List Object) → all_are_old made (level + 1) (ups os) ≡ all_are_old made level os
 all_are_old_up made level [] = refl
 all_are_old_up made level (o ∷ os) = ap₂ (λ a b. a && b) (is_old_up made level o) (all_are_old_up made level os)
-
-pub has_up : (x : Option Object) → has (option_map up x) ≡ has x
-has_up None = refl
-has_up (Some o) = refl
 
 up_same : (o : Object) → not (is_saved o) ≡ true → up o ≡ o
 up_same (Saved level) e = absurd (true≢false (sym e))

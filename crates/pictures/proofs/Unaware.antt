@@ -10,10 +10,10 @@ use Rattle.pictures.specs.Dictionaries.{Entry, meaning, system}
 use Rattle.pictures.specs.Operators.{Work, taken, computed_on, controlled_on, all_old}
 use Rattle.pictures.specs.Machine.{State, Graphics, Snapshot, body_of, opened, drawn, worked, running, popped, popped_all, save_of, back, returned, restored, chain_of, filled_from, copied, perform, done, meant, act, step_on, step, steps, and_then, may_go_back}
 use Rattle.pictures.specs.Sheets.{among}
-use Rattle.pictures.specs.Unaware.{put_names, none_among, asked_by, asked_on, unaware_step, unaware_steps}
+use Rattle.pictures.specs.Unaware.{put_names, none_among, asked_by, asked_on, unaware_step}
 use Rattle.pictures.specs.Shifted.{up, ups, Agree, AllAgree, up_work, up_shot, up_shots, up_state}
 use Rattle.pictures.proofs.Tests.{first, second}
-use Rattle.pictures.proofs.Runs.{nothing}
+use Rattle.pictures.proofs.Runs.{nothing, some_is}
 use Rattle.pictures.proofs.Shifted.{up_taken, taken_up, all_are_old_up, system_same}
 use Rattle.pictures.proofs.Names.{WorkGoes, ControlGoes, works_on, controls_on, meaning_agrees, not_true}
 
@@ -50,19 +50,12 @@ steps_on_free : (ts : List Token) (s : State) → Stays (step_on true ts s) (ste
 steps_on_free [] s = tt
 steps_on_free (t ∷ ts) s = acts_free t (record s { left = ts })
 
-unaware_free : (b : Bool) (x y : Option State) → Stays x y → Stays (if b then x else None) y
-unaware_free true x y h = h
-unaware_free false x y h = tt
+free_if : (b : Bool) (x y : Option State) (t : State) → Stays x y → (if b then x else None) ≡ Some t → y ≡ Some t
+free_if true x y t h e = subst (λ r. Stays r y) e h
+free_if false x y t h e = absurd (nothing None t refl e)
 
-goes_free : (n : ℕ) (x y : Option State) (t : State) → Stays x y → ((s : State) → unaware_steps n s ≡ Some t → steps false n s ≡ Some t)
-    → and_then (unaware_steps n) x ≡ Some t → and_then (steps false n) y ≡ Some t
-goes_free n None y t f h e = absurd (nothing (and_then (unaware_steps n) None) t refl e)
-goes_free n (Some s) y t f h e = ap (and_then (steps false n)) f ∙ h s e
-
-pub all_steps_free : (n : ℕ) (s t : State) → unaware_steps n s ≡ Some t → steps false n s ≡ Some t
-all_steps_free zero s t e = e
-all_steps_free (suc n) s t e =
-    goes_free n (unaware_step s) (step false s) t (unaware_free (none_among (asked_on s.left s) put_names) (step true s) (step false s) (steps_on_free s.left s)) (λ r k. all_steps_free n r t k) e
+pub unaware_free : (s t : State) → unaware_step s ≡ Some t → step false s ≡ Some t
+unaware_free s t e = free_if (none_among (asked_on s.left s) put_names) (step true s) (step false s) t (steps_on_free s.left s) e
 
 -- With the names, and without.
 
@@ -207,32 +200,35 @@ steps_on_goes : (n : ℕ) (ts : List Token) (s : State) (es : List Entry) (ess :
 steps_on_goes n [] s es ess a h q = tt
 steps_on_goes n (t ∷ ts) s es ess a h q = acts_goes n t ts s es ess a h q
 
-goes_if : (n : ℕ) (b : Bool) (x y : Option State) → (b ≡ true → Goes n x y) → Goes n (if b then x else None) y
-goes_if n true x y f = f refl
-goes_if n false x y f = tt
+-- Any machine that at each step goes on with the names as without.
 
-abbrev Ends : ℕ → ℕ → State → State → Type 0
-Ends n k r t = (es : List Entry) × (ess : List (List Entry)) × (steps true k r ≡ Some (up_state es ess t)) × Agree n es t.work.entries × AllAgree n ess t.saves
+abbrev pub GoesOn : (State → Option State) → ℕ → State → State → Type 0
+GoesOn held n r t = (es : List Entry) × (ess : List (List Entry)) × (held r ≡ Some (up_state es ess t)) × Agree n es t.work.entries × AllAgree n ess t.saves
 
-goes_on : (n k : ℕ) (x : Option State) (r t : State) → Goes n x (step true r)
-    → ((s : State) (es : List Entry) (ess : List (List Entry)) → Agree n es s.work.entries → AllAgree n ess s.saves → unaware_steps k s ≡ Some t → Ends n k (up_state es ess s) t)
-    → and_then (unaware_steps k) x ≡ Some t → Ends n (suc k) r t
-goes_on n k None r t g f e = absurd (nothing (and_then (unaware_steps k) None) t refl e)
-goes_on n k (Some s) r t g f e =
-    let z = f s g.0 g.1 g.3 g.4 e in
-    (z.0, z.1, ap (and_then (steps true k)) g.2 ∙ z.2, z.3, z.4)
+abbrev pub AlwaysGoesOn : (held unaware : State → Option State) → Type 0
+AlwaysGoesOn held unaware =
+    (n : ℕ) (s t : State) (es : List Entry) (ess : List (List Entry)) → Agree n es s.work.entries → AllAgree n ess s.saves → unaware s ≡ Some t → GoesOn held n (up_state es ess s) t
 
-pub all_steps_go : (n k : ℕ) (s t : State) (es : List Entry) (ess : List (List Entry)) → Agree n es s.work.entries → AllAgree n ess s.saves → unaware_steps k s ≡ Some t → Ends n k (up_state es ess s) t
-all_steps_go n zero s t es ess a h e =
-    subst (λ z. Ends n zero (up_state es ess s) z) (some_same s t e) (es, ess, refl, a, h)
-  where
-    or_s : State → Option State → State
-    or_s s None = s
-    or_s s (Some t) = t
+then_on : (held unaware : State → Option State) (n k : ℕ) (s t : State) (es : List Entry) (ess : List (List Entry)) (x : Option State) → AlwaysGoesOn held unaware → Agree n es s.work.entries → AllAgree n ess s.saves → unaware s ≡ x
+    → ((u : State) (fs : List Entry) (fss : List (List Entry)) → Agree n fs u.work.entries → AllAgree n fss u.saves → steps unaware k u ≡ Some t → GoesOn (steps held k) n (up_state fs fss u) t)
+    → and_then (steps unaware k) x ≡ Some t → GoesOn (steps held (suc k)) n (up_state es ess s) t
+then_on held unaware n k s t es ess None one a h is f e = absurd (nothing (and_then (steps unaware k) None) t refl e)
+then_on held unaware n k s t es ess (Some u) one a h is f e =
+    let g = one n s u es ess a h is in
+    let z = f u g.0 g.1 g.3 g.4 e in
+    (z.0, z.1, ap (and_then (steps held k)) g.2 ∙ z.2, z.3, z.4)
 
-    some_same : (s t : State) → Some s ≡ Some t → s ≡ t
-    some_same s t e = ap (or_s s) e
-all_steps_go n (suc k) s t es ess a h e =
-    goes_on n k (unaware_step s) (up_state es ess s) t
-    (goes_if n (none_among (asked_on s.left s) put_names) (step true s) (step true (up_state es ess s)) (λ q. steps_on_goes n s.left s es ess a h q))
-    (λ r fs fss b g f. all_steps_go n k r t fs fss b g f) e
+pub all_go : (held unaware : State → Option State) → AlwaysGoesOn held unaware → (n k : ℕ) (s t : State) (es : List Entry) (ess : List (List Entry)) → Agree n es s.work.entries → AllAgree n ess s.saves → steps unaware k s ≡ Some t
+    → GoesOn (steps held k) n (up_state es ess s) t
+all_go held unaware one n zero s t es ess a h e =
+    subst (λ z. GoesOn (steps held zero) n (up_state es ess s) z) (some_is s t e) (es, ess, refl, a, h)
+all_go held unaware one n (suc k) s t es ess a h e =
+    then_on held unaware n k s t es ess (unaware s) one a h refl (λ u fs fss b g f. all_go held unaware one n k u t fs fss b g f) e
+
+goes_one : (n : ℕ) (t r : State) (b : Bool) (x : Option State) → (b ≡ true → Goes n x (step true r)) → (if b then x else None) ≡ Some t → GoesOn (step true) n r t
+goes_one n t r true x f e = subst (λ y. Goes n y (step true r)) e (f refl)
+goes_one n t r false x f e = absurd (nothing None t refl e)
+
+pub always_goes : AlwaysGoesOn (step true) unaware_step
+always_goes n s t es ess a h e =
+    goes_one n t (up_state es ess s) (none_among (asked_on s.left s) put_names) (step true s) (λ q. steps_on_goes n s.left s es ess a h q) e

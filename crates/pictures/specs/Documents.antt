@@ -1,14 +1,15 @@
 -- The text of a whole output as tokens, and the picture of a document.
-use Rattle.std.specs.Prelude.{◌≡◌, ℕ, List, [], ◌∷◌, ◌++◌, map, flat_map, Option, Some, None, option_map}
+use Rattle.std.specs.Prelude.{◌≡◌, ℕ, suc, ◌≤◌, ℤ, List, [], ◌∷◌, ◌++◌, map, flat_map, Option, option_map}
 use Rattle.std.specs.Prelude.{slice_index_or, length, false}
+use Rattle.rules.specs.Papers.{Paper}
 use Rattle.rules.specs.Numbers.{points_text, scale_text}
 use Rattle.rules.specs.Specification.{Item, Spec}
-use Rattle.rules.specs.Sheets.{Slot}
 use Rattle.rules.specs.Signatures.{sheets_in}
 use Rattle.rules.specs.Placement.{matrix_of}
 use Rattle.rules.specs.Parts.{NestedUnit, pages}
 use Rattle.rules.specs.Filters.{preamble_text, trailer_text, prepared}
 use Rattle.rules.specs.Output.{Frame, body_text, opening_text, output}
+use Rattle.made_sheets.specs.Made.{MadeSlot, Blank, Placed, MadeSheet, made_of}
 use Rattle.pictures.specs.Objects.{Token}
 use Rattle.pictures.specs.Dictionaries.{userdict}
 use Rattle.pictures.specs.Machine.{State, Painting, Runs}
@@ -63,49 +64,76 @@ page_of us p = slice_index_or (pages us) p []
 abbrev pub body_of_page : List NestedUnit → ℕ → List ℕ
 body_of_page us p = body_text (prepared (page_of us p))
 
--- a slot with the page's own picture; a blank one has none
-abbrev pub shown_slot : Frame → List NestedUnit → (ℕ → List Painting) → Option ℕ → Item → List Shown
-shown_slot frame us picture None item = []
-shown_slot frame us picture (Some p) item =
+-- the frame of a page: its own paper, and the border, which is the same for all pages
+abbrev pub frame_of : Option ℤ → Paper → Frame
+frame_of border paper = record { paper = paper; border = border }
+
+-- a slot with the page's own picture, placed by its item, on its own paper; a blank one has none
+abbrev pub shown_slot : Option ℤ → List NestedUnit → (ℕ → List Painting) → MadeSlot → List Shown
+shown_slot border us picture Blank = []
+shown_slot border us picture (Placed p item paper) =
     record {
-      placed = record { numbers = numbers_of frame item; body = tokens (body_of_page us p) };
+      placed = record { numbers = numbers_of (frame_of border paper) item; body = tokens (body_of_page us p) };
       picture = picture p;
     } ∷ []
 
-abbrev pub shown_sheet : Frame → List NestedUnit → (ℕ → List Painting) → List Slot → List Shown
-shown_sheet frame us picture slots = flat_map (λ slot. shown_slot frame us picture slot.page slot.item) slots
+abbrev pub shown_sheet : Option ℤ → List NestedUnit → (ℕ → List Painting) → MadeSheet → List Shown
+shown_sheet border us picture sheet = flat_map (shown_slot border us picture) sheet.slots
 
--- the picture that each sheet should have, the latest sheet first: for its slots in order, each page's own picture,
--- placed by its item
+-- the picture that each sheet should have, the latest sheet first: the pictures of its slots, in order
 abbrev pub sheet_pictures :
-    Frame → List NestedUnit → (ℕ → List Painting) → State → List (List Slot) → List (List Painting)
-sheet_pictures frame us picture s all = printed s.graphics (map (shown_sheet frame us picture) all) s.sheets
+    Option ℤ → List NestedUnit → (ℕ → List Painting) → State → List MadeSheet → List (List Painting)
+sheet_pictures border us picture s all = printed s.graphics (map (shown_sheet border us picture) all) s.sheets
+
+-- What is so of the pages on sheets.
+
+-- the number of pages on these slots and before them, if so many are before
+abbrev pub pages_past : ℕ → List MadeSlot → ℕ
+pages_past k [] = k
+pages_past k (Blank ∷ slots) = pages_past k slots
+pages_past k (Placed p item paper ∷ slots) = pages_past (suc k) slots
+
+abbrev pub pages_past_all : ℕ → List MadeSheet → ℕ
+pages_past_all k [] = k
+pages_past_all k (sheet ∷ all) = pages_past_all (pages_past k sheet.slots) all
+
+-- the first sheet, if there is one, has at least so many pages
+abbrev pub FirstHas : ℕ → List MadeSheet → Type 0
+FirstHas least [] = Unit {0}
+FirstHas least (sheet ∷ all) = least ≤ pages_past 0 sheet.slots
+
+-- this holds for each page on a slot, with the number of pages before it, and its paper
+abbrev pub OnSlotsFrom : (ℕ → Paper → ℕ → Type 0) → ℕ → List MadeSlot → Type 0
+OnSlotsFrom P k [] = Unit {0}
+OnSlotsFrom P k (Blank ∷ slots) = OnSlotsFrom P k slots
+OnSlotsFrom P k (Placed p item paper ∷ slots) = P k paper p × OnSlotsFrom P (suc k) slots
+
+abbrev pub OnSheetsFrom : (ℕ → Paper → ℕ → Type 0) → ℕ → List MadeSheet → Type 0
+OnSheetsFrom P k [] = Unit {0}
+OnSheetsFrom P k (sheet ∷ all) = OnSlotsFrom P k sheet.slots × OnSheetsFrom P (pages_past k sheet.slots) all
+
+-- whatever is before it
+abbrev pub OnSlots : (Paper → ℕ → Type 0) → List MadeSlot → Type 0
+OnSlots P slots = OnSlotsFrom (λ k. P) 0 slots
+
+abbrev pub OnSheets : (Paper → ℕ → Type 0) → List MadeSheet → Type 0
+OnSheets P all = OnSheetsFrom (λ k. P) 0 all
+
+-- What is run.
 
 -- the page paints this by itself, after the preamble; and its text ends between tokens
 abbrev pub PagePaints : List NestedUnit → State → ℕ → List Painting → Type 0
 PagePaints us s p picture = IsComplete (body_of_page us p) × PaintsAlone s (tokens (body_of_page us p)) picture
 
--- this holds for each page on a sheet
-abbrev pub OnSlot : (ℕ → Type 0) → Option ℕ → Type 0
-OnSlot P None = Unit {0}
-OnSlot P (Some p) = P p
-
-abbrev pub OnSlots : (ℕ → Type 0) → List Slot → Type 0
-OnSlots P [] = Unit {0}
-OnSlots P (slot ∷ slots) = OnSlot P slot.page × OnSlots P slots
-
-abbrev pub OnSheets : (ℕ → Type 0) → List (List Slot) → Type 0
-OnSheets P [] = Unit {0}
-OnSheets P (slots ∷ more) = OnSlots P slots × OnSheets P more
-
--- the preamble ends between tokens; then the machine is in this state, with nothing painted or printed
-abbrev pub PreambleRuns : List ℕ → State → Type 0
-PreambleRuns text s =
+-- the preamble ends between tokens; then the machine is in a state of which this is so, with nothing painted or printed
+abbrev pub PreambleRuns : (State → Type 0) → List ℕ → State → Type 0
+PreambleRuns P text s =
     IsComplete text × Runs false (started (tokens text)) s × (s.left ≡ []) × (s.painted ≡ []) × (s.sheets ≡ [])
-    × IsGround s
+    × P s
 
-abbrev pub all_sheets : Option ℕ → Spec → List NestedUnit → List (List Slot)
-all_sheets sides spec us = sheets_in sides spec (length (pages us))
+-- the sheets of a specification, in signatures or not, as made ones
+abbrev pub all_sheets : Frame → Option ℕ → Spec → List NestedUnit → List MadeSheet
+all_sheets frame sides spec us = made_of frame.paper (sheets_in sides spec (length (pages us)))
 
 -- a machine runs the output up to the trailer, and has then printed these pictures
 abbrev pub IsPrinted :
@@ -114,7 +142,7 @@ IsPrinted frame sides spec us picture s =
     Runs false (started (tokens (output frame sides spec us)))
     (record s {
       left = tokens (trailer_text us);
-      sheets = sheet_pictures frame us picture s (all_sheets sides spec us);
+      sheets = sheet_pictures frame.border us picture s (all_sheets frame sides spec us);
     })
 
 -- a law: given an output, a machine prints the sheets in order, each with the pictures of its pages, placed; the
@@ -122,6 +150,6 @@ IsPrinted frame sides spec us picture s =
 abbrev pub OutputIsPrinted : Type 0
 OutputIsPrinted =
     (frame : Frame) (sides : Option ℕ) (spec : Spec) (us : List NestedUnit) (picture : ℕ → List Painting) (s : State)
-    → PreambleRuns (preamble_text (length (all_sheets sides spec us)) us) s
-    → OnSheets (λ p. PagePaints us s p (picture p)) (all_sheets sides spec us)
+    → PreambleRuns IsGround (preamble_text (length (all_sheets frame sides spec us)) us) s
+    → OnSheets (λ paper p. PagePaints us s p (picture p)) (all_sheets frame sides spec us)
     → IsPrinted frame sides spec us picture s

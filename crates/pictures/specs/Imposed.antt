@@ -1,18 +1,16 @@
 -- The output of made sheets, on which each page has its own paper: the pictures that it should have.
-use Rattle.std.specs.Prelude.{◌≡◌, ℕ, Bool, true, false, not, ◌&&◌, ◌==◌, List, [], ◌∷◌, map, flat_map, Option, Some, Ok, ℤ}
+use Rattle.std.specs.Prelude.{◌≡◌, ℕ, Bool, true, false, not, ◌&&◌, ◌==◌, List, [], ◌∷◌, Option, Ok, ℤ}
 use Rattle.rules.specs.Papers.{Paper}
 use Rattle.rules.specs.Parts.{NestedUnit, preamble, bytes_of}
 use Rattle.rules.specs.Filters.{trailer_text}
 use Rattle.rules.specs.Run.{document_of}
-use Rattle.rules.specs.Output.{Frame}
-use Rattle.made_sheets.specs.Made.{MadeSlot, Blank, Placed, MadeSheet}
+use Rattle.made_sheets.specs.Made.{MadeSheet}
 use Rattle.made_sheets.specs.Dress.{Dress}
 use Rattle.made_sheets.specs.MadeOutput.{made_output}
 use Rattle.pictures.specs.Machine.{State, Painting, Runs}
 use Rattle.pictures.specs.Scanner.{percent_sign, ends_comment, tokens}
-use Rattle.pictures.specs.Sheets.{Shown}
-use Rattle.pictures.specs.Pictures.{printed}
-use Rattle.pictures.specs.Documents.{started, shown_slot, PreambleRuns}
+use Rattle.pictures.specs.Sheets.{IsGround}
+use Rattle.pictures.specs.Documents.{started, sheet_pictures, OnSheets, PreambleRuns}
 use Rattle.pictures.specs.Kept.{preamble_comments_apart}
 use Rattle.pictures.specs.Unaware.{IsPlainGround, PagePrints}
 
@@ -39,42 +37,11 @@ pub record IsQuiet (dress : Dress) : Type 0 where
 
 -- Made sheets.
 
--- the frame of a page: its own paper, and the border, which is the same for all pages
-abbrev pub frame_of : Option ℤ → Paper → Frame
-frame_of border paper = record { paper = paper; border = border }
-
--- a slot with the page's own picture; a blank one has none
-abbrev pub made_slot_shown : Option ℤ → List NestedUnit → (ℕ → List Painting) → MadeSlot → List Shown
-made_slot_shown border us picture Blank = []
-made_slot_shown border us picture (Placed p item paper) = shown_slot (frame_of border paper) us picture (Some p) item
-
-abbrev pub made_sheet_shown : Option ℤ → List NestedUnit → (ℕ → List Painting) → MadeSheet → List Shown
-made_sheet_shown border us picture sheet = flat_map (made_slot_shown border us picture) sheet.slots
-
--- the picture that each sheet should have, the latest sheet first: for its slots in order, each page's own picture,
--- placed by its item, on the page's own paper
-abbrev pub made_pictures :
-    Option ℤ → List NestedUnit → (ℕ → List Painting) → State → List MadeSheet → List (List Painting)
-made_pictures border us picture s all = printed s.graphics (map (made_sheet_shown border us picture) all) s.sheets
-
--- this holds for each page on a sheet, with its paper
-abbrev pub OnMadeSlot : (Paper → ℕ → Type 0) → MadeSlot → Type 0
-OnMadeSlot P Blank = Unit {0}
-OnMadeSlot P (Placed p item paper) = P paper p
-
-abbrev pub OnMadeSlots : (Paper → ℕ → Type 0) → List MadeSlot → Type 0
-OnMadeSlots P [] = Unit {0}
-OnMadeSlots P (slot ∷ slots) = OnMadeSlot P slot × OnMadeSlots P slots
-
-abbrev pub OnMadeSheets : (Paper → ℕ → Type 0) → List MadeSheet → Type 0
-OnMadeSheets P [] = Unit {0}
-OnMadeSheets P (sheet ∷ all) = OnMadeSlots P sheet.slots × OnMadeSheets P all
-
 -- a machine runs the output of these sheets up to the trailer, and has then printed these pictures
 abbrev pub MadeIsPrinted : Option ℤ → Dress → List MadeSheet → List NestedUnit → (ℕ → List Painting) → State → Type 0
 MadeIsPrinted border dress all us picture s =
     Runs false (started (tokens (made_output border dress all us)))
-    (record s { left = tokens (trailer_text us); sheets = made_pictures border us picture s all })
+    (record s { left = tokens (trailer_text us); sheets = sheet_pictures border us picture s all })
 
 -- A law about an accepted document. Suppose that a machine runs the preamble, and that each page prints a picture
 -- by itself. Then it prints these pictures, placed, for any made sheets that are written without added lines other
@@ -84,6 +51,6 @@ MadeSheetsShowThePages =
     (border : Option ℤ) (dress : Dress) (all : List MadeSheet) (text : List ℕ) (us : List NestedUnit)
     (picture : ℕ → List Painting) (s : State)
     → IsQuiet dress → document_of text ≡ Ok us
-    → preamble_comments_apart us ≡ true → PreambleRuns (bytes_of (preamble us)) s → IsPlainGround s
-    → OnMadeSheets (λ paper p. PagePrints us s p (picture p)) all
+    → preamble_comments_apart us ≡ true → PreambleRuns IsGround (bytes_of (preamble us)) s → IsPlainGround s
+    → OnSheets (λ paper p. PagePrints us s p (picture p)) all
     → MadeIsPrinted border dress all us picture s

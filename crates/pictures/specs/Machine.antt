@@ -342,11 +342,14 @@ abbrev pub and_then : (State → Option State) → Option State → Option State
 and_then f None = None
 and_then f (Some s) = f s
 
--- this many steps
-abbrev pub steps : Bool → ℕ → State → Option State
-steps held zero s = Some s
-steps held (suc n) s = and_then (steps held n) (step held s)
+-- this many steps of a machine
+abbrev pub steps : (State → Option State) → ℕ → State → Option State
+steps f zero s = Some s
+steps f (suc n) s = and_then (steps f n) (f s)
 
--- runs from one state to another
+-- it runs from one state to another
+abbrev pub RunsBy : (State → Option State) → State → State → Type 0
+RunsBy f s t = (n : ℕ) × (steps f n s ≡ Some t)
+
 abbrev pub Runs : (held : Bool) → State → State → Type 0
-Runs held s t = (n : ℕ) × (steps held n s ≡ Some t)
+Runs held s t = RunsBy (step held) s t

@@ -7,7 +7,7 @@ use Rattle.pictures.specs.Objects.{Token, Number, Name, Literal, Opens, Closes, 
 use Rattle.pictures.specs.Objects.{Call}
 use Rattle.pictures.specs.Dictionaries.{Entry, userdict, meaning, system}
 use Rattle.pictures.specs.Operators.{all_old, all_are_old}
-use Rattle.pictures.specs.Machine.{Segment, Graphics, Painting, State, save_of, initial, Runs}
+use Rattle.pictures.specs.Machine.{Segment, Graphics, Painting, State, save_of, initial, step, RunsBy}
 use Rattle.pictures.specs.Placing.{Place, picture_at}
 
 -- the texts of the numbers by which a page is placed: its matrix, the paper's width and height, the border's width if
@@ -143,12 +143,15 @@ pub record LeavesAsItWas (s t : State) : Type 0 where
   pub save_name : meaning t.work.dictionaries t.work.entries (codes "ImposeSave") ≡ Some (Saved s.level)
   pub restore_name : meaning t.work.dictionaries t.work.entries (codes "restore") ≡ system (codes "restore")
 
--- from a state after the preamble the page paints this by itself
-pub record PaintsAlone (s : State) (body : List Token) (picture : List Painting) : Type 0 where
+-- from a state after the preamble the page, by these steps, paints this by itself
+pub record PaintsBy (held : State → Option State) (s : State) (body : List Token) (picture : List Painting) : Type 0 where
   pub end : State
-  pub run : Runs true (alone s body) end
+  pub run : RunsBy held (alone s body) end
   pub leaves : LeavesAsItWas s end
   pub picture_is : end.painted ≡ picture
+
+abbrev pub PaintsAlone : State → List Token → List Painting → Type 0
+PaintsAlone s body picture = PaintsBy (step true) s body picture
 
 -- The state after the preamble.
 
@@ -182,9 +185,12 @@ pub record Shown : Type 0 where
   pub placed : Placed
   pub picture : List Painting
 
+abbrev pub AllOf : {A : Type 0} → (A → Type 0) → List A → Type 0
+AllOf P [] = Unit {0}
+AllOf P (x ∷ xs) = P x × AllOf P xs
+
 abbrev pub AllPaint : State → List Shown → Type 0
-AllPaint s [] = Unit {0}
-AllPaint s (x ∷ xs) = PaintsAlone s x.placed.body x.picture × AllPaint s xs
+AllPaint s xs = AllOf (λ (x : Shown). PaintsAlone s x.placed.body x.picture) xs
 
 -- a page on its sheet: its own picture placed, after its border; the latest painting first
 abbrev pub page_picture : Graphics → Shown → List Painting

@@ -1,5 +1,5 @@
 -- A page that the document itself prints, and that uses none of the names that the sheet's text defines.
-use Rattle.std.specs.Prelude.{◌≡◌, ℕ, zero, suc, List, [], ◌∷◌, Bool, true, false, not, ◌&&◌, ◌||◌, ◌==◌, if◌then◌else◌}
+use Rattle.std.specs.Prelude.{◌≡◌, ℕ, List, [], ◌∷◌, Bool, true, false, not, ◌&&◌, ◌||◌, ◌==◌, if◌then◌else◌}
 use Rattle.std.specs.Prelude.{nat_lt, Option, Some, None, Ok, codes}
 use Rattle.rules.specs.Specification.{Spec}
 use Rattle.rules.specs.Parts.{NestedUnit, preamble, bytes_of}
@@ -12,7 +12,7 @@ use Rattle.pictures.specs.Kept.{page_comments_apart, preamble_comments_apart}
 use Rattle.pictures.specs.Objects.{Token, Name, Literal, Bound, Object, Plain, Procedure, Saved, Operator, Computes}
 use Rattle.pictures.specs.Objects.{Load, Known, Where, Get, Bind}
 use Rattle.pictures.specs.Dictionaries.{Entry, userdict, meaning, system, entry_of, has}
-use Rattle.pictures.specs.Machine.{State, Painting, Snapshot, shipped, step, and_then, Runs}
+use Rattle.pictures.specs.Machine.{State, Painting, Snapshot, shipped, step, steps, RunsBy}
 use Rattle.pictures.specs.Sheets.{among, run_of, IsGround, PaintsAlone}
 
 -- the names that the sheet's text defines
@@ -48,10 +48,6 @@ none_among (k ∷ ks) names = not (among k names) && none_among ks names
 -- one step of a held machine that uses none of these names
 abbrev pub unaware_step : State → Option State
 unaware_step s = if none_among (asked_on s.left s) put_names then step true s else None
-
-abbrev pub unaware_steps : ℕ → State → Option State
-unaware_steps zero s = Some s
-unaware_steps (suc n) s = and_then (unaware_steps n) (unaware_step s)
 
 -- no dictionary on the stack has the name
 abbrev pub absent : List ℕ → List Entry → List ℕ → Bool
@@ -95,15 +91,15 @@ none_before level (shot ∷ shots) = not (nat_lt shot.level level) && none_befor
 -- What follows a page's showpage: `end`, `restore`, or nothing. After the sheet is printed, it runs to its end, and
 -- paints and prints nothing. If showpage does nothing, it paints nothing either; then the stacks are as they were,
 -- and only the page's own saves are in force
-pub record EndsThePage (s at : State) (after : List Token) : Type 0 where
+pub record EndsBy (free unaware : State → Option State) (s at : State) (after : List Token) : Type 0 where
   pub printed : State
-  pub printed_run : Runs false (shipped (run_of after at)) printed
+  pub printed_run : RunsBy free (shipped (run_of after at)) printed
   pub printed_left : printed.left ≡ []
   pub printed_nothing : printed.painted ≡ []
   pub printed_once : printed.sheets ≡ at.painted ∷ at.sheets
   pub placed : State
   pub count : ℕ
-  pub placed_run : unaware_steps count (run_of after at) ≡ Some placed
+  pub placed_run : steps unaware count (run_of after at) ≡ Some placed
   pub placed_left : placed.left ≡ []
   pub placed_nothing : placed.painted ≡ at.painted
   pub operands : placed.work.operands ≡ s.work.operands
@@ -113,16 +109,19 @@ pub record EndsThePage (s at : State) (after : List Token) : Type 0 where
   pub restore_name : meaning placed.work.dictionaries placed.work.entries (codes "restore") ≡ system (codes "restore")
 
 -- after the preamble the page runs up to its showpage, which is found by its name; what follows that ends the page
-pub record PrintsItself (s : State) (body : List Token) (picture : List Painting) : Type 0 where
+pub record PrintsBy (free unaware : State → Option State) (s : State) (body : List Token) (picture : List Painting) : Type 0 where
   pub at : State
   pub count : ℕ
-  pub run : unaware_steps count (run_of body s) ≡ Some at
+  pub run : steps unaware count (run_of body s) ≡ Some at
   pub after : List Token
   pub last : at.left ≡ Name (codes "showpage") ∷ after
   pub has_userdict : is_in userdict at.work.dictionaries ≡ true
   pub showpage : absent at.work.dictionaries at.work.entries (codes "showpage") ≡ true
   pub picture_is : at.painted ≡ picture
-  pub ends : EndsThePage s at after
+  pub ends : EndsBy free unaware s at after
+
+abbrev pub PrintsItself : State → List Token → List Painting → Type 0
+PrintsItself s body picture = PrintsBy (step false) unaware_step s body picture
 
 -- A law: what a page prints by itself, after the preamble, is what it paints by itself. So a sheet has what the
 -- document printed, placed
@@ -133,10 +132,13 @@ OwnPicture =
 
 -- the page, as the document has it, prints this by itself; its text ends between tokens, and so does the text
 -- before each dropped line
-abbrev pub PagePrints : List NestedUnit → State → ℕ → List Painting → Type 0
-PagePrints us s p picture =
+abbrev pub PagePrintsBy : (free unaware : State → Option State) → List NestedUnit → State → ℕ → List Painting → Type 0
+PagePrintsBy free unaware us s p picture =
     IsComplete (page_of us p) × (page_comments_apart (page_of us p) ≡ true)
-    × PrintsItself s (tokens (page_of us p)) picture
+    × PrintsBy free unaware s (tokens (page_of us p)) picture
+
+abbrev pub PagePrints : List NestedUnit → State → ℕ → List Painting → Type 0
+PagePrints us s p picture = PagePrintsBy (step false) unaware_step us s p picture
 
 -- A law about an accepted document. If a machine runs the preamble, and each page prints a picture by itself, then,
 -- given the output, it prints these pictures, placed, sheet by sheet. Preamble and pages are the document's own
@@ -145,8 +147,8 @@ SheetsShowThePages =
     (frame : Frame) (sides : Option ℕ) (spec : Spec) (text : List ℕ) (us : List NestedUnit) (picture : ℕ → List Painting)
     (s : State)
     → document_of text ≡ Ok us
-    → preamble_comments_apart us ≡ true → PreambleRuns (bytes_of (preamble us)) s → IsPlainGround s
-    → OnSheets (λ p. PagePrints us s p (picture p)) (all_sheets sides spec us)
+    → preamble_comments_apart us ≡ true → PreambleRuns IsGround (bytes_of (preamble us)) s → IsPlainGround s
+    → OnSheets (λ paper p. PagePrints us s p (picture p)) (all_sheets frame sides spec us)
     → IsPrinted frame sides spec us picture s
 
 -- A law about an accepted document whose pages are independent: the document prints a picture for each page, and
@@ -156,6 +158,6 @@ SheetsShowTheDocument =
     (frame : Frame) (sides : Option ℕ) (spec : Spec) (text : List ℕ) (us : List NestedUnit) (picture : ℕ → List Painting)
     (s : State)
     → document_of text ≡ Ok us
-    → preamble_comments_apart us ≡ true → PreambleRuns (bytes_of (preamble us)) s → IsPlainGround s
+    → preamble_comments_apart us ≡ true → PreambleRuns IsGround (bytes_of (preamble us)) s → IsPlainGround s
     → OnPages (λ p. PagePrints us s p (picture p)) us → PagesAreIndependent us s
     → DocumentPrints text us picture × IsPrinted frame sides spec us picture s

@@ -16,7 +16,7 @@ use Rattle.pstops_cli.specs.Programs.{CreatesAndRuns, IsCreating, IsSaid, Ran, R
 use Rattle.pstops_cli.specs.declared.command.Request.{Request}
 use Rattle.pstops_cli.specs.declared.messages.Fault.{Fault}
 use Rattle.pstops_cli.specs.declared.messages.Fault.TheVariants as fault
-use Rattle.run_statuses.proofs.RunStatuses.{run_status-above}
+use Rattle.imposer.proofs.RunStatuses.{run_status-above}
 use Rattle.pstops_cli.proofs.Statuses.{finished_at_zero}
 
 not_zero : (n : ℕ) → n ≡ 3 → n ≡ 0 → ⊥

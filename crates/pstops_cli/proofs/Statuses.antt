@@ -5,7 +5,7 @@ use Rattle.rules.specs.Output.{output}
 use Rattle.imposer.specs.Runs.{Accepted, Reports, Request, frame_of}
 use Rattle.imposer.specs.declared.outcome.Report.{Report}
 use Rattle.imposer.specs.declared.outcome.RunError.{RunError}
-use Rattle.run_statuses.proofs.RunStatuses.{run_status-above}
+use Rattle.imposer.proofs.RunStatuses.{run_status-above}
 use Rattle.pstops_cli.specs.RequestRuns.{outcome_status}
 
 -- so at status 0 the output was appended

@@ -12,7 +12,7 @@ use Rattle.imposer.specs.declared.outcome.RunError.TheVariants as run
 use Rattle.imposer.specs.declared.outcome.Report.{Report}
 use Rattle.world.specs.declared.read.ReadFault.{ReadFault}
 use Rattle.world.specs.declared.read.ReadFault.TheVariants as read
-use Rattle.run_statuses.specs.Statuses.{run_status}
+use Rattle.imposer.specs.Statuses.{run_status}
 use Rattle.pstops_cli.specs.declared.command.CommandFault.{CommandFault}
 use Rattle.pstops_cli.specs.declared.command.CommandFault.TheVariants as command
 use Rattle.pstops_cli.specs.declared.messages.Fault.{Fault}

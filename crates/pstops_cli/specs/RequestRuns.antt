@@ -8,7 +8,7 @@ use Rattle.imposer.specs.Runs.{Accepted, FailedIn, HasWritten, IsRefusal, Report
 use Rattle.imposer.specs.Runs as runs
 use Rattle.imposer.specs.declared.outcome.Report.{Report}
 use Rattle.imposer.specs.declared.outcome.RunError.{RunError}
-use Rattle.run_statuses.specs.Statuses.{run_status}
+use Rattle.imposer.specs.Statuses.{run_status}
 use Rattle.pstops_cli.specs.declared.command.Request.{Request}
 use Rattle.pstops_cli.specs.Messages.{report_text, run_text, said}
 

@@ -8,9 +8,8 @@ ghost use Rattle.pstops_cli.specs.Messages.{run_text as text_of_run, said, spec_
 
 use crate::command::CommandFault;
 use dsc::DscError;
-use imposer::{Report, RunError};
+use imposer::{Report, RunError, run_status};
 use pagespec::SpecError;
-use run_statuses::run_status;
 use sheet_plan::PlanError;
 use std::alloc::{AllocError, Global};
 use world::ReadFault;

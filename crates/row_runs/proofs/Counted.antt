@@ -238,7 +238,7 @@ few_made same_scale l even leaves papers row made is laid few =
 
 -- ---- pages without a place
 pub cell_refused : (setting : Setting) (cells leaves : ℕ) (papers : List Paper) (row : Row) (e : ArrangementError) → IsRefusedIn (filling setting papers) row e → RefusesLaying (laying.Cards setting cells) leaves papers row (of_arrangement e)
-cell_refused setting cells leaves papers row why.NoMemory h = refl
+cell_refused setting cells leaves papers row why.NoMemory h = tt
 cell_refused setting cells leaves papers row why.CellsOutOfRange h = inr h
 cell_refused setting cells leaves papers row why.SideTooLong h = inr h
 cell_refused setting cells leaves papers row why.LengthOutOfRange h = inr h
@@ -250,7 +250,7 @@ cell_refused setting cells leaves papers row why.ScaleTooLarge h = inr h
 cell_refused setting cells leaves papers row why.CreepOverFold h = inr h
 
 pub poster_refused : (poster : Poster) (leaves : ℕ) (papers : List Paper) (row : Row) (e : PosterError) → IsNoPosterIn poster papers row e → RefusesLaying (laying.Poster poster) leaves papers row (of_poster e)
-poster_refused poster leaves papers row no_poster.NoMemory h = refl
+poster_refused poster leaves papers row no_poster.NoMemory h = tt
 poster_refused poster leaves papers row no_poster.TilesOutOfRange h = inr h
 poster_refused poster leaves papers row no_poster.SideTooLong h = inr h
 poster_refused poster leaves papers row no_poster.NothingButOverlap h = inr h

@@ -5,8 +5,7 @@ pub mod Lines
 mod Alone
 mod Counted
 mod OneScale
-mod Refused
-mod Written
+pub mod Refused
 mod Fit
 mod ReadInOrder
 mod Specified

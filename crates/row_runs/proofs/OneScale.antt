@@ -31,7 +31,7 @@ evened_stand true (laying.Poster poster) papers row made h = h
 -- a page without a scale refuses them
 refused_by : (pages : ℕ) (papers : List Paper) (a : Asked) (row : Row) (e : ArrangementError) → row_chosen pages a ≡ Ok row → (a.same_scale ≡ true) × WhyNotEven a.laying papers (signed (sewn a) row) e
     → RefusesAsked pages papers a (of_arrangement e)
-refused_by pages papers a row why.NoMemory is h = (refl, subst IsOk (sym is) refl)
+refused_by pages papers a row why.NoMemory is h = subst IsOk (sym is) refl
 refused_by pages papers a row why.CellsOutOfRange is h = (row, is, inl h)
 refused_by pages papers a row why.SideTooLong is h = (row, is, inl h)
 refused_by pages papers a row why.LengthOutOfRange is h = (row, is, inl h)

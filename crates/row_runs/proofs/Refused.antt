@@ -1,6 +1,5 @@
--- What a refusal says of what was asked for, of a run, and of a look.
-use Rattle.std.proofs.Common.{◌≡◌, ◌≤◌, ℕ, List, Ok, Option, None, Some, inl, inr, refl, sym, subst}
-use Rattle.std.specs.Io.KnownBytes.{Keeps}
+-- What a refusal says of what was asked for, of a run, and of its sheets.
+use Rattle.std.proofs.Common.{◌≡◌, ◌≤◌, ℕ, List, Ok, inl, inr, refl, sym, subst}
 use Rattle.std.specs.Prelude.{IsOk}
 use Rattle.rules.specs.Papers.{Paper}
 use Rattle.made_sheets.specs.Choice.{signed}
@@ -12,10 +11,12 @@ use Rattle.row_runs.specs.declared.error.AskedError.{AskedError}
 use Rattle.row_runs.specs.declared.error.AskedError.TheVariants as error
 use Rattle.row_runs.specs.declared.run.RowJob.{RowJob}
 use Rattle.row_runs.specs.Evened.{evened_if}
-use Rattle.row_runs.specs.Looks.{RefusesLook}
-use Rattle.sheet_writer.specs.Sinks.{SinkView}
-use Rattle.row_runs.specs.Runs.{FailedWith, IsUnwritten, RefusesRun, WroteWith, page_count}
-use Rattle.row_runs.specs.Sheets.{FitAsLaid, HaveSpace, RefusesAsked, RefusesLaying, laying_for, leaves_in, row_chosen, sewn, sheets_laid}
+use Rattle.row_runs.specs.SheetsRuns.{RefusesSheets}
+use Rattle.row_runs.specs.Runs.{RefusesRun, page_count}
+use Rattle.row_runs.specs.BySpec.{AreBySpec, RefusesBySpec, RefusesSheetsBySpec, pages_of}
+use Rattle.row_runs.specs.declared.by_spec.SpecJob.{SpecJob}
+use Rattle.made_sheets.specs.Made.{MadeSheet}
+use Rattle.row_runs.specs.Sheets.{AreAsked, FitAsLaid, HaveSpace, RefusesAsked, RefusesLaying, laying_for, leaves_in, row_chosen, sewn, sheets_laid}
 
 of_laying : (pages : ℕ) (papers : List Paper) (a : Asked) (row : Row) (e : AskedError) → pages ≤ 1_000_000 → row_chosen pages a ≡ Ok row → RefusesLaying (laying_for a papers row) (leaves_in (sewn a) row) papers (signed (sewn a) row) e
     → RefusesAsked pages papers a e
@@ -23,8 +24,7 @@ of_laying pages papers a row (error.Row e) le is h = absurd h
 of_laying pages papers a row (error.Arrangement e) le is h = (row, is, inr h)
 of_laying pages papers a row (error.Poster e) le is h = (row, is, h)
 of_laying pages papers a row (error.Sheets e) le is h = (row, is, h.0, h.1 pages le)
-of_laying pages papers a row (error.NoMemory written) le is h = (h, subst IsOk (sym is) refl)
-of_laying pages papers a row (error.Write written) le is h = absurd h
+of_laying pages papers a row error.NoMemory le is h = subst IsOk (sym is) refl
 
 -- a row that isn't laid
 pub asked_refused : (pages : ℕ) (papers : List Paper) (a : Asked) (row printed : Row) (even : Laying) (leaves : ℕ) (e : AskedError) → pages ≤ 1_000_000 → row_chosen pages a ≡ Ok row → printed ≡ signed (sewn a) row
@@ -51,51 +51,31 @@ of_asked j (error.Arrangement e) h = h
 of_asked j (error.Poster e) h = h
 of_asked j (error.Sheets e) h =
     (sheets_laid (laying_for j.asked j.papers.now h.0) (leaves_in (sewn j.asked) h.0) j.papers.now (signed (sewn j.asked) h.0), record { row = h.0; is_chosen = h.1; are_laid = refl; fits = have_space (laying_for j.asked j.papers.now h.0) (leaves_in (sewn j.asked) h.0) j.papers.now (signed (sewn j.asked) h.0) h.2 }, h.3)
-of_asked j (error.NoMemory written) h = h.1
-of_asked j (error.Write written) h = absurd h
+of_asked j error.NoMemory h = h
 
 -- a run that makes no sheets
 pub run_refused : (j : RowJob) (n : ℕ) (e : AskedError) → n ≡ page_count j → RefusesAsked n j.papers.now j.asked e → RefusesRun j e
 run_refused j n e is h = of_asked j e (subst (λ (k : ℕ). RefusesAsked k j.papers.now j.asked e) is h)
 
-seen : (j : RowJob) (e : AskedError) → RefusesAsked (page_count j) j.papers.now j.asked e → RefusesLook j e
-seen j (error.Row e) h = h
-seen j (error.Arrangement e) h = h
-seen j (error.Poster e) h = h
-seen j (error.Sheets e) h = of_asked j (error.Sheets e) h
-seen j (error.NoMemory written) h = (h.0, h.1)
-seen j (error.Write written) h = absurd h
+-- sheets that are asked for, and can't be planned
+pub sheets_refused : (j : RowJob) (made : List MadeSheet) (e : AskedError) → AreAsked (page_count j) j.papers.now j.asked made → RefusesSheets (page_count j) made e → RefusesRun j e
+sheets_refused j made (error.Sheets e) asked h = (made, asked, h)
+sheets_refused j made error.NoMemory asked h = subst IsOk (sym asked.is_chosen) refl
+sheets_refused j made (error.Row e) asked h = absurd h
+sheets_refused j made (error.Arrangement e) asked h = absurd h
+sheets_refused j made (error.Poster e) asked h = absurd h
 
--- and a look
-pub look_refused : (j : RowJob) (n : ℕ) (e : AskedError) → n ≡ page_count j → RefusesAsked n j.papers.now j.asked e → RefusesLook j e
-look_refused j n e is h = seen j e (subst (λ (k : ℕ). RefusesAsked k j.papers.now j.asked e) is h)
+-- the same of sheets of a specification on a row, and a row without such sheets
+pub spec_refused : (j : SpecJob) (made : List MadeSheet) (e : AskedError) → AreBySpec j made → RefusesSheets (pages_of j) made e → RefusesBySpec j e
+spec_refused j made (error.Sheets e) are h = (made, are, inl h)
+spec_refused j made error.NoMemory are h = subst IsOk (sym are.is_chosen) refl
+spec_refused j made (error.Row e) are h = absurd h
+spec_refused j made (error.Arrangement e) are h = absurd h
+spec_refused j made (error.Poster e) are h = absurd h
 
--- nothing was written before
-pub asked_unwritten : (pages : ℕ) (papers : List Paper) (a : Asked) (e : AskedError) → RefusesAsked pages papers a e → IsUnwritten e
-asked_unwritten pages papers a (error.Row e) h = tt
-asked_unwritten pages papers a (error.Arrangement e) h = tt
-asked_unwritten pages papers a (error.Poster e) h = tt
-asked_unwritten pages papers a (error.Sheets e) h = tt
-asked_unwritten pages papers a (error.NoMemory written) h = h.0
-asked_unwritten pages papers a (error.Write written) h = absurd h
-
--- so a run that was refused so left its sink alone
-stays : (known : Option (List ℕ)) → Keeps known known
-stays None = tt
-stays (Some xs) = refl
-
-pub row_unwritten : (j : RowJob) (e : AskedError) (view : SinkView) → IsUnwritten e → WroteWith j view view e
-row_unwritten j (error.Row e) view none = stays view.bytes
-row_unwritten j (error.Arrangement e) view none = stays view.bytes
-row_unwritten j (error.Poster e) view none = stays view.bytes
-row_unwritten j (error.Sheets e) view none = stays view.bytes
-row_unwritten j (error.NoMemory written) view none = inl (none, stays view.bytes)
-row_unwritten j (error.Write written) view none = absurd none
-
-pub row_steady : (e : AskedError) (view : SinkView) → IsUnwritten e → FailedWith e view view
-row_steady (error.Row e) view none = refl
-row_steady (error.Arrangement e) view none = refl
-row_steady (error.Poster e) view none = refl
-row_steady (error.Sheets e) view none = refl
-row_steady (error.NoMemory written) view none = inl refl
-row_steady (error.Write written) view none = absurd none
+pub spec_unmade : (j : SpecJob) (e : AskedError) → RefusesSheetsBySpec j e → RefusesBySpec j e
+spec_unmade j (error.Sheets e) h = (h.0, h.1, inr h.2)
+spec_unmade j error.NoMemory h = h
+spec_unmade j (error.Row e) h = h
+spec_unmade j (error.Arrangement e) h = absurd h
+spec_unmade j (error.Poster e) h = absurd h

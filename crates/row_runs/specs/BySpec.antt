@@ -1,6 +1,6 @@
--- What the answers of a run by a specification on a row mean.
+-- What a run by a specification on a row writes, and why it is refused.
 use Rattle.std.specs.Prelude.{◌≡◌, ◌⊎◌, ℕ, List, [], length, IsOk, Ok, Option, Result, option_map}
-use Rattle.std.specs.Io.KnownBytes.{Appends, Keeps}
+use Rattle.std.specs.Io.KnownBytes.{Appends}
 use Rattle.rules.specs.Parts.{pages}
 use Rattle.made_sheets.specs.Choice.{RowFault, chosen, signed}
 use Rattle.made_sheets.specs.Made.{MadeSheet}
@@ -11,10 +11,8 @@ use Rattle.rows.specs.Refusals.{RefusesRow}
 use Rattle.rows.specs.Sewing.{signing_of}
 use Rattle.row_sheets.specs.BySpec.{PassesLimit, by_spec}
 use Rattle.sheet_plan.specs.MadeRefusals.{RefusesMade}
-use Rattle.sheet_writer.specs.Sinks.{SinkView}
 use Rattle.imposer.specs.declared.outcome.Report.{Report}
-use Rattle.row_runs.specs.SheetsRuns.{ReportsOn, WroteStart, told_output}
-use Rattle.row_runs.specs.Runs.{AfterError}
+use Rattle.row_runs.specs.SheetsRuns.{ReportsOn, told_output}
 use Rattle.row_runs.specs.declared.by_spec.SpecJob.{SpecJob}
 use Rattle.row_runs.specs.declared.error.AskedError.{AskedError}
 use Rattle.row_runs.specs.declared.error.AskedError.TheVariants as error
@@ -55,26 +53,14 @@ RefusesSheetsBySpec j (error.Row e) = RefusesRow (row_by j) e
 RefusesSheetsBySpec j (error.Arrangement e) = ⊥
 RefusesSheetsBySpec j (error.Poster e) = ⊥
 RefusesSheetsBySpec j (error.Sheets e) = (made : List MadeSheet) × AreBySpec j made × PassesLimit made e
-RefusesSheetsBySpec j (error.NoMemory written) = (written ≡ 0) × IsOk (row_by j)
-RefusesSheetsBySpec j (error.Write written) = ⊥
+RefusesSheetsBySpec j error.NoMemory = IsOk (row_by j)
 
--- a refusal names the first fault: of the row; if there is one, of the sheets. A failed write comes after both, and out of
--- memory after the checks of the row
+-- a refusal names the first fault: of the row; if there is one, of the sheets. Out of memory comes after the checks of the
+-- row
 abbrev pub RefusesBySpec : SpecJob → AskedError → Type 0
 RefusesBySpec j (error.Row e) = RefusesRow (row_by j) e
 RefusesBySpec j (error.Arrangement e) = ⊥
 RefusesBySpec j (error.Poster e) = ⊥
 RefusesBySpec j (error.Sheets e) =
     (made : List MadeSheet) × AreBySpec j made × (RefusesMade (pages_of j) made e ⊎ PassesLimit made e)
-RefusesBySpec j (error.NoMemory written) = IsOk (row_by j)
-RefusesBySpec j (error.Write written) = (made : List MadeSheet) × AreSpecPlan j made
-
--- the first bytes of the output of these sheets were written, so many, and nothing else
-abbrev pub WrotePartBySpec : SpecJob → (old new : SinkView) → (written : ℕ) → Type 0
-WrotePartBySpec j old new written = (made : List MadeSheet) × AreSpecPlan j made
-    × WroteStart (output_by_spec j made) old new written
-
-abbrev pub WroteBySpec : SpecJob → (old new : SinkView) → AskedError → Type 0
-WroteBySpec j old new e = AfterError e (Keeps old.bytes new.bytes)
-    (λ written. ((written ≡ 0) × Keeps old.bytes new.bytes) ⊎ WrotePartBySpec j old new written)
-    (WrotePartBySpec j old new)
+RefusesBySpec j error.NoMemory = IsOk (row_by j)

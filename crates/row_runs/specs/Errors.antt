@@ -5,24 +5,23 @@ use Rattle.layouts.specs.declared.error.ArrangementError.{ArrangementError}
 use Rattle.layouts.specs.declared.error.ArrangementError.TheVariants as arrangement
 use Rattle.row_sheets.specs.declared.poster.PosterError.{PosterError}
 use Rattle.row_sheets.specs.declared.poster.PosterError.TheVariants as poster
-use Rattle.row_runs.specs.declared.sheets_error.SheetsError.{SheetsError}
-use Rattle.row_runs.specs.declared.sheets_error.SheetsError.TheVariants as sheets
+use Rattle.sheet_plan.specs.declared.error.MadeError.{MadeError}
+use Rattle.sheet_plan.specs.declared.error.MadeError.TheVariants as plan
 use Rattle.row_runs.specs.declared.error.AskedError.{AskedError}
 use Rattle.row_runs.specs.declared.error.AskedError.TheVariants as error
 
 abbrev pub of_row : RowError → AskedError
-of_row row.NoMemory = error.NoMemory 0
+of_row row.NoMemory = error.NoMemory
 of_row other = error.Row other
 
 abbrev pub of_arrangement : ArrangementError → AskedError
-of_arrangement arrangement.NoMemory = error.NoMemory 0
+of_arrangement arrangement.NoMemory = error.NoMemory
 of_arrangement other = error.Arrangement other
 
 abbrev pub of_poster : PosterError → AskedError
-of_poster poster.NoMemory = error.NoMemory 0
+of_poster poster.NoMemory = error.NoMemory
 of_poster other = error.Poster other
 
-abbrev pub of_sheets : SheetsError → AskedError
-of_sheets (sheets.Sheets e) = error.Sheets e
-of_sheets (sheets.NoMemory written) = error.NoMemory written
-of_sheets (sheets.Write written) = error.Write written
+abbrev pub of_plan : MadeError → AskedError
+of_plan plan.NoMemory = error.NoMemory
+of_plan other = error.Sheets other

@@ -2,7 +2,6 @@
 -- errors are called; layings with one scale; limits; the sheets that are asked for, how their pages are placed, read and
 -- specified, and their marks; what the answers mean, also those of a run by a specification; lines on sheets; how sheets are
 -- read; what is shown of them before they are imposed.
-pub mod SheetsErrors
 pub mod SheetsRuns
 pub mod Errors
 pub mod Evened

@@ -3,14 +3,10 @@ use Rattle.std.specs.Prelude.{◌≡◌, ℕ, List}
 use Rattle.made_sheets.specs.Made.{MadeSheet}
 use Rattle.preview.specs.Listing.{plan_text}
 use Rattle.preview.specs.Drawing.{preview_text}
-use Rattle.sheet_plan.specs.declared.error.MadeError.{MadeError}
-use Rattle.sheet_plan.specs.declared.error.MadeError.TheVariants as plan
 use Rattle.row_runs.specs.Guides.{guides_with}
 use Rattle.row_runs.specs.Readings.{reading_in, sides_in}
-use Rattle.row_runs.specs.Runs.{ArePlanned, RefusesRun}
+use Rattle.row_runs.specs.Runs.{ArePlanned}
 use Rattle.row_runs.specs.declared.run.RowJob.{RowJob}
-use Rattle.row_runs.specs.declared.error.AskedError.{AskedError}
-use Rattle.row_runs.specs.declared.error.AskedError.TheVariants as error
 
 -- the text of the plan of the sheets that a run would impose, as they are read
 pub record TellsPlan (j : RowJob) (most : ℕ) (text : List ℕ) : Type 0 where
@@ -23,14 +19,3 @@ pub record TellsPicture (j : RowJob) (most : ℕ) (text : List ℕ) : Type 0 whe
   pub made : List MadeSheet
   pub planned : ArePlanned j made
   pub told : text ≡ preview_text (sides_in j.asked.laying) (guides_with j.marks j.asked.laying) most made
-
--- what an error of the plan is called
-abbrev pub of_plan : MadeError → AskedError
-of_plan plan.NoMemory = error.NoMemory 0
-of_plan other = error.Sheets other
-
--- a refusal is that of the run, and nothing is written
-abbrev pub RefusesLook : RowJob → AskedError → Type 0
-RefusesLook j (error.NoMemory written) = (written ≡ 0) × RefusesRun j (error.NoMemory written)
-RefusesLook j (error.Write written) = ⊥
-RefusesLook j other = RefusesRun j other

@@ -108,10 +108,9 @@ WhyNoPlan l leaves papers row e = (pages : ℕ) → pages ≤ most_pages → Ref
 abbrev pub RefusesLaying : Laying → (leaves : ℕ) → List Paper → Row → AskedError → Type 0
 RefusesLaying l leaves papers row (error.Arrangement e) = WhyNotLaid l leaves papers row e
 RefusesLaying l leaves papers row (error.Poster e) = WhyNoPosters l papers row e
-RefusesLaying l leaves papers row (error.NoMemory written) = written ≡ 0
+RefusesLaying l leaves papers row error.NoMemory = ⊤
 RefusesLaying l leaves papers row (error.Row e) = ⊥
 RefusesLaying l leaves papers row (error.Sheets e) = HaveSpace l papers row × WhyNoPlan l leaves papers row e
-RefusesLaying l leaves papers row (error.Write written) = ⊥
 
 -- ---- what is asked for
 
@@ -146,5 +145,4 @@ RefusesAsked pages papers a (error.Poster e) = (row : Row) × (row_chosen pages 
 RefusesAsked pages papers a (error.Sheets e) = (row : Row) × (row_chosen pages a ≡ Ok row)
     × HaveSpace (laying_for a papers row) papers (signed (sewn a) row)
     × RefusesMade pages (sheets_laid (laying_for a papers row) (leaves_in (sewn a) row) papers (signed (sewn a) row)) e
-RefusesAsked pages papers a (error.NoMemory written) = (written ≡ 0) × IsOk (row_chosen pages a)
-RefusesAsked pages papers a (error.Write written) = ⊥
+RefusesAsked pages papers a error.NoMemory = IsOk (row_chosen pages a)

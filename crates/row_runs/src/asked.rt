@@ -98,7 +98,7 @@ pub fn asked_sheets(
     let leaves = leaves_in(asked.signing, row.as_slice());
     let printed = match signed_row(alloc, row, asked.signing) {
         Ok(printed) => printed,
-        Err(_) => return Err(AskedError::NoMemory { written: 0 }),
+        Err(_) => return Err(AskedError::NoMemory),
     };
     let entries = printed.as_slice();
     let laying = match evened_if(asked.same_scale, &asked.laying, papers, entries) {
@@ -129,7 +129,7 @@ pub(crate) fn row_error(error: RowError) -> AskedError
     ensures { result ≡ of_row error }
 {
     match error {
-        RowError::NoMemory => AskedError::NoMemory { written: 0 },
+        RowError::NoMemory => AskedError::NoMemory,
         error => AskedError::Row(error),
     }
 }
@@ -139,7 +139,7 @@ fn arrangement_error(error: ArrangementError) -> AskedError
     ensures { result ≡ of_arrangement error }
 {
     match error {
-        ArrangementError::NoMemory => AskedError::NoMemory { written: 0 },
+        ArrangementError::NoMemory => AskedError::NoMemory,
         error => AskedError::Arrangement(error),
     }
 }
@@ -149,7 +149,7 @@ fn poster_error(error: PosterError) -> AskedError
     ensures { result ≡ of_poster error }
 {
     match error {
-        PosterError::NoMemory => AskedError::NoMemory { written: 0 },
+        PosterError::NoMemory => AskedError::NoMemory,
         error => AskedError::Poster(error),
     }
 }

@@ -1,29 +1,39 @@
-//! Why a row wasn't imposed.
+//! Why a row isn't imposed.
+ghost use Rattle.std.specs.Prelude.{◌≡◌};
+ghost use Rattle.row_runs.specs.Errors.{of_plan};
+
 use layouts::ArrangementError;
 use row_sheets::PosterError;
 use rows::RowError;
 use sheet_plan::MadeError;
 use thiserror::Error;
 
-/// Why a row wasn't imposed, in the order of the checks.
+/// Why a row isn't imposed, in the order of the checks.
 #[derive(Clone, Copy, Debug, PartialEq, Eq, Error)]
 pub enum AskedError {
-    /// There is no such row, never for memory. Nothing was written.
+    /// There is no such row, never for memory.
     #[error(transparent)]
     Row(RowError),
-    /// A page of the row can't be placed in a cell, never for memory. Nothing was written.
+    /// A page of the row can't be placed in a cell, never for memory.
     #[error(transparent)]
     Arrangement(ArrangementError),
-    /// A page of the row can't be such a poster, never for memory. Nothing was written.
+    /// A page of the row can't be such a poster, never for memory.
     #[error(transparent)]
     Poster(PosterError),
-    /// The sheets can't be planned, never for memory. Nothing was written.
+    /// The sheets can't be planned, never for memory.
     #[error(transparent)]
     Sheets(MadeError),
-    /// Memory was refused after the sink had taken that many bytes, which are the first of the output.
+    /// Memory was refused.
     #[error("out of memory")]
-    NoMemory { written: u64 },
-    /// The sink failed after it had taken that many bytes, which are the first of the output.
-    #[error("cannot write output")]
-    Write { written: u64 },
+    NoMemory,
+}
+
+/// What an error of the plan is called.
+pub(crate) fn plan_error(error: MadeError) -> AskedError
+    ensures { result ≡ of_plan error }
+{
+    match error {
+        MadeError::NoMemory => AskedError::NoMemory,
+        error => AskedError::Sheets(error),
+    }
 }

@@ -1,4 +1,4 @@
-//! Runs that impose a row of pages: what is asked for, planned, drawn, or written.
+//! A row of pages before it is written: what is asked for, laid on sheets, planned, listed or drawn.
 #![tactic(auto)]
 
 mod asked;
@@ -13,14 +13,10 @@ mod marked;
 mod planned;
 mod reading;
 mod run;
-mod sheets_error;
-mod sheets_run;
 
 pub use asked::{Asked, Laying, asked_sheets};
-pub use by_spec::{SpecJob, impose_spec_row};
+pub use by_spec::SpecJob;
 pub use error::AskedError;
 pub use look::{row_plan, row_preview};
-pub use planned::PlannedSheets;
-pub use run::{LaidRow, RowJob, impose_row};
-pub use sheets_error::SheetsError;
-pub use sheets_run::{SheetJob, impose_sheets};
+pub use planned::{PlannedSheets, SheetJob};
+pub use run::{LaidRow, RowJob};

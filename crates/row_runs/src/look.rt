@@ -5,12 +5,12 @@ ghost use Rattle.sheet_plan.specs.MadeRefusals.{RefusesMade};
 ghost use Rattle.preview.specs.Drawing.{preview_text as picture_of};
 ghost use Rattle.row_runs.specs.Guides.{guides_with};
 ghost use Rattle.row_runs.specs.Sheets.{MayBeAsked, MayBeLaid};
-ghost use Rattle.row_runs.specs.Runs.{ArePlanned};
-ghost use Rattle.row_runs.specs.Looks.{RefusesLook, TellsPicture, TellsPlan, of_plan};
+ghost use Rattle.row_runs.specs.Runs.{ArePlanned, RefusesRun};
+ghost use Rattle.row_runs.specs.Looks.{TellsPicture, TellsPlan};
 ghost use Rattle.row_runs.specs.Readings.{sides_in};
 
 use crate::asked::{Laying, asked_sheets};
-use crate::error::AskedError;
+use crate::error::{AskedError, plan_error};
 use crate::guides::guides_of;
 use crate::reading::{reading_of, sides_of};
 use crate::run::RowJob;
@@ -19,12 +19,12 @@ use preview::{plan_text, preview_text};
 use sheet_plan::{MadeError, MadeSheets, Plan};
 use std::alloc::{AllocError, Global};
 
-/// The text of the plan of the sheets that `impose_row` would impose. Of more sheets or leaves than `most` the middle is
-/// left out. What the run refuses is refused as it does, but for a write.
+/// The text of the plan of the sheets that a run would impose. Of more sheets or leaves than `most` the middle is
+/// left out. What the run refuses is refused as it does.
 pub fn row_plan(alloc: Global, job: &RowJob<'_, '_>, most: u32) -> Result<Vec<u8>, AskedError>
     requires asked { MayBeAsked job.now.asked }
     ensures told { IfOk result (λ text. TellsPlan job.now most text.items) }
-    ensures refused { IfErr result (RefusesLook job.now) }
+    ensures refused { IfErr result (RefusesRun job.now) }
 {
     let sheets = match planned_sheets(alloc, job) {
         Ok(sheets) => sheets,
@@ -32,16 +32,16 @@ pub fn row_plan(alloc: Global, job: &RowJob<'_, '_>, most: u32) -> Result<Vec<u8
     };
     match plan_text(alloc, &sheets, &reading_of(&job.asked.laying), most) {
         Ok(text) => Ok(text),
-        Err(_) => Err(AskedError::NoMemory { written: 0 }),
+        Err(_) => Err(AskedError::NoMemory),
     }
 }
 
-/// The picture of the sheets that `impose_row` would impose, as an SVG, with margin, cuts, fold and lines for notes on each.
-/// Of more sheets than `most` the first are drawn. What the run refuses is refused as it does, but for a write.
+/// The picture of the sheets that a run would impose, as an SVG, with margin, cuts, fold and lines for notes on each.
+/// Of more sheets than `most` the first are drawn. What the run refuses is refused as it does.
 pub fn row_preview(alloc: Global, job: &RowJob<'_, '_>, most: u32) -> Result<Vec<u8>, AskedError>
     requires asked { MayBeAsked job.now.asked }
     ensures told { IfOk result (λ text. TellsPicture job.now most text.items) }
-    ensures refused { IfErr result (RefusesLook job.now) }
+    ensures refused { IfErr result (RefusesRun job.now) }
 {
     let sheets = match planned_sheets(alloc, job) {
         Ok(sheets) => sheets,
@@ -49,7 +49,7 @@ pub fn row_preview(alloc: Global, job: &RowJob<'_, '_>, most: u32) -> Result<Vec
     };
     match drawn(alloc, &sheets, job.marks, &job.asked.laying, most) {
         Ok(text) => Ok(text),
-        Err(_) => Err(AskedError::NoMemory { written: 0 }),
+        Err(_) => Err(AskedError::NoMemory),
     }
 }
 
@@ -74,7 +74,7 @@ fn drawn(
 fn planned_sheets(alloc: Global, job: &RowJob<'_, '_>) -> Result<MadeSheets, AskedError>
     requires asked { MayBeAsked job.now.asked }
     ensures made { IfOk result (ArePlanned job.now) }
-    ensures refused { IfErr result (RefusesLook job.now) }
+    ensures refused { IfErr result (RefusesRun job.now) }
 {
     let count = job.document.pages();
     let sheets = match asked_sheets(alloc, count, job.papers, &job.asked) {
@@ -95,15 +95,5 @@ fn check_plan(alloc: Global, pages: u32, sheets: &MadeSheets) -> Result<(), Made
     match Plan::of_sheets(alloc, pages, sheets) {
         Ok(_) => Ok(()),
         Err(error) => Err(error),
-    }
-}
-
-/// What an error of the plan is called.
-pub(crate) fn plan_error(error: MadeError) -> AskedError
-    ensures { result ≡ of_plan error }
-{
-    match error {
-        MadeError::NoMemory => AskedError::NoMemory { written: 0 },
-        error => AskedError::Sheets(error),
     }
 }

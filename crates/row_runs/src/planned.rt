@@ -1,6 +1,5 @@
 //! Sheets with their plan: nothing is left to refuse.
 ghost use Rattle.std.specs.Prelude.{◌≡◌, IfErr, IfOk, IsTrue, OnOk, Ok, length};
-ghost use Rattle.std.specs.Io.KnownBytes.{Appends};
 ghost use Rattle.rules.specs.Parts.{pages};
 ghost use Rattle.rules.specs.Sheets.{layout};
 ghost use Rattle.made_sheets.specs.MadePlans.{made_layout, made_plan_of};
@@ -8,22 +7,29 @@ ghost use Rattle.papers.specs.Told.{telling};
 ghost use Rattle.dressing.specs.Drawn.{marked};
 ghost use Rattle.dressing.specs.Dressings.{dressing_of};
 ghost use Rattle.sheet_plan.specs.OfSheets.{made_plan};
-ghost use Rattle.sheet_text.specs.Jobs.{is_border};
-ghost use Rattle.sheet_writer.specs.Sinks.{IsCountable};
-ghost use Rattle.imposer.specs.Outcomes.{IsNoRefusal};
-ghost use Rattle.imposer.specs.Runs.{FailedIn};
-ghost use Rattle.imposer.specs.Workers.{AreWorkers};
-ghost use Rattle.row_runs.specs.SheetsRuns.{IsUnwritten, RefusesSheets, ReportsIn, WroteFront, output_in};
+ghost use Rattle.sheet_text.specs.Jobs.{is_border, output_of};
+ghost use Rattle.imposer.specs.Gathering.{ReportsOf};
+ghost use Rattle.imposer.specs.declared.outcome.Report.{Report};
+ghost use Rattle.row_runs.specs.SheetsRuns.{RefusesSheets, ReportsIn, output_in};
 
-use crate::sheets_error::{SheetsError, plan_error};
-use crate::sheets_run::SheetJob;
+use crate::error::{AskedError, plan_error};
 use dressing::{Stroke, dress_of, told_papers};
-use imposer::{Gate, Report, RunError, Sink, run_plan};
+use dsc::Document;
+use lengths::Grains;
 use sheet_plan::{MadeSheets, Plan};
 use sheet_text::{Dress, Job};
 use std::alloc::{AllocError, Global};
-use std::sync::Wait;
-use std::thread::Threads;
+
+/// The sheets of a document, which was read before: each with its own paper, and with pages that are placed by their own
+/// papers. A border round each page, wider than nothing, if one is asked for; and strokes that are drawn at the end of each
+/// sheet.
+#[derive(Clone, Copy)]
+pub struct SheetJob<'j, 'd> {
+    pub document: &'j Document<'d>,
+    pub sheets: &'j MadeSheets,
+    pub border: Option<Grains>,
+    pub strokes: &'j [Stroke],
+}
 
 /// The sheets of a job with their plan, and the lines that each gets. All that can be refused was checked, so a caller may
 /// create its output now.
@@ -33,7 +39,6 @@ pub struct PlannedSheets<'j, 'd> {
     pub plan: Plan<'j>,
     pub dress: Dress,
     ghost border: { IsTrue (is_border job.now.border) },
-    ghost workers: { AreWorkers job.now.workers },
     ghost planned: { plan ≡ made_plan (length (pages job.now.document.now)) job.now.sheets.now },
     ghost laid: { layout plan ≡ made_layout (length (pages job.now.document.now)) job.now.sheets.now },
     ghost dressed: { dress ≡ dressing_of (marked job.now.strokes.now (telling job.now.sheets.now)) job.now.sheets.now },
@@ -44,15 +49,13 @@ impl<'j, 'd> PlannedSheets<'j, 'd> {
     pub fn of_job(
         alloc: Global,
         job: &'j SheetJob<'j, 'd>,
-    ) -> Result<PlannedSheets<'j, 'd>, SheetsError>
+    ) -> Result<PlannedSheets<'j, 'd>, AskedError>
         requires border { IsTrue (is_border job.now.border) }
-        requires workers { AreWorkers job.now.workers }
         ensures same { IfOk result (λ planned. planned.job.now ≡ job.now) }
         ensures planned { OnOk result (made_plan_of (length (pages job.now.document.now)) job.now.sheets.now
             ≡ Ok job.now.sheets.now) }
         // A refusal names the first fault of the sheets.
         ensures refused { IfErr result (RefusesSheets (length (pages job.now.document.now)) job.now.sheets.now) }
-        ensures unwritten { IfErr result IsUnwritten }
     {
         let plan = match Plan::of_sheets(alloc, job.document.pages(), job.sheets) {
             Ok(plan) => plan,
@@ -60,43 +63,25 @@ impl<'j, 'd> PlannedSheets<'j, 'd> {
         };
         match dressed(alloc, job.strokes, job.sheets) {
             Ok(dress) => Ok(PlannedSheets { job, plan, dress }),
-            Err(_) => Err(SheetsError::NoMemory { written: 0 }),
+            Err(_) => Err(AskedError::NoMemory),
         }
     }
 
-    /// Hands the sink the sheets, with the lines that report their papers and the strokes. Nothing is refused. After
-    /// `NoMemory` and `Write` the sink has taken the first `written` bytes of the output. The sink isn't flushed. The work
-    /// is done as `run` of imposer does it.
-    pub fn impose<R: Threads + Wait + Sync, G: Gate + Sync, S: Sink>(
-        &self,
-        rt: &R,
-        alloc: Global,
-        gate: &G,
-        sink: &mut S,
-    ) -> Result<Report, RunError>
-        requires countable { IsCountable (S.seen sink.old) }
-        // Exactly the output of the sheets was appended, with the lines that report their papers and the strokes at the
-        // end of each, and the report has its numbers.
-        ensures finished { IfOk result (λ report.
-            Appends (S.seen sink.old).bytes (S.seen sink.new).bytes (output_in self.now.job.now)
-            × ReportsIn self.now.job.now report) }
-        ensures refused { IfErr result IsNoRefusal }
-        // After an error the sink has taken as much of the output as the error says: its first bytes.
-        ensures written { IfErr result (λ e.
-            WroteFront e (output_in self.now.job.now) (S.seen sink.old) (S.seen sink.new)) }
-        // At Ok the sink didn't fail in the call, and after an error as often as the error allows: at Write once.
-        ensures steady { OnOk result ((S.seen sink.new).failures ≡ (S.seen sink.old).failures) }
-        ensures failed { IfErr result (λ e. FailedIn e (S.seen sink.old) (S.seen sink.new)) }
+    /// What `run_plan` of imposer takes: it writes the sheets, with the lines that report their papers and the strokes at the
+    /// end of each, and refuses nothing.
+    pub fn as_job(&self) -> Job<'_, 'd>
+        ensures output { output_of result ≡ output_in self.now.job.now }
+        // Its report has the numbers of the sheets.
+        ensures reports { (report : Report) → ReportsOf result report → ReportsIn self.now.job.now report }
     {
         let job = self.job;
-        let made = Job::made(
+        Job::made(
             &self.plan,
             job.document,
             job.sheets,
             job.border,
             &self.dress,
-        );
-        run_plan(rt, alloc, &made, job.workers, gate, sink)
+        )
     }
 }
 

@@ -12,10 +12,10 @@ use Rattle.layouts.specs.declared.error.ArrangementError.TheVariants as why
 use Rattle.layouts.specs.declared.setting.Setting.{Setting}
 use Rattle.layouts.specs.Refusals.{first_of}
 use Rattle.layouts.specs.Placed.{Room}
-use Rattle.layouts.specs.Fitted.{fitted, fitted_back, why_not_fitted}
+use Rattle.layouts.specs.Fitted.{why_not_fitted}
 use Rattle.row_sheets.specs.Filled.{Filling, grid_entry, is_turned, slot_on}
 use Rattle.row_sheets.specs.Shapes.{IsRefusedFor}
-use Rattle.row_sheets.specs.Creep.{AreHalves, IsRefusedCreeping, NoCreepIsPlain, creep_on, creeping, creeping_slot, is_before_fold, moved_up, or_else, up_to_fold, why_not_creeping}
+use Rattle.row_sheets.specs.Creep.{AreHalves, IsRefusedCreeping, NoCreepIsPlain, creep_on, creeping, creeping_slot, in_half, is_before_fold, moved_up, or_else, up_to_fold, why_not_creeping}
 use Rattle.row_sheets.proofs.Creeping.{halves, of_halves}
 use Rattle.row_sheets.proofs.Filling.{sheet}
 
@@ -47,17 +47,14 @@ unmoved item e =
     ap (λ n. record item { y = record { number = n; unit = Pt } }) (+ℤ_idr item.y.number)
     ∙ ap (λ u. record item { y = record { number = item.y.number; unit = u } }) (sym e)
 
-abbrev placed : Setting → (by_half : Bool) → Paper → (k : ℕ) → Item
-placed t by_half page k = if by_half then fitted_back t page k else fitted t page k
-
-in_points : (room : Room) (b : Bool) (asked : Option ℤ) (by_half : Bool) (page : Paper) (k : ℕ) → (placed (halves room b asked) by_half page k).y.unit ≡ Pt
+in_points : (room : Room) (b : Bool) (asked : Option ℤ) (by_half : Bool) (page : Paper) (k : ℕ) → (in_half (halves room b asked) by_half page k).y.unit ≡ Pt
 in_points room b asked false page k = refl
 in_points room b asked true page k = refl
 
-at_rest : (t : Setting) (by_half : Bool) (page : Paper) (k : ℕ) → AreHalves t → creeping t by_half page k 0 ≡ placed t by_half page k
+at_rest : (t : Setting) (by_half : Bool) (page : Paper) (k : ℕ) → AreHalves t → creeping t by_half page k 0 ≡ in_half t by_half page k
 at_rest t by_half page k h =
-    ap (λ by. moved_up by (placed t by_half page k)) (not_up t.order.right_to_left by_half k)
-    ∙ unmoved (placed t by_half page k) (of_halves (λ u. (placed u by_half page k).y.unit ≡ Pt) t h (in_points t.room t.order.right_to_left t.scale by_half page k))
+    ap (λ by. moved_up by (in_half t by_half page k)) (not_up t.order.right_to_left by_half k)
+    ∙ unmoved (in_half t by_half page k) (of_halves (λ u. (in_half u by_half page k).y.unit ≡ Pt) t h (in_points t.room t.order.right_to_left t.scale by_half page k))
 
 slot_at_rest : (f : Filling) (by_half : Bool) (k : ℕ) (entry : Option ℕ) → AreHalves f.setting → creeping_slot f by_half k 0 entry ≡ slot_on f by_half k entry
 slot_at_rest f false k None h = refl

@@ -14,7 +14,7 @@ use Rattle.rules.specs.Specification.{AreGroups, IsItem, IsJoined, IsSpec, Item,
 use Rattle.rules.specs.Sheets.{Slot, blocks}
 use Rattle.rules.specs.Signatures.{entry_of}
 use Rattle.rules.proofs.Counts.{sheet_count, place_count}
-use Rattle.made_sheets.specs.Made.{MadeSlot, MadeSheet, made_slot}
+use Rattle.made_sheets.specs.Made.{MadeSheet, made_slot}
 use Rattle.made_sheets.specs.MadePlans.{slot_count}
 use Rattle.made_sheets.specs.Rows.{Row, sheets_of_row}
 use Rattle.pagespec.specs.declared.item.Item.{Item as PageItem}

@@ -1,6 +1,6 @@
 -- Pages on leaves that creep stay within reach, as long as there is room at the fold.
-use Rattle.std.proofs.Common.{arith, rules, ◌≡◌, ℕ, suc, zero, ◌+◌, ◌*◌, ◌<◌, ◌≤◌, Bool, true, false, inr, Option, Some, None, [], ◌∷◌, refl, sym, ap, subst, ◌∙◌}
-use Rattle.std.specs.Prelude.{ℤ, pos, neg_ℤ, ◌+ℤ◌, ◌-ℤ◌, ◌*ℤ◌, nat_abs, nat_le, nat_lt, IsTrue, if◌then◌else◌, map}
+use Rattle.std.proofs.Common.{arith, rules, ◌≡◌, ℕ, suc, zero, ◌+◌, ◌*◌, ◌<◌, ◌≤◌, Bool, true, false, inr, Option, None, [], ◌∷◌, sym, ap, subst, ◌∙◌}
+use Rattle.std.specs.Prelude.{ℤ, pos, neg_ℤ, ◌+ℤ◌, ◌-ℤ◌, ◌*ℤ◌, nat_abs, nat_le, nat_lt, IsTrue, map}
 use Rattle.std.specs.List.{range_with_len}
 use Rattle.std.proofs.lemmas.Int.{ints}
 use Rattle.rules.specs.Numbers.{greatest_number}
@@ -13,16 +13,15 @@ use Rattle.layouts.specs.declared.error.ArrangementError.{ArrangementError}
 use Rattle.layouts.specs.declared.error.ArrangementError.TheVariants as why
 use Rattle.layouts.specs.declared.setting.Setting.{Setting}
 use Rattle.layouts.specs.Placed.{Room}
-use Rattle.layouts.specs.Cells.{size, slack, slack_x, trimmed, whole}
+use Rattle.layouts.specs.Cells.{size, slack, trimmed, whole}
 use Rattle.layouts.specs.Grids.{beside, leaf_order}
-use Rattle.layouts.specs.Refusals.{first_of}
-use Rattle.layouts.specs.Fitted.{fitted, fitted_back, scale_on, why_no_scale_on, why_not_fitted}
+use Rattle.layouts.specs.Fitted.{scale_on, why_no_scale_on}
 use Rattle.layouts.proofs.AlongSide.{in_cell, cells_fit}
 use Rattle.layouts.proofs.OnSide.{HasCell, cell, shown, from_start}
 use Rattle.layouts.proofs.InGrid.{fits, both_true}
 use Rattle.layouts.proofs.Folds.{kept_little}
 use Rattle.layouts.proofs.Fitting.{has_scale}
-use Rattle.row_sheets.specs.Creep.{up_to_fold, moved_up, may_creep, or_else, why_not_creeping, creep_on, creeping, creeping_slot, AreHalves, IsRefusedCreep, IsRefusedCreeping}
+use Rattle.row_sheets.specs.Creep.{in_half, up_to_fold, moved_up, may_creep, creep_on, creeping, creeping_slot, AreHalves, IsRefusedCreep, IsRefusedCreeping}
 use Rattle.row_sheets.specs.Standing.{EntryCreeps}
 use Rattle.row_sheets.specs.Filled.{Filling}
 
@@ -106,42 +105,18 @@ creeps page room b asked creep e may =
 -- how far up it is in the end, in 10^-9 of a point
 abbrev moved : Setting → (by_half : Bool) → (page : Paper) → (k creep : ℕ) → ℤ
 moved t by_half page k creep =
-    (if by_half then fitted_back t page k else fitted t page k).y.number +ℤ (pos 10_000 *ℤ up_to_fold t.order.right_to_left by_half k creep)
+    (in_half t by_half page k).y.number +ℤ (pos 10_000 *ℤ up_to_fold t.order.right_to_left by_half k creep)
 
 reach_at : (page : Paper) (room : Room) (b : Bool) (asked : Option ℤ) (by_half : Bool) (k creep : ℕ) → k < 2 → Creeps room (nat_abs page.width) (scale_on (halves room b asked) page) creep
     → nat_abs (moved (halves room b asked) by_half page k creep) ≤ greatest_number
-reach_at page room false asked false zero creep less c =
-    let s = scale_on (halves room false asked) page in
-    let h = nat_abs room.paper.height in
-    up_front (from_start room h 2 (nat_abs page.width) s 0) (trimmed room s) creep (whole h) c.stays.before c.near
-reach_at page room false asked false (suc zero) creep less c =
-    let s = scale_on (halves room false asked) page in
-    let h = nat_abs room.paper.height in
-    down_front (from_start room h 2 (nat_abs page.width) s 1) (trimmed room s) creep (whole h) c.stays.behind c.stays.ends c.near
-reach_at page room true asked false zero creep less c =
-    let s = scale_on (halves room true asked) page in
-    let h = nat_abs room.paper.height in
-    down_front (from_start room h 2 (nat_abs page.width) s 1) (trimmed room s) creep (whole h) c.stays.behind c.stays.ends c.near
-reach_at page room true asked false (suc zero) creep less c =
-    let s = scale_on (halves room true asked) page in
-    let h = nat_abs room.paper.height in
-    up_front (from_start room h 2 (nat_abs page.width) s 0) (trimmed room s) creep (whole h) c.stays.before c.near
-reach_at page room false asked true zero creep less c =
-    let s = scale_on (halves room false asked) page in
-    let h = nat_abs room.paper.height in
-    down_back (from_start room h 2 (nat_abs page.width) s 0) (trimmed room s) creep (whole h) c.stays.before c.near
-reach_at page room false asked true (suc zero) creep less c =
-    let s = scale_on (halves room false asked) page in
-    let h = nat_abs room.paper.height in
-    up_back (from_start room h 2 (nat_abs page.width) s 1) (trimmed room s) creep (whole h) c.stays.behind c.stays.ends c.near
-reach_at page room true asked true zero creep less c =
-    let s = scale_on (halves room true asked) page in
-    let h = nat_abs room.paper.height in
-    up_back (from_start room h 2 (nat_abs page.width) s 1) (trimmed room s) creep (whole h) c.stays.behind c.stays.ends c.near
-reach_at page room true asked true (suc zero) creep less c =
-    let s = scale_on (halves room true asked) page in
-    let h = nat_abs room.paper.height in
-    down_back (from_start room h 2 (nat_abs page.width) s 0) (trimmed room s) creep (whole h) c.stays.before c.near
+reach_at page room false asked false zero creep less c = up_front _ _ creep _ c.stays.before c.near
+reach_at page room false asked false (suc zero) creep less c = down_front _ _ creep _ c.stays.behind c.stays.ends c.near
+reach_at page room true asked false zero creep less c = down_front _ _ creep _ c.stays.behind c.stays.ends c.near
+reach_at page room true asked false (suc zero) creep less c = up_front _ _ creep _ c.stays.before c.near
+reach_at page room false asked true zero creep less c = down_back _ _ creep _ c.stays.before c.near
+reach_at page room false asked true (suc zero) creep less c = up_back _ _ creep _ c.stays.behind c.stays.ends c.near
+reach_at page room true asked true zero creep less c = up_back _ _ creep _ c.stays.behind c.stays.ends c.near
+reach_at page room true asked true (suc zero) creep less c = down_back _ _ creep _ c.stays.before c.near
 reach_at page room b asked by_half (suc (suc k)) creep less c = absurd (omega (arith, less))
 
 pub reached : (t : Setting) (page : Paper) (by_half : Bool) (k creep : ℕ) → AreHalves t → k < 2 → why_no_scale_on t page ≡ None → may_creep page t.room (scale_on t page) creep ≡ true
@@ -160,24 +135,12 @@ small t page creep halved =
 
 -- ---- what is moved
 
-pub room_there : (t : Setting) (page : Paper) (creep slack : ℕ) → AreHalves t → slack ≡ slack_x page t.room t.grid (scale_on t page) → nat_le (2 * creep) (2 * slack + t.room.gap) ≡ true → may_creep page t.room (scale_on t page) creep ≡ true
-room_there t page creep slack halved is h =
-    sym (ap (λ n. nat_le (2 * creep) (2 * n + t.room.gap)) (is ∙ ap (λ g. slack_x page t.room g (scale_on t page)) halved.0)) ∙ h
-
-free_both : (x : Option ArrangementError) (m : Bool) → x ≡ None → m ≡ true → or_else x (first_of m why.CreepOverFold None) ≡ None
-free_both None true e h = refl
-free_both None false e h = absurd (cc (h))
-free_both (Some x) m e h = absurd (cc (e))
-
-pub creeps_there : (t : Setting) (page : Paper) (creep : ℕ) → why_not_fitted t page ≡ None → may_creep page t.room (scale_on t page) creep ≡ true → why_not_creeping t page creep ≡ None
-creeps_there t page creep e may = free_both (why_not_fitted t page) (may_creep page t.room (scale_on t page) creep) e may
-
 pub made_there : (t : Setting) (page : Paper) (by_half : Bool) (k creep : ℕ) (by : ℤ) (item item' : Item) → item' ≡ moved_up by item → by ≡ up_to_fold t.order.right_to_left by_half k creep
-    → item ≡ (if by_half then fitted_back t page k else fitted t page k) → item' ≡ creeping t by_half page k creep
+    → item ≡ in_half t by_half page k → item' ≡ creeping t by_half page k creep
 made_there t page by_half k creep by item item' e f g = e ∙ (ap (λ b. moved_up b item) f ∙ ap (moved_up (up_to_fold t.order.right_to_left by_half k creep)) g)
 
 pub reached_there : (t : Setting) (page : Paper) (by_half : Bool) (k creep : ℕ) (by : ℤ) (item : Item) → AreHalves t → k < 2 → why_no_scale_on t page ≡ None → may_creep page t.room (scale_on t page) creep ≡ true
-    → by ≡ up_to_fold t.order.right_to_left by_half k creep → item ≡ (if by_half then fitted_back t page k else fitted t page k) → nat_abs (item.y.number +ℤ (pos 10_000 *ℤ by)) ≤ greatest_number
+    → by ≡ up_to_fold t.order.right_to_left by_half k creep → item ≡ in_half t by_half page k → nat_abs (item.y.number +ℤ (pos 10_000 *ℤ by)) ≤ greatest_number
 reached_there t page by_half k creep by item halved less scale may f g =
     subst (λ b. nat_abs (item.y.number +ℤ (pos 10_000 *ℤ b)) ≤ greatest_number) (sym f)
     (subst (λ i. nat_abs (i.y.number +ℤ (pos 10_000 *ℤ up_to_fold t.order.right_to_left by_half k creep)) ≤ greatest_number) (sym g) (reached t page by_half k creep halved less scale may))

@@ -1,23 +1,16 @@
 -- Cells that are filled one after the other.
-use Rattle.std.proofs.Common.{arith, ◌≡◌, ℕ, Bool, ◌+◌, ◌<◌, ◌⊎◌, inl, inr, List, [], ◌∷◌, ◌++◌, sym, ap, subst, refl, append_assoc, ◌∙◌, Option}
+use Rattle.std.proofs.Common.{arith, ◌≡◌, ℕ, ◌+◌, ◌<◌, ◌⊎◌, inl, inr, List, [], ◌∷◌, ◌++◌, sym, ap, subst, refl, append_assoc, ◌∙◌}
 use Rattle.std.specs.Prelude.{map}
 use Rattle.std.specs.List.{range_with_len}
 use Rattle.std.proofs.Math.Nat.{eq-or-lt_of_le}
 use Rattle.std.proofs.lemmas.List.{map-append}
 use Rattle.std.proofs.lemmas.List.FromFn.{map-range_with_len_more}
 use Rattle.rules.specs.Papers.{Paper}
-use Rattle.rules.specs.Signatures.{entry_of}
 use Rattle.made_sheets.specs.Made.{MadeSlot, MadeSheet}
-use Rattle.made_sheets.specs.Rows.{Row}
-use Rattle.row_sheets.specs.Filled.{Filling, slot_on}
 
 pub pushed : {X Y : Type 0} (h : X → Y) (f : ℕ → Y) (xs ys : List X) (x : X) (k : ℕ) → map h xs ≡ map f (range_with_len 0 k) → h x ≡ f k → ys ≡ xs ++ x ∷ [] → map h ys ≡ map f (range_with_len 0 (k + 1))
 pushed h f xs ys x k so_far here e =
     ap (map h) e ∙ (map-append h xs (x ∷ []) ∙ (ap (λ zs. zs ++ h x ∷ []) so_far ∙ (ap (λ z. map f (range_with_len 0 k) ++ z ∷ []) here ∙ sym (map-range_with_len_more f 0 k k (omega arith)))))
-
--- a slot whose entry is found step by step
-pub slot_is : (f : Filling) (half : Bool) (row : Row) (c place place' : ℕ) (entry : Option ℕ) (slot : MadeSlot) → slot ≡ slot_on f half c entry → entry ≡ entry_of row place → place ≡ place' → slot ≡ slot_on f half c (entry_of row place')
-slot_is f half row c place place' entry slot is from at = is ∙ ap (slot_on f half c) (from ∙ ap (entry_of row) at)
 
 -- one more sheet
 abbrev pub sheet : (paper : Paper) → (slots : List MadeSlot) → MadeSheet

@@ -1,17 +1,14 @@
 -- The sheets of a specification on a row, block by block and group by group.
-use Rattle.std.proofs.Common.{arith, ◌≡◌, ◌∙◌, ℕ, ◌+◌, ◌-◌, ◌*◌, ◌/◌, ◌%◌, ◌<◌, false, List, [], ◌∷◌, ◌++◌, Option, Some, None, length, map, get_or, refl, sym, ap, subst}
-use Rattle.std.specs.Prelude.{flat_map, if◌then◌else◌}
+use Rattle.std.proofs.Common.{◌≡◌, ◌∙◌, ℕ, ◌+◌, ◌-◌, List, [], ◌∷◌, ◌++◌, length, map, refl, sym, ap}
+use Rattle.std.specs.Prelude.{flat_map}
 use Rattle.std.specs.List.{range_with_len}
-use Rattle.std.proofs.lemmas.List.{map-append, length-map, get_or-map}
+use Rattle.std.proofs.lemmas.List.{map-append}
 use Rattle.std.proofs.lemmas.List.Concat.{flat_map-cons}
-use Rattle.std.proofs.lemmas.List.FromFn.{fill_by_all, length-range_with_len}
-use Rattle.std.proofs.lemmas.Nat.{div-add-mod', mod_below, div_below}
 use Rattle.rules.specs.Papers.{Paper}
 use Rattle.rules.specs.Specification.{Item, Spec}
 use Rattle.rules.specs.Sheets.{Slot, blocks, place}
 use Rattle.rules.specs.Signatures.{entry_of}
-use Rattle.rules.proofs.Counts.{rows_len, row_at}
-use Rattle.made_sheets.specs.Made.{MadeSheet, MadeSlot, Blank, Placed, made_slot}
+use Rattle.made_sheets.specs.Made.{MadeSheet, MadeSlot, made_slot}
 use Rattle.made_sheets.specs.Rows.{Row, sheets_of_row}
 use Rattle.row_sheets.specs.BySpec.{made_on}
 

@@ -1,11 +1,9 @@
 -- Pages that have their places lie in their cells, and read in order.
-use Rattle.std.proofs.Common.{arith, ℕ, ◌<◌, ◌≤◌, Option, Some, None, length, subst, sym}
+use Rattle.std.proofs.Common.{arith, ℕ, ◌<◌, Option, Some, None, length, subst, sym}
 use Rattle.std.specs.Prelude.{map, slice_index_or}
 use Rattle.std.specs.List.{range_with_len}
 use Rattle.std.proofs.lemmas.List.FromFn.{get_or-map-range_with_len, length-map-range_with_len}
-use Rattle.made_sheets.specs.Made.{MadeSlot}
 use Rattle.layouts.specs.Cells.{size}
-use Rattle.layouts.specs.declared.setting.Setting.{Setting}
 use Rattle.layouts.proofs.Fitting.{fitted_stands, fitted_is_in_order}
 use Rattle.row_sheets.specs.Filled.{Filling, slot_in}
 use Rattle.row_sheets.specs.Standing.{EntryFits, FilledStandsInCells, SlotIsFitted, SlotsAreInOrder, StandsInCells}

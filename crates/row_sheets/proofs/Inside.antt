@@ -2,44 +2,34 @@
 use Rattle.std.proofs.Common.{◌≡◌, ℕ, ◌-◌, ◌*◌, Bool, true, false, Option, Some, None, sym, subst}
 use Rattle.std.specs.Prelude.{if◌then◌else◌, nat_abs}
 use Rattle.rules.specs.Papers.{Paper}
-use Rattle.layouts.specs.Cells.{whole}
+use Rattle.layouts.specs.Cells.{size, whole}
 use Rattle.layouts.specs.Fitted.{fitted, fitted_back, why_not_fitted, HaveOneFold}
 use Rattle.layouts.specs.Laws.{IsPaper, LiesBefore, LiesBehind}
-use Rattle.layouts.proofs.Fitting.{fitted_stands, fitted_is_apart, stands_back, scale_of_many, backs_are_apart, one_fold}
+use Rattle.layouts.proofs.Fitting.{one_fold}
 use Rattle.row_sheets.specs.Filled.{Filling, slot_on, HavePlaces, SlotLiesBefore, SlotLiesBehind, BookletFolds}
 use Rattle.row_sheets.specs.Filled.{FilledIsInside, FilledIsApart, SidesAreInside, SidesAreApart, BookletKeepsFold}
+use Rattle.row_sheets.specs.Standing.{EntryFits}
+use Rattle.row_sheets.proofs.OnSheets.{not_turned, slot_inside, slots_apart}
+
+entry_fits : (f : Filling) (entry : Option ℕ) → IsPaper f.setting.room.paper → HavePlaces f → EntryFits f entry
+entry_fits f None on places = tt
+entry_fits f (Some page) on places = let p = places page in record { sheet_is = on; page_is = p.0; fits = p.1 }
 
 pub filled_is_inside : FilledIsInside
-filled_is_inside f c None on places within = tt
-filled_is_inside f c (Some page) on places within =
-    let p = places page in
-    (fitted_stands f.setting (f.paper_of page) c p.0 on within p.1).inside
+filled_is_inside f c entry on places within = slot_inside f false c entry (not_turned (size f.setting.grid)) within (entry_fits f entry on places)
 
 pub filled_is_apart : FilledIsApart
-filled_is_apart f c d None other on places in_c in_d differ = tt
-filled_is_apart f c d (Some page) None on places in_c in_d differ = tt
-filled_is_apart f c d (Some page) (Some page') on places in_c in_d differ =
-    let p = places page in
-    let q = places page' in
-    fitted_is_apart f.setting (f.paper_of page) (f.paper_of page') c d p.0 q.0 on p.1 q.1 in_c in_d differ
+filled_is_apart f c d one other on places in_c in_d differ =
+    slots_apart f false c d one other in_c in_d differ (entry_fits f one on places) (entry_fits f other on places)
 
 -- on sheets that are turned by half
 
 pub sides_are_inside : SidesAreInside
-sides_are_inside f false c entry on places many within = filled_is_inside f c entry on places within
-sides_are_inside f true c None on places many within = tt
-sides_are_inside f true c (Some page) on places many within =
-    let p = places page in
-    (stands_back f.setting (f.paper_of page) c p.0 on within (scale_of_many f.setting (f.paper_of page) many p.1)).inside
+sides_are_inside f by_half c entry on places many within = slot_inside f by_half c entry (λ e. many) within (entry_fits f entry on places)
 
 pub sides_are_apart : SidesAreApart
-sides_are_apart f false c d one other on places in_c in_d differ = filled_is_apart f c d one other on places in_c in_d differ
-sides_are_apart f true c d None other on places in_c in_d differ = tt
-sides_are_apart f true c d (Some page) None on places in_c in_d differ = tt
-sides_are_apart f true c d (Some page) (Some page') on places in_c in_d differ =
-    let p = places page in
-    let q = places page' in
-    backs_are_apart f.setting (f.paper_of page) (f.paper_of page') c d p.0 q.0 on p.1 q.1 in_c in_d differ
+sides_are_apart f by_half c d one other on places in_c in_d differ =
+    slots_apart f by_half c d one other in_c in_d differ (entry_fits f one on places) (entry_fits f other on places)
 
 -- on leaves
 

@@ -47,9 +47,6 @@ no_farther a b d some h = le-div (a / d) b d some (omega (arith, h, div-mul-le_s
 whole_creep : (d creep : ℕ) → 0 < d → d * creep / d ≡ creep
 whole_creep d creep some = ap (λ m. m / d) (mul_comm d creep) ∙ mul-div_cancel creep some
 
-pub least_leaf : (i d creep : ℕ) → 0 < d → i ≤ d → i * creep / d ≤ creep
-least_leaf i d creep some h = omega (arith, no_farther (i * creep) (d * creep) d some (mul-le-mul_right creep h), whole_creep d creep some)
-
 pub creep_grows : CreepGrows
 creep_grows creep leaves i many more =
     let d = leaves - 1 in

@@ -16,5 +16,4 @@ pub mod Shown
 mod OneScale
 mod Examples
 mod Filling
-mod Kept
 mod Offsets

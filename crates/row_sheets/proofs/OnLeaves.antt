@@ -182,57 +182,26 @@ record Behind (room : Room) (T : ℕ) (page : Paper) (item : Item) : Type 0 wher
   pub inside : IsInside room page item
   pub stays : StaysBehind room T page item
 
-up_by : (y z : ℤ) (c : ℕ) → z ≡ y +ℤ (pos 1_270_000_000_000_000 *ℤ pos c) → y ≤ℤ z
-up_by y z c e = omega (arith, ints, e)
+up_by : (y z by : ℤ) → pos 0 ≤ℤ by → z ≡ y +ℤ (pos 1_270_000_000_000_000 *ℤ by) → y ≤ℤ z
+up_by y z by h e = omega (arith, ints, h, e)
 
-up_by_less : (y z : ℤ) (c : ℕ) → z ≡ y +ℤ (pos 1_270_000_000_000_000 *ℤ neg_ℤ (pos 0 -ℤ pos c)) → y ≤ℤ z
-up_by_less y z c e = omega (arith, ints, e)
+down_by : (y z by : ℤ) → by ≤ℤ pos 0 → z ≡ y +ℤ (pos 1_270_000_000_000_000 *ℤ by) → z ≤ℤ y
+down_by y z by h e = omega (arith, ints, h, e)
 
-down_by : (y z : ℤ) (c : ℕ) → z ≡ y +ℤ (pos 1_270_000_000_000_000 *ℤ (pos 0 -ℤ pos c)) → z ≤ℤ y
-down_by y z c e = omega (arith, ints, e)
+-- before the fold a page is moved up, and beyond it down; if the side is turned by half it is the other way
+front_up : (b : Bool) (creep : ℕ) → pos 0 ≤ℤ to_fold b (if b then 1 else 0) creep
+front_up true creep = let up : pos 0 ≤ℤ pos creep = omega (arith, ints) in up
+front_up false creep = let up : pos 0 ≤ℤ pos creep = omega (arith, ints) in up
 
-down_by_less : (y z : ℤ) (c : ℕ) → z ≡ y +ℤ (pos 1_270_000_000_000_000 *ℤ neg_ℤ (pos c)) → z ≤ℤ y
-down_by_less y z c e = omega (arith, ints, e)
+front_down : (b : Bool) (creep : ℕ) → to_fold b (if b then 0 else 1) creep ≤ℤ pos 0
+front_down true creep = let down : (pos 0 -ℤ pos creep) ≤ℤ pos 0 = omega (arith, ints) in down
+front_down false creep = let down : (pos 0 -ℤ pos creep) ≤ℤ pos 0 = omega (arith, ints) in down
 
-fold_here : (page : Paper) (room : Room) (b : Bool) (s creep : ℕ) → Creeps page room b s creep → OnSheet room (fold room (nat_abs room.paper.height)) (whole (nat_abs room.paper.height))
-fold_here page room b s creep c = fold_within room (nat_abs room.paper.height) (some_cell page room s c.page_is c.place)
+back_up : (z : ℤ) → z ≤ℤ pos 0 → pos 0 ≤ℤ neg_ℤ z
+back_up z h = omega (arith, ints, h)
 
-front_before : (page : Paper) (room : Room) (b : Bool) (s creep : ℕ) → Creeps page room b s creep
-    → Before room (fold room (nat_abs room.paper.height)) page (leaf_item page room b s creep (if b then 1 else 0))
-front_before page room false s creep c =
-    let stays = stays_before page room false s creep c in record {
-      inside = moved_up_inside page room (item_in page room (beside true) (leaf_order false) s 0) (leaf_item page room false s creep 0) (fold room (nat_abs room.paper.height)) c.sheet_is (fold_here page room false s creep c)
-          (c.inside 0 (omega arith))
-          (λ p. (creep_moves page room false s creep 0 p).0) (λ p. up_by _ _ creep (creep_moves page room false s creep 0 p).1) stays;
-      stays = stays;
-    }
-front_before page room true s creep c =
-    let stays = stays_before page room true s creep c in record {
-      inside = moved_up_inside page room (item_in page room (beside true) (leaf_order true) s 1) (leaf_item page room true s creep 1) (fold room (nat_abs room.paper.height)) c.sheet_is (fold_here page room true s creep c)
-          (c.inside 1 (omega arith))
-          (λ p. (creep_moves page room true s creep 1 p).0) (λ p. up_by _ _ creep (creep_moves page room true s creep 1 p).1) stays;
-      stays = stays;
-    }
-
-front_behind : (page : Paper) (room : Room) (b : Bool) (s creep : ℕ) → Creeps page room b s creep
-    → Behind room (fold room (nat_abs room.paper.height)) page (leaf_item page room b s creep (if b then 0 else 1))
-front_behind page room false s creep c =
-    let stays = stays_behind page room false s creep c in record {
-      inside = moved_down_inside page room (item_in page room (beside true) (leaf_order false) s 1) (leaf_item page room false s creep 1) (fold room (nat_abs room.paper.height)) (fold_here page room false s creep c)
-          (c.inside 1 (omega arith))
-          (λ p. (creep_moves page room false s creep 1 p).0) (λ p. down_by _ _ creep (creep_moves page room false s creep 1 p).1) stays;
-      stays = stays;
-    }
-front_behind page room true s creep c =
-    let stays = stays_behind page room true s creep c in record {
-      inside = moved_down_inside page room (item_in page room (beside true) (leaf_order true) s 0) (leaf_item page room true s creep 0) (fold room (nat_abs room.paper.height)) (fold_here page room true s creep c)
-          (c.inside 0 (omega arith))
-          (λ p. (creep_moves page room true s creep 0 p).0) (λ p. down_by _ _ creep (creep_moves page room true s creep 0 p).1) stays;
-      stays = stays;
-    }
-
-no_higher : (page : Paper) (room : Room) (b : Bool) (s creep : ℕ) → Creeps page room b s creep → fold room (nat_abs room.paper.height) ≤ 2 * whole (nat_abs room.paper.height)
-no_higher page room b s creep c = fold_on_sheet room (nat_abs room.paper.height) (some_cell page room s c.page_is c.place)
+back_down : (z : ℤ) → pos 0 ≤ℤ z → neg_ℤ z ≤ℤ pos 0
+back_down z h = omega (arith, ints, h)
 
 one_of_two : (b : Bool) → (if b then 1 else 0) < 2
 one_of_two true = omega arith
@@ -241,6 +210,32 @@ one_of_two false = omega arith
 other_of_two : (b : Bool) → (if b then 0 else 1) < 2
 other_of_two true = omega arith
 other_of_two false = omega arith
+
+fold_here : (page : Paper) (room : Room) (b : Bool) (s creep : ℕ) → Creeps page room b s creep → OnSheet room (fold room (nat_abs room.paper.height)) (whole (nat_abs room.paper.height))
+fold_here page room b s creep c = fold_within room (nat_abs room.paper.height) (some_cell page room s c.page_is c.place)
+
+front_before : (page : Paper) (room : Room) (b : Bool) (s creep : ℕ) → Creeps page room b s creep
+    → Before room (fold room (nat_abs room.paper.height)) page (leaf_item page room b s creep (if b then 1 else 0))
+front_before page room b s creep c =
+    let k = if b then 1 else 0 in
+    let stays = stays_before page room b s creep c in record {
+      inside = moved_up_inside page room (item_in page room (beside true) (leaf_order b) s k) (leaf_item page room b s creep k) (fold room (nat_abs room.paper.height)) c.sheet_is (fold_here page room b s creep c)
+          (c.inside k (one_of_two b)) (λ p. (creep_moves page room b s creep k p).0) (λ p. up_by _ _ _ (front_up b creep) (creep_moves page room b s creep k p).1) stays;
+      stays = stays;
+    }
+
+front_behind : (page : Paper) (room : Room) (b : Bool) (s creep : ℕ) → Creeps page room b s creep
+    → Behind room (fold room (nat_abs room.paper.height)) page (leaf_item page room b s creep (if b then 0 else 1))
+front_behind page room b s creep c =
+    let k = if b then 0 else 1 in
+    let stays = stays_behind page room b s creep c in record {
+      inside = moved_down_inside page room (item_in page room (beside true) (leaf_order b) s k) (leaf_item page room b s creep k) (fold room (nat_abs room.paper.height)) (fold_here page room b s creep c)
+          (c.inside k (other_of_two b)) (λ p. (creep_moves page room b s creep k p).0) (λ p. down_by _ _ _ (front_down b creep) (creep_moves page room b s creep k p).1) stays;
+      stays = stays;
+    }
+
+no_higher : (page : Paper) (room : Room) (b : Bool) (s creep : ℕ) → Creeps page room b s creep → fold room (nat_abs room.paper.height) ≤ 2 * whole (nat_abs room.paper.height)
+no_higher page room b s creep c = fold_on_sheet room (nat_abs room.paper.height) (some_cell page room s c.page_is c.place)
 
 back_stays_behind : (page : Paper) (room : Room) (b : Bool) (s creep : ℕ) → Creeps page room b s creep
     → StaysBehind room (2 * whole (nat_abs room.paper.height) - fold room (nat_abs room.paper.height)) page (back_item page room b s creep (if b then 1 else 0))
@@ -261,35 +256,21 @@ fold_back page room b s creep c = turned_within room (fold room (nat_abs room.pa
 
 back_behind : (page : Paper) (room : Room) (b : Bool) (s creep : ℕ) → Creeps page room b s creep
     → Behind room (2 * whole (nat_abs room.paper.height) - fold room (nat_abs room.paper.height)) page (back_item page room b s creep (if b then 1 else 0))
-back_behind page room false s creep c =
-    let stays = back_stays_behind page room false s creep c in record {
-      inside = moved_down_inside page room (back_in page room (beside true) (leaf_order false) s 0 0) (back_item page room false s creep 0) (2 * whole (nat_abs room.paper.height) - fold room (nat_abs room.paper.height)) (fold_back page room false s creep c)
-          (c.inside_back 0 (omega arith))
-          (λ p. (back_moves page room false s creep 0 p).0) (λ p. down_by_less _ _ creep (back_moves page room false s creep 0 p).1) stays;
-      stays = stays;
-    }
-back_behind page room true s creep c =
-    let stays = back_stays_behind page room true s creep c in record {
-      inside = moved_down_inside page room (back_in page room (beside true) (leaf_order true) s 0 1) (back_item page room true s creep 1) (2 * whole (nat_abs room.paper.height) - fold room (nat_abs room.paper.height)) (fold_back page room true s creep c)
-          (c.inside_back 1 (omega arith))
-          (λ p. (back_moves page room true s creep 1 p).0) (λ p. down_by_less _ _ creep (back_moves page room true s creep 1 p).1) stays;
+back_behind page room b s creep c =
+    let k = if b then 1 else 0 in
+    let stays = back_stays_behind page room b s creep c in record {
+      inside = moved_down_inside page room (back_in page room (beside true) (leaf_order b) s 0 k) (back_item page room b s creep k) (2 * whole (nat_abs room.paper.height) - fold room (nat_abs room.paper.height)) (fold_back page room b s creep c)
+          (c.inside_back k (one_of_two b)) (λ p. (back_moves page room b s creep k p).0) (λ p. down_by _ _ _ (back_down _ (front_up b creep)) (back_moves page room b s creep k p).1) stays;
       stays = stays;
     }
 
 back_before : (page : Paper) (room : Room) (b : Bool) (s creep : ℕ) → Creeps page room b s creep
     → Before room (2 * whole (nat_abs room.paper.height) - fold room (nat_abs room.paper.height)) page (back_item page room b s creep (if b then 0 else 1))
-back_before page room false s creep c =
-    let stays = back_stays_before page room false s creep c in record {
-      inside = moved_up_inside page room (back_in page room (beside true) (leaf_order false) s 0 1) (back_item page room false s creep 1) (2 * whole (nat_abs room.paper.height) - fold room (nat_abs room.paper.height)) c.sheet_is (fold_back page room false s creep c)
-          (c.inside_back 1 (omega arith))
-          (λ p. (back_moves page room false s creep 1 p).0) (λ p. up_by_less _ _ creep (back_moves page room false s creep 1 p).1) stays;
-      stays = stays;
-    }
-back_before page room true s creep c =
-    let stays = back_stays_before page room true s creep c in record {
-      inside = moved_up_inside page room (back_in page room (beside true) (leaf_order true) s 0 0) (back_item page room true s creep 0) (2 * whole (nat_abs room.paper.height) - fold room (nat_abs room.paper.height)) c.sheet_is (fold_back page room true s creep c)
-          (c.inside_back 0 (omega arith))
-          (λ p. (back_moves page room true s creep 0 p).0) (λ p. up_by_less _ _ creep (back_moves page room true s creep 0 p).1) stays;
+back_before page room b s creep c =
+    let k = if b then 0 else 1 in
+    let stays = back_stays_before page room b s creep c in record {
+      inside = moved_up_inside page room (back_in page room (beside true) (leaf_order b) s 0 k) (back_item page room b s creep k) (2 * whole (nat_abs room.paper.height) - fold room (nat_abs room.paper.height)) c.sheet_is (fold_back page room b s creep c)
+          (c.inside_back k (other_of_two b)) (λ p. (back_moves page room b s creep k p).0) (λ p. up_by _ _ _ (back_up _ (front_down b creep)) (back_moves page room b s creep k p).1) stays;
       stays = stays;
     }
 

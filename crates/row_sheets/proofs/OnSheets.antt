@@ -5,7 +5,7 @@ use Rattle.std.specs.List.{range_with_len}
 use Rattle.std.proofs.lemmas.List.FromFn.{get_or-map-range_with_len, length-map-range_with_len}
 use Rattle.layouts.specs.Cells.{size}
 use Rattle.layouts.proofs.Fitting.{fitted_stands, fitted_is_apart, stands_back, scale_of_many, backs_are_apart}
-use Rattle.row_sheets.specs.Filled.{Filling, slot_on, sides, is_turned, SlotIsInside, SlotsAreApart}
+use Rattle.row_sheets.specs.Filled.{Filling, filled, slot_on, sides, is_turned, SlotIsInside, SlotsAreApart}
 use Rattle.row_sheets.specs.Standing.{StandsIn, AllStand, EntryFits}
 
 -- ---- what is numbered in turn
@@ -31,7 +31,7 @@ each_two_of R f n h i j d before less =
 
 -- ---- a sheet
 
-slot_inside : (f : Filling) (by_half : Bool) (c : ℕ) (entry : Option ℕ) → (by_half ≡ true → 2 ≤ size f.setting.grid) → c < size f.setting.grid → EntryFits f entry
+pub slot_inside : (f : Filling) (by_half : Bool) (c : ℕ) (entry : Option ℕ) → (by_half ≡ true → 2 ≤ size f.setting.grid) → c < size f.setting.grid → EntryFits f entry
     → SlotIsInside f.setting.room (slot_on f by_half c entry)
 slot_inside f false c None many within fits = tt
 slot_inside f true c None many within fits = tt
@@ -40,7 +40,7 @@ slot_inside f false c (Some page) many within has =
 slot_inside f true c (Some page) many within has =
     (stands_back f.setting (f.paper_of page) c has.page_is has.sheet_is within (scale_of_many f.setting (f.paper_of page) (many refl) has.fits)).inside
 
-slots_apart : (f : Filling) (by_half : Bool) (c d : ℕ) (one other : Option ℕ) → c < size f.setting.grid → d < size f.setting.grid → c ≢ d → EntryFits f one → EntryFits f other
+pub slots_apart : (f : Filling) (by_half : Bool) (c d : ℕ) (one other : Option ℕ) → c < size f.setting.grid → d < size f.setting.grid → c ≢ d → EntryFits f one → EntryFits f other
     → SlotsAreApart f.setting.room (slot_on f by_half c one) (slot_on f by_half d other)
 slots_apart f false c d None other in_c in_d differ has has' = tt
 slots_apart f true c d None other in_c in_d differ has has' = tt
@@ -70,3 +70,10 @@ sides_stand f turned_backs sheets cells entry enough halves fits =
       apart = each_two_of (SlotsAreApart f.setting.room) (λ c. slot_on f half c (entry s c)) cells
           (λ c d in_c in_d differ. slots_apart f half c d (entry s c) (entry s d) (omega (arith, in_c, enough)) (omega (arith, in_d, enough)) differ (fits s c less in_c) (fits s d less in_d));
     })
+
+pub not_turned : (many : ℕ) → false ≡ true → 2 ≤ many
+not_turned many e = cc
+
+pub filled_stand : (f : Filling) (sheets cells : ℕ) (entry : (s c : ℕ) → Option ℕ) → cells ≤ size f.setting.grid → ((s c : ℕ) → s < sheets → c < cells → EntryFits f (entry s c))
+    → AllStand f.setting.room (filled f sheets cells entry)
+filled_stand f sheets cells entry enough fits = sides_stand f false sheets cells entry enough (not_turned (size f.setting.grid)) fits

@@ -1,11 +1,10 @@
 -- Each entry of a row has its cell, so if all entries of all sheets have their places, so has each page of the row.
-use Rattle.std.proofs.Common.{arith, ◌≡◌, ◌∙◌, inl, inr, ℕ, suc, zero, ◌+◌, ◌*◌, ◌/◌, ◌%◌, ◌<◌, ◌≤◌, Bool, true, false, List, length, refl, sym, ap, subst}
+use Rattle.std.proofs.Common.{arith, ◌≡◌, ◌∙◌, inl, inr, ℕ, suc, zero, ◌+◌, ◌*◌, ◌/◌, ◌%◌, ◌<◌, ◌≤◌, Bool, true, false, length, refl, sym, ap, subst}
 use Rattle.std.specs.Prelude.{◌==◌, if◌then◌else◌, None}
 use Rattle.std.proofs.Math.Nat.{mod-lt, div-lt_iff_lt-mul, mul_comm}
 use Rattle.std.proofs.lemmas.Bool.{cases_lt}
 use Rattle.std.proofs.lemmas.List.{get_or_past}
 use Rattle.std.proofs.lemmas.Nat.{div-add-mod'}
-use Rattle.rules.specs.Papers.{Paper}
 use Rattle.rules.specs.Sheets.{blocks}
 use Rattle.rules.specs.Signatures.{entry_of}
 use Rattle.made_sheets.specs.Rows.{Row}
@@ -14,10 +13,10 @@ use Rattle.layouts.specs.Cells.{size}
 use Rattle.layouts.specs.declared.setting.Setting.{Setting}
 use Rattle.row_sheets.specs.Filled.{Filling, behind_in, grid_entry}
 use Rattle.row_sheets.specs.Creep.{creep_on}
-use Rattle.row_sheets.specs.Shapes.{cell_on}
+use Rattle.row_sheets.specs.Shapes.{cell_on, is_two_sided, place_by, sheet_count}
+use Rattle.row_sheets.specs.declared.fill.CellKind.{CellKind}
+use Rattle.row_sheets.specs.declared.fill.CellKind.TheVariants as kind
 use Rattle.row_sheets.specs.Standing.{AllFit, AllFitOnLeaves, EntryCreeps, EntryFits}
-use Rattle.row_sheets.specs.Posters.{AllMayBePosters, EntryMayBePoster}
-use Rattle.row_sheets.specs.declared.poster.Poster.{Poster}
 use Rattle.row_sheets.proofs.Behind.{behind_is_mirror, behind_twice}
 
 -- after the end of a row all is blank
@@ -47,29 +46,7 @@ in_blocks i n (suc m) most less enough =
       is = div-add-mod' i (suc m);
     }
 
--- ---- grids, cards and stacks
-
-pub grid_fits : (f : Filling) (cells sheets : ℕ) (row : Row) → 0 < cells → sheets ≡ blocks cells (length row)
-    → ((s c : ℕ) → s < sheets → c < cells → EntryFits f (entry_of row (s * cells + c))) → AllFit f row
-grid_fits f cells sheets row some many fits = each_entry f row (λ i less.
-    let enough : length row ≤ sheets * cells = subst (λ n. length row ≤ n * cells) (sym many) (blocks_cover cells (length row) some) in
-    let at = in_blocks i (length row) cells sheets less enough in
-    subst (λ k. EntryFits f (entry_of row k)) at.is (fits (i / cells) (i % cells) at.block at.place))
-
-pub cards_fit : (f : Filling) (cells sheets : ℕ) (row : Row) → 0 < cells → sheets ≡ blocks 1 (length row)
-    → ((s c : ℕ) → s < sheets → c < cells → EntryFits f (entry_of row s)) → AllFit f row
-cards_fit f cells sheets row some many fits = each_entry f row (λ i less.
-    let enough : length row ≤ blocks 1 (length row) * 1 = blocks_cover 1 (length row) (omega arith) in
-    fits i 0 (omega (arith, less, enough, many)) some)
-
-pub stack_fits : (f : Filling) (cells sheets : ℕ) (row : Row) → 0 < cells → sheets ≡ blocks cells (length row)
-    → ((s c : ℕ) → s < sheets → c < cells → EntryFits f (entry_of row (c * sheets + s))) → AllFit f row
-stack_fits f cells sheets row some many fits = each_entry f row (λ i less.
-    let enough : length row ≤ sheets * cells = subst (λ n. length row ≤ n * cells) (sym many) (blocks_cover cells (length row) some) in
-    let at = in_blocks i (length row) sheets cells less (omega (arith, enough, mul_comm sheets cells)) in
-    subst (λ k. EntryFits f (entry_of row k)) at.is (fits (i % sheets) (i / sheets) at.place at.block))
-
--- ---- both sides of leaves
+-- ---- cells
 
 -- what is behind the cell that is behind a cell is that cell
 on_both : (t : Setting) (k : ℕ) → k < size t.grid → (b : Bool)
@@ -81,17 +58,32 @@ on_both t k within false =
 turned_over : (leaves cells : ℕ) → leaves * (2 * cells) ≡ cells * (2 * leaves)
 turned_over leaves cells = grind arith
 
-pub leaves_fit : (f : Filling) (t : Setting) (cells leaves sheets : ℕ) (row : Row) → 0 < cells → cells ≡ size t.grid → leaves ≡ blocks (2 * cells) (length row) → sheets ≡ 2 * leaves
-    → ((s c : ℕ) → s < sheets → c < cells → EntryFits f (entry_of row (cell_on t s c * sheets + s))) → AllFit f row
-leaves_fit f t cells leaves sheets row some all many twice fits = each_entry f row (λ i less.
-    let covered : length row ≤ leaves * (2 * cells) = subst (λ n. length row ≤ n * (2 * cells)) (sym many) (blocks_cover (2 * cells) (length row) (omega (arith, some))) in
-    let enough : length row ≤ cells * sheets = subst (λ n. length row ≤ n) (turned_over leaves cells ∙ ap (λ s. cells * s) (sym twice)) covered in
+covering : (cells sheets : ℕ) (row : Row) → 0 < cells → sheets ≡ blocks cells (length row) → length row ≤ sheets * cells
+covering cells sheets row some many = subst (λ n. length row ≤ n * cells) (sym many) (blocks_cover cells (length row) some)
+
+pub cells_fit : (way : CellKind) (f : Filling) (cells sheets : ℕ) (row : Row) → 0 < cells → sheets ≡ sheet_count way cells (length row) → (is_two_sided way ≡ true → cells ≡ size f.setting.grid)
+    → ((s c : ℕ) → s < sheets → c < cells → EntryFits f (entry_of row (place_by way f.setting sheets cells s c))) → AllFit f row
+cells_fit kind.Grid f cells sheets row some many all fits = each_entry f row (λ i less.
+    let at = in_blocks i (length row) cells sheets less (covering cells sheets row some many) in
+    subst (λ k. EntryFits f (entry_of row k)) at.is (fits (i / cells) (i % cells) at.block at.place))
+cells_fit kind.Cards f cells sheets row some many all fits = each_entry f row (λ i less.
+    let same : sheets ≡ length row = many in
+    fits i 0 (omega (arith, less, same)) some)
+cells_fit kind.Stack f cells sheets row some many all fits = each_entry f row (λ i less.
+    let enough = covering cells sheets row some many in
+    let at = in_blocks i (length row) sheets cells less (omega (arith, enough, mul_comm sheets cells)) in
+    subst (λ k. EntryFits f (entry_of row k)) at.is (fits (i % sheets) (i / sheets) at.place at.block))
+cells_fit kind.Leaves f cells sheets row some many all fits = each_entry f row (λ i less.
+    let t = f.setting in
+    let leaves = blocks (2 * cells) (length row) in
+    let covered : length row ≤ leaves * (2 * cells) = blocks_cover (2 * cells) (length row) (omega (arith, some)) in
+    let enough : length row ≤ cells * sheets = subst (λ n. length row ≤ n) (turned_over leaves cells ∙ ap (λ s. cells * s) (sym many)) covered in
     let at = in_blocks i (length row) sheets cells less enough in
     let k = i / sheets in
     let s = i % sheets in
     let c = cell_on t s k in
-    let both = on_both t k (subst (λ n. k < n) all at.block) (s % 2 == 0) in
-    let within : c < cells = subst (λ n. c < n) (sym all) both.0 in
+    let both = on_both t k (subst (λ n. k < n) (all refl) at.block) (s % 2 == 0) in
+    let within : c < cells = subst (λ n. c < n) (sym (all refl)) both.0 in
     let is : cell_on t s c * sheets + s ≡ i = ap (λ j. j * sheets + s) both.1 ∙ at.is in
     subst (λ j. EntryFits f (entry_of row j)) is (fits s c at.place within))
 
@@ -104,12 +96,4 @@ creeping_fit f creep leaves sheets row many fits s k in_k = elim (cases_lt s she
   | inr past ↦
       let enough : length row ≤ blocks 2 (length row) * 2 = blocks_cover 2 (length row) (omega arith) in
       subst (EntryCreeps f (creep_on creep leaves s)) (sym (past_end row (s * 2 + k) (omega (arith, past, enough, many)))) tt
-]
-
--- ---- posters
-
-pub posters_fit : (p : Poster) (papers : List Paper) (row : Row) → ((i : ℕ) → i < length row → EntryMayBePoster p papers (entry_of row i)) → AllMayBePosters p papers row
-posters_fit p papers row fits i = elim (cases_lt i (length row)) [
-  | inl less ↦ fits i less
-  | inr past ↦ subst (EntryMayBePoster p papers) (sym (past_end row i past)) tt
 ]

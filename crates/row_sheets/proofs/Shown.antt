@@ -1,5 +1,5 @@
 -- Each point of each page of a row of posters is shown on one of its sheets.
-use Rattle.std.proofs.Common.{arith, rules, ◌≡◌, ◌∙◌, ℕ, suc, zero, ◌+◌, ◌-◌, ◌*◌, ◌/◌, ◌%◌, ◌<◌, ◌≤◌, Bool, true, false, List, [], ◌∷◌, ◌++◌, length, Option, Some, None, refl, sym, ap, subst}
+use Rattle.std.proofs.Common.{arith, rules, ◌≡◌, ◌∙◌, ℕ, suc, zero, ◌+◌, ◌-◌, ◌*◌, ◌/◌, ◌%◌, ◌<◌, ◌≤◌, true, List, [], ◌∷◌, ◌++◌, length, Option, Some, None, refl, ap, subst}
 use Rattle.std.specs.Prelude.{nat_abs, nat_le, nat_lt, ◌&&◌, if◌then◌else◌, map, flat_map, slice_get}
 use Rattle.std.specs.List.{range_with_len}
 use Rattle.std.proofs.Math.Nat.{mul-le-mul_right, suc-mul}
@@ -11,13 +11,12 @@ use Rattle.rules.specs.Signatures.{entry_of}
 use Rattle.made_sheets.specs.Made.{MadeSheet, Blank, Placed}
 use Rattle.made_sheets.specs.Rows.{Row}
 use Rattle.layouts.specs.Refusals.{are_reached, is_scale}
-use Rattle.layouts.specs.Placed.{stands}
 use Rattle.layouts.proofs.InGrid.{both_true}
 use Rattle.row_sheets.specs.declared.poster.Poster.{Poster}
 use Rattle.row_sheets.specs.declared.poster.PosterError.{PosterError}
 use Rattle.row_sheets.specs.declared.poster.PosterError.TheVariants as why
-use Rattle.row_sheets.specs.Posters.{tile, poster_width, poster_height, poster_scale, why_no_poster, poster_paper, poster_sheets, blank_tiles, entry_tiles, row_tiles, tile_item}
-use Rattle.row_sheets.specs.Posters.{HasTiles, IsShown, IsOnTile, PosterHasTiles, RowIsShown, EntryMayBePoster}
+use Rattle.row_sheets.specs.Posters.{tile, poster_width, poster_height, poster_scale, poster_paper, poster_sheets, entry_tiles, row_tiles, tile_item}
+use Rattle.row_sheets.specs.Posters.{PosterHasTiles, RowIsShown, EntryMayBePoster}
 use Rattle.row_sheets.proofs.Offsets.{passed_if, less}
 use Rattle.row_sheets.proofs.Tiles.{poster_covers}
 use Rattle.row_sheets.proofs.Filling.{sheet}

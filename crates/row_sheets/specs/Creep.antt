@@ -100,10 +100,12 @@ abbrev pub up_to_fold : (right_to_left by_half : Bool) → (k creep : ℕ) → �
 up_to_fold right_to_left false k creep = to_fold right_to_left k creep
 up_to_fold right_to_left true k creep = neg_ℤ (to_fold right_to_left k creep)
 
--- a page of this paper in half k of a leaf that creeps so far
+-- a page of this paper in half k of a leaf that doesn't creep, and of one that creeps so far
+abbrev pub in_half : Setting → (by_half : Bool) → (page : Paper) → (k : ℕ) → Item
+in_half t by_half page k = if by_half then fitted_back t page k else fitted t page k
+
 abbrev pub creeping : Setting → (by_half : Bool) → (page : Paper) → (k creep : ℕ) → Item
-creeping t by_half page k creep =
-    moved_up (up_to_fold t.order.right_to_left by_half k creep) (if by_half then fitted_back t page k else fitted t page k)
+creeping t by_half page k creep = moved_up (up_to_fold t.order.right_to_left by_half k creep) (in_half t by_half page k)
 
 -- an entry of a row there
 abbrev pub creeping_slot : Filling → (by_half : Bool) → (k creep : ℕ) → Option ℕ → MadeSlot
@@ -119,7 +121,7 @@ creeping_sides f turned_backs creep leaves sheets row = map (λ s. record {
       (range_with_len 0 2);
 }) (range_with_len 0 sheets)
 
--- those of a booklet, as `booklet_sheets`
+-- those of a booklet
 abbrev pub creeping_sheets : Filling → (turned_backs : Bool) → (creep leaves : ℕ) → Row → List MadeSheet
 creeping_sheets f turned_backs creep leaves row =
     creeping_sides f turned_backs creep leaves (blocks 2 (length row)) row

@@ -2,7 +2,7 @@
 use Rattle.std.specs.Prelude.{ℕ, pos, false, List, [], ◌∷◌, map, Option, Some, None, slice_index_or}
 use Rattle.rules.specs.Papers.{Paper}
 use Rattle.rules.specs.Specification.{Item, Upright, zero_points}
-use Rattle.made_sheets.specs.Made.{MadeSlot, Blank, Placed, MadeSheet}
+use Rattle.made_sheets.specs.Made.{Blank, Placed, MadeSheet}
 use Rattle.made_sheets.specs.Rows.{Row}
 
 -- the paper of a page, and another one if the page isn't there

@@ -1,7 +1,9 @@
 -- How rows are put into cells, and why they can't be. All here is this project's own rules.
-use Rattle.std.specs.Prelude.{◌≡◌, ◌⊎◌, ℕ, ◌+◌, ◌*◌, ◌%◌, ◌==◌, if◌then◌else◌, List, slice_index_or, Option, Some}
+use Rattle.std.specs.Prelude.{◌≡◌, ◌⊎◌, ℕ, ◌+◌, ◌*◌, ◌%◌, ◌==◌, Bool, true, false, if◌then◌else◌, List, length, slice_index_or, Option, Some}
 use Rattle.rules.specs.Papers.{Paper}
+use Rattle.rules.specs.Sheets.{blocks}
 use Rattle.rules.specs.Signatures.{entry_of}
+use Rattle.made_sheets.specs.Made.{MadeSheet}
 use Rattle.made_sheets.specs.Rows.{Row}
 use Rattle.layouts.specs.declared.error.ArrangementError.{ArrangementError}
 use Rattle.layouts.specs.declared.error.ArrangementError.TheVariants as why
@@ -10,7 +12,7 @@ use Rattle.layouts.specs.Fitted.{why_not_fitted}
 use Rattle.row_sheets.specs.declared.fill.CellKind.{CellKind}
 use Rattle.row_sheets.specs.declared.fill.CellKind.TheVariants as kind
 use Rattle.row_sheets.specs.declared.fill.Shape.{Shape}
-use Rattle.row_sheets.specs.Filled.{Filling, behind_in}
+use Rattle.row_sheets.specs.Filled.{Filling, behind_in, filled}
 
 -- the cells of a sheet, and the papers of the pages in their order; a page whose paper isn't known has the sheet's
 abbrev pub filling : Setting → List Paper → Filling
@@ -32,6 +34,23 @@ place h t s c = place_by h.kind t h.sheets h.cells s c
 
 abbrev pub entry_in : Shape → Setting → Row → (s c : ℕ) → Option ℕ
 entry_in h t row s c = entry_of row (place h t s c)
+
+-- whether they are the two sides of leaves
+abbrev pub is_two_sided : CellKind → Bool
+is_two_sided kind.Leaves = true
+is_two_sided other = false
+
+-- how many sheets n entries take
+abbrev pub sheet_count : CellKind → (cells n : ℕ) → ℕ
+sheet_count kind.Grid cells n = blocks cells n
+sheet_count kind.Cards cells n = n
+sheet_count kind.Stack cells n = blocks cells n
+sheet_count kind.Leaves cells n = 2 * blocks (2 * cells) n
+
+-- the sheets of a row
+abbrev pub sheets_by : CellKind → Filling → (cells : ℕ) → Row → List MadeSheet
+sheets_by way f cells row = let sheets = sheet_count way cells (length row) in
+    filled f sheets cells (λ s c. entry_of row (place_by way f.setting sheets cells s c))
 
 -- this is why the entry can't lie in its cell
 abbrev pub IsRefusedFrom : Filling → (entry : Option ℕ) → ArrangementError → Type 0

@@ -1,14 +1,13 @@
 //! Whether the pages of a row can be laid, looked at without a sheet being made.
-ghost use Rattle.std.specs.Prelude.{◌≡◌, ◌<◌, IfErr, OnOk, Some, ℕ};
+ghost use Rattle.std.specs.Prelude.{◌<◌, IfErr, OnOk, Some, ℕ};
 ghost use Rattle.rules.specs.Signatures.{entry_of};
 ghost use Rattle.layouts.specs.Cells.{size};
 ghost use Rattle.row_sheets.specs.Shapes.{filling, IsRefusedFrom, IsRefusedIn};
 ghost use Rattle.row_sheets.specs.Standing.{EntryFits};
 ghost use Rattle.row_sheets.specs.Posters.{EntryMayBePoster, IsNoPosterFrom, IsNoPosterIn};
 
-use crate::fill::paper_of;
 use crate::poster::{Poster, PosterError, check_poster};
-use crate::poster_rows::poster_paper_of;
+use crate::selecting::paper_or;
 use layouts::{ArrangementError, Setting};
 use lengths::Paper;
 
@@ -24,10 +23,7 @@ pub fn check_cells(
     ensures refused { IfErr result (IsRefusedIn (filling setting.now papers.now) row.now) }
 {
     for entry in row {
-        match check_cell(setting, papers, *entry) {
-            Ok(()) => (),
-            Err(error) => return Err(error),
-        }
+        check_cell(setting, papers, *entry)?;
     }
     Ok(())
 }
@@ -45,7 +41,7 @@ fn check_cell(
         Some(page) => page,
         None => return Ok(()),
     };
-    match setting.item(&paper_of(setting, papers, page), 0) {
+    match setting.item(&paper_or(papers, page, &setting.room.paper), 0) {
         Ok(_) => Ok(()),
         Err(error) => Err(error),
     }
@@ -62,10 +58,7 @@ pub fn check_posters(
     ensures refused { IfErr result (IsNoPosterIn poster.now papers.now row.now) }
 {
     for entry in row {
-        match check_entry(poster, papers, *entry) {
-            Ok(()) => (),
-            Err(error) => return Err(error),
-        }
+        check_entry(poster, papers, *entry)?;
     }
     Ok(())
 }
@@ -75,7 +68,7 @@ fn check_entry(poster: &Poster, papers: &[Paper], entry: Option<u32>) -> Result<
     ensures refused { IfErr result (IsNoPosterFrom poster.now papers.now entry) }
 {
     match entry {
-        Some(page) => check_poster(poster, &poster_paper_of(poster, papers, page)),
+        Some(page) => check_poster(poster, &paper_or(papers, page, &poster.sheet)),
         None => Ok(()),
     }
 }

@@ -3,17 +3,18 @@
 ghost use Rattle.std.specs.Prelude.{◌≡◌, ◌+◌, ◌*◌, ◌<◌, ◌≤◌, ◌+ℤ◌, ◌*ℤ◌, pos, nat_abs, IfOk, IfErr, OnOk, Some, nat_le, true};
 ghost use Rattle.rules.specs.Numbers.{greatest_number};
 ghost use Rattle.pagespec.specs.Items.{item_of};
-ghost use Rattle.layouts.specs.Cells.{slack_x};
-ghost use Rattle.layouts.specs.Fitted.{scale_on};
+ghost use Rattle.layouts.specs.Cells.{size};
+ghost use Rattle.layouts.specs.Fitted.{scale_on, why_not_fitted};
 ghost use Rattle.sheet_plan.specs.OfSheets.{slot_of};
+ghost use Rattle.row_sheets.specs.Filled.{is_turned as is_turned_on};
 ghost use Rattle.row_sheets.specs.Shapes.{filling};
 ghost use Rattle.row_sheets.specs.Creep.{creep_on as creep_on_side, up_to_fold, moved_up as moved_up_by};
-ghost use Rattle.row_sheets.specs.Creep.{creeping, creeping_slot as creeping_slot_of, creeping_sheets as creeping_of};
+ghost use Rattle.row_sheets.specs.Creep.{in_half, creeping, creeping_slot as creeping_slot_of, creeping_sheets as creeping_of};
 ghost use Rattle.row_sheets.specs.Creep.{AreHalves, may_creep, why_not_creeping, IsRefusedCreep, IsRefusedCreeping};
-ghost use Rattle.row_sheets.specs.Standing.{AllFitOnLeaves, EntryCreeps, FitsOnLeaf, LeavesStand};
+ghost use Rattle.row_sheets.specs.Standing.{AllFitOnLeaves, EntryCreeps, FitsIn, FitsOnLeaf, LeavesStand};
 
-use super::fill::{blocks_of, entry_at, is_turned, paper_of};
-use super::fitter::Fitter;
+use super::fill::{blocks_of, entry_at};
+use super::selecting::paper_or;
 use layouts::{ArrangementError, Setting};
 use lengths::{Number, Paper, Unit};
 use pagespec::{Item, Measure};
@@ -29,8 +30,9 @@ pub struct Creep {
     pub leaves: u32,
 }
 
-/// The sides of a booklet's leaves, as `booklet_sheets` makes them, with each page moved towards the fold as far as its leaf
-/// creeps. It is refused if a page would cross the fold.
+/// The sides of a booklet's leaves, fronts and backs in turn, for a row that is in signature order: two entries on each
+/// side. For printers that flip a sheet about its longer edge the backs are turned by half. Each page is moved towards the
+/// fold as far as its leaf creeps, and is refused if it would cross it. A page whose paper isn't known has the sheet's.
 pub fn creeping_booklet_sheets(
     alloc: Global,
     setting: &Setting,
@@ -52,22 +54,18 @@ pub fn creeping_booklet_sheets(
         Ok(sheets) => sheets,
         Err(error) => return Err(error),
     };
-    let mut fitter = match Fitter::new(alloc, setting, 2) {
-        Ok(fitter) => fitter,
-        Err(_) => return Err(ArrangementError::NoMemory),
-    };
     let mut made = MadeSheets::new(alloc);
     for s in 0..sheets {
         let by_half = is_turned(turned_backs, s);
         let by = creep_on(creep, s);
         let place = 2 * u128::from(s);
         let entry = entry_at(row, place);
-        let first = match creeping_slot(&mut fitter, papers, by_half, by, entry, 0) {
+        let first = match creeping_slot(setting, papers, by_half, by, entry, 0) {
             Ok(slot) => slot,
             Err(error) => return Err(error),
         };
         let next = entry_at(row, place + 1);
-        let second = match creeping_slot(&mut fitter, papers, by_half, by, next, 1) {
+        let second = match creeping_slot(setting, papers, by_half, by, next, 1) {
             Ok(slot) => slot,
             Err(error) => return Err(error),
         };
@@ -77,6 +75,13 @@ pub fn creeping_booklet_sheets(
         }
     }
     Ok(made)
+}
+
+/// Whether this side is turned by half.
+fn is_turned(turned_backs: bool, s: u32) -> bool
+    ensures { result ≡ is_turned_on turned_backs s }
+{
+    turned_backs && s % 2 == 1
 }
 
 /// How far the pages of a side are moved.
@@ -92,27 +97,26 @@ fn creep_on(creep: Creep, s: u32) -> u64
 
 /// An entry of a row in a half of a leaf that creeps so far.
 fn creeping_slot(
-    fitter: &mut Fitter,
+    setting: &Setting,
     papers: &[Paper],
     by_half: bool,
     creep: u64,
     entry: Option<u32>,
     cell: u32,
 ) -> Result<MadeSlot, ArrangementError>
-    requires halves { AreHalves fitter.old }
+    requires halves { AreHalves setting.now }
     requires cell { cell < 2 }
     ensures made { IfOk result (λ slot. slot_of slot
-        ≡ creeping_slot_of (filling fitter.old papers.now) by_half cell creep entry) }
-    ensures fits { OnOk result (EntryCreeps (filling fitter.old papers.now) creep entry) }
-    ensures refused { IfErr result (IsRefusedCreep (filling fitter.old papers.now) creep entry) }
-    ensures same { fitter.new ≡ fitter.old }
+        ≡ creeping_slot_of (filling setting.now papers.now) by_half cell creep entry) }
+    ensures fits { OnOk result (EntryCreeps (filling setting.now papers.now) creep entry) }
+    ensures refused { IfErr result (IsRefusedCreep (filling setting.now papers.now) creep entry) }
 {
     let page = match entry {
         Some(page) => page,
         None => return Ok(MadeSlot::Blank),
     };
-    let paper = paper_of(fitter.setting(), papers, page);
-    match creeping_item(fitter, &paper, by_half, creep, cell) {
+    let paper = paper_or(papers, page, &setting.room.paper);
+    match creeping_item(setting, &paper, by_half, creep, cell) {
         Ok(item) => Ok(MadeSlot::Placed { page, item, paper }),
         Err(error) => Err(error),
     }
@@ -120,30 +124,54 @@ fn creeping_slot(
 
 /// A page of this paper there.
 fn creeping_item(
-    fitter: &mut Fitter,
+    setting: &Setting,
     paper: &Paper,
     by_half: bool,
     creep: u64,
     cell: u32,
 ) -> Result<Item, ArrangementError>
-    requires halves { AreHalves fitter.old }
+    requires halves { AreHalves setting.now }
     requires cell { cell < 2 }
-    ensures made { IfOk result (λ item. item_of item ≡ creeping fitter.old by_half paper.now cell creep) }
-    ensures fits { OnOk result (FitsOnLeaf fitter.old paper.now creep) }
-    ensures refused { IfErr result (λ error. why_not_creeping fitter.old paper.now creep ≡ Some error) }
-    ensures same { fitter.new ≡ fitter.old }
+    ensures made { IfOk result (λ item. item_of item ≡ creeping setting.now by_half paper.now cell creep) }
+    ensures fits { OnOk result (FitsOnLeaf setting.now paper.now creep) }
+    ensures refused { IfErr result (λ error. why_not_creeping setting.now paper.now creep ≡ Some error) }
 {
-    let item = match fitter.item(paper, by_half, cell) {
+    let item = match half_item(setting, paper, by_half, cell) {
         Ok(item) => item,
         Err(error) => return Err(error),
     };
-    match check_fold(fitter.setting(), paper, creep) {
+    match check_fold(setting, paper, creep) {
         Ok(()) => (),
         Err(error) => return Err(error),
     }
-    let setting = fitter.setting();
     let by = towards_fold(setting.order.right_to_left, by_half, cell, creep);
     Ok(moved_up(item, by))
+}
+
+/// A page of this paper in a half of a leaf that doesn't creep.
+fn half_item(
+    setting: &Setting,
+    paper: &Paper,
+    by_half: bool,
+    cell: u32,
+) -> Result<Item, ArrangementError>
+    requires cell { cell < size setting.now.grid }
+    requires halves { 2 ≤ size setting.now.grid }
+    ensures made { IfOk result (λ item. item_of item ≡ in_half setting.now by_half paper.now cell) }
+    ensures fits { OnOk result (FitsIn setting.now paper.now) }
+    ensures refused { IfErr result (λ error. why_not_fitted setting.now paper.now ≡ Some error) }
+{
+    if by_half {
+        match setting.back_item(paper, cell) {
+            Ok(item) => Ok(item),
+            Err(error) => Err(error),
+        }
+    } else {
+        match setting.item(paper, cell) {
+            Ok(item) => Ok(item),
+            Err(error) => Err(error),
+        }
+    }
 }
 
 /// The check that a page of this paper doesn't cross the fold of a leaf that creeps so far.

@@ -1,15 +1,14 @@
 //! Posters: one page over several sheets.
-ghost use Rattle.std.specs.Prelude.{◌≡◌, ◌++◌, ◌+◌, ◌-◌, ◌*◌, ◌<◌, ◌≤◌, ◌-ℤ◌, pos, nat_abs, IfOk, IfErr, OnOk, Some, None, IsTrue};
-ghost use Rattle.rules.specs.Papers.{is_side, longest_side};
+ghost use Rattle.std.specs.Prelude.{◌≡◌, ◌++◌, ◌+◌, ◌-◌, ◌*◌, ◌<◌, ◌≤◌, ◌-ℤ◌, pos, IfOk, IfErr, OnOk, Some, None};
 ghost use Rattle.pagespec.specs.Items.{item_of, measure_of};
 ghost use Rattle.rules.specs.Numbers.{greatest_number};
 ghost use Rattle.layouts.specs.Cells.{in_points, fitting as fits, slack as slack_of};
 ghost use Rattle.layouts.specs.Laws.{IsPaper};
-ghost use Rattle.layouts.specs.Refusals.{is_scale as may_be_scale};
-ghost use Rattle.row_sheets.specs.Posters.{tile as tile_of, stride as stride_of, length_of, poster_sheets as sheets_of};
+ghost use Rattle.row_sheets.specs.Posters.{tile as tile_of, poster_sheets as sheets_of};
 ghost use Rattle.row_sheets.specs.Posters.{most_tiles, why_no_poster, IsNoPoster, MayBePoster, laid_of, laid_item, IsNear};
 
-use lengths::{Grains, Number, Paper, Unit};
+use layouts::{is_scale, number, points, side};
+use lengths::Paper;
 use pagespec::{Item, Measure, Turn};
 use sheet_plan::{MadeSheets, MadeSlot};
 use std::alloc::Global;
@@ -166,16 +165,6 @@ fn laid_on(poster: &Poster, page_paper: &Paper) -> Result<Laid, PosterError>
     })
 }
 
-/// A side of a paper, in grains.
-fn side(side: Grains) -> u64
-    requires { IsTrue (is_side side) }
-    ensures value { result ≡ nat_abs side }
-    ensures some { 0 < result }
-    ensures in_range { result ≤ longest_side }
-{
-    side.get() as u64
-}
-
 /// What the margins leave of a side of so many grains, in 10^-5 of a point.
 fn tile(side: u64, edge: u64) -> u64
     ensures { result ≡ tile_of side edge }
@@ -198,13 +187,6 @@ fn fitting(length: u128, side: u64) -> u128
     ensures { result ≡ fits length side }
 {
     1_270_000_000_000_000 * length / u128::from(side)
-}
-
-/// Whether a page can be written with this scale, in 10^-9.
-fn is_scale(scale: u128) -> bool
-    ensures { result ≡ may_be_scale scale }
-{
-    1 <= scale && scale <= 99_999_000_000_000
 }
 
 /// Half of what a scaled side leaves of a length, in 10^-5 of a point.
@@ -243,29 +225,4 @@ fn distance(from: u64, to: u64) -> Measure
     ensures { measure_of result ≡ in_points (pos to -ℤ pos from) }
 {
     points(to as i64 - from as i64)
-}
-
-/// A whole number of 10^-5 of a point.
-fn points(n: i64) -> Measure
-    requires { nat_abs n ≤ 9_999_999_999 }
-    ensures { measure_of result ≡ in_points n }
-{
-    match Number::new(10_000 * n) {
-        Some(number) => Measure {
-            number,
-            unit: Unit::Pt,
-        },
-        None => unreachable!(),
-    }
-}
-
-/// So many 10^-9.
-fn number(billionths: u64) -> Number
-    requires { billionths ≤ greatest_number }
-    ensures { result ≡ pos billionths }
-{
-    match Number::new(billionths as i64) {
-        Some(number) => number,
-        None => unreachable!(),
-    }
 }

@@ -1,10 +1,11 @@
 //! Posters of the pages of a row.
-ghost use Rattle.std.specs.Prelude.{◌≡◌, ◌⊎◌, ◌++◌, ◌*◌, ◌≤◌, IfErr, IfOk, OnOk, slice_index_or};
-ghost use Rattle.row_sheets.specs.Posters.{most_tiles, blank_tiles, entry_tiles, poster_paper, row_tiles};
+ghost use Rattle.std.specs.Prelude.{◌≡◌, ◌⊎◌, ◌++◌, ◌*◌, ◌≤◌, IfErr, IfOk, OnOk};
+ghost use Rattle.row_sheets.specs.Posters.{most_tiles, blank_tiles, entry_tiles, row_tiles};
 ghost use Rattle.row_sheets.specs.Posters.{AllMayBePosters, EntryMayBePoster, IsNoPosterFor, IsNoPosterFrom};
 ghost use Rattle.row_sheets.specs.declared.poster.PosterError.TheVariants as why;
 
 use crate::poster::{Poster, PosterError, push_poster};
+use crate::selecting::paper_or;
 use lengths::Paper;
 use sheet_plan::{MadeSheets, MadeSlot};
 use std::alloc::Global;
@@ -24,10 +25,7 @@ pub fn poster_row_sheets(
 {
     let mut made = MadeSheets::new(alloc);
     for entry in row {
-        match push_entry(poster, papers, *entry, &mut made) {
-            Ok(()) => (),
-            Err(error) => return Err(error),
-        }
+        push_entry(poster, papers, *entry, &mut made)?;
     }
     Ok(made)
 }
@@ -45,19 +43,8 @@ fn push_entry(
     ensures refused { IfErr result (λ e. (e ≡ why.NoMemory) ⊎ IsNoPosterFrom poster.now papers.now entry e) }
 {
     match entry {
-        Some(page) => push_poster(poster, &poster_paper_of(poster, papers, page), page, made),
+        Some(page) => push_poster(poster, &paper_or(papers, page, &poster.sheet), page, made),
         None => push_blanks(poster, made),
-    }
-}
-
-/// The paper of a page.
-pub(crate) fn poster_paper_of(poster: &Poster, papers: &[Paper], page: u32) -> Paper
-    ensures { result ≡ poster_paper poster.now papers.now page }
-{
-    if (page as usize) < papers.len() {
-        papers[page as usize]
-    } else {
-        poster.sheet
     }
 }
 

@@ -4,7 +4,7 @@ ghost use Rattle.row_sheets.specs.Shapes.{filling};
 ghost use Rattle.row_sheets.specs.SameScale.{at_one_scale as setting_of, least_with, lesser as lesser_of};
 ghost use Rattle.row_sheets.specs.SameScale.{HasNoScale, HaveNoScale};
 
-use crate::fill::paper_of;
+use crate::selecting::paper_or;
 use layouts::{ArrangementError, Setting};
 use lengths::{Number, Paper};
 
@@ -20,10 +20,7 @@ pub fn at_one_scale(
 {
     let mut least = None;
     for entry in row {
-        match with_entry(setting, papers, least, *entry) {
-            Ok(found) => least = found,
-            Err(error) => return Err(error),
-        }
+        least = with_entry(setting, papers, least, *entry)?;
     }
     Ok(Setting {
         room: setting.room,
@@ -47,10 +44,7 @@ fn with_entry(
         Some(page) => page,
         None => return Ok(least),
     };
-    let scale = match setting.scale(&paper_of(setting, papers, page)) {
-        Ok(scale) => scale,
-        Err(error) => return Err(error),
-    };
+    let scale = setting.scale(&paper_or(papers, page, &setting.room.paper))?;
     match least {
         Some(least) => Ok(Some(lesser(least, scale))),
         None => Ok(Some(scale)),

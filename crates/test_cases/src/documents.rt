@@ -35,9 +35,13 @@ pub fn document_of(
 
 /// The index of the document of that name: the last one counts.
 pub fn index_of(documents: &[Document], name: &str) -> Option<usize> {
-    documents
-        .iter()
-        .rposition(|document| document.name.as_str() == name)
+    let mut found = None;
+    for (index, document) in documents.iter().enumerate() {
+        if document.name.as_str() == name {
+            found = Some(index);
+        }
+    }
+    found
 }
 
 /// Adds lines with their ends, or with escapes and no ends of their own.

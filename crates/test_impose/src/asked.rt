@@ -1,7 +1,7 @@
 //! What a case asks of the world around a run, and of what is compared.
 use std::alloc::{AllocError, Global};
 use test_cases::{Case, words_of};
-use test_world::Takes;
+use test_tools::Takes;
 
 /// Room for every output.
 const AMPLE: usize = 10_000_000;

@@ -5,7 +5,7 @@ use std::alloc::{AllocError, Global};
 use std::sync::Wait;
 use std::thread::Threads;
 use test_cases::{Case, CaseFile, Found};
-use test_world::Takes;
+use test_tools::Takes;
 
 /// Runs a command over and over, into outputs that take no byte, one, and so on up to all that it writes, and reports how
 /// many runs there were, and how many of them ended otherwise than they should.

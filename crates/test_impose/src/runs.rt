@@ -10,7 +10,7 @@ use std::alloc::{AllocError, Global};
 use std::sync::Wait;
 use std::thread::Threads;
 use test_cases::{Case, CaseFile, Found, FoundFile};
-use test_world::{Folder, GivenFile};
+use test_tools::{Folder, GivenFile};
 
 /// What comes of a case. None if there is no such command or setting.
 pub fn found_of_case<R: Threads + Wait + Sync>(

@@ -4,7 +4,7 @@ use std::alloc::{AllocError, Global};
 use std::sync::Wait;
 use std::thread::Threads;
 use test_cases::{Case, CaseFile, Found, FoundFile};
-use test_world::{Folder, GivenFile, Takes, Written};
+use test_tools::{Folder, GivenFile, Takes, Written};
 
 /// Room for every output.
 const AMPLE: Takes = Takes::Bytes(1_000_000);

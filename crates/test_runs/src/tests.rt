@@ -3,15 +3,24 @@ ghost use Rattle.std.specs.Prelude.{◌<◌};
 ghost use Rattle.imposer.specs.Workers.{AreWorkers};
 ghost use Rattle.sheet_writer.specs.Sinks.{IsCountable};
 
+mod callers;
 mod checks;
+mod doubled;
+mod ended_tables;
 mod examples;
 mod gates;
+mod groups;
 mod growth;
 mod handed_back;
+mod jobs;
+mod large;
 mod pstops;
+mod queues;
 mod refused_puts;
 mod sheets_of_sheets;
 mod sinks;
+mod texts;
+mod tools;
 mod windows;
 
 use dsc::Document;
@@ -83,71 +92,6 @@ fn run_into<R: Threads + Wait + Sync, G: Gate + Sync, S: Sink>(
     let options = workers(trial.counts.0, trial.counts.1);
     let input = trial.document.as_bytes();
     run(rt, alloc, input, trial.items, &options, gate, sink)
-}
-
-/// Runs into a sink with ample room: the bytes that were written, and the report.
-fn ran<R: Threads + Wait + Sync>(
-    rt: &R,
-    alloc: Global,
-    document: &str,
-    items: &str,
-    options: &Options,
-) -> Result<(MemorySink, Report), RunError> {
-    let mut sink = MemorySink::new(alloc, 100_000, 100_000, 1_000)?;
-    let input = document.as_bytes();
-    let report = run(rt, alloc, input, items, options, &Open, &mut sink)?;
-    Ok((sink, report))
-}
-
-/// Whether a run writes this output, and tells this.
-fn writes<R: Threads + Wait + Sync>(
-    rt: &R,
-    alloc: Global,
-    (document, items): (&str, &str),
-    options: &Options,
-    output: &str,
-    told: &Report,
-) -> Result<bool, RunError> {
-    let (sink, report) = ran(rt, alloc, document, items, options)?;
-    Ok(sink.bytes() == output.as_bytes() && report == *told)
-}
-
-/// Whether a run writes an output that ends so, and tells this.
-fn ends_with<R: Threads + Wait + Sync>(
-    rt: &R,
-    alloc: Global,
-    (document, items): (&str, &str),
-    options: &Options,
-    last: &str,
-    told: &Report,
-) -> Result<bool, RunError> {
-    let (sink, report) = ran(rt, alloc, document, items, options)?;
-    Ok(sink.bytes().ends_with(last.as_bytes()) && report == *told)
-}
-
-/// What a run answers, and how many bytes it has written, into a sink with room for a thousand.
-fn answered<R: Threads + Wait + Sync>(
-    rt: &R,
-    alloc: Global,
-    document: &str,
-    items: &str,
-    options: &Options,
-) -> Result<(Result<Report, RunError>, usize), AllocError> {
-    let mut sink = MemorySink::new(alloc, 1_000, 1_000, 100)?;
-    let input = document.as_bytes();
-    let answer = run(rt, alloc, input, items, options, &Open, &mut sink);
-    Ok((answer, sink.bytes().len()))
-}
-
-/// What is told of a run whose workers made all sheets.
-fn report_of(pages: u32, sheets: u32, born: u32, bytes: u64) -> Report {
-    Report {
-        pages,
-        sheets,
-        born,
-        swept: 0,
-        bytes,
-    }
 }
 
 /// So many pages of so many lines of nine bytes.

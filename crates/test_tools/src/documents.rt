@@ -44,7 +44,7 @@ pub fn document_with(alloc: Global, pages: u32, text: &str) -> Result<String, Al
 /// A document of one page, or its sheet, with this many lines in the page.
 pub fn with_lines(alloc: Global, text: &str, lines: usize) -> Result<String, AllocError> {
     let mut long = String::new(alloc);
-    let (before, behind) = match text.split_once("(0) pop\n") {
+    let (before, after) = match text.split_once("(0) pop\n") {
         Some(parts) => parts,
         None => (text, ""),
     };
@@ -52,6 +52,6 @@ pub fn with_lines(alloc: Global, text: &str, lines: usize) -> Result<String, All
     for _ in 0..lines {
         long.push_str("(0) pop\n")?;
     }
-    long.push_str(behind)?;
+    long.push_str(after)?;
     Ok(long)
 }

@@ -1,5 +1,5 @@
 -- What an output reports: its name, and then the bytes that were written to it.
-use Rattle.std.specs.Prelude.{⊤, ◌≡◌, ◌+◌, ◌++◌, ◌∷◌, ◌==◌, ◌&&◌, ℕ, Bool, true, false, not, is_some, if◌then◌else◌, List, []}
+use Rattle.std.specs.Prelude.{⊤, ◌≡◌, ◌+◌, ◌++◌, ◌∷◌, ◌==◌, ℕ, Bool, false, if◌then◌else◌, List, [], length}
 use Rattle.std.specs.Prelude.{Option, Some, None, map, option_map}
 
 -- A file's name, or none for standard output, as a list that no other name's list begins: so name and bytes can be
@@ -21,6 +21,16 @@ abbrev pub IsFrontOf : (now all : Option (List ℕ)) → Type 0
 IsFrontOf now None = ⊤
 IsFrontOf now (Some all) = (front rest : List ℕ) × (now ≡ Some front) × (all ≡ front ++ rest)
 
--- nothing was written to the output, and no write to it failed
-abbrev pub is_bare : {C : Type 0} → (written : ℕ) → (cause : Option C) → Bool
-is_bare written cause = (written == 0) && not (is_some cause)
+-- the bytes after the name that an output reports, if it reports one
+abbrev pub bytes_in : (told : List ℕ) → Option (List ℕ)
+bytes_in [] = None
+bytes_in (b ∷ bs) = if b == 0 then Some bs else bytes_in bs
+
+abbrev pub are_many : (count : ℕ) → Option (List ℕ) → Bool
+are_many count None = false
+are_many count (Some bytes) = length bytes == count
+
+-- what an output reports, if these are a name and so many bytes
+abbrev pub counted : (count : ℕ) → (told : Option (List ℕ)) → Option (List ℕ)
+counted count None = None
+counted count (Some told) = if are_many count (bytes_in told) then Some told else None

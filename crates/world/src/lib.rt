@@ -2,8 +2,8 @@
 #![tactic(auto)]
 
 mod host;
-mod late;
 mod opened;
+mod output;
 mod read;
 mod sink;
 mod source;
@@ -11,10 +11,10 @@ mod told;
 mod world;
 
 pub use host::{Host, HostInput, HostOutput};
-pub use late::Late;
 pub use opened::Opened;
+pub use output::Created;
 pub use read::{MOST_BYTES, ReadFault, read_input, read_input_behind};
-pub use sink::{Buffered, abandon, buffered, created_late, write_out};
+pub use sink::{Buffered, abandon, buffered, created, write_out};
 pub use source::{ReadSource, Source, SourceFault};
 pub use told::tell;
 pub use world::{Refused, World};

@@ -3,9 +3,9 @@ ghost use Rattle.std.specs.Prelude.{◌≡◌, [], true, option_map, option_and_
 ghost use Rattle.std.specs.Io.KnownBytes.{Keeps};
 ghost use Rattle.world.specs.Outputs.{IsFrontOf, told_if};
 
-use crate::late::Late;
 use crate::opened::Opened;
-use crate::world::World;
+use crate::output::Created;
+use crate::world::{Refused, World};
 use sheet_writer::{Sink, WriteSink};
 use std::alloc::Global;
 use std::io::{BufWriter, Write};
@@ -13,25 +13,28 @@ use std::io::{BufWriter, Write};
 /// A writer with a buffer before it, as a sink.
 pub type Buffered<T> = WriteSink<BufWriter<T>>;
 
-/// The output of this name, with a buffer of so many bytes before it. It is created when its first byte leaves the
-/// buffer. If there is no memory for the buffer, the world comes back.
-pub fn created_late<'n, W: World>(
+/// The output of this name, which is created, with a buffer of so many bytes before it. If there is no memory for the buffer,
+/// or the output can't be created, the world comes back, and nothing was created in it.
+pub fn created<W: World>(
     alloc: Global,
     capacity: usize,
-    name: Option<&'n str>,
+    name: Option<&str>,
     world: W,
-) -> Result<Buffered<Late<'n, W>>, W>
-    ensures told { IfOk result (λ sink. (⟦<WriteSink<BufWriter<Late<'n, W>>> as Sink>⟧.seen sink).bytes
+) -> Result<Buffered<Created<W::Output>>, Refused<W>>
+    ensures told { IfOk result (λ sink. (⟦<WriteSink<BufWriter<Created<W::Output>>> as Sink>⟧.seen sink).bytes
         ≡ told_if (W.tells world) (option_map (λ n. n.now) name.entry) []) }
-    ensures fresh { IfOk result (λ sink. (⟦<WriteSink<BufWriter<Late<'n, W>>> as Sink>⟧.seen sink).failures ≡ 0) }
-    ensures kept { IfErr result (λ back. back ≡ world) }
+    ensures fresh { IfOk result (λ sink. (⟦<WriteSink<BufWriter<Created<W::Output>>> as Sink>⟧.seen sink).failures ≡ 0) }
 {
-    match BufWriter::with_capacity(alloc, capacity, Late::new(name)) {
-        Ok(mut writer) => {
-            writer.get_mut().world = Some(world);
+    let mut writer = match BufWriter::with_capacity(alloc, capacity, Created::new()) {
+        Ok(writer) => writer,
+        Err(cause) => return Err(Refused { world, cause }),
+    };
+    match world.create(name) {
+        Ok(output) => {
+            writer.get_mut().output = Some(output);
             Ok(WriteSink::new(writer))
         }
-        Err(_) => Err(world),
+        Err(refused) => Err(refused),
     }
 }
 

@@ -1,21 +1,22 @@
 -- The law at a guarded document of two pages: its premises hold.
 use Rattle.std.proofs.Common.{ℕ, zero, suc, List, [], ◌∷◌, ◌++◌, refl, Some, None, arith}
-use Rattle.std.specs.Prelude.{codes, Result, Ok, Err, Option}
+use Rattle.std.specs.Prelude.{codes, Option}
 use Rattle.std.specs.Fmt.{digits}
 use Rattle.rules.specs.Papers.{Paper, points}
 use Rattle.rules.specs.Parts.{NestedUnit, preamble, bytes_of}
-use Rattle.rules.specs.Run.{document_of, DocumentFault}
 use Rattle.dsc.specs.Units.{units_of}
 use Rattle.guard.specs.Guard.{guarded}
-use Rattle.pictures.specs.Objects.{Procedure, Name}
-use Rattle.pictures.specs.Machine.{State, Painting, and_then}
+use Rattle.pictures.specs.Objects.{Token, Procedure, Name}
+use Rattle.pictures.specs.Machine.{State, Painting}
 use Rattle.pictures.specs.Scanner.{tokens}
 use Rattle.pictures.specs.Sheets.{in_userdict}
-use Rattle.pictures.specs.Documents.{page_of, IsPrinted}
+use Rattle.pictures.specs.Documents.{page_of, PreambleRuns, IsPrinted}
+use Rattle.pictures.proofs.Examples.TwoUp.{far}
 use Rattle.pictures.proofs.Examples.Premises.{document_with, half, frame, stroke}
+use Rattle.pictures.proofs.Examples.Applied.{units}
 use Rattle.guarded_pictures.specs.Behind.{behind_guard}
-use Rattle.guarded_pictures.specs.Shelter.{sheltered, step_on}
-use Rattle.guarded_pictures.specs.Pages.{IsGuarded, defined, GuardedPreambleRuns, GuardedPagePaints, outline_of}
+use Rattle.guarded_pictures.specs.Shelter.{Outer, sheltered, step_on}
+use Rattle.guarded_pictures.specs.Pages.{IsGuarded, defined, GuardedPagePaints, outline_of}
 use Rattle.guarded_pictures.proofs.Ground.{guard_is_enough, stays_guarded}
 use Rattle.guarded_pictures.proofs.Documents.{guarded_document_is_shown}
 
@@ -27,12 +28,8 @@ paper = Some (points 200 300)
 abbrev pub text : List ℕ
 text = document_with (codes "/e {showpage} bind def") (codes "initgraphics 0 0 moveto 9 9 lineto initclip stroke e" ∷ (codes "grestore " ++ stroke) ∷ [])
 
-abbrev pub units_found : Result (List NestedUnit) DocumentFault → List NestedUnit
-units_found (Ok us) = us
-units_found (Err e) = []
-
 abbrev pub us : List NestedUnit
-us = units_found (document_of text)
+us = units text
 
 -- after the preamble
 abbrev pub behind : State
@@ -41,21 +38,17 @@ behind = defined (in_userdict (codes "e") (Procedure (Name (codes "showpage") �
 pub guarded_behind : IsGuarded behind
 guarded_behind = stays_guarded (behind_guard paper []) (in_userdict (codes "e") (Procedure (Name (codes "showpage") ∷ []))) (guard_is_enough paper []) refl
 
-pub preamble_runs : GuardedPreambleRuns (bytes_of (preamble (units_of (guarded paper text)))) behind
+pub preamble_runs : PreambleRuns IsGuarded (bytes_of (preamble (units_of (guarded paper text)))) behind
 unfolding digits
 preamble_runs = (refl, (268, refl), refl, refl, refl, guarded_behind)
 
-abbrev pub end_of : State → Option State → State
-end_of s None = s
-end_of s (Some t) = t
-
-abbrev at_most : ℕ → State → State
-at_most zero s = s
-at_most (suc n) s = end_of s (and_then (λ r. Some (at_most n r)) (step_on [] (outline_of frame) s.left s))
+-- within these pages, on a paper with this outline
+abbrev pub at_most : List Outer → List Token → ℕ → State → State
+at_most outers outline n s = far (λ t. step_on outers outline t.left t) n s
 
 abbrev end : ℕ → State
-end zero = at_most 12 (sheltered [] behind (outline_of frame) (tokens (page_of us 0)))
-end (suc p) = at_most 9 (sheltered [] behind (outline_of frame) (tokens (page_of us 1)))
+end zero = at_most [] (outline_of frame) 12 (sheltered [] behind (outline_of frame) (tokens (page_of us 0)))
+end (suc p) = at_most [] (outline_of frame) 9 (sheltered [] behind (outline_of frame) (tokens (page_of us 1)))
 
 abbrev pub picture : ℕ → List Painting
 picture p = (end p).painted

@@ -36,7 +36,7 @@ told = refl
 -- so the sheets show the pages
 shown : MadeIsPrinted None (telling all) all (units_of (guarded paper text)) picture behind
 unfolding digits
-shown = made_document_is_shown paper None all text us picture behind (one_paper_is_told_as_one wide all (refl, (refl, tt))) refl (omega arith) refl preamble_runs ((second_page, (first_page, tt)), ((tt, (first_page, tt)), tt))
+shown = made_document_is_shown paper None all text us picture behind (one_paper_is_told_as_one wide all (refl, (refl, tt))) refl (omega arith) refl preamble_runs ((second_page, (first_page, tt)), ((first_page, tt), tt))
 
 -- a line that would be run isn't one that may be added; nor one that a form feed ends
 run : is_comment_line (codes "BoundingBox: 0 0 400 300") ≡ false

@@ -7,7 +7,8 @@ use Rattle.made_sheets.specs.Made.{Placed, MadeSheet}
 use Rattle.papers.specs.Told.{telling}
 use Rattle.papers.proofs.Tame.{telling_is_tame}
 use Rattle.pictures.specs.Imposed.{MadeIsPrinted}
-use Rattle.guarded_pictures.specs.Pages.{GuardedPreambleRuns}
+use Rattle.pictures.specs.Documents.{PreambleRuns}
+use Rattle.guarded_pictures.specs.Pages.{IsGuarded}
 use Rattle.guarded_pictures.specs.TwoMadeRuns.{written_again, made_run_picture}
 use Rattle.guarded_pictures.proofs.Imposed.{one_paper_is_told_as_one, telling_is_quiet}
 use Rattle.guarded_pictures.proofs.TwoMadeRuns.{two_made_runs_are_shown}
@@ -24,7 +25,7 @@ outer = record { paper = wide; slots = Placed 0 (stands (pos 0)) own ∷ Placed 
 abbrev again : List NestedUnit
 again = written_again paper None (telling inner) inner us
 
-preamble_runs : GuardedPreambleRuns (bytes_of (preamble again)) behind
+preamble_runs : PreambleRuns IsGuarded (bytes_of (preamble again)) behind
 unfolding digits
 preamble_runs = (refl, (275, refl), refl, refl, refl, guarded_behind)
 

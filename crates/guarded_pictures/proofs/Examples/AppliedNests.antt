@@ -1,17 +1,17 @@
 -- The law over any number of runs at sheets of sheets of sheets, of a page that resets, its clip again while there is a path: its
 -- premises hold.
-use Rattle.std.proofs.Common.{◌≡◌, ℕ, zero, suc, List, [], ◌∷◌, refl, Some, false}
+use Rattle.std.proofs.Common.{◌≡◌, List, [], ◌∷◌, refl, false}
 use Rattle.std.specs.Prelude.{None, codes}
 use Rattle.pictures.specs.Objects.{Token}
-use Rattle.pictures.specs.Machine.{State, Painting, Runs, and_then}
+use Rattle.pictures.specs.Machine.{State, Painting, Runs}
 use Rattle.pictures.specs.Scanner.{tokens}
 use Rattle.pictures.specs.Sheets.{run_of, Numbers, Shown}
 use Rattle.pictures.specs.Pictures.{printed, sheets_tokens}
 use Rattle.pictures.proofs.Examples.Premises.{outline}
-use Rattle.guarded_pictures.specs.Shelter.{Outer, outline_tokens, beginning, sheltered, step_on, PaintsSheltered}
+use Rattle.guarded_pictures.specs.Shelter.{Outer, outline_tokens, beginning, sheltered, PaintsSheltered}
 use Rattle.guarded_pictures.specs.SheetsOfSheets.{page_round, page_begun, Nest, nest_as_page}
 use Rattle.guarded_pictures.proofs.Nests.{nests_are_printed}
-use Rattle.guarded_pictures.proofs.Examples.Applied.{behind, guarded_behind, end_of}
+use Rattle.guarded_pictures.proofs.Examples.Applied.{behind, guarded_behind, at_most}
 use Rattle.guarded_pictures.proofs.Examples.AppliedTwice.{takes_sheets}
 
 -- half as large
@@ -31,13 +31,9 @@ half = record {
 abbrev body : List Token
 body = tokens (codes "initgraphics 0 0 moveto 9 9 lineto initclip stroke e")
 
-abbrev at_most : List Outer → ℕ → State → State
-at_most outers zero s = s
-at_most outers (suc n) s = end_of s (and_then (λ r. Some (at_most outers n r)) (step_on outers (outline_tokens half) s.left s))
-
 -- what it paints outside all pages
 abbrev picture : List Painting
-picture = (at_most [] 11 (sheltered [] behind (outline_tokens half) body)).painted
+picture = (at_most [] (outline_tokens half) 11 (sheltered [] behind (outline_tokens half) body)).painted
 
 -- sheets of sheets of sheets, each with one page
 abbrev page : Shown
@@ -59,7 +55,7 @@ abbrev within_two : State
 within_two = page_begun one_round within_one half
 
 abbrev end : State
-end = at_most two_round 11 (sheltered two_round within_two (outline_tokens half) body)
+end = at_most two_round (outline_tokens half) 11 (sheltered two_round within_two (outline_tokens half) body)
 
 -- within two sheets it paints the same
 page_paints : PaintsSheltered two_round within_two (outline_tokens half) body picture

@@ -1,32 +1,31 @@
 -- The law at a document of two pages that makes showpage do nothing in its prolog, and prints its first page by one that it
 -- loaded before: its premises hold.
-use Rattle.std.proofs.Common.{ℕ, zero, suc, List, [], ◌∷◌, ◌++◌, refl, Some, None, arith, false}
+use Rattle.std.proofs.Common.{ℕ, zero, suc, List, [], ◌∷◌, ◌++◌, refl, None, arith, false}
 use Rattle.std.specs.Prelude.{codes}
 use Rattle.std.specs.Fmt.{digits}
 use Rattle.rules.specs.Parts.{NestedUnit, preamble, bytes_of}
-use Rattle.rules.specs.Run.{document_of}
-use Rattle.rules.specs.Filters.{trailer_text}
 use Rattle.rules.specs.Output.{output}
 use Rattle.dsc.specs.Units.{units_of}
 use Rattle.guard.specs.Guard.{guarded}
 use Rattle.pictures.specs.Objects.{Procedure}
-use Rattle.pictures.specs.Machine.{State, Painting, Runs, and_then}
+use Rattle.pictures.specs.Machine.{State, Painting, Runs}
 use Rattle.pictures.specs.Scanner.{tokens}
 use Rattle.pictures.specs.Sheets.{in_userdict}
-use Rattle.pictures.specs.Documents.{started, page_of, all_sheets, sheet_pictures}
+use Rattle.pictures.specs.Documents.{started, page_of, PreambleRuns, all_sheets}
 use Rattle.pictures.proofs.Examples.Premises.{document_with, half, frame, stroke}
+use Rattle.pictures.proofs.Examples.Applied.{units}
 use Rattle.guarded_pictures.specs.Behind.{behind_guard, showpage_tokens}
-use Rattle.guarded_pictures.specs.Shelter.{sheltered, step_on}
-use Rattle.guarded_pictures.specs.Pages.{GuardedPagePaints, outline_of}
-use Rattle.guarded_pictures.specs.Silenced.{IsSilenced, SilencedPreambleRuns, with_showpage, behind_sheets}
+use Rattle.guarded_pictures.specs.Shelter.{sheltered}
+use Rattle.guarded_pictures.specs.Pages.{GuardedPagePaints, outline_of, shown_at}
+use Rattle.guarded_pictures.specs.Silenced.{IsSilenced, with_showpage, showing}
 use Rattle.guarded_pictures.proofs.Silenced.{silenced_document_is_shown}
-use Rattle.guarded_pictures.proofs.Examples.Applied.{paper, units_found, end_of}
+use Rattle.guarded_pictures.proofs.Examples.Applied.{paper, at_most}
 
 abbrev text : List ℕ
 text = document_with (codes "userdict /e /showpage load put userdict /showpage {} put") ((stroke ++ codes " e") ∷ (codes "initgraphics " ++ stroke) ∷ [])
 
 abbrev us : List NestedUnit
-us = units_found (document_of text)
+us = units text
 
 -- after the preamble
 abbrev behind : State
@@ -42,35 +41,22 @@ silenced_behind : IsSilenced behind
 silenced_behind = record {
   empty = refl;
   guarded = record {
-    number = 3;
-    save_is = refl;
-    guard_is = refl;
-    clip_is = refl;
-    clip_alone = refl;
-    path_is = refl;
-    names = refl;
+    guard = record { number = 3; save_is = refl; guard_is = refl; clip_is = refl; clip_alone = refl; path_is = refl; names = refl; few_operands = omega arith; operands = refl; dictionaries = refl };
     userdict_first = refl;
     showpage_is = refl;
     flag_is = refl;
     show_is = refl;
-    few_operands = omega arith;
-    operands = refl;
-    dictionaries = refl;
     graphics = refl;
   };
 }
 
-preamble_runs : SilencedPreambleRuns (bytes_of (preamble (units_of (guarded paper text)))) behind
+preamble_runs : PreambleRuns IsSilenced (bytes_of (preamble (units_of (guarded paper text)))) behind
 unfolding digits
 preamble_runs = (refl, (273, refl), refl, refl, refl, silenced_behind)
 
-abbrev at_most : ℕ → State → State
-at_most zero s = s
-at_most (suc n) s = end_of s (and_then (λ r. Some (at_most n r)) (step_on [] (outline_of frame) s.left s))
-
 abbrev end : ℕ → State
-end zero = at_most 12 (sheltered [] (with_showpage behind) (outline_of frame) (tokens (page_of us 0)))
-end (suc p) = at_most 9 (sheltered [] (with_showpage behind) (outline_of frame) (tokens (page_of us 1)))
+end zero = at_most [] (outline_of frame) 12 (sheltered [] (with_showpage behind) (outline_of frame) (tokens (page_of us 0)))
+end (suc p) = at_most [] (outline_of frame) 9 (sheltered [] (with_showpage behind) (outline_of frame) (tokens (page_of us 1)))
 
 abbrev picture : ℕ → List Painting
 picture p = (end p).painted
@@ -103,10 +89,6 @@ second_page = (
 
 -- so the sheets show both pages
 shown : Runs false (started (tokens (output frame None half (units_of (guarded paper text)))))
-    (record (behind_sheets (all_sheets None half us) behind) {
-      left = tokens (trailer_text (units_of (guarded paper text)));
-      painted = [];
-      sheets = sheet_pictures frame (units_of (guarded paper text)) picture behind (all_sheets None half us);
-    })
+    (shown_at (showing behind) None (units_of (guarded paper text)) picture (all_sheets frame None half us))
 unfolding digits
-shown = silenced_document_is_shown paper frame None half text us picture behind refl (omega arith) refl preamble_runs refl ((first_page, tt), ((second_page, tt), tt))
+shown = silenced_document_is_shown paper frame None half text us picture behind refl (omega arith) refl preamble_runs (omega arith) ((first_page, tt), ((second_page, tt), tt))

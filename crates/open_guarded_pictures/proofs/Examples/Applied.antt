@@ -1,31 +1,32 @@
 -- The law at a guarded document whose page resets, shows a text by xyshow, which the machine of crates/pictures lacks, and prints
 -- by a procedure that was bound: its premises hold, for a machine that has xyshow.
-use Rattle.std.proofs.Common.{◌≡◌, ℕ, zero, suc, List, [], ◌∷◌, refl, ap, subst, Bool, true, false, Some, None, arith, true≢false, is_none}
+use Rattle.std.proofs.Common.{◌≡◌, ℕ, List, [], ◌∷◌, refl, ap, subst, Bool, true, false, Some, None, arith, true≢false, is_none}
 use Rattle.std.specs.Prelude.{codes, Option, bytes_eq, if◌then◌else◌}
 use Rattle.std.specs.Fmt.{digits}
 use Rattle.rules.specs.Parts.{NestedUnit, preamble, bytes_of}
-use Rattle.rules.specs.Run.{document_of}
 use Rattle.dsc.specs.Units.{units_of}
 use Rattle.guard.specs.Guard.{guarded}
 use Rattle.pictures.specs.Objects.{Shows}
-use Rattle.pictures.specs.Machine.{State, Painting, and_then}
+use Rattle.pictures.specs.Machine.{State, Painting}
 use Rattle.pictures.specs.Scanner.{tokens}
 use Rattle.pictures.specs.Documents.{started, page_of, all_sheets, sheet_pictures}
+use Rattle.pictures.proofs.Examples.TwoUp.{far}
 use Rattle.pictures.proofs.Examples.Premises.{document_with, half, frame, outline, placed}
+use Rattle.pictures.proofs.Examples.Applied.{units}
 use Rattle.guarded_pictures.specs.Shelter.{sheltered}
-use Rattle.guarded_pictures.specs.Pages.{outline_of}
-use Rattle.guarded_pictures.proofs.Examples.Applied.{paper, units_found, behind, guarded_behind}
+use Rattle.guarded_pictures.specs.Pages.{IsGuarded, outline_of}
+use Rattle.guarded_pictures.proofs.Examples.Applied.{paper, behind, guarded_behind}
 use Rattle.open_pictures.specs.Machine.{Further}
 use Rattle.open_pictures.specs.Operators.{Blind, Stop, AtName, AtOperands, Answer, by_table, only_names, entry, answering}
-use Rattle.open_pictures.specs.Documents.{plain_work, OpenIsPrinted}
+use Rattle.open_pictures.specs.Documents.{plain_work, OpenPreambleRuns, OpenIsPrinted}
 use Rattle.open_pictures.proofs.Operators.{tables_are_placeless, names_take_others}
 use Rattle.open_pictures.specs.Blindness.{RunsPreambles}
 use Rattle.open_pictures.proofs.Runs.{open_runs}
 use Rattle.open_pictures.proofs.Nowhere.{placeless_runs_preambles}
 use Rattle.open_guarded_pictures.specs.Shelter.{IsPlacelessThere, SeesNoMatrices, open_shelter_step}
-use Rattle.open_guarded_pictures.specs.Pages.{OpenGuardedPreambleRuns, OpenGuardedPagePaints}
+use Rattle.open_guarded_pictures.specs.Pages.{OpenGuardedPagePaints}
 use Rattle.open_guarded_pictures.proofs.Operators.{tables_are_placeless_there, answers_see_no_matrices}
-use Rattle.open_guarded_pictures.proofs.Documents.{open_guarded_document_is_shown}
+use Rattle.open_guarded_pictures.proofs.Imposed.{open_guarded_document_is_shown}
 
 abbrev nothing : Answer
 nothing os settings = Some []
@@ -64,23 +65,15 @@ abbrev text : List ℕ
 text = document_with (codes "/e {showpage} bind def") (codes "initgraphics 9 9 moveto (Two) [6 0 7 0 8 0] xyshow e" ∷ [])
 
 abbrev us : List NestedUnit
-us = units_found (document_of text)
+us = units text
 
 -- the preamble needs nothing further
-preamble_runs : OpenGuardedPreambleRuns x plain_work (bytes_of (preamble (units_of (guarded paper text)))) behind
+preamble_runs : OpenPreambleRuns x plain_work IsGuarded (bytes_of (preamble (units_of (guarded paper text)))) behind
 unfolding digits
 preamble_runs = (refl, open_runs x (started (tokens (bytes_of (preamble (units_of (guarded paper text)))))) behind (268, refl), refl, refl, refl, guarded_behind)
 
-abbrev end_of : State → Option State → State
-end_of s None = s
-end_of s (Some t) = t
-
-abbrev at_most : ℕ → State → State
-at_most zero s = s
-at_most (suc n) s = end_of s (and_then (λ r. Some (at_most n r)) (open_shelter_step x [] (outline_of frame) s))
-
 abbrev end : State
-end = at_most 17 (sheltered [] behind (outline_of frame) (tokens (page_of us 0)))
+end = far (open_shelter_step x [] (outline_of frame)) 17 (sheltered [] behind (outline_of frame) (tokens (page_of us 0)))
 
 abbrev picture : ℕ → List Painting
 picture p = end.painted
@@ -104,6 +97,6 @@ unfolding digits
 shown = open_guarded_document_is_shown x x plain_work paper frame None half text us picture behind placeless runs refl (omega arith) refl preamble_runs ((page, tt), tt)
 
 -- one sheet with one painting, in its place
-it_is_placed : outline (sheet_pictures frame us picture behind (all_sheets None half us)) ≡ (placed ∷ []) ∷ []
+it_is_placed : outline (sheet_pictures None us picture behind (all_sheets frame None half us)) ≡ (placed ∷ []) ∷ []
 unfolding digits
 it_is_placed = refl

@@ -1,13 +1,12 @@
 -- A further operator that is there by its name, in the dictionaries that the machine begins with: `bind` binds it, and `where`
 -- finds it. Without an entry it is found when it is run, and `bind` leaves the name as it is.
-use Rattle.std.proofs.Common.{◌≡◌, ℕ, zero, suc, List, [], ◌∷◌, refl, Some, None, false}
+use Rattle.std.proofs.Common.{◌≡◌, ℕ, List, [], ◌∷◌, refl, Some, None, false}
 use Rattle.std.specs.Prelude.{codes, Option, bytes_eq, if◌then◌else◌, option_map}
-use Rattle.pictures.specs.Objects.{Token, Object, Operator, Looks, CopiesPage}
+use Rattle.pictures.specs.Objects.{Object, Operator, Looks, CopiesPage}
 use Rattle.pictures.specs.Operators.{Work}
-use Rattle.pictures.specs.Machine.{State, and_then}
 use Rattle.pictures.specs.Scanner.{tokens}
 use Rattle.pictures.specs.Sheets.{in_userdict}
-use Rattle.pictures.proofs.Examples.TwoUp.{number}
+use Rattle.pictures.proofs.Examples.TwoUp.{number, end_by}
 use Rattle.open_pictures.specs.Machine.{Further, open_step}
 use Rattle.open_pictures.specs.Operators.{Answer, by_table, only_names, answering}
 use Rattle.open_pictures.specs.Documents.{begun, plain_work}
@@ -22,16 +21,8 @@ x = by_table (only_names (λ name. if bytes_eq name (codes "languagelevel") then
 abbrev there : Work
 there = record plain_work { entries = in_userdict (codes "languagelevel") (Operator (codes "languagelevel") (Looks CopiesPage)) ∷ [] }
 
-abbrev unless_done : (State → Option State) → List Token → State → Option State
-unless_done f [] s = Some s
-unless_done f (t ∷ ts) s = and_then f (open_step x false s)
-
-abbrev to_the_end : ℕ → State → Option State
-to_the_end zero s = None
-to_the_end (suc n) s = unless_done (λ r. to_the_end n r) s.left s
-
 abbrev left_by : Work → List ℕ → Option (List Object)
-left_by w text = option_map (λ s. s.work.operands) (to_the_end 1000 (begun w (tokens text)))
+left_by w text = option_map (λ s. s.work.operands) (end_by (open_step x false) 1000 (begun w (tokens text)))
 
 called : left_by plain_work (codes "languagelevel") ≡ Some (number (codes "3") ∷ [])
 called = refl

@@ -1,18 +1,18 @@
 -- A freer form of an operator that the machine has: `]` takes an array within the array, and makes a value of it that is known by
 -- what it was made of. It takes what the operator itself doesn't, and is blind.
-use Rattle.std.proofs.Common.{◌≡◌, ℕ, zero, suc, List, [], ◌∷◌, refl, Some, None, false, ap, sym, subst, true≢false, is_none}
+use Rattle.std.proofs.Common.{◌≡◌, ℕ, List, [], ◌∷◌, refl, Some, None, false, ap, sym, subst, true≢false, is_none}
 use Rattle.std.specs.Prelude.{codes, Option, option_map}
 use Rattle.pictures.specs.Objects.{Token, Number, Object, Array, Mark, Kind, Computes, CloseArray, Font}
 use Rattle.pictures.specs.Dictionaries.{Entry}
 use Rattle.pictures.specs.Operators.{with_operands, collected, gathered}
 use Rattle.pictures.specs.Shifted.{ups, Agree, up_work}
-use Rattle.pictures.specs.Machine.{State, and_then}
 use Rattle.pictures.specs.Scanner.{tokens}
 use Rattle.pictures.specs.Documents.{started}
 use Rattle.open_pictures.specs.Machine.{open_step}
 use Rattle.open_pictures.specs.Blindness.{IsBlind}
 use Rattle.open_pictures.specs.Operators.{Table, Blind, Sight, Outcome, AtName, AtOperands, by_table, TakesOthers, AsksForNone, AllAskForNone}
 use Rattle.open_pictures.proofs.Operators.{tables_are_blind}
+use Rattle.pictures.proofs.Examples.TwoUp.{end_by}
 
 -- `[ [..] ]`, and no more: a value that is known by what it was made of
 abbrev nested : List Object → Sight → Option Outcome
@@ -72,16 +72,8 @@ all_ask (AtOperands kind) f e = absurd (never f e)
 blind : IsBlind (by_table table)
 blind = tables_are_blind table takes_others all_ask
 
-abbrev unless_done : (State → Option State) → List Token → State → Option State
-unless_done f [] s = Some s
-unless_done f (t ∷ ts) s = and_then f (open_step (by_table table) false s)
-
-abbrev to_the_end : ℕ → State → Option State
-to_the_end zero s = None
-to_the_end (suc n) s = unless_done (λ r. to_the_end n r) s.left s
-
 abbrev left_by : List ℕ → Option (List Object)
-left_by text = option_map (λ s. s.work.operands) (to_the_end 1000 (started (tokens text)))
+left_by text = option_map (λ s. s.work.operands) (end_by (open_step (by_table table) false) 1000 (started (tokens text)))
 
 -- what the machine takes it makes as before
 as_before : left_by (codes "[1 2]") ≡ Some (Array (Number (codes "1") ∷ Number (codes "2") ∷ []) ∷ [])

@@ -1,17 +1,17 @@
 -- A further operator that looks at where the page is: it isn't placeless, and the sheet's picture is another one than the page's
 -- own, placed. It answers the number of matrices that are concatenated, as `0 0 transform` of the Reference answers where the page is.
-use Rattle.std.proofs.Common.{◌≡◌, ℕ, zero, suc, Bool, List, [], ◌∷◌, refl, Some, None, false, ap, length, true≢false, map}
+use Rattle.std.proofs.Common.{◌≡◌, ℕ, Bool, List, [], ◌∷◌, refl, Some, None, false, ap, length, true≢false, map}
 use Rattle.std.specs.Prelude.{codes, Option, Ok, bytes_eq, if◌then◌else◌, decimal, option_map}
 use Rattle.std.specs.Fmt.{digits}
 use Rattle.rules.specs.Units.{◌>>=◌}
 use Rattle.rules.specs.Run.{document_of}
 use Rattle.rules.specs.Output.{output}
 use Rattle.pictures.specs.Objects.{Token, Number, Plain, Name, Object}
-use Rattle.pictures.specs.Machine.{State, Painting, push, and_then}
+use Rattle.pictures.specs.Machine.{State, Painting, push}
 use Rattle.pictures.specs.Placing.{Around}
 use Rattle.pictures.specs.Scanner.{tokens}
 use Rattle.pictures.specs.Documents.{started}
-use Rattle.pictures.proofs.Examples.TwoUp.{call, number}
+use Rattle.pictures.proofs.Examples.TwoUp.{call, number, end_by}
 use Rattle.pictures.proofs.Examples.Premises.{document_with, half, frame}
 use Rattle.open_pictures.specs.Machine.{Further, open_step}
 use Rattle.open_pictures.specs.Blindness.{IsPlaceless}
@@ -56,20 +56,12 @@ not_placeless p = true≢false (ap is_nought (p place start (push (number (codes
 abbrev line : List ℕ
 line = codes "0 0 moveto 9 transform lineto stroke"
 
-abbrev unless_done : (State → Option State) → List Token → State → Option State
-unless_done f [] s = Some s
-unless_done f (t ∷ ts) s = and_then f (open_step x false s)
-
-abbrev to_the_end : ℕ → State → Option State
-to_the_end zero s = None
-to_the_end (suc n) s = unless_done (λ r. to_the_end n r) s.left s
-
 -- of each painting on each sheet the operands of its path's elements, the latest first
 abbrev points : List (List Painting) → List (List (List (List Object)))
 points sheets = map (λ sheet. map (λ p. map (λ y. y.call.operands) p.graphics.path) sheet) sheets
 
 abbrev sheets_of : List ℕ → Option (List (List (List (List Object))))
-sheets_of text = option_map (λ s. points s.sheets) (to_the_end 2000 (started (tokens text)))
+sheets_of text = option_map (λ s. points s.sheets) (end_by (open_step x false) 2000 (started (tokens text)))
 
 abbrev line_to : List ℕ → List (List Object)
 line_to y = (number y ∷ number (codes "9") ∷ []) ∷ (number (codes "0") ∷ number (codes "0") ∷ []) ∷ []

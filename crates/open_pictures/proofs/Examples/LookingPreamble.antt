@@ -7,16 +7,15 @@ use Rattle.pictures.specs.Objects.{Token, Number, Plain, Name, Object}
 use Rattle.pictures.specs.Dictionaries.{Entry, meaning}
 use Rattle.pictures.specs.Machine.{State, Graphics, Painting, push, meant, step_on}
 use Rattle.pictures.specs.Sheets.{IsGround, sheet_names, in_userdict, with_more}
-use Rattle.pictures.specs.Unaware.{IsPlainGround, PagePrints}
+use Rattle.pictures.specs.Unaware.{IsPlainGround}
 use Rattle.pictures.proofs.Opening.{name_other, is_apart}
 use Rattle.pictures.proofs.Examples.TwoUp.{call, number, segment}
 use Rattle.pictures.proofs.Examples.Premises.{document_with, half, frame}
 use Rattle.pictures.proofs.Examples.Applied.{units, behind, plain_ground, page_prints}
-use Rattle.open_pictures.specs.Machine.{Further, none_further}
-use Rattle.open_pictures.specs.Blindness.{SeesNothingAfter, RunsPreambles}
-use Rattle.open_pictures.specs.Documents.{plain_work, OpenPreambleRuns, OpenIsPrinted}
-use Rattle.open_pictures.proofs.Closed.{none_is_blind, page_prints_so}
-use Rattle.open_pictures.proofs.Own.{open_sheets_show_the_pages}
+use Rattle.open_pictures.specs.Machine.{Further, open_step, open_unaware_step, none_further}
+use Rattle.open_pictures.specs.Blindness.{IsBlind, SeesNothingAfter, RunsPreambles}
+use Rattle.open_pictures.specs.Documents.{plain_work, OpenPreambleRuns, OpenPagePrints, OpenIsPrinted}
+use Rattle.open_pictures.proofs.Imposed.{open_sheets_show_the_pages}
 
 -- `transform` answers the number of matrices that are concatenated, unless a dictionary has the name
 abbrev looks : Option Object → State → Option State
@@ -80,7 +79,7 @@ ground = record {
 plain : IsPlainGround ready
 plain = plain_ground [] prolog ground refl refl refl
 
-preamble_runs : OpenPreambleRuns z plain_work (bytes_of (preamble us)) ready
+preamble_runs : OpenPreambleRuns z plain_work IsGround (bytes_of (preamble us)) ready
 unfolding digits
 preamble_runs = (refl, (3, refl), refl, refl, refl, ground)
 
@@ -98,12 +97,15 @@ picture p = record {
   };
 } ∷ []
 
-page : PagePrints us ready 0 (picture 0)
+page : OpenPagePrints none_further us ready 0 (picture 0)
 unfolding digits
-page = page_prints us ready 0 7 as_before (picture 0) plain refl refl refl refl refl refl
+page = page_prints (open_step none_further false) (open_unaware_step none_further) us ready 0 7 as_before (picture 0) plain refl refl refl refl refl refl
+
+none_is_blind : IsBlind none_further
+none_is_blind = record { placeless = λ a s t e k. absurd (never t k); unaware = λ n s t es ess e k a h. absurd (never t k) }
 
 by_the_law : OpenIsPrinted z plain_work frame None half us picture ready
 unfolding digits
 by_the_law =
     open_sheets_show_the_pages none_further z plain_work frame None half document us picture ready none_is_blind runs refl refl preamble_runs plain
-    ((page_prints_so none_further us ready 0 (picture 0) page, tt), tt)
+    ((page, tt), tt)

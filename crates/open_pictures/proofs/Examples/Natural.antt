@@ -1,19 +1,18 @@
 -- A document with operators that the machine of crates/pictures lacks: its prolog sets a name of statusdict, its page shows
 -- a text by xyshow. The open law holds of it, for a machine that has these two, and it says the picture that is written by hand.
-use Rattle.std.proofs.Common.{◌≡◌, ℕ, zero, suc, List, [], ◌∷◌, refl, Some, None, true, false, Bool, subst, ap, ◌∙◌, length, true≢false, is_none}
+use Rattle.std.proofs.Common.{◌≡◌, ℕ, List, [], ◌∷◌, refl, Some, None, true, false, Bool, subst, ap, ◌∙◌, true≢false, is_none}
 use Rattle.std.specs.Prelude.{codes, Option, bytes_eq, if◌then◌else◌}
 use Rattle.std.specs.Fmt.{digits}
-use Rattle.rules.specs.Parts.{NestedUnit, pages, preamble, bytes_of}
-use Rattle.rules.specs.Signatures.{sheets_in}
+use Rattle.rules.specs.Parts.{NestedUnit, preamble, bytes_of}
 use Rattle.pictures.specs.Objects.{Number, Text, Literal, Plain, Array, Font, Truth, Dictionary, Call, Shows}
 use Rattle.pictures.specs.Operators.{Work}
-use Rattle.pictures.specs.Machine.{State, Painting, Clip, and_then, step}
+use Rattle.pictures.specs.Machine.{State, Painting, Clip, step}
 use Rattle.pictures.specs.Scanner.{tokens}
 use Rattle.pictures.specs.Sheets.{IsGround, sheet_names, in_userdict, run_of}
-use Rattle.pictures.specs.Documents.{started, page_of, sheet_pictures}
+use Rattle.pictures.specs.Documents.{started, page_of, sheet_pictures, all_sheets}
 use Rattle.pictures.specs.Unaware.{IsPlainGround}
 use Rattle.pictures.proofs.Opening.{name_other, is_apart}
-use Rattle.pictures.proofs.Examples.TwoUp.{lines, two_up, frame, call, number, segment}
+use Rattle.pictures.proofs.Examples.TwoUp.{lines, two_up, frame, call, number, segment, far}
 use Rattle.pictures.proofs.Examples.Applied.{units}
 use Rattle.open_pictures.specs.Machine.{Further, open_step, open_unaware_step, none_further}
 use Rattle.open_pictures.specs.Blindness.{IsBlind}
@@ -21,7 +20,8 @@ use Rattle.open_pictures.specs.Operators.{Blind, Answer, by_table, only_names, a
 use Rattle.open_pictures.specs.Documents.{OpenPreambleRuns, OpenPagePrints, OpenIsPrinted}
 use Rattle.open_pictures.proofs.Operators.{tables_are_blind, answers_ask_for_none, names_take_others, names_ask}
 use Rattle.open_pictures.proofs.Nowhere.{placeless_runs_preambles}
-use Rattle.open_pictures.proofs.Own.{open_nothing_after, open_sheets_show_the_pages}
+use Rattle.pictures.proofs.Own.{nothing_behind}
+use Rattle.open_pictures.proofs.Imposed.{open_sheets_show_the_pages}
 
 abbrev document : List ℕ
 document = lines (
@@ -102,20 +102,12 @@ plain_ground = record {
   no_save = refl;
 }
 
-preamble_runs : OpenPreambleRuns x work (bytes_of (preamble us)) after_preamble
+preamble_runs : OpenPreambleRuns x work IsGround (bytes_of (preamble us)) after_preamble
 unfolding digits
 preamble_runs = (refl, (4, refl), refl, refl, refl, ground)
 
-abbrev end_of : State → Option State → State
-end_of s None = s
-end_of s (Some t) = t
-
-abbrev at_most : ℕ → State → State
-at_most zero s = s
-at_most (suc n) s = end_of s (and_then (λ r. Some (at_most n r)) (open_unaware_step x s))
-
 abbrev picture : ℕ → List Painting
-picture p = (at_most 20 (run_of (tokens (page_of us 0)) after_preamble)).painted
+picture p = (far (open_unaware_step x) 20 (run_of (tokens (page_of us 0)) after_preamble)).painted
 
 page_prints : OpenPagePrints x us after_preamble 0 (picture 0)
 unfolding digits
@@ -123,7 +115,7 @@ page_prints = (
   refl,
   refl,
   record {
-    at = at_most 20 (run_of (tokens (page_of us 0)) after_preamble);
+    at = far (open_unaware_step x) 20 (run_of (tokens (page_of us 0)) after_preamble);
     count = 20;
     run = refl;
     after = [];
@@ -131,7 +123,7 @@ page_prints = (
     has_userdict = refl;
     showpage = refl;
     picture_is = refl;
-    ends = open_nothing_after x after_preamble (at_most 20 (run_of (tokens (page_of us 0)) after_preamble)) refl refl refl refl refl;
+    ends = nothing_behind (open_step x false) (open_unaware_step x) after_preamble (far (open_unaware_step x) 20 (run_of (tokens (page_of us 0)) after_preamble)) refl refl refl refl refl;
   },
 )
 
@@ -139,7 +131,7 @@ sheets_show_it : OpenIsPrinted x work frame None two_up us picture after_preambl
 unfolding digits
 sheets_show_it =
     open_sheets_show_the_pages x x work frame None two_up document us picture after_preamble blind (placeless_runs_preambles x blind.placeless) refl refl preamble_runs plain_ground
-    ((page_prints, (tt, tt)), tt)
+    ((page_prints, tt), tt)
 
 -- and this is the picture, by hand
 
@@ -172,7 +164,7 @@ text = record {
   };
 }
 
-this_picture : sheet_pictures frame us picture after_preamble (sheets_in None two_up (length (pages us))) ≡ (text ∷ []) ∷ []
+this_picture : sheet_pictures frame.border us picture after_preamble (all_sheets frame None two_up us) ≡ (text ∷ []) ∷ []
 unfolding digits
 this_picture = refl
 

@@ -1,17 +1,17 @@
 -- What an application of the laws to a document needs: its units, the state after its preamble, its pages' own
 -- runs.
 use Rattle.std.proofs.Common.{◌≡◌, ℕ, List, [], ◌∷◌, refl, ap, Some, None, true}
-use Rattle.std.specs.Prelude.{codes, Result, Ok, Err}
+use Rattle.std.specs.Prelude.{codes, Result, Ok, Err, Option}
 use Rattle.rules.specs.Parts.{NestedUnit}
 use Rattle.rules.specs.Run.{document_of, DocumentFault}
 use Rattle.pictures.specs.Objects.{Name, Call}
 use Rattle.pictures.specs.Dictionaries.{Entry, meaning, system, entry_of}
-use Rattle.pictures.specs.Machine.{State, Graphics, Painting}
+use Rattle.pictures.specs.Machine.{State, Graphics, Painting, fonts, steps}
 use Rattle.pictures.specs.Scanner.{tokens, IsComplete}
 use Rattle.pictures.specs.Kept.{page_comments_apart}
 use Rattle.pictures.specs.Sheets.{IsGround, run_of}
 use Rattle.pictures.specs.Documents.{started, page_of}
-use Rattle.pictures.specs.Unaware.{IsPlainGround, PagePrints, absent, none_before, no_saved_in, unaware_steps}
+use Rattle.pictures.specs.Unaware.{IsPlainGround, PagePrintsBy, absent, none_before, no_saved_in}
 use Rattle.pictures.proofs.Own.{nothing_behind}
 
 abbrev units_of : Result (List NestedUnit) DocumentFault → List NestedUnit
@@ -44,17 +44,25 @@ plain_ground settings es ground saved showpage save = record {
   no_save = save;
 }
 
+-- one that has defined no names, and set fonts at most
+pub bare_ground : (settings : List Call) → fonts settings ≡ settings → IsGround (behind settings [])
+bare_ground settings same =
+    record { names = λ name h. refl; operands = refl; dictionaries = refl; graphics = ap (λ cs. record { chain = []; path = []; clip = []; settings = cs }) same }
+
+pub bare : (settings : List Call) → fonts settings ≡ settings → IsPlainGround (behind settings [])
+bare settings same = plain_ground settings [] (bare_ground settings same) refl refl refl
+
 -- a page that leaves all names as they were prints itself, if it runs up to its showpage
 pub page_prints :
-    (us : List NestedUnit) (s : State) (p count : ℕ) (graphics : Graphics) (picture : List Painting) → IsPlainGround s
+    (free unaware : State → Option State) (us : List NestedUnit) (s : State) (p count : ℕ) (graphics : Graphics) (picture : List Painting) → IsPlainGround s
     → absent s.work.dictionaries s.work.entries (codes "showpage") ≡ true
     → absent s.work.dictionaries s.work.entries (codes "ImposeSave") ≡ true
     → meaning s.work.dictionaries s.work.entries (codes "restore") ≡ system (codes "restore")
     → IsComplete (page_of us p) → page_comments_apart (page_of us p) ≡ true
-    → unaware_steps count (run_of (tokens (page_of us p)) s)
+    → steps unaware count (run_of (tokens (page_of us p)) s)
     ≡ Some (record s { left = Name (codes "showpage") ∷ []; graphics = graphics; painted = picture })
-    → PagePrints us s p picture
-page_prints us s p count graphics picture ground showpage save restore complete apart run = (
+    → PagePrintsBy free unaware us s p picture
+page_prints free unaware us s p count graphics picture ground showpage save restore complete apart run = (
   complete,
   apart,
   record {
@@ -66,7 +74,7 @@ page_prints us s p count graphics picture ground showpage save restore complete 
     has_userdict = ground.has_userdict;
     showpage = showpage;
     picture_is = refl;
-    ends = nothing_behind s (record s { left = Name (codes "showpage") ∷ []; graphics = graphics; painted = picture })
+    ends = nothing_behind free unaware s (record s { left = Name (codes "showpage") ∷ []; graphics = graphics; painted = picture })
         refl refl (ap (none_before s.level) ground.saves) save restore;
   },
 )

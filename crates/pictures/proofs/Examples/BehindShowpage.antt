@@ -1,20 +1,21 @@
 -- Pages on which something follows showpage: `restore`, `end`; and one that leaves its save. The law applied to
 -- this document.
-use Rattle.std.proofs.Common.{ℕ, zero, suc, List, [], ◌∷◌, refl, Some, None}
-use Rattle.std.specs.Prelude.{codes, Option}
+use Rattle.std.proofs.Common.{ℕ, zero, suc, List, [], ◌∷◌, refl, None, false}
+use Rattle.std.specs.Prelude.{codes}
 use Rattle.std.specs.Fmt.{digits}
 use Rattle.rules.specs.Parts.{NestedUnit, preamble, bytes_of}
 use Rattle.pictures.specs.Objects.{Name, Procedure}
-use Rattle.pictures.specs.Machine.{State, Painting, shipped}
+use Rattle.pictures.specs.Machine.{State, Painting, shipped, step}
 use Rattle.pictures.specs.Scanner.{tokens}
 use Rattle.pictures.specs.Sheets.{IsGround, run_of}
 use Rattle.pictures.specs.Documents.{page_of, PreambleRuns, IsPrinted}
 use Rattle.pictures.specs.Unaware.{IsPlainGround, PagePrints, unaware_step}
-use Rattle.pictures.proofs.Own.{nothing_behind, sheets_show_the_pages}
+use Rattle.pictures.proofs.Own.{nothing_behind}
+use Rattle.pictures.proofs.Imposed.{sheets_show_the_pages}
 use Rattle.pictures.proofs.Examples.Premises.{half, frame}
-use Rattle.pictures.proofs.Examples.TwoUp.{lines}
+use Rattle.pictures.proofs.Examples.TwoUp.{lines, far, count}
 use Rattle.pictures.proofs.Examples.OnTwoSheets.{line_in}
-use Rattle.pictures.proofs.Examples.Applied.{units, behind, plain_ground}
+use Rattle.pictures.proofs.Examples.Applied.{units, behind, bare_ground, bare}
 
 abbrev document : List ℕ
 document = lines (
@@ -36,35 +37,16 @@ us = units document
 abbrev ready : State
 ready = behind [] []
 
-ground : IsGround ready
-ground = record { names = λ name h. refl; operands = refl; dictionaries = refl; graphics = refl }
-
 plain : IsPlainGround ready
-plain = plain_ground [] [] ground refl refl refl
+plain = bare [] refl
 
-preamble_runs : PreambleRuns (bytes_of (preamble us)) ready
-preamble_runs = (refl, (0, refl), refl, refl, refl, ground)
+preamble_runs : PreambleRuns IsGround (bytes_of (preamble us)) ready
+preamble_runs = (refl, (0, refl), refl, refl, refl, bare_ground [] refl)
 
 -- as far as a machine gets that uses none of the sheet's names
 
-abbrev counted : (State → ℕ) → Option State → ℕ
-counted f None = 0
-counted f (Some s) = suc (f s)
-
-abbrev count : ℕ → State → ℕ
-count zero s = 0
-count (suc n) s = counted (λ r. count n r) (unaware_step s)
-
-abbrev reached : State → (State → State) → Option State → State
-reached s f None = s
-reached s f (Some r) = f r
-
-abbrev far : ℕ → State → State
-far zero s = s
-far (suc n) s = reached s (λ r. far n r) (unaware_step s)
-
 abbrev at_showpage : ℕ → State
-at_showpage p = far 100 (run_of (tokens (page_of us p)) ready)
+at_showpage p = far unaware_step 100 (run_of (tokens (page_of us p)) ready)
 
 first : PagePrints us ready 0 (at_showpage 0).painted
 first = (
@@ -72,7 +54,7 @@ first = (
   refl,
   record {
     at = at_showpage 0;
-    count = count 100 (run_of (tokens (page_of us 0)) ready);
+    count = count unaware_step 100 (run_of (tokens (page_of us 0)) ready);
     run = refl;
     after = Name (codes "restore") ∷ [];
     last = refl;
@@ -80,12 +62,12 @@ first = (
     showpage = refl;
     picture_is = refl;
     ends = record {
-      printed = far 9 (shipped (run_of (Name (codes "restore") ∷ []) (at_showpage 0)));
+      printed = far unaware_step 9 (shipped (run_of (Name (codes "restore") ∷ []) (at_showpage 0)));
       printed_run = (1, refl);
       printed_left = refl;
       printed_nothing = refl;
       printed_once = refl;
-      placed = far 9 (run_of (Name (codes "restore") ∷ []) (at_showpage 0));
+      placed = far unaware_step 9 (run_of (Name (codes "restore") ∷ []) (at_showpage 0));
       count = 1;
       placed_run = refl;
       placed_left = refl;
@@ -158,14 +140,14 @@ third = (
   refl,
   record {
     at = at_showpage 2;
-    count = count 100 (run_of (tokens (page_of us 2)) ready);
+    count = count unaware_step 100 (run_of (tokens (page_of us 2)) ready);
     run = refl;
     after = [];
     last = refl;
     has_userdict = refl;
     showpage = refl;
     picture_is = refl;
-    ends = nothing_behind ready (at_showpage 2) refl refl refl refl refl;
+    ends = nothing_behind (step false) unaware_step ready (at_showpage 2) refl refl refl refl refl;
   },
 )
 

@@ -6,22 +6,12 @@ use Rattle.pictures.specs.Objects.{Number, Text, Hexadecimal, Plain, Truth, Syst
 use Rattle.pictures.specs.Machine.{Painting}
 use Rattle.pictures.specs.Scanner.{tokens}
 use Rattle.pictures.specs.Documents.{started}
-use Rattle.pictures.proofs.Examples.TwoUp.{call, to_the_end}
+use Rattle.pictures.proofs.Examples.TwoUp.{call, number, left_by, only, to_the_end}
 use Rattle.pictures.proofs.Examples.ByHand.{says}
 use Rattle.pictures.proofs.Examples.Premises.{imposed, placed}
 
--- what is left on the operand stack, the topmost first
-abbrev left_by : List ℕ → Option (List Object)
-left_by text = option_map (λ s. s.work.operands) (to_the_end 1000 (started (tokens text)))
-
-abbrev number : List ℕ → Object
-number text = Plain (Number text)
-
 abbrev texts : List ℕ → Object
 texts text = Plain (Text text)
-
-abbrev only : Object → Option (List Object)
-only o = Some (o ∷ [])
 
 -- of each painting in order, the segments of its path
 abbrev paths_of : List Painting → List (List Call)

@@ -2,7 +2,7 @@
 -- needs, is there when the document is run, and is missing when the page is placed.
 use Rattle.std.proofs.Common.{◌≡◌, ℕ, zero, suc, ◌<◌, List, [], ◌∷◌, refl, ap, subst, Some, None, Bool, true, false}
 use Rattle.std.proofs.Common.{◌&&◌, true≢false, map, length, arith}
-use Rattle.std.specs.Prelude.{codes, Ok, Option, option_map, bytes_eq}
+use Rattle.std.specs.Prelude.{codes, Ok, option_map, bytes_eq}
 use Rattle.std.specs.Fmt.{digits}
 use Rattle.rules.specs.Units.{◌>>=◌}
 use Rattle.rules.specs.Parts.{NestedUnit, pages, preamble, bytes_of}
@@ -15,33 +15,16 @@ use Rattle.pictures.specs.DocumentRun.{ComesTo, PrintsSheet, pages_before, Pages
 use Rattle.pictures.specs.Unaware.{PagePrints}
 use Rattle.pictures.proofs.EndsOnce.{ends_once, one_picture}
 use Rattle.pictures.proofs.DocumentRun.{come_none, sheets_show_the_document}
+use Rattle.pictures.proofs.Examples.TwoUp.{far, count}
 use Rattle.pictures.proofs.Examples.Premises.{half, document_with, own_sheets, sheets_by}
 use Rattle.pictures.proofs.Examples.ByHand.{paper}
 use Rattle.pictures.proofs.Examples.PagesTogether.{defines_and_uses}
 use Rattle.pictures.proofs.Examples.Applied.{units, behind}
 use Rattle.pictures.proofs.Examples.OnTwoSheets as TwoSheets
 
--- A run to its end, and its steps.
-
-abbrev counted : (State → ℕ) → Option State → ℕ
-counted f None = 0
-counted f (Some s) = suc (f s)
-
-abbrev count : ℕ → State → ℕ
-count zero s = 0
-count (suc n) s = counted (λ r. count n r) (step false s)
-
-abbrev reached : State → (State → State) → Option State → State
-reached s f None = s
-reached s f (Some r) = f r
-
-abbrev end_from : ℕ → State → State
-end_from zero s = s
-end_from (suc n) s = reached s (λ r. end_from n r) (step false s)
-
 -- the state after these tokens, and the last sheet that is printed there
 abbrev state_behind : State → List Token → State
-state_behind s ts = end_from 200 (run_of ts s)
+state_behind s ts = far (step false) 200 (run_of ts s)
 
 abbrev last_of : List (List Painting) → List Painting
 last_of [] = []
@@ -79,7 +62,7 @@ two_hang_together us s r here there e come a b same =
 -- Met: page 1 sets a grey, which `showpage` resets.
 
 page_behind : ComesTo TwoSheets.ready (pages_before TwoSheets.us 1) (state_behind TwoSheets.ready (pages_before TwoSheets.us 1))
-page_behind = ((count 200 (run_of (pages_before TwoSheets.us 1) TwoSheets.ready), refl), refl)
+page_behind = ((count (step false) 200 (run_of (pages_before TwoSheets.us 1) TwoSheets.ready), refl), refl)
 
 second_first : PrintsSheet TwoSheets.ready (tokens (page_of TwoSheets.us 1)) (TwoSheets.picture 1)
 second_first =
@@ -128,12 +111,12 @@ abbrev behind_first : State
 behind_first = state_behind ready (pages_before defining 1)
 
 paint_alone : PrintsSheet ready (tokens (page_of defining 1)) (printed_from ready (tokens (page_of defining 1)))
-paint_alone = (state_behind ready (tokens (page_of defining 1)), ((count 200 (run_of (tokens (page_of defining 1)) ready), refl), refl), refl, refl)
+paint_alone = (state_behind ready (tokens (page_of defining 1)), ((count (step false) 200 (run_of (tokens (page_of defining 1)) ready), refl), refl), refl, refl)
 
 paint_behind : PrintsSheet behind_first (tokens (page_of defining 1)) (printed_from behind_first (tokens (page_of defining 1)))
 paint_behind = (
   state_behind behind_first (tokens (page_of defining 1)),
-  ((count 200 (run_of (tokens (page_of defining 1)) behind_first), refl), refl),
+  ((count (step false) 200 (run_of (tokens (page_of defining 1)) behind_first), refl), refl),
   refl,
   refl,
 )
@@ -153,7 +136,7 @@ are_strokes (p ∷ ps) = bytes_eq p.call.name (codes "stroke") && are_strokes ps
 defining_is_not_independent : PagesAreIndependent defining ready → ⊥
 defining_is_not_independent same =
     true≢false (ap are_strokes (two_hang_together defining ready behind_first (printed_from ready (tokens (page_of defining 1)))
-    (printed_from behind_first (tokens (page_of defining 1))) refl ((count 200 (run_of (pages_before defining 1) ready), refl), refl)
+    (printed_from behind_first (tokens (page_of defining 1))) refl ((count (step false) 200 (run_of (pages_before defining 1) ready), refl), refl)
     paint_alone paint_behind same))
 
 -- Unmet: page 1 selects a font, which `showpage` leaves, and page 2 shows a text in it.
@@ -173,7 +156,7 @@ fonts_of ps = map (λ p. map (λ c. c.name) p.graphics.settings) ps
 show_alone : PrintsSheet (started []) (tokens (page_of selecting 1)) (printed_from (started []) (tokens (page_of selecting 1)))
 show_alone = (
   state_behind (started []) (tokens (page_of selecting 1)),
-  ((count 200 (run_of (tokens (page_of selecting 1)) (started [])), refl), refl),
+  ((count (step false) 200 (run_of (tokens (page_of selecting 1)) (started [])), refl), refl),
   refl,
   refl,
 )
@@ -181,7 +164,7 @@ show_alone = (
 show_behind : PrintsSheet behind_font (tokens (page_of selecting 1)) (printed_from behind_font (tokens (page_of selecting 1)))
 show_behind = (
   state_behind behind_font (tokens (page_of selecting 1)),
-  ((count 200 (run_of (tokens (page_of selecting 1)) behind_font), refl), refl),
+  ((count (step false) 200 (run_of (tokens (page_of selecting 1)) behind_font), refl), refl),
   refl,
   refl,
 )
@@ -197,7 +180,7 @@ none_is_set (p ∷ ps) = no_call p.graphics.settings
 selecting_is_not_independent : PagesAreIndependent selecting (started []) → ⊥
 selecting_is_not_independent same =
     true≢false (ap none_is_set (two_hang_together selecting (started []) behind_font (printed_from (started []) (tokens (page_of selecting 1)))
-    (printed_from behind_font (tokens (page_of selecting 1))) refl ((count 200 (run_of (pages_before selecting 1) (started [])), refl), refl)
+    (printed_from behind_font (tokens (page_of selecting 1))) refl ((count (step false) 200 (run_of (pages_before selecting 1) (started [])), refl), refl)
     show_alone show_behind same))
 
 -- the document has a font on both pages; in the output, page 2 has none

@@ -2,17 +2,11 @@
 use Rattle.std.proofs.Common.{◌≡◌, ℕ, List, [], ◌∷◌, refl, Some, None, true, false}
 use Rattle.std.specs.Prelude.{codes, Option, option_map}
 use Rattle.std.specs.Fmt.{digits}
-use Rattle.pictures.specs.Objects.{Object, Truth, Call}
+use Rattle.pictures.specs.Objects.{Truth, Call}
 use Rattle.pictures.specs.Machine.{Segment}
 use Rattle.pictures.specs.Scanner.{tokens}
 use Rattle.pictures.specs.Documents.{started}
-use Rattle.pictures.proofs.Examples.TwoUp.{to_the_end, call, number}
-
-abbrev left_by : List ℕ → Option (List Object)
-left_by text = option_map (λ s. s.work.operands) (to_the_end 1000 (started (tokens text)))
-
-abbrev only : Object → Option (List Object)
-only o = Some (o ∷ [])
+use Rattle.pictures.proofs.Examples.TwoUp.{to_the_end, call, number, left_by, only}
 
 abbrev chain_by : List ℕ → Option (List Call)
 chain_by text = option_map (λ s. s.graphics.chain) (to_the_end 1000 (started (tokens text)))

@@ -4,17 +4,16 @@ use Rattle.std.specs.Prelude.{codes, Ok}
 use Rattle.std.specs.Fmt.{digits}
 use Rattle.rules.specs.Parts.{NestedUnit, preamble, bytes_of}
 use Rattle.rules.specs.Specification.{Spec, settled}
-use Rattle.rules.specs.Signatures.{sheets_in}
 use Rattle.rules.proofs.Examples.Written.{item, written}
 use Rattle.pictures.specs.Objects.{Call}
-use Rattle.pictures.specs.Machine.{State, Graphics, Clip, Painting}
+use Rattle.pictures.specs.Machine.{State, Graphics, Clip, Painting, step}
 use Rattle.pictures.specs.Sheets.{IsGround}
-use Rattle.pictures.specs.Documents.{PreambleRuns, IsPrinted, sheet_pictures}
-use Rattle.pictures.specs.Unaware.{IsPlainGround, PagePrints}
-use Rattle.pictures.proofs.Own.{sheets_show_the_pages}
+use Rattle.pictures.specs.Documents.{PreambleRuns, IsPrinted, sheet_pictures, all_sheets}
+use Rattle.pictures.specs.Unaware.{IsPlainGround, PagePrints, unaware_step}
+use Rattle.pictures.proofs.Imposed.{sheets_show_the_pages}
 use Rattle.pictures.proofs.Examples.TwoUp.{lines}
 use Rattle.pictures.proofs.Examples.ByHand.{says, matrix, path, paper, edge, clip_to, in_order, prints}
-use Rattle.pictures.proofs.Examples.Applied.{units, behind, plain_ground, page_prints}
+use Rattle.pictures.proofs.Examples.Applied.{units, behind, bare_ground, bare, page_prints}
 
 abbrev pub document : List ℕ
 document = lines (
@@ -71,15 +70,12 @@ us = units document
 abbrev pub ready : State
 ready = behind [] []
 
-ground : IsGround ready
-ground = record { names = λ name h. refl; operands = refl; dictionaries = refl; graphics = refl }
-
 pub plain : IsPlainGround ready
-plain = plain_ground [] [] ground refl refl refl
+plain = bare [] refl
 
-pub preamble_runs : PreambleRuns (bytes_of (preamble us)) ready
+pub preamble_runs : PreambleRuns IsGround (bytes_of (preamble us)) ready
 unfolding digits
-preamble_runs = (refl, (0, refl), refl, refl, refl, ground)
+preamble_runs = (refl, (0, refl), refl, refl, refl, bare_ground [] refl)
 
 -- what each page prints by itself
 abbrev pub picture : ℕ → List Painting
@@ -91,11 +87,11 @@ set_to settings = record { chain = []; path = []; clip = []; settings = settings
 
 pub first : PagePrints us ready 0 (picture 0)
 unfolding digits
-first = page_prints us ready 0 9 (set_to gray) (picture 0) plain refl refl refl refl refl refl
+first = page_prints (step false) unaware_step us ready 0 9 (set_to gray) (picture 0) plain refl refl refl refl refl refl
 
 pub second : PagePrints us ready 1 (picture 1)
 unfolding digits
-second = page_prints us ready 1 7 (set_to []) (picture 1) plain refl refl refl refl refl refl
+second = page_prints (step false) unaware_step us ready 1 7 (set_to []) (picture 1) plain refl refl refl refl refl refl
 
 by_the_law : IsPrinted paper None twice us picture ready
 unfolding digits
@@ -103,6 +99,6 @@ by_the_law =
     sheets_show_the_pages paper None twice document us picture ready refl refl preamble_runs plain
     ((first, tt), ((first, tt), ((second, tt), ((second, tt), tt))))
 
-these_sheets : in_order (sheet_pictures paper us picture ready (sheets_in None twice 2)) ≡ sheets
+these_sheets : in_order (sheet_pictures paper.border us picture ready (all_sheets paper None twice us)) ≡ sheets
 unfolding digits
 these_sheets = refl

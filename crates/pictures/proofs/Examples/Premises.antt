@@ -1,6 +1,6 @@
 -- One document for each premise that doesn't hold, and the consequence: a picture that is not the page's own,
 -- placed.
-use Rattle.std.proofs.Common.{◌≡◌, ℕ, zero, suc, List, [], ◌∷◌, ◌++◌, refl, Some, None, true, false, map}
+use Rattle.std.proofs.Common.{◌≡◌, ℕ, List, [], ◌∷◌, ◌++◌, refl, Some, None, true, false, map}
 use Rattle.std.specs.Prelude.{codes, Result, Ok, pos, Option, option_map}
 use Rattle.std.specs.Fmt.{digits}
 use Rattle.rules.specs.Papers.{points}
@@ -9,11 +9,10 @@ use Rattle.rules.specs.Units.{◌>>=◌}
 use Rattle.rules.specs.Run.{document_of, DocumentFault}
 use Rattle.rules.specs.Output.{Frame, output}
 use Rattle.rules.proofs.Examples.Written.{item, written}
-use Rattle.pictures.specs.Objects.{Token}
 use Rattle.pictures.specs.Machine.{State, Painting, step, and_then}
 use Rattle.pictures.specs.Scanner.{tokens}
 use Rattle.pictures.specs.Sheets.{alone}
-use Rattle.pictures.proofs.Examples.TwoUp.{lines, sheets_of, to_the_end}
+use Rattle.pictures.proofs.Examples.TwoUp.{lines, sheets_of, end_by, to_the_end}
 use Rattle.pictures.specs.Documents.{started}
 
 -- a document with this prolog and these pages
@@ -49,18 +48,10 @@ abbrev pub imposed :
     List ℕ → List (List ℕ) → Result (Option (List (List (List (List ℕ) × List (List ℕ))))) DocumentFault
 imposed prolog pages = sheets_by half prolog pages >>= λ sheets. Ok (option_map outline sheets)
 
-abbrev held_to_the_end : ℕ → State → Option State
-held_to_the_end zero s = None
-held_to_the_end (suc n) s = unless (λ r. held_to_the_end n r) s.left s
-  where
-    unless : (State → Option State) → List Token → State → Option State
-    unless f [] s = Some s
-    unless f (t ∷ ts) s = and_then f (step true s)
-
 -- a page by itself, held, after a prolog
 abbrev pub by_itself : List ℕ → List ℕ → Option State
 by_itself prolog page =
-    and_then (λ s. held_to_the_end 100 (alone s (tokens page))) (to_the_end 100 (started (tokens prolog)))
+    and_then (λ s. end_by (step true) 100 (alone s (tokens page))) (to_the_end 100 (started (tokens prolog)))
 
 abbrev pub stroke : List ℕ
 stroke = codes "0 0 moveto 9 9 lineto stroke"

@@ -5,16 +5,15 @@ use Rattle.std.specs.Prelude.{codes, Ok, pos}
 use Rattle.std.specs.Fmt.{digits}
 use Rattle.rules.specs.Parts.{NestedUnit, preamble, bytes_of}
 use Rattle.rules.specs.Specification.{Scaled, Spec, settled}
-use Rattle.rules.specs.Signatures.{sheets_in}
 use Rattle.rules.proofs.Examples.Written.{item, written}
 use Rattle.pictures.specs.Objects.{Number, Name, Bound, Procedure, Call}
 use Rattle.pictures.specs.Dictionaries.{Entry}
-use Rattle.pictures.specs.Machine.{State, Graphics, Clip, Painting}
+use Rattle.pictures.specs.Machine.{State, Graphics, Clip, Painting, step}
 use Rattle.pictures.specs.Sheets.{IsGround, sheet_names, in_userdict}
-use Rattle.pictures.specs.Documents.{PreambleRuns, IsPrinted, sheet_pictures}
-use Rattle.pictures.specs.Unaware.{IsPlainGround, PagePrints}
+use Rattle.pictures.specs.Documents.{PreambleRuns, IsPrinted, sheet_pictures, all_sheets}
+use Rattle.pictures.specs.Unaware.{IsPlainGround, PagePrints, unaware_step}
 use Rattle.pictures.proofs.Opening.{name_other, is_apart}
-use Rattle.pictures.proofs.Own.{sheets_show_the_pages}
+use Rattle.pictures.proofs.Imposed.{sheets_show_the_pages}
 use Rattle.pictures.proofs.Examples.TwoUp.{lines}
 use Rattle.pictures.proofs.Examples.ByHand.{says, matrix, path, paper, edge, clip_to, by, in_order, prints}
 use Rattle.pictures.proofs.Examples.Applied.{units, behind, plain_ground, page_prints}
@@ -114,7 +113,7 @@ ground = record {
 plain : IsPlainGround ready
 plain = plain_ground [] prolog ground refl refl refl
 
-preamble_runs : PreambleRuns (bytes_of (preamble us)) ready
+preamble_runs : PreambleRuns IsGround (bytes_of (preamble us)) ready
 unfolding digits
 preamble_runs = (refl, (10, refl), refl, refl, refl, ground)
 
@@ -128,16 +127,16 @@ as_before = record { chain = []; path = []; clip = []; settings = [] }
 
 first : PagePrints us ready 0 (picture 0)
 unfolding digits
-first = page_prints us ready 0 15 as_before (picture 0) plain refl refl refl refl refl refl
+first = page_prints (step false) unaware_step us ready 0 15 as_before (picture 0) plain refl refl refl refl refl refl
 
 second : PagePrints us ready 1 (picture 1)
 unfolding digits
-second = page_prints us ready 1 34 as_before (picture 1) plain refl refl refl refl refl refl
+second = page_prints (step false) unaware_step us ready 1 34 as_before (picture 1) plain refl refl refl refl refl refl
 
 by_the_law : IsPrinted paper None exchanged us picture ready
 unfolding digits
 by_the_law = sheets_show_the_pages paper None exchanged document us picture ready refl refl preamble_runs plain ((second, (first, tt)), tt)
 
-these_sheets : in_order (sheet_pictures paper us picture ready (sheets_in None exchanged 2)) ≡ sheets
+these_sheets : in_order (sheet_pictures paper.border us picture ready (all_sheets paper None exchanged us)) ≡ sheets
 unfolding digits
 these_sheets = refl

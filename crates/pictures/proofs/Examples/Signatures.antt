@@ -5,17 +5,16 @@ use Rattle.std.specs.Prelude.{codes, Ok, pos}
 use Rattle.std.specs.Fmt.{digits}
 use Rattle.rules.specs.Parts.{NestedUnit, preamble, bytes_of}
 use Rattle.rules.specs.Specification.{Scaled, Spec, settled}
-use Rattle.rules.specs.Signatures.{sheets_in}
 use Rattle.rules.proofs.Examples.Written.{item, written}
 use Rattle.pictures.specs.Objects.{Number, Literal, Text, Plain, Font, Call}
-use Rattle.pictures.specs.Machine.{State, Graphics, Clip, Painting}
+use Rattle.pictures.specs.Machine.{State, Graphics, Clip, Painting, step}
 use Rattle.pictures.specs.Sheets.{IsGround}
-use Rattle.pictures.specs.Documents.{PreambleRuns, IsPrinted, sheet_pictures}
-use Rattle.pictures.specs.Unaware.{IsPlainGround, PagePrints}
-use Rattle.pictures.proofs.Own.{sheets_show_the_pages}
+use Rattle.pictures.specs.Documents.{PreambleRuns, IsPrinted, sheet_pictures, all_sheets}
+use Rattle.pictures.specs.Unaware.{IsPlainGround, PagePrints, unaware_step}
+use Rattle.pictures.proofs.Imposed.{sheets_show_the_pages}
 use Rattle.pictures.proofs.Examples.TwoUp.{lines, call}
 use Rattle.pictures.proofs.Examples.ByHand.{matrix, path, paper, edge, clip_to, by, in_order, prints}
-use Rattle.pictures.proofs.Examples.Applied.{units, behind, plain_ground, page_prints}
+use Rattle.pictures.proofs.Examples.Applied.{units, behind, bare_ground, bare, page_prints}
 
 abbrev document : List ℕ
 document = lines (
@@ -78,15 +77,12 @@ us = units document
 abbrev ready : State
 ready = behind (font ∷ []) []
 
-ground : IsGround ready
-ground = record { names = λ name h. refl; operands = refl; dictionaries = refl; graphics = refl }
-
 plain : IsPlainGround ready
-plain = plain_ground (font ∷ []) [] ground refl refl refl
+plain = bare (font ∷ []) refl
 
-preamble_runs : PreambleRuns (bytes_of (preamble us)) ready
+preamble_runs : PreambleRuns IsGround (bytes_of (preamble us)) ready
 unfolding digits
-preamble_runs = (refl, (5, refl), refl, refl, refl, ground)
+preamble_runs = (refl, (5, refl), refl, refl, refl, bare_ground (font ∷ []) refl)
 
 -- what each page prints by itself
 abbrev picture : ℕ → List Painting
@@ -106,22 +102,22 @@ behind_word text = record {
 
 first : PagePrints us ready 0 (picture 0)
 unfolding digits
-first = page_prints us ready 0 5 (behind_word (codes "One")) (picture 0) plain refl refl refl refl refl refl
+first = page_prints (step false) unaware_step us ready 0 5 (behind_word (codes "One")) (picture 0) plain refl refl refl refl refl refl
 
 second : PagePrints us ready 1 (picture 1)
 unfolding digits
-second = page_prints us ready 1 5 (behind_word (codes "Two")) (picture 1) plain refl refl refl refl refl refl
+second = page_prints (step false) unaware_step us ready 1 5 (behind_word (codes "Two")) (picture 1) plain refl refl refl refl refl refl
 
 third : PagePrints us ready 2 (picture 2)
 unfolding digits
-third = page_prints us ready 2 5 (behind_word (codes "Three")) (picture 2) plain refl refl refl refl refl refl
+third = page_prints (step false) unaware_step us ready 2 5 (behind_word (codes "Three")) (picture 2) plain refl refl refl refl refl refl
 
 by_the_law : IsPrinted paper (Some 4) two_up us picture ready
 unfolding digits
 by_the_law =
     sheets_show_the_pages paper (Some 4) two_up document us picture ready refl refl preamble_runs plain
-    ((tt, (first, tt)), ((second, (third, tt)), tt))
+    ((first, tt), ((second, (third, tt)), tt))
 
-these_sheets : in_order (sheet_pictures paper us picture ready (sheets_in (Some 4) two_up 3)) ≡ sheets
+these_sheets : in_order (sheet_pictures paper.border us picture ready (all_sheets paper (Some 4) two_up us)) ≡ sheets
 unfolding digits
 these_sheets = refl

@@ -5,17 +5,16 @@ use Rattle.std.specs.Prelude.{codes, Ok}
 use Rattle.std.specs.Fmt.{digits}
 use Rattle.rules.specs.Parts.{NestedUnit, preamble, bytes_of}
 use Rattle.rules.specs.Specification.{Spec, settled}
-use Rattle.rules.specs.Signatures.{sheets_in}
 use Rattle.rules.proofs.Examples.Written.{item, written}
 use Rattle.pictures.specs.Objects.{Text, Plain, Call}
-use Rattle.pictures.specs.Machine.{State, Segment, Clip, Graphics, Painting}
+use Rattle.pictures.specs.Machine.{State, Segment, Clip, Graphics, Painting, step}
 use Rattle.pictures.specs.Sheets.{IsGround}
-use Rattle.pictures.specs.Documents.{PreambleRuns, IsPrinted, sheet_pictures}
-use Rattle.pictures.specs.Unaware.{IsPlainGround, PagePrints}
-use Rattle.pictures.proofs.Own.{sheets_show_the_pages}
+use Rattle.pictures.specs.Documents.{PreambleRuns, IsPrinted, sheet_pictures, all_sheets}
+use Rattle.pictures.specs.Unaware.{IsPlainGround, PagePrints, unaware_step}
+use Rattle.pictures.proofs.Imposed.{sheets_show_the_pages}
 use Rattle.pictures.proofs.Examples.TwoUp.{lines, call}
 use Rattle.pictures.proofs.Examples.ByHand.{matrix, path, paper, edge, clip_to, by, in_order, prints}
-use Rattle.pictures.proofs.Examples.Applied.{units, behind, plain_ground, page_prints}
+use Rattle.pictures.proofs.Examples.Applied.{units, behind, bare_ground, bare, page_prints}
 
 abbrev document : List ℕ
 document = lines (
@@ -82,15 +81,12 @@ us = units document
 abbrev ready : State
 ready = behind [] []
 
-ground : IsGround ready
-ground = record { names = λ name h. refl; operands = refl; dictionaries = refl; graphics = refl }
-
 plain : IsPlainGround ready
-plain = plain_ground [] [] ground refl refl refl
+plain = bare [] refl
 
-preamble_runs : PreambleRuns (bytes_of (preamble us)) ready
+preamble_runs : PreambleRuns IsGround (bytes_of (preamble us)) ready
 unfolding digits
-preamble_runs = (refl, (0, refl), refl, refl, refl, ground)
+preamble_runs = (refl, (0, refl), refl, refl, refl, bare_ground [] refl)
 
 -- what the page prints by itself
 abbrev picture : ℕ → List Painting
@@ -106,12 +102,12 @@ at_the_end = record {
 
 page : PagePrints us ready 0 (picture 0)
 unfolding digits
-page = page_prints us ready 0 9 at_the_end (picture 0) plain refl refl refl refl refl refl
+page = page_prints (step false) unaware_step us ready 0 9 at_the_end (picture 0) plain refl refl refl refl refl refl
 
 by_the_law : IsPrinted paper None moved us picture ready
 unfolding digits
 by_the_law = sheets_show_the_pages paper None moved document us picture ready refl refl preamble_runs plain ((page, tt), tt)
 
-these_sheets : in_order (sheet_pictures paper us picture ready (sheets_in None moved 1)) ≡ sheets
+these_sheets : in_order (sheet_pictures paper.border us picture ready (all_sheets paper None moved us)) ≡ sheets
 unfolding digits
 these_sheets = refl

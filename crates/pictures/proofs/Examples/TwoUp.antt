@@ -10,21 +10,46 @@ use Rattle.rules.specs.Run.{document_of, DocumentFault}
 use Rattle.rules.specs.Output.{Frame, output}
 use Rattle.rules.proofs.Examples.Written.{item, measure, written}
 use Rattle.pictures.specs.Objects.{Token, Number, Text, Literal, Plain, Object, Array, Font, Call}
-use Rattle.pictures.specs.Machine.{State, Segment, Clip, Painting, step, and_then}
+use Rattle.pictures.specs.Machine.{State, Segment, Clip, Painting, step}
 use Rattle.pictures.specs.Scanner.{tokens}
 use Rattle.pictures.specs.Documents.{started}
 
 abbrev pub lines : List (List ℕ) → List ℕ
 lines texts = flat_map line texts
 
-abbrev unless_done : (State → Option State) → List Token → State → Option State
-unless_done f [] s = Some s
-unless_done f (t ∷ ts) s = and_then f (step false s)
+-- Runs by steps of any machine.
 
--- runs until nothing is left, for at most this many steps
+abbrev stepped : (State → State) → State → Option State → State
+stepped f s None = s
+stepped f s (Some t) = f t
+
+-- as far as it gets, for at most this many steps
+abbrev pub far : (State → Option State) → ℕ → State → State
+far f zero s = s
+far f (suc n) s = stepped (λ t. far f n t) s (f s)
+
+abbrev counted : (State → ℕ) → Option State → ℕ
+counted f None = 0
+counted f (Some t) = suc (f t)
+
+-- in so many steps
+abbrev pub count : (State → Option State) → ℕ → State → ℕ
+count f zero s = 0
+count f (suc n) s = counted (λ t. count f n t) (f s)
+
+abbrev if_done : List Token → State → Option State
+if_done [] s = Some s
+if_done (t ∷ ts) s = None
+
+abbrev finished : State → Option State
+finished s = if_done s.left s
+
+-- until nothing is left
+abbrev pub end_by : (State → Option State) → ℕ → State → Option State
+end_by f n s = finished (far f n s)
+
 abbrev pub to_the_end : ℕ → State → Option State
-to_the_end zero s = None
-to_the_end (suc n) s = unless_done (λ r. to_the_end n r) s.left s
+to_the_end n s = end_by (step false) n s
 
 abbrev pub sheets_of : List ℕ → Option (List (List Painting))
 sheets_of text = option_map (λ s. s.sheets) (to_the_end 2000 (started (tokens text)))
@@ -65,6 +90,13 @@ call name operands = record { name = name; operands = operands }
 
 abbrev pub number : List ℕ → Object
 number text = Plain (Number text)
+
+-- what is left on the operand stack, the topmost first
+abbrev pub left_by : List ℕ → Option (List Object)
+left_by text = option_map (λ s. s.work.operands) (to_the_end 1000 (started (tokens text)))
+
+abbrev pub only : Object → Option (List Object)
+only o = Some (o ∷ [])
 
 abbrev pub segment : List Call → List ℕ → List Object → Segment
 segment chain name operands = record { call = call name operands; chain = chain; settings = [] }

@@ -1,41 +1,28 @@
 -- The law of whole outputs, applied to the document of two pages: its premises hold, and it says what was computed.
-use Rattle.std.proofs.Common.{◌≡◌, ℕ, zero, suc, List, [], ◌∷◌, refl, Some, None, true, length}
-use Rattle.std.specs.Prelude.{codes, Result, Ok, Err, Option}
+use Rattle.std.proofs.Common.{◌≡◌, ℕ, zero, suc, List, [], ◌∷◌, refl, None, true, false}
+use Rattle.std.specs.Prelude.{codes}
 use Rattle.std.specs.Fmt.{digits}
-use Rattle.rules.specs.Parts.{NestedUnit, pages, preamble, bytes_of}
-use Rattle.pictures.proofs.Kept.{kept_runs_alike}
-use Rattle.rules.specs.Signatures.{sheets_in}
+use Rattle.rules.specs.Parts.{NestedUnit, preamble, bytes_of}
 use Rattle.rules.specs.Filters.{preamble_text}
-use Rattle.rules.specs.Run.{document_of, DocumentFault}
 use Rattle.pictures.specs.Objects.{Procedure, Bound}
-use Rattle.pictures.specs.Machine.{State, Painting, step, and_then}
+use Rattle.pictures.specs.Machine.{State, Graphics, Painting, step}
 use Rattle.pictures.specs.Scanner.{tokens}
-use Rattle.pictures.specs.Sheets.{IsGround, sheet_names, alone, in_userdict}
-use Rattle.pictures.specs.Documents.{IsPrinted, started, page_of, body_of_page, PreambleRuns, PagePaints, sheet_pictures}
-use Rattle.pictures.proofs.Opening.{name_other, is_apart}
-use Rattle.pictures.specs.Sheets.{run_of}
+use Rattle.pictures.specs.Sheets.{IsGround, sheet_names, alone, in_userdict, run_of}
+use Rattle.pictures.specs.Documents.{IsPrinted, page_of, body_of_page, PreambleRuns, PagePaints, sheet_pictures, all_sheets}
 use Rattle.pictures.specs.Unaware.{IsPlainGround, PagePrints, unaware_step}
-use Rattle.pictures.proofs.Own.{nothing_behind, sheets_show_the_pages}
+use Rattle.pictures.proofs.Kept.{kept_runs_alike}
+use Rattle.pictures.proofs.Opening.{name_other, is_apart}
+use Rattle.pictures.proofs.Imposed.{sheets_show_the_pages}
 use Rattle.pictures.proofs.Output.{output_is_printed}
-use Rattle.pictures.proofs.Examples.TwoUp.{document, two_up, frame, first_line, second_text}
-
-abbrev units_of : Result (List NestedUnit) DocumentFault → List NestedUnit
-units_of (Ok us) = us
-units_of (Err e) = []
+use Rattle.pictures.proofs.Examples.TwoUp.{document, two_up, frame, first_line, second_text, far}
+use Rattle.pictures.proofs.Examples.Applied.{units, behind, plain_ground, page_prints}
 
 abbrev us : List NestedUnit
-us = units_of (document_of document)
+us = units document
 
 -- the state after the preamble
 abbrev behind_preamble : State
-behind_preamble = record (started []) {
-  work = record {
-    operands = [];
-    dictionaries = 0 ∷ [];
-    entries = in_userdict (codes "m") (Procedure (Bound (codes "moveto") ∷ [])) ∷ [];
-    made = 0;
-  };
-}
+behind_preamble = behind [] (in_userdict (codes "m") (Procedure (Bound (codes "moveto") ∷ [])) ∷ [])
 
 ground : IsGround behind_preamble
 ground = record {
@@ -47,37 +34,25 @@ ground = record {
   graphics = refl;
 }
 
-preamble_runs : PreambleRuns (preamble_text 1 us) behind_preamble
+preamble_runs : PreambleRuns IsGround (preamble_text 1 us) behind_preamble
 unfolding digits
 preamble_runs = (refl, (4, refl), refl, refl, refl, ground)
 
-abbrev end_of : State → Option State → State
-end_of s None = s
-end_of s (Some t) = t
-
-abbrev at_most : ℕ → State → State
-at_most zero s = s
-at_most (suc n) s = end_of s (and_then (λ r. Some (at_most n r)) (step true s))
+abbrev end : ℕ → State
+end p = far (step true) 100 (alone behind_preamble (tokens (body_of_page us p)))
 
 abbrev picture : ℕ → List Painting
-picture zero = (at_most 13 (alone behind_preamble (tokens (body_of_page us 0)))).painted
-picture (suc p) = (at_most 17 (alone behind_preamble (tokens (body_of_page us 1)))).painted
+picture zero = (end 0).painted
+picture (suc p) = (end 1).painted
 
 first_page : PagePaints us behind_preamble 0 (picture 0)
 unfolding digits
 first_page = (
   refl,
   record {
-    end = at_most 13 (alone behind_preamble (tokens (body_of_page us 0)));
+    end = end 0;
     run = (13, refl);
-    leaves = record {
-      nothing_left = refl;
-      operands = refl;
-      dictionaries = refl;
-      saves = refl;
-      save_name = refl;
-      restore_name = refl;
-    };
+    leaves = record { nothing_left = refl; operands = refl; dictionaries = refl; saves = refl; save_name = refl; restore_name = refl };
     picture_is = refl;
   },
 )
@@ -87,16 +62,9 @@ unfolding digits
 second_page = (
   refl,
   record {
-    end = at_most 17 (alone behind_preamble (tokens (body_of_page us 1)));
+    end = end 1;
     run = (17, refl);
-    leaves = record {
-      nothing_left = refl;
-      operands = refl;
-      dictionaries = refl;
-      saves = refl;
-      save_name = refl;
-      restore_name = refl;
-    };
+    leaves = record { nothing_left = refl; operands = refl; dictionaries = refl; saves = refl; save_name = refl; restore_name = refl };
     picture_is = refl;
   },
 )
@@ -107,74 +75,36 @@ two_pages_are_printed =
     output_is_printed frame None two_up us picture behind_preamble preamble_runs ((first_page, (second_page, tt)), tt)
 
 -- and these are the pictures that were written by hand
-these_pictures : sheet_pictures frame us picture behind_preamble (sheets_in None two_up (length (pages us)))
+these_pictures : sheet_pictures frame.border us picture behind_preamble (all_sheets frame None two_up us)
     ≡ (second_text ∷ first_line ∷ []) ∷ []
 unfolding digits
 these_pictures = refl
 
 -- The same by what the pages print by themselves.
 
-own_preamble_runs : PreambleRuns (bytes_of (preamble us)) behind_preamble
+own_preamble_runs : PreambleRuns IsGround (bytes_of (preamble us)) behind_preamble
 unfolding digits
 own_preamble_runs = (refl, (4, refl), refl, refl, refl, ground)
 
-plain_ground : IsPlainGround behind_preamble
-plain_ground = record {
-  ground = ground;
-  stacked = refl;
-  saves = refl;
-  painted = refl;
-  operands = refl;
-  entries = refl;
-  has_userdict = refl;
-  no_showpage = refl;
-  no_save = refl;
-}
+plain : IsPlainGround behind_preamble
+plain = plain_ground [] (in_userdict (codes "m") (Procedure (Bound (codes "moveto") ∷ [])) ∷ []) ground refl refl refl
 
-abbrev unaware_at_most : ℕ → State → State
-unaware_at_most zero s = s
-unaware_at_most (suc n) s = end_of s (and_then (λ r. Some (unaware_at_most n r)) (unaware_step s))
+-- at its showpage
+abbrev at_showpage : ℕ → Graphics
+at_showpage p = (far unaware_step 100 (run_of (tokens (page_of us p)) behind_preamble)).graphics
 
 first_page_prints : PagePrints us behind_preamble 0 (picture 0)
 unfolding digits
-first_page_prints = (
-  refl,
-  refl,
-  record {
-    at = unaware_at_most 12 (run_of (tokens (page_of us 0)) behind_preamble);
-    count = 12;
-    run = refl;
-    after = [];
-    last = refl;
-    has_userdict = refl;
-    showpage = refl;
-    picture_is = refl;
-    ends = nothing_behind behind_preamble (unaware_at_most 12 (run_of (tokens (page_of us 0)) behind_preamble)) refl refl refl refl refl;
-  },
-)
+first_page_prints = page_prints (step false) unaware_step us behind_preamble 0 12 (at_showpage 0) (picture 0) plain refl refl refl refl refl refl
 
 second_page_prints : PagePrints us behind_preamble 1 (picture 1)
 unfolding digits
-second_page_prints = (
-  refl,
-  refl,
-  record {
-    at = unaware_at_most 16 (run_of (tokens (page_of us 1)) behind_preamble);
-    count = 16;
-    run = refl;
-    after = [];
-    last = refl;
-    has_userdict = refl;
-    showpage = refl;
-    picture_is = refl;
-    ends = nothing_behind behind_preamble (unaware_at_most 16 (run_of (tokens (page_of us 1)) behind_preamble)) refl refl refl refl refl;
-  },
-)
+second_page_prints = page_prints (step false) unaware_step us behind_preamble 1 16 (at_showpage 1) (picture 1) plain refl refl refl refl refl refl
 
 sheets_show_them : IsPrinted frame None two_up us picture behind_preamble
 unfolding digits
 sheets_show_them =
-    sheets_show_the_pages frame None two_up document us picture behind_preamble refl refl own_preamble_runs plain_ground
+    sheets_show_the_pages frame None two_up document us picture behind_preamble refl refl own_preamble_runs plain
     ((first_page_prints, (second_page_prints, tt)), tt)
 
 -- What is kept of the first page has the page's tokens.

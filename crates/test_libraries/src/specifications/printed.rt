@@ -6,7 +6,7 @@ use layouts::{ArrangementError, Setting};
 use lengths::{Grains, Number, Paper};
 use pagespec::{Item, Measure, Turn};
 use preview::{Edge, Guide, GuideKind, Places, Reading, Sides, plan_text, preview_text};
-use row_sheets::{booklet_sheets, grid_sheets};
+use row_sheets::grid_sheets;
 use sheet_plan::{MadeSheets, MadeSlot};
 use std::alloc::{AllocError, Global};
 
@@ -24,7 +24,7 @@ pub fn run(out: &mut Answer, words: &[String]) -> Option<()> {
 fn booklet_plan(out: &mut Answer, words: &[String]) -> Option<()> {
     let setting = two_columns()?;
     let row = row_behind(out.alloc, words, 2)?;
-    let made = booklet_sheets(out.alloc, &setting, &[], false, row.as_slice());
+    let made = grid_sheets(out.alloc, &setting, &[], 2, row.as_slice());
     let flip = Edge::Short;
     tell(
         out,

@@ -1,10 +1,10 @@
-//! Gates at which as many threads wait for each other as a run was told to start: one with fewer never comes past them,
+//! Gates at which as many threads wait for each other as a run was asked to start: one with fewer never comes past them,
 //! and one that makes the sheets on its caller's thread doesn't come to them.
 ghost use Rattle.std.specs.Prelude.{None};
 
 use super::{Trial, run_into, wait_for};
 use crate::tests::checks::assert_that;
-use imposer::{Gate, Look, Open, Report, RunError, Sink, SinkFault, Step};
+use imposer::{Gate, Look, Open, RunError, Sink, SinkFault, Step};
 use std::alloc::Global;
 use std::sync::Wait;
 use std::sync::atomic::AtomicUsize;
@@ -14,14 +14,15 @@ use std::thread;
 use std::thread::Threads;
 use test_tools::{ONE_PAGE, document_of};
 
-/// How many pages the document has, each on a sheet of its own.
-const PAGES: u32 = 16;
+/// More pages than any document here has, and more sheets.
+const MOST_PAGES: u32 = 16;
 
 /// Which steps meet.
 #[derive(Clone, Copy)]
 enum Steps {
     Pages,
     Sheets,
+    SecondPageAndFirstSheet,
 }
 
 impl Steps {
@@ -29,11 +30,12 @@ impl Steps {
         match self {
             Steps::Pages => matches!(step, Step::Deliver(_)),
             Steps::Sheets => matches!(step, Step::Impose(_)),
+            Steps::SecondPageAndFirstSheet => step == Step::Deliver(1) || step == Step::Impose(0),
         }
     }
 }
 
-/// Each of the steps waits until so many were entered. What was entered is told by a bit for each page or sheet.
+/// Each of the steps waits until so many were entered. A bit for each page or sheet shows which were.
 #[derive(Drop)]
 struct Barrier {
     steps: Steps,
@@ -46,8 +48,8 @@ struct Barrier {
 /// The bit of a page or a sheet, of which there are few.
 fn bit_of(step: Step) -> usize {
     match step {
-        Step::Deliver(number) | Step::Impose(number) if number < PAGES => 1 << number,
-        _ => 1 << PAGES,
+        Step::Deliver(number) | Step::Impose(number) if number < MOST_PAGES => 1 << number,
+        _ => 1 << MOST_PAGES,
     }
 }
 
@@ -75,57 +77,59 @@ impl Sink for Everything {
     }
 }
 
-/// Sixteen pages on sixteen sheets by so many workers of each kind, which all meet at these steps: how many were
-/// entered, which, and how many waits ran out.
-fn run_barrier<R: Threads + Wait + Sync>(
-    rt: &R,
-    alloc: Global,
-    steps: Steps,
-    count: u32,
-) -> Result<(Report, [usize; 3]), RunError> {
-    let gate = Barrier {
-        steps,
-        height: count as usize,
-        entered: AtomicUsize::new(0),
-        bits: AtomicUsize::new(0),
-        run_out: AtomicUsize::new(0),
-    };
-    let text = document_of(alloc, PAGES)?;
-    let trial = Trial {
-        document: &text,
-        items: "0",
-        counts: (count, count),
-    };
-    let report = run_into(rt, alloc, &trial, &gate, &mut Everything {})?;
-    let entered = gate.entered.load(SeqCst);
-    Ok((
-        report,
-        [entered, gate.bits.load(SeqCst), gate.run_out.load(SeqCst)],
-    ))
-}
-
-/// Whether so many workers of each kind meet at these steps, and each page or sheet was entered once.
+/// So many pages, each on a sheet, by so many workers, if so many meet at these steps: whether a step of each page or sheet
+/// was entered, once, no wait ran out, and no sheet was made at the end.
 fn meet<R: Threads + Wait + Sync>(
     rt: &R,
     alloc: Global,
     steps: Steps,
-    count: u32,
+    height: u32,
+    counts: (u32, u32),
+    pages: u32,
 ) -> Result<bool, RunError> {
-    let (report, met) = run_barrier(rt, alloc, steps, count)?;
-    Ok(met == [16, 0xffff, 0] && (report.sheets, report.swept) == (16, 0))
+    let gate = Barrier {
+        steps,
+        height: height as usize,
+        entered: AtomicUsize::new(0),
+        bits: AtomicUsize::new(0),
+        run_out: AtomicUsize::new(0),
+    };
+    let text = document_of(alloc, pages)?;
+    let trial = Trial {
+        document: &text,
+        items: "0",
+        counts,
+    };
+    let report = run_into(rt, alloc, &trial, &gate, &mut Everything {})?;
+    let all = (1usize << pages.min(MOST_PAGES)).saturating_sub(1);
+    let met = [
+        gate.entered.load(SeqCst),
+        gate.bits.load(SeqCst),
+        gate.run_out.load(SeqCst),
+    ];
+    Ok(met == [pages as usize, all, 0] && (report.sheets, report.swept) == (pages, 0))
 }
 
 #[test]
 fn as_many_preparers_run_as_were_asked_for(rt: HostRuntime) -> Result<(), Fail> {
-    assert_that(&rt, meet(&rt, rt.alloc(), Steps::Pages, 4)?);
-    assert_that(&rt, meet(&rt, rt.alloc(), Steps::Pages, 16)?);
+    assert_that(&rt, meet(&rt, rt.alloc(), Steps::Pages, 4, (4, 4), 16)?);
+    assert_that(&rt, meet(&rt, rt.alloc(), Steps::Pages, 16, (16, 16), 16)?);
+    assert_that(&rt, meet(&rt, rt.alloc(), Steps::Pages, 2, (2, 1), 2)?);
     Ok(())
 }
 
 #[test]
 fn as_many_imposers_run_as_were_asked_for(rt: HostRuntime) -> Result<(), Fail> {
-    assert_that(&rt, meet(&rt, rt.alloc(), Steps::Sheets, 4)?);
-    assert_that(&rt, meet(&rt, rt.alloc(), Steps::Sheets, 16)?);
+    assert_that(&rt, meet(&rt, rt.alloc(), Steps::Sheets, 4, (4, 4), 16)?);
+    assert_that(&rt, meet(&rt, rt.alloc(), Steps::Sheets, 16, (16, 16), 16)?);
+    assert_that(&rt, meet(&rt, rt.alloc(), Steps::Sheets, 2, (1, 2), 2)?);
+    Ok(())
+}
+
+#[test]
+fn a_page_is_delivered_while_a_sheet_is_imposed(rt: HostRuntime) -> Result<(), Fail> {
+    let steps = Steps::SecondPageAndFirstSheet;
+    assert_that(&rt, meet(&rt, rt.alloc(), steps, 2, (1, 1), 2)?);
     Ok(())
 }
 
@@ -231,7 +235,7 @@ impl Gate for Late {
     fn after(&self, step: Step) {
         if self.is_brought_by(step) {
             self.worked.fetch_add(1, SeqCst);
-            // A sheet is sent behind this step, before its imposer looks again.
+            // A sheet is sent after this step, before its imposer looks again.
             if self.look == Look::Queue {
                 self.came.fetch_add(1, SeqCst);
             }

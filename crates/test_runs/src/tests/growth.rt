@@ -1,6 +1,11 @@
-//! Runs and gatherings in which each growth is refused in turn: the answer is that it is out of memory, what stands
-//! stays as it was, and what was written is the first part of the output.
+//! Calls, runs and gatherings in which each growth is refused in turn: the answer is that it is out of memory, what is there
+//! stays as it was, and what was written is the first part of the output. `callers::gatherers` does the same.
 //!
 //! Run as they are, these trials find that nothing is refused, and compare each answer once. `checks/refused-calls`
 //! runs them beside a library that refuses.
+mod documents;
+mod joined_texts;
+mod named_rows;
 mod runs;
+mod tables;
+mod texts;

@@ -8,7 +8,7 @@ use std::test::Fail;
 use std::thread::Threads;
 use test_tools::document_of;
 
-/// Gathers eight pages into a sink with so much room: whether the sink fails behind so many bytes, and the seat and the
+/// Gathers eight pages into a sink with so much room: whether the sink fails after so many bytes, and the seat and the
 /// pass come back whole.
 fn is_cut_off<R: Threads + Wait + Sync>(rt: &R, alloc: Global, room: usize) -> Result<bool, Fail> {
     let document = document_of(alloc, 8)?;
@@ -27,7 +27,7 @@ fn is_cut_off<R: Threads + Wait + Sync>(rt: &R, alloc: Global, room: usize) -> R
 }
 
 #[test]
-fn seat_and_pass_come_back_behind_a_failed_write(rt: HostRuntime) -> Result<(), Fail> {
+fn seat_and_pass_come_back_after_a_failed_write(rt: HostRuntime) -> Result<(), Fail> {
     for room in [0usize, 100, 1_000] {
         assert_that(&rt, is_cut_off(&rt, rt.alloc(), room)?);
     }

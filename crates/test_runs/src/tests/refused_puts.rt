@@ -92,7 +92,7 @@ fn gather_with<R: Threads + Wait + Sync>(
     }
 }
 
-/// The same of six pages: what was written, and what was told.
+/// The same of six pages: what was written, and what was reported.
 fn gather_six<R: Threads + Wait + Sync>(
     rt: &R,
     alloc: Global,

@@ -46,7 +46,7 @@ fn each_run_has_the_sheets_of_the_last_one_as_its_pages(rt: HostRuntime) -> Resu
 }
 
 #[test]
-fn an_open_page_hides_the_sheet_behind_it(rt: HostRuntime) -> Result<(), Fail> {
+fn an_open_page_hides_the_sheet_after_it(rt: HostRuntime) -> Result<(), Fail> {
     let (_, counts) = imposed(&rt, rt.alloc(), OPEN_PAGE.as_bytes(), "0,0")?;
     assert_that(&rt, counts == [1, 2, 1]);
     Ok(())

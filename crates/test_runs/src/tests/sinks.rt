@@ -1,16 +1,15 @@
 //! Sinks and writers that fail at each call in turn.
-ghost use Rattle.std.specs.Prelude.{None};
-ghost use Rattle.sheet_writer.specs.Sinks.{IsCountable};
+ghost use Rattle.std.specs.Prelude.{◌<◌, None};
 
 use super::{Trial, run_into};
-use crate::tests::checks::assert_that;
-use imposer::{MemorySink, Open, Report, RunError, Sink, SinkFault, WriteSink};
+use crate::tests::checks::{assert_bytes, assert_that};
+use imposer::{MemorySink, Open, RunError, Sink, SinkFault, WriteSink};
 use std::alloc::{AllocError, Global};
 use std::io::{self, ErrorKind, Write};
 use std::sync::Wait;
 use std::test::Fail;
 use std::thread::Threads;
-use test_tools::{TWO_PAGES, TWO_UP, two_up_output};
+use test_tools::{ONE_PAGE, TWO_PAGES, TWO_UP, one_up_output, two_up_output};
 
 /// The numbers of preparers and of imposers.
 const COUNTS: [(u32, u32); 2] = [(1, 1), (2, 3)];
@@ -18,57 +17,84 @@ const COUNTS: [(u32, u32); 2] = [(1, 1), (2, 3)];
 /// How many bytes are taken a call.
 const PER_CALL: usize = 7;
 
-/// Two pages on a sheet.
-fn impose_pair<R: Threads + Wait + Sync, S: Sink>(
-    rt: &R,
-    alloc: Global,
-    counts: (u32, u32),
-    sink: &mut S,
-) -> Result<Report, RunError>
-    requires countable { IsCountable (S.seen sink.old) }
-{
-    let trial = Trial {
+/// Two pages on a sheet, by so many workers.
+fn pair_by(counts: (u32, u32)) -> Trial<'static> {
+    Trial {
         document: TWO_PAGES,
         items: TWO_UP,
         counts,
-    };
-    run_into(rt, alloc, &trial, &Open, sink)
-}
-
-/// With a sink that takes seven bytes a call and fails behind so many calls: how many bytes it has. None if they aren't the
-/// first ones of the output, or as many as the run says that were written.
-fn written_behind<R: Threads + Wait + Sync>(
-    rt: &R,
-    alloc: Global,
-    counts: (u32, u32),
-    pair: &str,
-    calls: u64,
-) -> Result<Option<usize>, AllocError> {
-    let mut sink = MemorySink::new(alloc, 1_000, PER_CALL, calls)?;
-    let told = match impose_pair(rt, alloc, counts, &mut sink) {
-        Ok(report) => report.bytes,
-        Err(RunError::Write { written }) => written,
-        Err(_) => return Ok(None),
-    };
-    let taken = sink.bytes().len();
-    if pair.as_bytes().starts_with(sink.bytes()) && taken as u64 == told {
-        Ok(Some(taken))
-    } else {
-        Ok(None)
     }
 }
 
-/// The same for none, one, two .. calls, until the run ends well: behind how many. None if it never does.
+/// Runs into a sink: how many bytes the run says that were written, if they are the first ones of this output, and the
+/// sink has them alone.
+fn written_into<R: Threads + Wait + Sync>(
+    rt: &R,
+    alloc: Global,
+    trial: &Trial<'_>,
+    output: &str,
+    sink: MemorySink,
+) -> Option<u64>
+    requires fresh { sink.failures < 10 }
+{
+    let mut sink = sink;
+    let written = match run_into(rt, alloc, trial, &Open, &mut sink) {
+        Ok(report) => report.bytes,
+        Err(RunError::Write { written }) => written,
+        Err(_) => return None,
+    };
+    let taken = sink.bytes();
+    if output.as_bytes().starts_with(taken) && taken.len() as u64 == written {
+        Some(written)
+    } else {
+        None
+    }
+}
+
+/// Whether a copy of a page is cut off by a sink with any room, and whether one that takes a byte a call has all bytes.
+fn are_cut_off<R: Threads + Wait + Sync>(
+    rt: &R,
+    alloc: Global,
+    counts: (u32, u32),
+) -> Result<bool, AllocError> {
+    let output = one_up_output(alloc, "")?;
+    let trial = Trial {
+        document: ONE_PAGE,
+        items: "0",
+        counts,
+    };
+    for room in 0..273usize {
+        let sink = MemorySink::new(alloc, room, 1_000, 1_000)?;
+        if written_into(rt, alloc, &trial, &output, sink) != Some(room as u64) {
+            return Ok(false);
+        }
+    }
+    let sink = MemorySink::new(alloc, 273, 1, 273)?;
+    Ok(written_into(rt, alloc, &trial, &output, sink) == Some(273))
+}
+
+#[test]
+fn a_sink_that_fails_has_the_first_bytes(rt: HostRuntime) -> Result<(), Fail> {
+    for counts in COUNTS {
+        assert_that(&rt, are_cut_off(&rt, rt.alloc(), counts)?);
+    }
+    Ok(())
+}
+
+/// With sinks that take seven bytes a call and fail after none, one, two .. calls, after how many the run ends well. None
+/// if it never does.
 fn calls_needed<R: Threads + Wait + Sync>(
     rt: &R,
     alloc: Global,
     counts: (u32, u32),
 ) -> Result<Option<u64>, AllocError> {
     let pair = two_up_output(alloc, 1)?;
+    let trial = pair_by(counts);
     for calls in 0..200u64 {
-        match written_behind(rt, alloc, counts, &pair, calls)? {
-            Some(taken) if taken == pair.len() => return Ok(Some(calls)),
-            Some(_) => {}
+        let sink = MemorySink::new(alloc, 1_000, PER_CALL, calls)?;
+        match written_into(rt, alloc, &trial, &pair, sink) {
+            Some(written) if written == pair.len() as u64 => return Ok(Some(calls)),
+            Some(_) => (),
             None => return Ok(None),
         }
     }
@@ -85,7 +111,7 @@ fn a_sink_that_fails_at_its_nth_call_has_the_first_bytes(rt: HostRuntime) -> Res
     Ok(())
 }
 
-/// A sink that takes seven bytes a call, fails at its call with this number and all behind it, and counts its calls.
+/// A sink that takes seven bytes a call, fails at its call with this number and all after it, and counts its calls.
 #[derive(Drop)]
 struct Failing {
     first: usize,
@@ -118,12 +144,12 @@ fn fails_once<R: Threads + Wait + Sync>(
         calls: 0,
         failures: 0,
     };
-    let answer = impose_pair(rt, alloc, counts, &mut sink);
+    let answer = run_into(rt, alloc, &pair_by(counts), &Open, &mut sink);
     matches!(answer, Err(RunError::Write { .. })) && (sink.calls, sink.failures) == (first, 1)
 }
 
 #[test]
-fn nothing_is_written_behind_a_failure(rt: HostRuntime) -> Result<(), Fail> {
+fn nothing_is_written_after_a_failure(rt: HostRuntime) -> Result<(), Fail> {
     for counts in COUNTS {
         for first in 1..73usize {
             assert_that(&rt, fails_once(&rt, rt.alloc(), counts, first));
@@ -167,7 +193,7 @@ fn calls_of_torn<R: Threads + Wait + Sync>(
         calls: 0,
     };
     let mut sink = WriteSink::new(&mut writer);
-    let answer = impose_pair(rt, alloc, (1, 1), &mut sink);
+    let answer = run_into(rt, alloc, &pair_by((1, 1)), &Open, &mut sink);
     drop(sink);
     match answer {
         Err(RunError::Write { .. }) => Some(writer.calls),
@@ -176,7 +202,7 @@ fn calls_of_torn<R: Threads + Wait + Sync>(
 }
 
 #[test]
-fn a_writer_is_not_asked_again_behind_an_error(rt: HostRuntime) -> Result<(), Fail> {
+fn a_writer_is_not_asked_again_after_an_error(rt: HostRuntime) -> Result<(), Fail> {
     for cause in [
         ErrorKind::StorageFull,
         ErrorKind::Interrupted,
@@ -187,5 +213,16 @@ fn a_writer_is_not_asked_again_behind_an_error(rt: HostRuntime) -> Result<(), Fa
             assert_that(&rt, calls == Some(fails_at));
         }
     }
+    Ok(())
+}
+
+#[test]
+fn a_writer_that_is_full_fails(rt: HostRuntime) -> Result<(), Fail> {
+    let mut place = [0u8; 3];
+    let mut sink = WriteSink::new(place.as_mut_slice());
+    assert_that(&rt, sink.accept(b"abcd") == Ok(3));
+    assert_that(&rt, sink.accept(b"d") == Err(SinkFault));
+    drop(sink);
+    assert_bytes(&rt, place.as_slice(), b"abc");
     Ok(())
 }

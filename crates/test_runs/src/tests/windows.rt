@@ -24,7 +24,7 @@ const FORWARD: &str = "0";
 /// The same from the last one on.
 const BACKWARD: &str = "-0";
 
-/// The same in their order, and a sheet without a page behind them.
+/// The same in their order, and a sheet without a page after them.
 const BLANK_LAST: &str = "7:0,1,2,3,4,5,6";
 
 /// The same in their order, each four times on its sheet.
@@ -35,7 +35,7 @@ pub(super) fn six_pages(alloc: Global) -> Result<String, AllocError> {
     large_pages(alloc, PAGES as u32, PAGE_LEN / 9 + 1)
 }
 
-/// What a run's threads tell each other here.
+/// What a run's threads show each other here.
 #[derive(Drop)]
 struct Words {
     /// How many bytes the sink took.
@@ -107,8 +107,8 @@ impl<'w> Sink for LimitedSink<'w> {
 }
 
 /// The page of the first sheet is delivered last: when all others were delivered, and as many sheets are imposed as lie
-/// in the window behind the first. A sheet is imposed too early if as many sheets as lie in a window, and this one,
-/// come behind what was written.
+/// in the window after the first. A sheet is imposed too early if as many sheets as lie in a window, and this one,
+/// come after what was written.
 #[derive(Drop)]
 struct FirstSheetLast<'w> {
     words: &'w Words,
@@ -209,14 +209,14 @@ fn a_sheet_without_a_page_waits_for_its_turn(rt: HostRuntime) -> Result<(), Fail
 
 // The pages themselves would all lie in a window, but not the texts of their sheets.
 #[test]
-fn text_that_stands_several_times_counts_so_often(rt: HostRuntime) -> Result<(), Fail> {
+fn text_that_is_there_several_times_counts_so_often(rt: HostRuntime) -> Result<(), Fail> {
     let document = large_pages(rt.alloc(), PAGES as u32, PAGE_LEN / 36 + 1)?;
     let case = (document.as_str(), FOUR_TIMES);
     assert_that(&rt, are_in_turn(&rt, rt.alloc(), case, 6, 0, 6)?);
     Ok(())
 }
 
-/// Whether the run ends with a failed write behind so many bytes, and no wait ran out.
+/// Whether the run ends with a failed write after so many bytes, and no wait ran out.
 fn is_stopped(answer: &Result<Report, RunError>, words: &Words, room: usize) -> bool {
     let told = (words.refused.load(SeqCst), words.run_out.load(SeqCst));
     let accepted = words.accepted.load(SeqCst);
@@ -247,7 +247,7 @@ fn are_stopped<R: Threads + Wait + Sync>(
 }
 
 #[test]
-fn no_turn_is_waited_for_behind_a_failed_write(rt: HostRuntime) -> Result<(), Fail> {
+fn no_turn_is_waited_for_after_a_failed_write(rt: HostRuntime) -> Result<(), Fail> {
     let document = six_pages(rt.alloc())?;
     for counts in [(1, 1), (2, 2), (6, 4)] {
         for items in [FORWARD, BACKWARD] {
@@ -267,7 +267,7 @@ fn no_turn_is_waited_for_behind_a_failed_write(rt: HostRuntime) -> Result<(), Fa
 #[derive(Clone, Copy)]
 enum Waits {
     BeforeSheet,
-    BehindSheet,
+    AfterSheet,
 }
 
 /// Only the first sheet comes to the collector before the sink has failed: the others wait here for that.
@@ -295,7 +295,7 @@ impl<'w> Gate for FailureFirst<'w> {
     }
 
     fn after(&self, step: Step) {
-        if matches!(self.waits, Waits::BehindSheet) {
+        if matches!(self.waits, Waits::AfterSheet) {
             self.wait(step);
         }
     }
@@ -327,7 +327,7 @@ fn is_stopped_under_way<R: Threads + Wait + Sync>(
 #[test]
 fn sheets_are_under_way_as_the_sink_fails(rt: HostRuntime) -> Result<(), Fail> {
     let document = six_pages(rt.alloc())?;
-    for waits in [Waits::BeforeSheet, Waits::BehindSheet] {
+    for waits in [Waits::BeforeSheet, Waits::AfterSheet] {
         for imposers in [1, 2, 4] {
             let is_stopped = is_stopped_under_way(&rt, rt.alloc(), &document, imposers, waits);
             assert_that(&rt, is_stopped);

@@ -1,4 +1,4 @@
-use Rattle.guarded_pictures.proofs.TwoRuns.{two_runs_are_shown}
+use Rattle.guarded_pictures.proofs.TwoMadeRuns.{two_runs_are_shown}
 use Rattle.guarded_pictures.proofs.laws.two_runs_are_shown.Goals as goal
 
 pub returns : goal.returns

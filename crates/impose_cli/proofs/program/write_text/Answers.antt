@@ -1,5 +1,6 @@
 use Rattle.std.proofs.Common.{Ok, Err, refl, is_some, option_and_then, option_map, subst, sym}
-use Rattle.impose_cli.specs.Programs.{IsUncreated, Writes}
+use Rattle.impose_cli.specs.Endings.{IsUncreated}
+use Rattle.impose_cli.specs.Programs.{Writes}
 use Rattle.impose_cli.proofs.Programs.{uncreated, wrote_part, wrote_text}
 use Rattle.impose_cli.proofs.program.write_text.Goals as goal
 
@@ -9,8 +10,8 @@ returns-in-Ok-write_whole g c =
     let name = option_map (λ n. n.now) c.args.name in
     let text = c.args.text.now in
     let what = c.args.done in
-    subst (λ o. Writes name text what tells o (is_some c.wrote.result.output) (option_and_then g.W.Output.Write.contents c.wrote.result.output)) (sym c.wrote.ensures.outcome)
-    (subst (λ o. Writes name text what tells (Ok what) (is_some o) (option_and_then g.W.Output.Write.contents o)) (sym c.wrote.ensures.output)
+    subst (λ o. Writes name text what tells o (is_some c.closed.result.output) (option_and_then g.W.Output.Write.contents c.closed.result.output)) (sym c.closed.ensures.outcome)
+    (subst (λ o. Writes name text what tells (Ok what) (is_some o) (option_and_then g.W.Output.Write.contents o)) (sym c.closed.ensures.output)
     (wrote_text name text what tells _ _ c.in-Ok.ensures.created c.in-Ok-write_whole.ensures.whole))
 
 pub returns-in-Err-write_whole : goal.returns-in-Err-write_whole
@@ -20,7 +21,7 @@ returns-in-Err-write_whole g c =
     let text = c.args.text.now in
     let what = c.args.done in
     let fault = c.in-Err-write_whole.fault in
-    let left = c.wrote-in-Err-write_whole in
+    let left = c.closed-in-Err-write_whole in
     subst (λ o. Writes name text what tells o (is_some left.result.output) (option_and_then g.W.Output.Write.contents left.result.output)) (sym left.ensures.outcome)
     (subst (λ o. Writes name text what tells (Err fault) (is_some o) (option_and_then g.W.Output.Write.contents o)) (sym left.ensures.output)
     (wrote_part name text what tells _ _ fault c.in-Ok.ensures.created c.in-Err-write_whole.ensures.part))

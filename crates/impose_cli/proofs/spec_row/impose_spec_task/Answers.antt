@@ -1,10 +1,20 @@
-use Rattle.std.proofs.Common.{ap, refl, inl, inr}
+use Rattle.std.proofs.Common.{ap, inl, is_some, option_and_then, option_map, rules}
 use Rattle.impose_said.specs.declared.fault.Fault.TheVariants as fault
+use Rattle.impose_cli.specs.SpecRows.{ImposesSpecTask, RefusesSpecTaskRun}
 use Rattle.impose_cli.specs.Refusals.{IsRefusedFor}
-use Rattle.impose_cli.proofs.Ending.{stays}
+use Rattle.impose_cli.proofs.Coming.{comes_refused}
+use Rattle.impose_cli.proofs.SpecRows.{spec_task_comes}
 use Rattle.impose_cli.proofs.spec_row.impose_spec_task.Goals as goal
 
-pub returns-in-Err-clause-ended : goal.returns-in-Err-clause-ended
-returns-in-Err-clause-ended g c =
+pub returns-in-Err : goal.returns-in-Err
+returns-in-Err g c =
     let why : IsRefusedFor c.args.task.now.text.items c.in-Err.error = rw c.as_slice.ensures.value at c.in-Err.ensures.answer in
-    inl (record { refused = inr (c.in-Err.error, ap fault.Run c.from.ensures, why); unwritten = (stays _, refl) })
+    comes_refused (RefusesSpecTaskRun c.args.request.now c.args.task.now) (ImposesSpecTask c.args.request.now c.args.task.now) _ (g.W.World.tells c.args.world) (fault.Run c.from.result)
+    c.stopped.result.outcome (is_some c.stopped.result.output) (option_and_then g.W.Output.Write.contents c.stopped.result.output) c.stopped.ensures.outcome c.stopped.ensures.output
+    (inl (c.in-Err.error, ap fault.Run c.from.ensures, why))
+
+pub returns : goal.returns
+returns g c =
+    spec_task_comes c.args.request.now c.args.task.now _ (option_map (λ n. n.now) c.name_of.result) _ (g.W.World.tells c.args.world)
+    c.impose_spec_job.result.outcome (is_some c.impose_spec_job.result.output) (option_and_then g.W.Output.Write.contents c.impose_spec_job.result.output)
+    c.impose_spec_job.ensures c.name_of.ensures (search rules)

@@ -11,20 +11,20 @@ use Rattle.imposer.proofs.HandedOn.{started_puts, started_by_right}
 use Rattle.imposer.proofs.Held.{are_tokens, seat_with, pass_with, pass_handed_on}
 use Rattle.imposer.proofs.gathering.gather_as.Goals as goal
 
-pub gather_at-requires-clause-pages : goal.gather_at-requires-clause-pages
-gather_at-requires-clause-pages g c κs within =
+pub gather_at-gathered-requires-clause-pages : goal.gather_at-gathered-requires-clause-pages
+gather_at-gathered-requires-clause-pages g c κs within =
     table_has_pages c.args.shared.now.job.now.plan c.args.shared.now.table.now c.plan.ensures.sound c.args.shared.now.same_plan
 
-pub gather_at-requires-clause-crew : goal.gather_at-requires-clause-crew
-gather_at-requires-clause-crew g c κs within =
+pub gather_at-gathered-requires-clause-crew : goal.gather_at-gathered-requires-clause-crew
+gather_at-gathered-requires-clause-crew g c κs within =
     let w = c.requires.workers in
     let one = w.a_preparer in let few = w.few_preparers in let few' = w.few_imposers in
     let preparers = c.supplies_of-supplies.ensures.crew.0 in let imposers = c.supplies_of-supplies.ensures.crew.1 in
     (omega arith, omega arith)
 
 -- what the caller holds when the threads start: it has put the blank sheets
-pub gather_at-requires-clause-held : goal.gather_at-requires-clause-held
-gather_at-requires-clause-held g c κs within =
+pub gather_at-gathered-requires-clause-held : goal.gather_at-gathered-requires-clause-held
+gather_at-gathered-requires-clause-held g c κs within =
     let table = c.args.shared.now.table.now in
     let queue = c.args.shared.now.ready.now in
     let put = c.put_blank_sheets.ensures.put in
@@ -33,8 +33,8 @@ gather_at-requires-clause-held g c κs within =
     (pass_handed_on queue queue whole_share c.born_complete.result.now put.0 c.args.tokens.pass c.put_blank_sheets.new.pass (pass_with table queue whole_share c.args.tokens c.requires.tokens.0) put.1) in
     subst (IsHeld c.args.shared.now whole_share) (sym c.supplies_of-supplies.ensures.held) (record { tokens = all; unshelved = tt })
 
-pub gather_at-requires-clause-blank_sheets : goal.gather_at-requires-clause-blank_sheets
-gather_at-requires-clause-blank_sheets g c κs within =
+pub gather_at-gathered-requires-clause-blank_sheets : goal.gather_at-gathered-requires-clause-blank_sheets
+gather_at-gathered-requires-clause-blank_sheets g c κs within =
     let table = c.args.shared.now.table.now in
     let queue = c.args.shared.now.ready.now in
     let put = c.put_blank_sheets.ensures.put in
@@ -50,8 +50,8 @@ gather_at-requires-clause-blank_sheets g c κs within =
           (λ s. subst (λ xs. tokens.put s first ≡ times s xs) born (all s));
     })
 
-pub gather_at-requires-clause-enough : goal.gather_at-requires-clause-enough
-gather_at-requires-clause-enough g c κs within =
+pub gather_at-gathered-requires-clause-enough : goal.gather_at-gathered-requires-clause-enough
+gather_at-gathered-requires-clause-enough g c κs within =
     let run = c.args.shared.now in
     let queue = run.ready.now in
     let put = c.put_blank_sheets.ensures.put in

@@ -1,17 +1,17 @@
 use Rattle.imposer.proofs.Made.{job_finished, job_refused, job_written, job_steady, job_failed}
 use Rattle.imposer.proofs.runs.run_plan.Goals as goal
 
-pub returns-clause-finished : goal.returns-clause-finished
-returns-clause-finished g c = job_finished c.args.job.now (g.S.Sink.seen c.args.sink.now) (g.S.Sink.seen c.gather_run-gathered.new.sink) c.gather_run-gathered.result.outcome c.gather_run-gathered.ensures.outcome
+pub returns-in-Ok-clause-finished : goal.returns-in-Ok-clause-finished
+returns-in-Ok-clause-finished g c = job_finished c.args.job.now (g.S.Sink.seen c.args.sink.now) (g.S.Sink.seen c.gather_plan.new.sink) c.in-Ok.ended.gathered.outcome c.in-Ok.ensures.answers
 
-pub returns-clause-refused : goal.returns-clause-refused
-returns-clause-refused g c = job_refused c.args.job.now (g.S.Sink.seen c.args.sink.now) (g.S.Sink.seen c.gather_run-gathered.new.sink) c.gather_run-gathered.result.outcome c.gather_run-gathered.ensures.outcome
+pub returns-in-Ok-clause-refused : goal.returns-in-Ok-clause-refused
+returns-in-Ok-clause-refused g c = job_refused c.args.job.now (g.S.Sink.seen c.args.sink.now) (g.S.Sink.seen c.gather_plan.new.sink) c.in-Ok.ended.gathered.outcome c.in-Ok.ensures.answers
 
-pub returns-clause-written : goal.returns-clause-written
-returns-clause-written g c = job_written c.args.job.now (g.S.Sink.seen c.args.sink.now) (g.S.Sink.seen c.gather_run-gathered.new.sink) c.gather_run-gathered.result.outcome c.gather_run-gathered.ensures.outcome
+pub returns-in-Ok-clause-written : goal.returns-in-Ok-clause-written
+returns-in-Ok-clause-written g c = job_written c.args.job.now (g.S.Sink.seen c.args.sink.now) (g.S.Sink.seen c.gather_plan.new.sink) c.in-Ok.ended.gathered.outcome c.in-Ok.ensures.answers
 
-pub returns-clause-steady : goal.returns-clause-steady
-returns-clause-steady g c = job_steady c.args.job.now (g.S.Sink.seen c.args.sink.now) (g.S.Sink.seen c.gather_run-gathered.new.sink) c.gather_run-gathered.result.outcome c.gather_run-gathered.ensures.outcome
+pub returns-in-Ok-clause-steady : goal.returns-in-Ok-clause-steady
+returns-in-Ok-clause-steady g c = job_steady c.args.job.now (g.S.Sink.seen c.args.sink.now) (g.S.Sink.seen c.gather_plan.new.sink) c.in-Ok.ended.gathered.outcome c.in-Ok.ensures.answers
 
-pub returns-clause-failed : goal.returns-clause-failed
-returns-clause-failed g c = job_failed c.args.job.now (g.S.Sink.seen c.args.sink.now) (g.S.Sink.seen c.gather_run-gathered.new.sink) c.gather_run-gathered.result.outcome c.gather_run-gathered.ensures.outcome
+pub returns-in-Ok-clause-failed : goal.returns-in-Ok-clause-failed
+returns-in-Ok-clause-failed g c = job_failed c.args.job.now (g.S.Sink.seen c.args.sink.now) (g.S.Sink.seen c.gather_plan.new.sink) c.in-Ok.ended.gathered.outcome c.in-Ok.ensures.answers

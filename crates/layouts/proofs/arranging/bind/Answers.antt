@@ -1,117 +1,63 @@
-use Rattle.std.proofs.Common.{rules, ◌≡◌, inr, sym, ap, subst, ◌∙◌, true}
+use Rattle.std.proofs.Common.{◌∙◌, ap, sym, subst, true, false, inl, inr}
 use Rattle.rules.specs.Admissible.{most_slots}
+use Rattle.pagespec.specs.Items.{groups_of}
 use Rattle.pagespec.specs.Made.{IsWritable}
-use Rattle.layouts.specs.Cells.{scale_in}
-use Rattle.layouts.specs.Grids.{beside}
 use Rattle.layouts.specs.Laws.{IsBound}
-use Rattle.layouts.specs.Refusals.{folds_short}
-use Rattle.layouts.proofs.Possible.{leaves_refused}
-use Rattle.layouts.proofs.Complete.{leaves_hold, leaf_scale_refused, one_side_made, two_sides_made}
+use Rattle.layouts.proofs.Fitting.{bound_made, bound_stands, halves_have_scale, halves_have_place, no_fault}
 use Rattle.layouts.proofs.arranging.bind.Goals as goal
-
-pub returns-in-Err-clause-refused : goal.returns-in-Err-clause-refused
-returns-in-Err-clause-refused c =
-    inr (leaves_refused c.args.papers.now.page c.args.papers.now.sheet c.args.binding.now c.in-Err.error c.in-Err.ensures.refused)
-
-pub returns-in-Err-scale_found-clause-refused : goal.returns-in-Err-scale_found-clause-refused
-returns-in-Err-scale_found-clause-refused c =
-    let page = c.args.papers.now.page in
-    let sheet = c.args.papers.now.sheet in
-    let b = c.args.binding.now in
-    let folds : folds_short page c.in-Ok.room ≡ true = search rules in
-    let large : c.scale_in-largest.result ≡ scale_in page c.in-Ok.room (beside true) = c.scale_in-largest.ensures ∙ ap (scale_in page c.in-Ok.room) c.beside-grid.ensures in
-    inr (leaf_scale_refused page sheet b c.in-Ok.room c.scale_in-largest.result c.in-Err-scale_found.error c.in-Ok.ensures.possible c.in-Ok.ensures.room folds large c.in-Err-scale_found.ensures.refused)
 
 pub of_groups-requires : goal.of_groups-requires
 of_groups-requires c =
     let page = c.args.papers.now.page in
     let sheet = c.args.papers.now.sheet in
     let b = c.args.binding.now in
-    let folds : folds_short page c.in-Ok.room ≡ true = search rules in
-    let large : c.scale_in-largest.result ≡ scale_in page c.in-Ok.room (beside true) = c.scale_in-largest.ensures ∙ ap (scale_in page c.in-Ok.room) c.beside-grid.ensures in
-    let h = leaves_hold page sheet b c.in-Ok.room c.scale_in-largest.result c.in-Ok-scale_found.scale c.in-Ok.ensures.page c.in-Ok.ensures.sheet c.in-Ok.ensures.possible
-    c.in-Ok.ensures.room folds large c.in-Ok-scale_found.ensures.value c.in-Ok-scale_found.ensures.possible in
-    let is = two_sides_made page sheet b c.in-Ok.room c.beside-grid.result c.leaf_order.result c.in-Ok-scale_found.scale _ c.beside-grid.ensures c.leaf_order.ensures h c.if-binding.true c.in-Ok-sides_in.ensures in
-    subst (IsWritable most_slots) (sym is) h.writable
+    let none = c.in-Ok.ensures.possible in
+    let is = bound_made page sheet b c.in-Ok.setting true (record { modulo = 4; groups = groups_of c.in-Ok-leaf.groups.items }) none c.in-Ok.ensures.made c.if-binding.true (ap (λ gs. record { modulo = 4; groups = gs }) c.in-Ok-leaf.ensures.made) in
+    subst (IsWritable most_slots) (sym is) (bound_stands page sheet b c.in-Ok.ensures.page c.in-Ok.ensures.sheet none).0
 
-pub returns-in-Ok-sides_in-clause-made : goal.returns-in-Ok-sides_in-clause-made
-returns-in-Ok-sides_in-clause-made c =
+pub returns-in-Ok-leaf-clause-made : goal.returns-in-Ok-leaf-clause-made
+returns-in-Ok-leaf-clause-made c =
+    bound_made c.args.papers.now.page c.args.papers.now.sheet c.args.binding.now c.in-Ok.setting true _ c.in-Ok.ensures.possible c.in-Ok.ensures.made c.if-binding.true
+    (c.of_groups.ensures ∙ ap (λ gs. record { modulo = 4; groups = gs }) c.in-Ok-leaf.ensures.made)
+
+pub returns-in-Ok-leaf-clause-laid_out : goal.returns-in-Ok-leaf-clause-laid_out
+returns-in-Ok-leaf-clause-laid_out c =
     let page = c.args.papers.now.page in
     let sheet = c.args.papers.now.sheet in
     let b = c.args.binding.now in
-    let folds : folds_short page c.in-Ok.room ≡ true = search rules in
-    let large : c.scale_in-largest.result ≡ scale_in page c.in-Ok.room (beside true) = c.scale_in-largest.ensures ∙ ap (scale_in page c.in-Ok.room) c.beside-grid.ensures in
-    let h = leaves_hold page sheet b c.in-Ok.room c.scale_in-largest.result c.in-Ok-scale_found.scale c.in-Ok.ensures.page c.in-Ok.ensures.sheet c.in-Ok.ensures.possible
-    c.in-Ok.ensures.room folds large c.in-Ok-scale_found.ensures.value c.in-Ok-scale_found.ensures.possible in
-    let is = two_sides_made page sheet b c.in-Ok.room c.beside-grid.result c.leaf_order.result c.in-Ok-scale_found.scale _ c.beside-grid.ensures c.leaf_order.ensures h c.if-binding.true c.in-Ok-sides_in.ensures in
-    c.of_groups.ensures ∙ is
+    subst (IsBound page sheet b) (sym (returns-in-Ok-leaf-clause-made c)) (bound_stands page sheet b c.in-Ok.ensures.page c.in-Ok.ensures.sheet c.in-Ok.ensures.possible).1
 
-pub returns-in-Ok-sides_in-clause-laid_out : goal.returns-in-Ok-sides_in-clause-laid_out
-returns-in-Ok-sides_in-clause-laid_out c =
+pub returns-in-Err-leaf-clause-refused : goal.returns-in-Err-leaf-clause-refused
+returns-in-Err-leaf-clause-refused c =
     let page = c.args.papers.now.page in
     let sheet = c.args.papers.now.sheet in
     let b = c.args.binding.now in
-    let folds : folds_short page c.in-Ok.room ≡ true = search rules in
-    let large : c.scale_in-largest.result ≡ scale_in page c.in-Ok.room (beside true) = c.scale_in-largest.ensures ∙ ap (scale_in page c.in-Ok.room) c.beside-grid.ensures in
-    let h = leaves_hold page sheet b c.in-Ok.room c.scale_in-largest.result c.in-Ok-scale_found.scale c.in-Ok.ensures.page c.in-Ok.ensures.sheet c.in-Ok.ensures.possible
-    c.in-Ok.ensures.room folds large c.in-Ok-scale_found.ensures.value c.in-Ok-scale_found.ensures.possible in
-    let is = two_sides_made page sheet b c.in-Ok.room c.beside-grid.result c.leaf_order.result c.in-Ok-scale_found.scale _ c.beside-grid.ensures c.leaf_order.ensures h c.if-binding.true c.in-Ok-sides_in.ensures in
-    subst (IsBound page sheet b) (sym (c.of_groups.ensures ∙ is)) h.laid_out
+    elim c.in-Err-leaf.ensures.refused [
+      | inl h ↦ no_fault _ _ c.in-Err-leaf.error (halves_have_place page sheet b c.in-Ok.setting c.in-Ok.ensures.possible c.in-Ok.ensures.made) h
+      | inr h ↦ no_fault _ _ c.in-Err-leaf.error (halves_have_scale page sheet b c.in-Ok.setting c.in-Ok.ensures.possible c.in-Ok.ensures.made) h
+    ]
 
-pub returns-in-Ok-sides_in-clause-possible : goal.returns-in-Ok-sides_in-clause-possible
-returns-in-Ok-sides_in-clause-possible c =
+pub of_groups-requires-in-Ok-one_side : goal.of_groups-requires-in-Ok-one_side
+of_groups-requires-in-Ok-one_side c =
     let page = c.args.papers.now.page in
     let sheet = c.args.papers.now.sheet in
     let b = c.args.binding.now in
-    let folds : folds_short page c.in-Ok.room ≡ true = search rules in
-    let large : c.scale_in-largest.result ≡ scale_in page c.in-Ok.room (beside true) = c.scale_in-largest.ensures ∙ ap (scale_in page c.in-Ok.room) c.beside-grid.ensures in
-    let h = leaves_hold page sheet b c.in-Ok.room c.scale_in-largest.result c.in-Ok-scale_found.scale c.in-Ok.ensures.page c.in-Ok.ensures.sheet c.in-Ok.ensures.possible
-    c.in-Ok.ensures.room folds large c.in-Ok-scale_found.ensures.value c.in-Ok-scale_found.ensures.possible in
-    h.possible
+    let none = c.in-Ok.ensures.possible in
+    let is = bound_made page sheet b c.in-Ok.setting false (record { modulo = 2; groups = groups_of c.in-Ok-one_side.groups.items }) none c.in-Ok.ensures.made c.if-binding.false (ap (λ gs. record { modulo = 2; groups = gs }) c.in-Ok-one_side.ensures.made) in
+    subst (IsWritable most_slots) (sym is) (bound_stands page sheet b c.in-Ok.ensures.page c.in-Ok.ensures.sheet none).0
 
-pub of_groups-requires-in-Ok-groups_in : goal.of_groups-requires-in-Ok-groups_in
-of_groups-requires-in-Ok-groups_in c =
+pub returns-in-Ok-one_side-clause-made : goal.returns-in-Ok-one_side-clause-made
+returns-in-Ok-one_side-clause-made c =
+    bound_made c.args.papers.now.page c.args.papers.now.sheet c.args.binding.now c.in-Ok.setting false _ c.in-Ok.ensures.possible c.in-Ok.ensures.made c.if-binding.false
+    (c.of_groups-in-Ok-one_side.ensures ∙ ap (λ gs. record { modulo = 2; groups = gs }) c.in-Ok-one_side.ensures.made)
+
+pub returns-in-Ok-one_side-clause-laid_out : goal.returns-in-Ok-one_side-clause-laid_out
+returns-in-Ok-one_side-clause-laid_out c =
     let page = c.args.papers.now.page in
     let sheet = c.args.papers.now.sheet in
     let b = c.args.binding.now in
-    let folds : folds_short page c.in-Ok.room ≡ true = search rules in
-    let large : c.scale_in-largest.result ≡ scale_in page c.in-Ok.room (beside true) = c.scale_in-largest.ensures ∙ ap (scale_in page c.in-Ok.room) c.beside-grid.ensures in
-    let h = leaves_hold page sheet b c.in-Ok.room c.scale_in-largest.result c.in-Ok-scale_found.scale c.in-Ok.ensures.page c.in-Ok.ensures.sheet c.in-Ok.ensures.possible
-    c.in-Ok.ensures.room folds large c.in-Ok-scale_found.ensures.value c.in-Ok-scale_found.ensures.possible in
-    let is = one_side_made page sheet b c.in-Ok.room c.beside-grid.result c.leaf_order.result c.in-Ok-scale_found.scale _ c.beside-grid.ensures c.leaf_order.ensures h c.if-binding.false c.in-Ok-groups_in.ensures in
-    subst (IsWritable most_slots) (sym is) h.writable
+    subst (IsBound page sheet b) (sym (returns-in-Ok-one_side-clause-made c)) (bound_stands page sheet b c.in-Ok.ensures.page c.in-Ok.ensures.sheet c.in-Ok.ensures.possible).1
 
-pub returns-in-Ok-groups_in-clause-made : goal.returns-in-Ok-groups_in-clause-made
-returns-in-Ok-groups_in-clause-made c =
-    let page = c.args.papers.now.page in
-    let sheet = c.args.papers.now.sheet in
-    let b = c.args.binding.now in
-    let folds : folds_short page c.in-Ok.room ≡ true = search rules in
-    let large : c.scale_in-largest.result ≡ scale_in page c.in-Ok.room (beside true) = c.scale_in-largest.ensures ∙ ap (scale_in page c.in-Ok.room) c.beside-grid.ensures in
-    let h = leaves_hold page sheet b c.in-Ok.room c.scale_in-largest.result c.in-Ok-scale_found.scale c.in-Ok.ensures.page c.in-Ok.ensures.sheet c.in-Ok.ensures.possible
-    c.in-Ok.ensures.room folds large c.in-Ok-scale_found.ensures.value c.in-Ok-scale_found.ensures.possible in
-    let is = one_side_made page sheet b c.in-Ok.room c.beside-grid.result c.leaf_order.result c.in-Ok-scale_found.scale _ c.beside-grid.ensures c.leaf_order.ensures h c.if-binding.false c.in-Ok-groups_in.ensures in
-    c.of_groups-in-Ok-groups_in.ensures ∙ is
-
-pub returns-in-Ok-groups_in-clause-laid_out : goal.returns-in-Ok-groups_in-clause-laid_out
-returns-in-Ok-groups_in-clause-laid_out c =
-    let page = c.args.papers.now.page in
-    let sheet = c.args.papers.now.sheet in
-    let b = c.args.binding.now in
-    let folds : folds_short page c.in-Ok.room ≡ true = search rules in
-    let large : c.scale_in-largest.result ≡ scale_in page c.in-Ok.room (beside true) = c.scale_in-largest.ensures ∙ ap (scale_in page c.in-Ok.room) c.beside-grid.ensures in
-    let h = leaves_hold page sheet b c.in-Ok.room c.scale_in-largest.result c.in-Ok-scale_found.scale c.in-Ok.ensures.page c.in-Ok.ensures.sheet c.in-Ok.ensures.possible
-    c.in-Ok.ensures.room folds large c.in-Ok-scale_found.ensures.value c.in-Ok-scale_found.ensures.possible in
-    let is = one_side_made page sheet b c.in-Ok.room c.beside-grid.result c.leaf_order.result c.in-Ok-scale_found.scale _ c.beside-grid.ensures c.leaf_order.ensures h c.if-binding.false c.in-Ok-groups_in.ensures in
-    subst (IsBound page sheet b) (sym (c.of_groups-in-Ok-groups_in.ensures ∙ is)) h.laid_out
-
-pub returns-in-Ok-groups_in-clause-possible : goal.returns-in-Ok-groups_in-clause-possible
-returns-in-Ok-groups_in-clause-possible c =
-    let page = c.args.papers.now.page in
-    let sheet = c.args.papers.now.sheet in
-    let b = c.args.binding.now in
-    let folds : folds_short page c.in-Ok.room ≡ true = search rules in
-    let large : c.scale_in-largest.result ≡ scale_in page c.in-Ok.room (beside true) = c.scale_in-largest.ensures ∙ ap (scale_in page c.in-Ok.room) c.beside-grid.ensures in
-    let h = leaves_hold page sheet b c.in-Ok.room c.scale_in-largest.result c.in-Ok-scale_found.scale c.in-Ok.ensures.page c.in-Ok.ensures.sheet c.in-Ok.ensures.possible
-    c.in-Ok.ensures.room folds large c.in-Ok-scale_found.ensures.value c.in-Ok-scale_found.ensures.possible in
-    h.possible
+pub returns-in-Err-one_side-clause-refused : goal.returns-in-Err-one_side-clause-refused
+returns-in-Err-one_side-clause-refused c =
+    no_fault _ _ c.in-Err-one_side.error (halves_have_place c.args.papers.now.page c.args.papers.now.sheet c.args.binding.now c.in-Ok.setting c.in-Ok.ensures.possible c.in-Ok.ensures.made) c.in-Err-one_side.ensures.refused

@@ -1,11 +1,11 @@
-use Rattle.std.proofs.Common.{arith, rules, ◌≡◌, ◌<◌, ℕ, ◌∙◌, ◌+◌, ◌*◌, ◌++◌, ◌∷◌, [], sym, subst}
+use Rattle.std.proofs.Common.{arith, rules, ◌≡◌, ◌<◌, ℕ, ◌+◌, ◌*◌, ◌++◌, ◌∷◌, [], sym, subst}
 use Rattle.std.specs.Prelude.{length, map}
 use Rattle.std.specs.List.{range_with_len}
 use Rattle.sheet_plan.specs.OfSheets.{slot_of}
 use Rattle.rules.specs.Sheets.{blocks}
 use Rattle.row_sheets.specs.Filled.{is_turned, grid_entry}
 use Rattle.row_sheets.specs.Shapes.{filling}
-use Rattle.row_sheets.specs.Creep.{creep_on, creeping_slot, IsRefusedCreep}
+use Rattle.row_sheets.specs.Creep.{creep_on, creeping_slot}
 use Rattle.row_sheets.specs.Standing.{EntryCreeps, LeavesStand}
 use Rattle.row_sheets.proofs.Filling.{sheet, sheet_more, one_more}
 use Rattle.row_sheets.proofs.OnLeaves.{leaves_stand}
@@ -15,19 +15,13 @@ use Rattle.row_sheets.proofs.creep.creeping_booklet_sheets.Goals as goal
 
 pub returns-in-Err-creeping_slot-clause-refused : goal.returns-in-Err-creeping_slot-clause-refused
 returns-in-Err-creeping_slot-clause-refused c =
-    let f = filling c.args.setting.now c.args.papers.now in
-    let why : IsRefusedCreep f c.creep_on-by.result c.entry_at-entry.result c.in-Err-creeping_slot.error =
-    subst (λ u. IsRefusedCreep (filling u c.args.papers.now) c.creep_on-by.result c.entry_at-entry.result c.in-Err-creeping_slot.error) c.loop-s.invariant.same c.in-Err-creeping_slot.ensures.refused in
-    entry_refused f c.args.row.now c.args.creep.innermost c.args.creep.leaves c.loop-s.s 0 c.creep_on-by.result _ c.entry_at-entry.result c.in-Err-creeping_slot.error (omega arith)
-    why c.creep_on-by.ensures c.entry_at-entry.ensures (omega arith)
+    entry_refused (filling c.args.setting.now c.args.papers.now) c.args.row.now c.args.creep.innermost c.args.creep.leaves c.loop-s.s 0 c.creep_on-by.result _ c.entry_at-entry.result c.in-Err-creeping_slot.error (omega arith)
+    c.in-Err-creeping_slot.ensures.refused c.creep_on-by.ensures c.entry_at-entry.ensures (omega arith)
 
 pub returns-in-Err-creeping_slot-2-clause-refused : goal.returns-in-Err-creeping_slot-2-clause-refused
 returns-in-Err-creeping_slot-2-clause-refused c =
-    let f = filling c.args.setting.now c.args.papers.now in
-    let why : IsRefusedCreep f c.creep_on-by.result c.entry_at-next.result c.in-Err-creeping_slot-2.error =
-    subst (λ u. IsRefusedCreep (filling u c.args.papers.now) c.creep_on-by.result c.entry_at-next.result c.in-Err-creeping_slot-2.error) (c.in-Ok-creeping_slot.ensures.same ∙ c.loop-s.invariant.same) c.in-Err-creeping_slot-2.ensures.refused in
-    entry_refused f c.args.row.now c.args.creep.innermost c.args.creep.leaves c.loop-s.s 1 c.creep_on-by.result _ c.entry_at-next.result c.in-Err-creeping_slot-2.error (omega arith)
-    why c.creep_on-by.ensures c.entry_at-next.ensures (omega arith)
+    entry_refused (filling c.args.setting.now c.args.papers.now) c.args.row.now c.args.creep.innermost c.args.creep.leaves c.loop-s.s 1 c.creep_on-by.result _ c.entry_at-next.result c.in-Err-creeping_slot-2.error (omega arith)
+    c.in-Err-creeping_slot-2.ensures.refused c.creep_on-by.ensures c.entry_at-next.ensures (omega arith)
 
 pub loop-s-preserved : goal.loop-s-preserved
 loop-s-preserved c =
@@ -39,18 +33,12 @@ loop-s-preserved c =
     let by = creep_on c.args.creep.innermost c.args.creep.leaves s in
     let one = slot_of c.in-Ok-creeping_slot.slot in
     let other = slot_of c.in-Ok-creeping_slot-2.slot in
-    let again = c.in-Ok-creeping_slot.ensures.same ∙ c.loop-s.invariant.same in
-    let one_is = subst (λ u. one ≡ creeping_slot (filling u c.args.papers.now) c.is_turned-by_half.result 0 c.creep_on-by.result c.entry_at-entry.result) c.loop-s.invariant.same c.in-Ok-creeping_slot.ensures.made in
-    let other_is = subst (λ u. other ≡ creeping_slot (filling u c.args.papers.now) c.is_turned-by_half.result 1 c.creep_on-by.result c.entry_at-next.result) again c.in-Ok-creeping_slot-2.ensures.made in
-    let first = entry_is f row c.is_turned-by_half.result half 0 c.creep_on-by.result by _ (s * 2 + 0) c.entry_at-entry.result one one_is c.is_turned-by_half.ensures c.creep_on-by.ensures c.entry_at-entry.ensures (omega arith) in
-    let second = entry_is f row c.is_turned-by_half.result half 1 c.creep_on-by.result by _ (s * 2 + 1) c.entry_at-next.result other other_is c.is_turned-by_half.ensures c.creep_on-by.ensures c.entry_at-next.ensures (omega arith) in
+    let first = entry_is f row c.is_turned-by_half.result half 0 c.creep_on-by.result by _ (s * 2 + 0) c.entry_at-entry.result one c.in-Ok-creeping_slot.ensures.made c.is_turned-by_half.ensures c.creep_on-by.ensures c.entry_at-entry.ensures (omega arith) in
+    let second = entry_is f row c.is_turned-by_half.result half 1 c.creep_on-by.result by _ (s * 2 + 1) c.entry_at-next.result other c.in-Ok-creeping_slot-2.ensures.made c.is_turned-by_half.ensures c.creep_on-by.ensures c.entry_at-next.ensures (omega arith) in
     let e : c.push.new.self ≡ c.loop-s.made ++ sheet t.room.paper (one ∷ other ∷ []) ∷ [] = search rules in
-    let has_one = subst (λ u. EntryCreeps (filling u c.args.papers.now) c.creep_on-by.result c.entry_at-entry.result) c.loop-s.invariant.same c.in-Ok-creeping_slot.ensures.fits in
-    let has_other = subst (λ u. EntryCreeps (filling u c.args.papers.now) c.creep_on-by.result c.entry_at-next.result) again c.in-Ok-creeping_slot-2.ensures.fits in
-    let fits_one = entry_creeps f row c.creep_on-by.result by _ (s * 2 + 0) c.entry_at-entry.result has_one c.creep_on-by.ensures c.entry_at-entry.ensures (omega arith) in
-    let fits_other = entry_creeps f row c.creep_on-by.result by _ (s * 2 + 1) c.entry_at-next.result has_other c.creep_on-by.ensures c.entry_at-next.ensures (omega arith) in
+    let fits_one = entry_creeps f row c.creep_on-by.result by _ (s * 2 + 0) c.entry_at-entry.result c.in-Ok-creeping_slot.ensures.fits c.creep_on-by.ensures c.entry_at-entry.ensures (omega arith) in
+    let fits_other = entry_creeps f row c.creep_on-by.result by _ (s * 2 + 1) c.entry_at-next.result c.in-Ok-creeping_slot-2.ensures.fits c.creep_on-by.ensures c.entry_at-next.ensures (omega arith) in
     record {
-      same = c.in-Ok-creeping_slot-2.ensures.same ∙ again;
       made = sheet_more t.room.paper (λ n. map (λ k. creeping_slot f (is_turned c.args.turned_backs n) k (creep_on c.args.creep.innermost c.args.creep.leaves n) (grid_entry 2 row n k)) (range_with_len 0 2))
           c.loop-s.made c.push.new.self (one ∷ other ∷ []) s c.loop-s.invariant.made (both_slots (λ k. creeping_slot f half k by (grid_entry 2 row s k)) one other first second) e;
       fits = λ n k less in_k. one_more (λ n. (k : ℕ) → k < 2 → EntryCreeps f (creep_on c.args.creep.innermost c.args.creep.leaves n) (grid_entry 2 row n k)) s (λ n below k in_k. c.loop-s.invariant.fits n k below in_k)

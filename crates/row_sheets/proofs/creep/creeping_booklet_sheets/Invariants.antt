@@ -7,7 +7,6 @@ use Rattle.row_sheets.proofs.creep.creeping_booklet_sheets.Given as goal
 
 abbrev pub invariant-loop-s : goal.invariant-loop-s
 invariant-loop-s l = record {
-  same : l.fitter ≡ l.setting;
   made : l.made ≡ creeping_sides (filling l.setting l.papers) l.turned_backs l.creep.innermost l.creep.leaves l.s l.row;
   fits : (s k : ℕ) → s < l.s → k < 2 → EntryCreeps (filling l.setting l.papers) (creep_on l.creep.innermost l.creep.leaves s) (grid_entry 2 l.row s k);
 }

@@ -14,23 +14,17 @@ use std::test::Fail;
 use std::thread::Threads;
 use test_tools::{A4_SIDES, TWO_PAGES, UNMOVED, page_body, placed_on, sheet};
 
-/// The second page on A4 and the first on A5, each on a sheet, and a line at each of the three places.
+/// On the first sheet the second page on A4 and the first on A5; on the other one that alone; and a line at each of the
+/// three places.
 fn dressed_output(alloc: Global) -> Result<String, AllocError> {
-    let first = dressed_sheet(alloc, 1, A4_SIDES)?;
-    let second = dressed_sheet(alloc, 2, ("420", "595"))?;
+    let first = placed_on(alloc, A4_SIDES, UNMOVED, &page_body(alloc, 1)?)?;
+    let second = placed_on(alloc, ("420", "595"), UNMOVED, &page_body(alloc, 0)?)?;
+    let pages = format!(in alloc; "%%PageMedia: x\n{first}{second}% end\n")?;
+    let first = sheet(alloc, 1, &pages)?;
+    let pages = format!(in alloc; "%%PageMedia: x\n{second}% end\n")?;
+    let second = sheet(alloc, 2, &pages)?;
     format!(in alloc;
         "%!PS-Adobe-3.0\n%%Pages: 2\n%%DocumentMedia: x\n%%EndComments\n{first}{second}%%Trailer\n%%EOF\n"
-    )
-}
-
-/// The sheet with this number, of one page on this paper.
-fn dressed_sheet(alloc: Global, number: u32, paper: (&str, &str)) -> Result<String, AllocError> {
-    let body = page_body(alloc, 2u32.saturating_sub(number))?;
-    let page = placed_on(alloc, paper, UNMOVED, &body)?;
-    sheet(
-        alloc,
-        number,
-        &format!(in alloc; "%%PageMedia: x\n{page}% end\n")?,
     )
 }
 
@@ -49,10 +43,15 @@ fn placed_page(page: u32, paper: Paper) -> MadeSlot {
     }
 }
 
-/// Each page on a sheet of its own paper, backwards.
+/// Two pages with a blank between them, and one of them again.
 fn two_sheets(alloc: Global, first: Paper, second: Paper) -> Result<MadeSheets, Fail> {
     let mut sheets = MadeSheets::new(alloc);
-    sheets.push(&first, &[placed_page(1, first)])?;
+    let slots = [
+        placed_page(1, first),
+        MadeSlot::Blank,
+        placed_page(0, second),
+    ];
+    sheets.push(&first, &slots)?;
     sheets.push(&second, &[placed_page(0, second)])?;
     Ok(sheets)
 }
@@ -94,7 +93,7 @@ fn run_dressed<R: Threads + Wait + Sync, S: Sink>(
     Ok(run_plan(rt, alloc, &job, workers, &Open, sink)?)
 }
 
-/// Runs over them, with lines: what is written, and what is told.
+/// Runs over them, with lines: what is written, and what is reported.
 fn run_two<R: Threads + Wait + Sync>(rt: &R, alloc: Global) -> Result<(MemorySink, Report), Fail> {
     let a4 = paper_by_name("a4").ok_or(AllocError)?;
     let a5 = paper_by_name("a5").ok_or(AllocError)?;

@@ -2,29 +2,13 @@
 ghost use Rattle.imposer.specs.Workers.{AreWorkers};
 
 use crate::tests::checks::assert_that;
-use crate::tests::{WHOLE, gather_pairs, report_of, workers, writes};
-use imposer::{MemorySink, Workers};
+use crate::tests::{WHOLE, gather_pairs};
+use imposer::{MemorySink, Report, Workers};
 use std::alloc::Global;
 use std::sync::Wait;
 use std::test::Fail;
 use std::thread::Threads;
-use test_tools::{TWO_UP, document_of, two_up_output};
-
-#[test]
-fn no_byte_depends_on_the_workers(rt: HostRuntime) -> Result<(), Fail> {
-    let document = document_of(rt.alloc(), 200)?;
-    let sheets = two_up_output(rt.alloc(), 100)?;
-    let case = (document.as_str(), TWO_UP);
-    let told = report_of(200, 100, 0, sheets.len() as u64);
-    for (preparers, imposers) in [(1, 1), (2, 3), (16, 16)] {
-        let options = workers(preparers, imposers);
-        assert_that(
-            &rt,
-            writes(&rt, rt.alloc(), case, &options, &sheets, &told)?,
-        );
-    }
-    Ok(())
-}
+use test_tools::{document_of, two_up_output};
 
 /// So many workers gather the two hundred pages: whether the sheets are written, and the tokens come back.
 fn is_gathered<R: Threads + Wait + Sync>(
@@ -40,8 +24,14 @@ fn is_gathered<R: Threads + Wait + Sync>(
     let gathering = gather_pairs(rt, alloc, document, workers, None, &mut sink)?;
     let is_written = sink.bytes() == sheets.as_bytes();
     let is_back = !gathering.is_unshelved && gathering.shares == Some((WHOLE, WHOLE));
-    let report = gathering.outcome?;
-    Ok(is_written && is_back && report == report_of(200, 100, 0, sheets.len() as u64))
+    let report = Report {
+        pages: 200,
+        sheets: 100,
+        born: 0,
+        swept: 0,
+        bytes: sheets.len() as u64,
+    };
+    Ok(is_written && is_back && gathering.outcome? == report)
 }
 
 #[test]

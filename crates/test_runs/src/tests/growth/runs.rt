@@ -63,7 +63,7 @@ fn run_refused<R: Threads + Wait + Sync, G: Gate + Sync>(
     Ok((sink, ended))
 }
 
-/// Whether a sink has all of the output, after a run that finished, else as many of its first bytes as were told.
+/// Whether a sink has all of the output, after a run that finished, else as many of its first bytes as were reported.
 fn is_written(output: &[u8], sink: &MemorySink, written: Option<u64>) -> bool {
     let wanted = written.unwrap_or(output.len() as u64);
     sink.bytes().len() as u64 == wanted && output.starts_with(sink.bytes())
@@ -93,8 +93,8 @@ fn refuse_one<R: Threads + Wait + Abort + Sync, G: Gate + Sync>(
     Ok(ended.is_refused)
 }
 
-/// How many growths behind one another weren't refused, with one more, which was or wasn't.
-fn unrefused_behind(unrefused: u32, is_refused: bool) -> u32 {
+/// How many growths after one another weren't refused, with one more, which was or wasn't.
+fn unrefused_after(unrefused: u32, is_refused: bool) -> u32 {
     if is_refused {
         0
     } else {
@@ -103,7 +103,7 @@ fn unrefused_behind(unrefused: u32, is_refused: bool) -> u32 {
 }
 
 /// Each growth of the run is refused in turn. Threads grow what they grow in any order, so the end is where none of
-/// some numbers behind one another was refused.
+/// some numbers after one another was refused.
 fn refuse_each<R: Threads + Wait + Abort + Sync, G: Gate + Sync>(
     rt: &R,
     alloc: Global,
@@ -118,7 +118,7 @@ fn refuse_each<R: Threads + Wait + Abort + Sync, G: Gate + Sync>(
     for number in 1..MOST_GROWTHS {
         if unrefused < 4 {
             let is_refused = refuse_one(rt, alloc, number, trial, gate, wanted)?;
-            unrefused = unrefused_behind(unrefused, is_refused);
+            unrefused = unrefused_after(unrefused, is_refused);
         }
     }
     assert_that(rt, unrefused == 4);
@@ -251,7 +251,7 @@ fn gatherings(rt: HostRuntime) -> Result<(), Fail> {
     for number in 1..MOST_GROWTHS {
         if unrefused < 4 {
             let is_refused = gather_refused(&rt, rt.alloc(), number, &text, output.bytes())?;
-            unrefused = unrefused_behind(unrefused, is_refused);
+            unrefused = unrefused_after(unrefused, is_refused);
         }
     }
     assert_that(&rt, unrefused == 4);

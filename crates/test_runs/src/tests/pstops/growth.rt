@@ -1,6 +1,7 @@
-//! Single calls in which each growth is refused in turn, as `test_run_parts` does it for the crates below.
+//! Single calls in which each growth is refused in turn, and a whole run.
 use super::{request_of, words_of};
-use crate::tests::checks::{assert_bytes, assert_that};
+use crate::tests::callers::stories::{Called, show, tell};
+use crate::tests::checks::{assert_bytes, assert_that, assert_told};
 use dsc::DscError;
 use imposer::{MemorySink, RunError};
 use pagespec::SpecError;
@@ -8,7 +9,9 @@ use pstops_cli::{
     CommandFault, Fault, ReadFault, ReadSource, Request, fault_line, read_command, read_input,
     run_request,
 };
+use sheet_plan::PlanError;
 use std::alloc::{AllocError, Global};
+use std::io::Write;
 use std::process::Abort;
 use std::sync::Wait;
 use std::test::Fail;
@@ -17,135 +20,136 @@ use test_tools::{
     MOST_GROWTHS, ONE_PAGE, Refused, has_refused, one_up_output, refuse, refuse_each,
 };
 
-/// The words of a command with every option.
-const WORDS: &[&str] = &[
-    "-q", "-p", "letter", "-w21cm", "-h29.7cm", "-d1", "-s", "8", "-j3", "-k", "4", "2:0+1", "in",
-    "out",
-];
+/// Calls of the command: words that are read, an input that is read, and the lines of faults.
+#[derive(Drop)]
+struct Calls {}
 
-fn read_words<R: Abort>(rt: &R, alloc: Global, number: u32) -> Result<bool, AllocError> {
-    let words = words_of(alloc, WORDS)?;
-    refuse(alloc, number);
-    let answer = read_command(alloc, words.as_slice());
-    let is_refused = has_refused(alloc);
-    let is_right = match answer {
-        Ok(request) => !is_refused && request.spec.as_str() == "2:0+1",
-        Err(fault) => is_refused && fault == CommandFault::NoMemory,
-    };
-    assert_that(rt, is_right);
-    Ok(is_refused)
+/// The specification of a request, or the status and the line of its refusal.
+fn show_request(alloc: Global, line: &str, answer: &mut Vec<u8>) -> anyhow::Result<()> {
+    let words = words_of(alloc, line)?;
+    match read_command(alloc, words.as_slice()) {
+        Ok(request) => Ok(write!(answer, "{}", request.spec)?),
+        Err(CommandFault::NoMemory) => Ok(write!(answer, "NoMemory")?),
+        Err(fault) => show_fault(alloc, &Fault::Command(fault), answer),
+    }
 }
 
-/// Words that are refused: out of memory takes the place of that refusal.
-fn read_bad_words<R: Abort>(rt: &R, alloc: Global, number: u32) -> Result<bool, AllocError> {
-    let words = words_of(alloc, &["-j", "17", "0"])?;
-    refuse(alloc, number);
-    let answer = read_command(alloc, words.as_slice());
-    let is_refused = has_refused(alloc);
-    let wanted = if is_refused {
-        CommandFault::NoMemory
-    } else {
-        CommandFault::BadWords
-    };
-    assert_that(rt, answer.err() == Some(wanted));
-    Ok(is_refused)
-}
-
-/// Reads more than the first piece of room.
-fn read_bytes<R: Abort>(rt: &R, alloc: Global, number: u32) -> Result<bool, AllocError> {
+/// Reads more than the first piece of room: how many bytes, and whether they are the source's.
+fn show_input(alloc: Global, answer: &mut Vec<u8>) -> anyhow::Result<()> {
     let long = vec![in alloc; 37u8; 300_000]?;
     let mut source = ReadSource::new(long.as_slice());
-    refuse(alloc, number);
-    let answer = read_input(alloc, &mut source);
-    let is_refused = has_refused(alloc);
-    let is_right = match answer {
-        Ok(bytes) => !is_refused && bytes.as_slice() == long.as_slice(),
-        Err(fault) => is_refused && fault == ReadFault::NoMemory,
-    };
-    assert_that(rt, is_right);
-    Ok(is_refused)
+    match read_input(alloc, &mut source) {
+        Ok(bytes) => {
+            let is_whole = bytes.as_slice() == long.as_slice();
+            show((bytes.len(), is_whole), answer)
+        }
+        Err(ReadFault::NoMemory) => Ok(write!(answer, "NoMemory")?),
+        Err(ReadFault::Device) => show("the source failed", answer),
+    }
 }
 
-/// What is called.
-#[derive(Clone, Copy)]
-enum Call {
-    Words,
-    BadWords,
-    Bytes,
+/// Status and line of a fault.
+fn show_fault(alloc: Global, fault: &Fault, answer: &mut Vec<u8>) -> anyhow::Result<()> {
+    let (status, line) = fault_line(alloc, fault)?;
+    write!(answer, "{status} ")?;
+    match line.as_slice().strip_suffix(b"\n") {
+        Some(line) => Ok(answer.extend_from_slice(line)?),
+        None => show("a line without an end", answer),
+    }
 }
 
-impl<R: Abort> Refused<R> for Call {
-    fn refuse(&self, rt: &R, alloc: Global, number: u32) -> Result<bool, Fail> {
-        match self {
-            Call::Words => Ok(read_words(rt, alloc, number)?),
-            Call::BadWords => Ok(read_bad_words(rt, alloc, number)?),
-            Call::Bytes => Ok(read_bytes(rt, alloc, number)?),
+/// The refusal of a specification, a document or a plan of this name.
+fn refusal_of(name: &str) -> Option<RunError> {
+    Some(match name {
+        "spec too long" => RunError::Spec(SpecError::TooLong),
+        "item" => RunError::Spec(SpecError::PageOutOfBlock(12)),
+        "slots" => RunError::Spec(SpecError::TooManySlots(4)),
+        "groups" => RunError::Spec(SpecError::TooManyGroups),
+        "spec" => RunError::Spec(SpecError::NoMemory),
+        "input too long" => RunError::Document(DscError::TooLong),
+        "short" => RunError::Document(DscError::ShortData(345)),
+        "document pages" => RunError::Document(DscError::TooManyPages),
+        "document" => RunError::Document(DscError::NoMemory),
+        "plan pages" => RunError::Plan(PlanError::TooManyPages),
+        "sheets" => RunError::Plan(PlanError::TooManySheets),
+        "places" => RunError::Plan(PlanError::TooManyPlaces),
+        "plan" => RunError::Plan(PlanError::NoMemory),
+        _ => return None,
+    })
+}
+
+/// The fault of this name.
+fn fault_of(name: &str) -> Fault {
+    match name {
+        "bad words" => Fault::Command(CommandFault::BadWords),
+        "paper" => Fault::Command(CommandFault::UnknownPaper),
+        "length" => Fault::Command(CommandFault::BadLength('w')),
+        "words" => Fault::Command(CommandFault::NoMemory),
+        "reading" => Fault::Read(ReadFault::NoMemory),
+        "device" => Fault::Read(ReadFault::Device),
+        "creation" => Fault::Create,
+        "run" => Fault::Run(RunError::NoMemory { written: 7 }),
+        name => match refusal_of(name) {
+            Some(error) => Fault::Run(error),
+            None => Fault::Run(RunError::Options),
+        },
+    }
+}
+
+impl Called for Calls {
+    fn call(&mut self, alloc: Global, words: &str, answer: &mut Vec<u8>) -> anyhow::Result<()> {
+        let (name, rest) = words.split_once(' ').unwrap_or((words, ""));
+        match name {
+            "pstops" => show_request(alloc, rest, answer),
+            "input" => show_input(alloc, answer),
+            _ => show_fault(alloc, &fault_of(rest), answer),
         }
     }
 }
 
-#[test]
-fn commands_and_inputs(rt: HostRuntime) -> Result<(), Fail> {
-    for call in [Call::Words, Call::BadWords, Call::Bytes] {
-        assert_that(&rt, refuse_each(&rt, rt.alloc(), &call)?);
-    }
-    Ok(())
-}
+/// Faults are those that no short command line brings about. Wherever memory runs out the line is the same.
+const STORY: &str = "\
+    pstops -q -p letter -w21cm -h29.7cm -d1 -s 8 -j3 -k 4 2:0+1 in out = 2:0+1\n\
+    pstops -j 17 0 = 2 pstops: bad command line\n\
+    pstops -p b9 0 = 2 pstops: unknown paper\n\
+    pstops -w0 0 = 2 pstops: bad length after -w\n\
+    input = (300000, true)\n\
+    fault bad words = 2 pstops: bad command line\n\
+    fault paper = 2 pstops: unknown paper\n\
+    fault length = 2 pstops: bad length after -w\n\
+    fault words = 3 pstops: out of memory\n\
+    fault reading = 3 pstops: out of memory\n\
+    fault device = 3 pstops: cannot read input\n\
+    fault creation = 3 pstops: cannot write output\n\
+    fault run = 3 pstops: out of memory\n\
+    fault spec too long = 1 pstops: specification: too long\n\
+    fault item = 1 pstops: specification: item 12: page number not below modulo\n\
+    fault slots = 1 pstops: specification: group 4: too many items\n\
+    fault groups = 1 pstops: specification: too many groups\n\
+    fault spec = 3 pstops: out of memory\n\
+    fault input too long = 1 pstops: input too long\n\
+    fault short = 1 pstops: input: data cut short at byte 345\n\
+    fault document pages = 1 pstops: input: too many pages\n\
+    fault document = 3 pstops: out of memory\n\
+    fault plan pages = 1 pstops: plan: too many pages\n\
+    fault sheets = 1 pstops: plan: too many sheets\n\
+    fault places = 1 pstops: plan: too many places\n\
+    fault plan = 3 pstops: out of memory\n\
+    fault options = 2 pstops: bad options\n\
+";
 
-/// The line of a fault is made.
-#[derive(Drop)]
-struct Line {
-    fault: Fault,
-    status: u8,
-    line: &'static str,
-}
-
-impl<R: Abort> Refused<R> for Line {
+impl<R: Abort> Refused<R> for Calls {
     fn refuse(&self, rt: &R, alloc: Global, number: u32) -> Result<bool, Fail> {
-        refuse(alloc, number);
-        let answer = fault_line(alloc, &self.fault);
-        let is_refused = has_refused(alloc);
-        let is_right = match answer {
-            Ok((status, line)) => {
-                !is_refused && status == self.status && line.as_slice() == self.line.as_bytes()
-            }
-            Err(_) => is_refused,
-        };
-        assert_that(rt, is_right);
-        Ok(is_refused)
+        let told = tell(alloc, &mut Calls {}, number, STORY)?;
+        assert_told(rt, told.wrong);
+        Ok(told.is_refused)
     }
 }
 
-/// Refuses each growth of the line of a fault in turn.
-fn assert_line<R: Abort>(
-    rt: &R,
-    alloc: Global,
-    fault: Fault,
-    status: u8,
-    line: &'static str,
-) -> Result<(), Fail> {
-    let call = Line {
-        fault,
-        status,
-        line,
-    };
-    assert_that(rt, refuse_each(rt, alloc, &call)?);
-    Ok(())
-}
-
 #[test]
-fn lines(rt: HostRuntime) -> Result<(), Fail> {
-    let fault = Fault::Command(CommandFault::BadLength('w'));
-    let line = "pstops: bad length after -w\n";
-    assert_line(&rt, rt.alloc(), fault, 2, line)?;
-    let fault = Fault::Run(RunError::Spec(SpecError::PageOutOfBlock(12)));
-    let line = "pstops: specification: item 12: page number not below modulo\n";
-    assert_line(&rt, rt.alloc(), fault, 1, line)?;
-    let fault = Fault::Run(RunError::Document(DscError::ShortData(345)));
-    let line = "pstops: input: data cut short at byte 345\n";
-    assert_line(&rt, rt.alloc(), fault, 1, line)?;
-    let line = "pstops: cannot write output\n";
-    assert_line(&rt, rt.alloc(), Fault::Create, 3, line)
+fn commands_inputs_and_lines(rt: HostRuntime) -> Result<(), Fail> {
+    assert_that(&rt, refuse_each(&rt, rt.alloc(), &Calls {})?);
+    Ok(())
 }
 
 /// Runs a request over a sink that was made before: whether a growth was refused. Then the status is 3, the line reports
@@ -202,7 +206,7 @@ fn refuse_run<R: Threads + Wait + Abort + Sync>(
 
 #[test]
 fn requests(rt: HostRuntime) -> Result<(), Fail> {
-    let request = request_of(rt.alloc(), &["0"])?;
+    let request = request_of(rt.alloc(), "0")?;
     let output = one_up_output(rt.alloc(), "")?;
     refuse_run(&rt, rt.alloc(), &request, output.as_str().as_bytes())?;
     Ok(())

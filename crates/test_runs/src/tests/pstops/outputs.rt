@@ -10,8 +10,7 @@ use std::sync::atomic::AtomicU32;
 use std::sync::atomic::Ordering::SeqCst;
 use std::test::Fail;
 use std::thread::Threads;
-use test_tools::{ONE_PAGE, one_up_output, with_lines};
-use test_world::{InMemory, Takes};
+use test_tools::{InMemory, ONE_PAGE, Takes, one_up_output, with_lines};
 use world::tell;
 
 /// Room for every output.
@@ -21,7 +20,7 @@ const AMPLE: Takes = Takes::Bytes(100_000);
 fn ended<'a, R: Threads + Wait + Sync>(
     rt: &R,
     alloc: Global,
-    words: &[&str],
+    words: &str,
     document: &'a str,
     takes: Takes,
     opened: &'a AtomicU32,
@@ -42,7 +41,7 @@ fn ended<'a, R: Threads + Wait + Sync>(
 fn assert_stopped<R: Threads + Wait + Abort + Sync>(
     rt: &R,
     alloc: Global,
-    words: &[&str],
+    words: &str,
     status: u8,
     inputs: u32,
 ) -> Result<(), AllocError> {
@@ -56,9 +55,9 @@ fn assert_stopped<R: Threads + Wait + Abort + Sync>(
 #[test]
 fn words_are_looked_at_before_an_input_is_opened(rt: HostRuntime) -> Result<(), Fail> {
     let alloc = rt.alloc();
-    assert_stopped(&rt, alloc, &["-j", "17", "0", "in.ps", "out.ps"], 2, 0)?;
-    assert_stopped(&rt, alloc, &["-p", "a99", "0", "in.ps", "out.ps"], 2, 0)?;
-    assert_stopped(&rt, alloc, &["0", "other.ps", "out.ps"], 3, 1)?;
+    assert_stopped(&rt, alloc, "-j 17 0 in.ps out.ps", 2, 0)?;
+    assert_stopped(&rt, alloc, "-p a99 0 in.ps out.ps", 2, 0)?;
+    assert_stopped(&rt, alloc, "0 other.ps out.ps", 3, 1)?;
     Ok(())
 }
 
@@ -84,14 +83,7 @@ fn assert_status<R: Threads + Wait + Abort + Sync>(
     status: u8,
 ) -> Result<(), AllocError> {
     let opened = AtomicU32::new(0);
-    let end = ended(
-        rt,
-        alloc,
-        &["0", "in.ps", "out.ps"],
-        ONE_PAGE,
-        takes,
-        &opened,
-    )?;
+    let end = ended(rt, alloc, "0 in.ps out.ps", ONE_PAGE, takes, &opened)?;
     assert_that(rt, end.output.is_some() == (status == 0));
     let told = tell(&mut Closed {}, end.line.as_slice(), end.status);
     assert_that(rt, told == status);
@@ -113,9 +105,9 @@ fn assert_cut_off<R: Threads + Wait + Abort + Sync>(
     sheets: &str,
     most: usize,
 ) -> Result<(), AllocError> {
-    let words = ["-q", "0", "in.ps", "out.ps"];
+    let words = "-q 0 in.ps out.ps";
     let opened = AtomicU32::new(0);
-    let end = ended(rt, alloc, &words, document, Takes::Bytes(most), &opened)?;
+    let end = ended(rt, alloc, words, document, Takes::Bytes(most), &opened)?;
     let (first, rest) = sheets.as_bytes().split_at(most.min(sheets.len()));
     let (status, line) = if rest.is_empty() {
         (0, "")

@@ -6,25 +6,7 @@ use pstops_cli::{ReadFault, ReadSource, Source, SourceFault, read_input};
 use std::alloc::Global;
 use std::io::{self, ErrorKind, Read};
 use std::process::Abort;
-use std::test::Fail;
 use test_tools::ONE_PAGE;
-
-fn assert_read_whole<R: Abort>(rt: &R, alloc: Global, bytes: &[u8]) {
-    let mut source = ReadSource::new(bytes);
-    match read_input(alloc, &mut source) {
-        Ok(input) => assert_bytes(rt, input.as_slice(), bytes),
-        Err(_) => assert_that(rt, false),
-    }
-}
-
-// The second one is more than the first piece of room.
-#[test]
-fn an_input_is_read_whole(rt: HostRuntime) -> Result<(), Fail> {
-    assert_read_whole(&rt, rt.alloc(), ONE_PAGE.as_bytes());
-    let long = vec![in rt.alloc(); 37u8; 300_000]?;
-    assert_read_whole(&rt, rt.alloc(), long.as_slice());
-    Ok(())
-}
 
 /// A reader of one page that gives seven bytes a call, fails at its call with this number, and counts its calls.
 #[derive(Drop)]

@@ -15,7 +15,7 @@ fn assert_bad_options<R: Abort>(rt: &R, status: u8, line: &[u8], written: usize)
 
 #[test]
 fn no_preparer_is_a_bad_option(rt: HostRuntime) -> Result<(), Fail> {
-    let mut request = request_of(rt.alloc(), &["-q", "0"])?;
+    let mut request = request_of(rt.alloc(), "-q 0")?;
     request.options.workers.preparers = 0;
     let mut sink = MemorySink::new(rt.alloc(), 1000, 1000, 1000)?;
     let (status, line) = run_request(&rt, rt.alloc(), &request, ONE_PAGE.as_bytes(), &mut sink);
@@ -25,7 +25,8 @@ fn no_preparer_is_a_bad_option(rt: HostRuntime) -> Result<(), Fail> {
 
 /// Both files of a request have this name.
 fn assert_names(rt: &(impl Abort + AllocGlobal), name: &str) -> Result<(), AllocError> {
-    let request = request_of(rt.alloc(), &["-q", "0", name, name])?;
+    let line = format!(in rt.alloc(); "-q 0 {name} {name}")?;
+    let request = request_of(rt.alloc(), &line)?;
     let are_names = match (&request.infile, &request.outfile) {
         (Some(infile), Some(outfile)) => infile.as_str() == name && outfile.as_str() == name,
         _ => false,

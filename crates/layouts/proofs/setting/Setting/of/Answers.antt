@@ -1,7 +1,6 @@
 use Rattle.std.proofs.Common.{arith, rules, ◌≡◌, ◌≤◌, false}
 use Rattle.layouts.specs.Grids.{count_of, is_itself}
-use Rattle.layouts.proofs.Possible.{sheet_refused}
-use Rattle.layouts.proofs.Complete.{scale_refused}
+use Rattle.layouts.proofs.Possible.{sheet_refused, scale_refused}
 use Rattle.layouts.proofs.Fitting.{chosen_as, enough_in}
 use Rattle.layouts.proofs.setting.Setting.of.Goals as goal
 

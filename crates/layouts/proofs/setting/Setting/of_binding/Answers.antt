@@ -3,8 +3,7 @@ use Rattle.layouts.specs.Cells.{scale_in}
 use Rattle.layouts.specs.Grids.{beside}
 use Rattle.layouts.specs.Refusals.{folds_short}
 use Rattle.layouts.specs.Fitted.{HaveOneFold}
-use Rattle.layouts.proofs.Possible.{leaves_refused}
-use Rattle.layouts.proofs.Complete.{leaves_hold, leaf_scale_refused}
+use Rattle.layouts.proofs.Possible.{leaves_refused, leaf_reason}
 use Rattle.layouts.proofs.Fitting.{halves_made, one_fold}
 use Rattle.layouts.proofs.setting.Setting.of_binding.Goals as goal
 
@@ -23,8 +22,7 @@ returns-in-Ok-scale_found-clause-possible c =
     let b = c.args.binding.now in
     let folds : folds_short page c.in-Ok.room ≡ true = search rules in
     let large : c.scale_in-largest.result ≡ scale_in page c.in-Ok.room (beside true) = c.scale_in-largest.ensures ∙ ap (scale_in page c.in-Ok.room) c.beside-grid.ensures in
-    (leaves_hold page sheet b c.in-Ok.room c.scale_in-largest.result c.in-Ok-scale_found.field-0 c.in-Ok.ensures.page c.in-Ok.ensures.sheet c.in-Ok.ensures.possible
-    c.in-Ok.ensures.room folds large c.in-Ok-scale_found.ensures.value c.in-Ok-scale_found.ensures.possible).possible
+    leaf_reason page sheet b c.in-Ok.room c.scale_in-largest.result _ c.in-Ok.ensures.possible c.in-Ok.ensures.room folds large c.in-Ok-scale_found.ensures.possible
 
 pub returns-in-Ok-scale_found-clause-folded : goal.returns-in-Ok-scale_found-clause-folded
 returns-in-Ok-scale_found-clause-folded c =
@@ -38,4 +36,4 @@ returns-in-Err-scale_found-clause-refused c =
     let b = c.args.binding.now in
     let folds : folds_short page c.in-Ok.room ≡ true = search rules in
     let large : c.scale_in-largest.result ≡ scale_in page c.in-Ok.room (beside true) = c.scale_in-largest.ensures ∙ ap (scale_in page c.in-Ok.room) c.beside-grid.ensures in
-    leaf_scale_refused page sheet b c.in-Ok.room c.scale_in-largest.result c.in-Err-scale_found.error c.in-Ok.ensures.possible c.in-Ok.ensures.room folds large c.in-Err-scale_found.ensures.refused
+    leaf_reason page sheet b c.in-Ok.room c.scale_in-largest.result _ c.in-Ok.ensures.possible c.in-Ok.ensures.room folds large c.in-Err-scale_found.ensures.refused

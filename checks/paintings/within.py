@@ -1,0 +1,239 @@
+"""Which law about pictures speaks of a document, by running the second machine: outright, or given further operators; or none, and why.
+
+The closed machine is tried first, then the open one: that with further operators, of crates/open_pictures and open_guarded_pictures. The
+operators are noted that a run uses. names.tsv says of each whether it looks at where the page is."""
+import copy
+from dataclasses import dataclass, field
+from pathlib import Path
+import further as more
+import law
+import shelter
+import stubs
+from machine import PROVED, SYSTEMDICT, Dictionary, Font, Machine, Matrix, Operands, Scanner, Stopped, SystemDictionary
+from parts import Document
+
+HERE = Path(__file__).resolve().parent
+PAPER = (595, 842)
+PREAMBLE, PAGES = "preamble", "pages"
+AT_NAME = "the name "
+# Operators that read or fill a matrix that is among so many operands; other forms of the closed machine's.
+OF_MATRICES = {b"forall": 2, b"get": 2, b"put": 3, b"aload": 1, b"astore": 1, b"makefont": 1, b"concat": 1, b"getinterval": 3, b"putinterval": 3}
+# What is a font there is a dictionary here.
+AS_FONTS = {b"findfont", b"scalefont", b"setfont", b"selectfont"}
+BARE = "open_pictures::laws::"
+GUARDED = "open_guarded_pictures::laws::"
+LAWS = {
+    (False, None): "pictures::laws::sheets_show_the_pages, made_sheets_show_the_pages",
+    (True, None): f"{BARE}open_sheets_show_the_pages, open_made_sheets_show_the_pages",
+    (False, shelter.GUARDED): "guarded_pictures::laws::guarded_document_is_shown, made_document_is_shown",
+    (True, shelter.GUARDED): f"{GUARDED}open_guarded_document_is_shown, open_made_document_is_shown",
+    (False, shelter.OWN): "guarded_pictures::laws::own_showpage_is_shown, own_made_document_is_shown",
+    (False, shelter.SILENCED): "guarded_pictures::laws::silenced_document_is_shown",
+}
+LOOKS = {
+    "no": "doesn't look at the place",
+    "matrices": "looks at matrices",
+    "path": "looks at the path",
+    "place": "looks at where the page is",
+    "run": "drops what is left to run",
+    "text": "reads the text after it",
+    "changes": "answers differently each time",
+    "unknown": "unknown: not in names.tsv",
+}
+
+
+def names():
+    """Of each name what it looks at, the sections of the Reference, and what they say."""
+    rows = [line.split("\t") for line in (HERE / "names.tsv").read_text().splitlines() if not line.startswith("#")][1:]
+    return {name.encode(): (looks, sections, says) for name, looks, sections, says in rows}
+
+
+NAMES = names()
+
+
+OF_A_MATRIX = b" of a matrix"
+
+
+def of_table(name):
+    if name.endswith(OF_A_MATRIX):
+        return "matrices", "8.2, 4.3.3", "a matrix is an array of six numbers"
+    return NAMES.get(name, ("unknown", "", ""))
+
+
+def looks_of(name):
+    return of_table(name)[0]
+
+
+def takes(m, name):
+    """Whether the closed machine's operator takes the operands. It is tried on a copy that changes nothing."""
+    def as_closed(o):
+        if isinstance(o, Dictionary):
+            return SystemDictionary() if o.number == SYSTEMDICT else Font(()) if more.MARKED in m.entries[o.number] else o
+        return o
+
+    probe = copy.copy(m)
+    probe.further, probe.frames, probe.asked, probe.put = False, [], set(), lambda *change: None
+    probe.operands = [as_closed(o) for o in m.operands[-4:]]
+    try:
+        PROVED[name](probe)
+    except (Operands, Stopped):
+        return False
+    return True
+
+
+@dataclass
+class Noted:
+    """What a run of a document uses beyond the closed machine, and all operators that it calls: by where they are called."""
+
+    preamble: bytes
+    further: dict = field(default_factory=lambda: {PREAMBLE: set(), PAGES: set()})
+    called: dict = field(default_factory=lambda: {PREAMBLE: set(), PAGES: set()})
+
+    def part(self, m):
+        return PREAMBLE if m.scanner.text is self.preamble else PAGES
+
+    def with_those_of(self, other):
+        both = {part: self.further[part] | other.further[part] for part in self.further}
+        return Noted(self.preamble, both, {part: self.called[part] | other.called[part] for part in self.called})
+
+    def calls(self, m, name):
+        part = self.part(m)
+        self.called[part].add(name)
+        if name in PROVED and name in more.OVER and name not in AS_FONTS and name not in law.LOOKING and name not in self.further[part]:
+            if not takes(m, name):
+                self.lacks(m, name)
+        elif name not in PROVED:
+            self.lacks(m, name)
+
+    def lacks(self, m, name):
+        matrix = name in OF_MATRICES and any(isinstance(o, Matrix) for o in m.operands[-OF_MATRICES[name] :])
+        self.further[self.part(m)].add(name + OF_A_MATRIX if matrix else name)
+
+    def finds(self, m, key):
+        if key in more.CONSTANTS and key not in (b"systemdict",):
+            self.further[self.part(m)].add(key)
+
+
+@dataclass
+class Verdict:
+    """A law, or None and why; the further operators, or None in the closed machine."""
+
+    law: str
+    why: list
+    noted: Noted
+    # whether all premises are met, whatever the names; and each of them
+    ran: bool
+    premises: list
+    # the names that put it outside: of its pages, of its preamble
+    wrong: tuple = (set(), set())
+
+
+def why_of(part, names):
+    return [f"{part}: {'; '.join(f'{name} {looks}' for looks, name in grouped(names))}"] if names else []
+
+
+def grouped(names):
+    kinds = {}
+    for name in sorted(names):
+        kinds.setdefault(LOOKS[looks_of(name)], []).append(name.decode("latin-1"))
+    return [(looks, " ".join(each)) for looks, each in kinds.items()]
+
+
+def wrong_names(noted, with_guard):
+    """Which names put it outside: of pages those that look, and of the preamble those that differ each time."""
+    bad = {"place", "path", "text", "changes", "unknown"} | ({"matrices"} if with_guard else set())
+    looking = [n for n in noted.called[PAGES] if n in law.LOOKING] if not with_guard else []
+    pages = {*looking, *(n for n in noted.further[PAGES] if looks_of(n) in bad)}
+    return pages, {n for n in noted.further[PREAMBLE] if looks_of(n) in ("changes", "unknown")}
+
+
+def by_page(found):
+    """What is wrong on which pages: pairs of a page's number and why, or None."""
+    reasons = {}
+    for number, why in found:
+        if why is not None:
+            reasons.setdefault(why, []).append(str(number))
+    return "; ".join(f"{why} (page {', '.join(numbers)})" for why, numbers in reasons.items()) or None
+
+
+def opened(words):
+    """A premise's words in the open machine, which has other names too."""
+    return words.replace(law.NAMES, "runs")
+
+
+def premises_of(document, further):
+    """Without the guard: each premise and what is wrong, and the pages' pictures."""
+    premises, runs = law.ground(document, further)
+    found = law.pages(document, further) if runs else []
+    for premise in law.PAGE_PREMISES if runs else ():
+        premises.append((premise, by_page((number, of[1]) for number, (_, of) in enumerate(found, 1) if of is not None and of[0] == premise)))
+    if further:
+        premises = [(opened(words), wrong) for words, wrong in premises]
+    return premises, [picture for picture, _ in found]
+
+
+def without_guard(text, is_open):
+    stubs.arrays_as_matrices(is_open)
+    document = Document(text)
+    noted = Noted(document.preamble) if is_open else None
+    premises, pictures = premises_of(document, noted or False)
+    why = [f"{words}: {wrong}" for words, wrong in premises if wrong is not None]
+    together = None if why or is_open else law.together(document, pictures)
+    named = LAWS[is_open, None] + (", sheets_show_the_document" if not is_open and together is None else "")
+    return Verdict(None if why else named, why, noted, not why, premises)
+
+
+def with_guard(text, is_open):
+    stubs.arrays_as_matrices(False)
+    document = Document(shelter.guarded(text, PAPER, is_open))
+    noted, guard = Noted(document.preamble) if is_open else None, shelter.Guard(PAPER, is_open)
+    premises, form = shelter.ground(document, guard, noted or False)
+    if form is not None:
+        wrong = ((number + 1, shelter.page(document, number, guard, form, noted or False)) for number in range(len(document.pages)))
+        premises.append(("each page paints a picture by itself", by_page(wrong)))
+    why = [f"{words}: {wrong}" for words, wrong in premises if wrong is not None]
+    ran = not why
+    if form is not None and (is_open, form) not in LAWS:
+        why.append(f"there is no law with further operators for a document with {'its own showpage' if form == shelter.OWN else 'an empty showpage'}")
+    return Verdict(None if why else LAWS[is_open, form], why, noted, ran, premises)
+
+
+def listed(text):
+    """The further operators of a run of the whole document as it is, as far as that goes."""
+    stubs.arrays_as_matrices(True)
+    document = Document(text)
+    noted = Noted(document.preamble)
+    m, stopped = Machine(document.preamble, further=noted), []
+    for part in (None, *document.pages):
+        if part is not None:
+            m.scanner, m.frames = Scanner(part, noted), []
+        try:
+            m.run()
+        except Stopped as why:
+            stopped.append(str(why))
+            if stopped[-1].startswith(AT_NAME):
+                noted.further[noted.part(m)].add(stopped[-1].removeprefix(AT_NAME).encode("latin-1"))
+    return noted, stopped
+
+
+def verdict(text, by):
+    """By the closed machine, or else by the open one."""
+    closed = by(text, False)
+    return closed if closed.law else by(text, True)
+
+
+def answers(text):
+    """The verdicts without the guard and with it; the further operators of the document, and at what a run of it stops.
+
+    If no run with further operators meets all premises, the operators are those of a run without them."""
+    bare, guarded = verdict(text, without_guard), verdict(text, with_guard)
+    opened = [answer for answer in (bare, guarded) if answer.noted]
+    whole, stopped = next((answer.noted for answer in opened if answer.ran), None), []
+    if opened and whole is None:
+        whole, stopped = listed(text)
+    for answer in opened:
+        answer.wrong = wrong_names(answer.noted if answer.ran else answer.noted.with_those_of(whole), answer is guarded)
+        answer.wrong[0].update(n for n in law.LOOKING if f"it stops at {n.decode()} in a page that is held" in " ".join(answer.why))
+        answer.law = None if any(answer.wrong) else answer.law
+        answer.why += why_of("on its pages", answer.wrong[0]) + why_of("in its preamble", answer.wrong[1])
+    return bare, guarded, whole, stopped

@@ -1,0 +1,221 @@
+-- What comes of what is to be written.
+use Rattle.std.proofs.Common.{◌≡◌, ◌⊎◌, ◌∙◌, ℕ, ◌≤◌, ◌++◌, ℤ, List, [], Bool, true, false, Option, Some, None, Result, Ok, Err, arith, inl, inr, length, refl, subst, sym, take}
+use Rattle.std.specs.Prelude.{MatchResult}
+use Rattle.std.specs.Io.KnownBytes.{Appends, Keeps}
+use Rattle.std.proofs.KnownBytes.{Appends-kept}
+use Rattle.std.proofs.Math.Seq.{take-length}
+use Rattle.world.specs.Outputs.{IsFrontOf, counted, told_if}
+use Rattle.world.proofs.Counting.{counted_front, uncounted_kept}
+use Rattle.sheet_text.specs.Jobs.{JobView, output_of}
+use Rattle.rules.specs.Sheets.{layout}
+use Rattle.rules.specs.Parts.{NestedUnit}
+use Rattle.made_sheets.specs.Made.{MadeSheet}
+use Rattle.made_sheets.specs.MadePlans.{made_plan_of}
+use Rattle.dressing.specs.declared.strokes.Stroke.{Stroke}
+use Rattle.row_runs.specs.SheetsRuns.{RefusesSheets, ReportsOn, told_output}
+use Rattle.row_runs.specs.declared.error.AskedError.{AskedError}
+use Rattle.impose_cli.specs.Faults.{of_asked}
+use Rattle.sheet_plan.specs.Places.{born_complete}
+use Rattle.imposer.specs.Gathering.{ReportsOf}
+use Rattle.imposer.specs.Outcomes.{AfterError}
+use Rattle.imposer.specs.declared.outcome.Report.{Report}
+use Rattle.imposer.specs.declared.outcome.RunError.{RunError}
+use Rattle.imposer.specs.declared.outcome.RunError.TheVariants as run
+use Rattle.impose_cli.specs.Abouts.{finished_by, reported_by}
+use Rattle.impose_cli.specs.Endings.{AfterWrite, Comes, HasFirst, HasFront, IsNotCreated, IsSaidOf, TellsCount, WritesJob}
+use Rattle.impose_cli.specs.declared.runs.About.{About}
+use Rattle.impose_said.specs.declared.fault.Fault.{Fault}
+use Rattle.impose_said.specs.declared.fault.Fault.TheVariants as fault
+use Rattle.impose_said.specs.declared.finished.Done.{Done}
+use Rattle.impose_said.specs.declared.finished.Done.TheVariants as done
+
+-- ---- after a failed write, or without memory
+
+pub after_as : (f : Fault) (P Q P' Q' : ℕ → Type 0) → ((n : ℕ) → P n → P' n) → ((n : ℕ) → Q n → Q' n) → AfterWrite f P Q → AfterWrite f P' Q'
+after_as (fault.Write n cause) P Q P' Q' failed spent h = failed n h
+after_as (fault.Run (run.NoMemory n)) P Q P' Q' failed spent h = spent n h
+after_as (fault.Command c) P Q P' Q' failed spent h = absurd h
+after_as (fault.Layout e) P Q P' Q' failed spent h = absurd h
+after_as (fault.Poster e) P Q P' Q' failed spent h = absurd h
+after_as (fault.Row e) P Q P' Q' failed spent h = absurd h
+after_as (fault.NoSuchPage place pages) P Q P' Q' failed spent h = absurd h
+after_as (fault.Sheets e) P Q P' Q' failed spent h = absurd h
+after_as fault.NoSpecification P Q P' Q' failed spent h = absurd h
+after_as fault.SeveralPapers P Q P' Q' failed spent h = absurd h
+after_as (fault.Idle option) P Q P' Q' failed spent h = absurd h
+after_as fault.OverInput P Q P' Q' failed spent h = absurd h
+after_as (fault.Read cause) P Q P' Q' failed spent h = absurd h
+after_as fault.NoInput P Q P' Q' failed spent h = absurd h
+after_as fault.Pdf P Q P' Q' failed spent h = absurd h
+after_as (fault.Compressed how) P Q P' Q' failed spent h = absurd h
+after_as fault.DosEps P Q P' Q' failed spent h = absurd h
+after_as fault.Utf16 P Q P' Q' failed spent h = absurd h
+after_as fault.JobLanguage P Q P' Q' failed spent h = absurd h
+after_as fault.TooLong P Q P' Q' failed spent h = absurd h
+after_as (fault.Run run.Options) P Q P' Q' failed spent h = absurd h
+after_as (fault.Run (run.Spec e)) P Q P' Q' failed spent h = absurd h
+after_as (fault.Run (run.Document e)) P Q P' Q' failed spent h = absurd h
+after_as (fault.Run (run.Plan e)) P Q P' Q' failed spent h = absurd h
+after_as (fault.Run (run.Write n)) P Q P' Q' failed spent h = absurd h
+
+pub after_so : (f : Fault) (P Q : ℕ → Type 0) (A : Type 0) → ((n : ℕ) → P n → A) → ((n : ℕ) → Q n → A) → AfterWrite f P Q → A
+after_so (fault.Write n cause) P Q A failed spent h = failed n h
+after_so (fault.Run (run.NoMemory n)) P Q A failed spent h = spent n h
+after_so (fault.Command c) P Q A failed spent h = absurd h
+after_so (fault.Layout e) P Q A failed spent h = absurd h
+after_so (fault.Poster e) P Q A failed spent h = absurd h
+after_so (fault.Row e) P Q A failed spent h = absurd h
+after_so (fault.NoSuchPage place pages) P Q A failed spent h = absurd h
+after_so (fault.Sheets e) P Q A failed spent h = absurd h
+after_so fault.NoSpecification P Q A failed spent h = absurd h
+after_so fault.SeveralPapers P Q A failed spent h = absurd h
+after_so (fault.Idle option) P Q A failed spent h = absurd h
+after_so fault.OverInput P Q A failed spent h = absurd h
+after_so (fault.Read cause) P Q A failed spent h = absurd h
+after_so fault.NoInput P Q A failed spent h = absurd h
+after_so fault.Pdf P Q A failed spent h = absurd h
+after_so (fault.Compressed how) P Q A failed spent h = absurd h
+after_so fault.DosEps P Q A failed spent h = absurd h
+after_so fault.Utf16 P Q A failed spent h = absurd h
+after_so fault.JobLanguage P Q A failed spent h = absurd h
+after_so fault.TooLong P Q A failed spent h = absurd h
+after_so (fault.Run run.Options) P Q A failed spent h = absurd h
+after_so (fault.Run (run.Spec e)) P Q A failed spent h = absurd h
+after_so (fault.Run (run.Document e)) P Q A failed spent h = absurd h
+after_so (fault.Run (run.Plan e)) P Q A failed spent h = absurd h
+after_so (fault.Run (run.Write n)) P Q A failed spent h = absurd h
+
+-- ---- what comes of it
+
+-- it is refused
+pub comes_refused : {T : Type 0} (R : Fault → Type 0) (W : (old new : Option (List ℕ)) → T → Type 0) (name : Option (List ℕ)) (tells : Bool) (f : Fault) (outcome : Result T Fault) (has_output : Bool) (written : Option (List ℕ))
+    → outcome ≡ Err f → has_output ≡ false → R f → Comes R W name tells outcome has_output written
+comes_refused R W name tells f outcome has_output written is none why =
+    subst (λ o. Comes R W name tells o has_output written) (sym is) (inl (why, none))
+
+-- the same of other words for it
+pub comes_as : {T : Type 0} (R R' : Fault → Type 0) (W W' : (old new : Option (List ℕ)) → T → Type 0) (name : Option (List ℕ)) (tells : Bool) (outcome : Result T Fault) (has_output : Bool) (written : Option (List ℕ))
+    → ((f : Fault) → R f → R' f) → ((old new : Option (List ℕ)) (x : T) → W old new x → W' old new x)
+    → Comes R W name tells outcome has_output written → Comes R' W' name tells outcome has_output written
+comes_as R R' W W' name tells (Ok x) has_output written refused wrote h = wrote _ _ x h
+comes_as R R' W W' name tells (Err f) has_output written refused wrote h = elim h [
+  | inl stopped ↦ inl (refused f stopped.0, stopped.1)
+  | inr some ↦ inr (some.0, some.1, wrote _ _ some.1 some.2, some.3)
+]
+
+-- and of what is reported
+pub comes_reported : (R R' : Fault → Type 0) (W : (old new : Option (List ℕ)) → Report → Type 0) (W' : (old new : Option (List ℕ)) → Done → Type 0) (about : About) (name : Option (List ℕ)) (tells : Bool)
+    (outcome : Result Report Fault) (has_output : Bool) (written : Option (List ℕ))
+    → ((f : Fault) → R f → R' f) → ((old new : Option (List ℕ)) (report : Report) → W old new report → W' old new (done.Imposed (finished_by about report)))
+    → Comes R W name tells outcome has_output written → Comes R' W' name tells (reported_by about outcome) has_output written
+comes_reported R R' W W' about name tells (Ok report) has_output written refused wrote h = wrote _ _ report h
+comes_reported R R' W W' about name tells (Err f) has_output written refused wrote h = elim h [
+  | inl stopped ↦ inl (refused f stopped.0, stopped.1)
+  | inr some ↦ inr (some.0, done.Imposed (finished_by about some.1), wrote _ _ some.1 some.2, not_created f has_output written some.0 some.3)
+]
+  where
+    not_created : (f : Fault) (has_output : Bool) (written : Option (List ℕ)) (text : List ℕ) → IsNotCreated {T = Report} (Err f) has_output ⊎ HasFront (told_if tells name []) written text f
+        → IsNotCreated {T = Done} (Err f) has_output ⊎ HasFront (told_if tells name []) written text f
+    not_created f has_output written text h = h
+
+-- ---- made sheets
+
+abbrev pub RefusesThese : (pages : ℕ) → List MadeSheet → Fault → Type 0
+RefusesThese pages made f = (error : AskedError) × (f ≡ of_asked pages error) × RefusesSheets pages made error
+
+abbrev pub WritesThese : (pages : ℕ) → (border : Option ℤ) → List Stroke → List MadeSheet → List NestedUnit → (old new : Option (List ℕ)) → Report → Type 0
+WritesThese pages border strokes made us old new report = (made_plan_of pages made ≡ Ok made) × Appends old new (told_output border strokes made us) × ReportsOn border strokes made us report
+
+-- ---- the sheets of a job
+
+-- the numbers of a whole output
+abbrev report_of : JobView → Report
+report_of j = record {
+  pages = j.plan.pages;
+  sheets = length j.plan.sheets;
+  born = length (born_complete (layout j.plan));
+  swept = 0;
+  bytes = length (output_of j);
+}
+
+whole : (j : JobView) → WritesJob j (Some []) (Some (output_of j)) (report_of j)
+whole j = (refl, record { page_count = refl; sheet_count = refl; born_blank = refl; swept_within = omega arith; byte_count = refl })
+
+abbrev Left : JobView → (name : Option (List ℕ)) → (tells : Bool) → Result Report Fault → (has_output : Bool) → (written : Option (List ℕ)) → Type 0
+Left j name tells outcome has_output written = Comes (λ f. ⊥) (WritesJob j) name tells outcome has_output written
+
+-- no output could be created for them
+pub job_uncreated : (j : JobView) (name : Option (List ℕ)) (tells : Bool) (outcome : Result Report Fault) (has_output : Bool) (written : Option (List ℕ))
+    → IsNotCreated outcome has_output → Left j name tells outcome has_output written
+job_uncreated j name tells (Ok report) has_output written none = absurd none
+job_uncreated j name tells (Err f) has_output written none = inr (output_of j, report_of j, whole j, inl none)
+
+-- they were written
+pub job_written : (j : JobView) (name : Option (List ℕ)) (tells : Bool) (n : ℕ) (report : Report) (outcome : Result Report Fault) (output out : Option (List ℕ)) (has_output : Bool) (start all : Option (List ℕ))
+    → outcome ≡ Ok report → output ≡ out → start ≡ told_if tells name [] → Appends start all (output_of j) × ReportsOf j report → Keeps all (counted n out)
+    → Left j name tells outcome has_output output
+job_written j name tells n report outcome output out has_output start all is same began wrote kept =
+    subst (λ o. Left j name tells o has_output output) (sym is) (
+      subst (λ s. Appends s output (output_of j)) began
+          (Appends-kept start all output (output_of j) wrote.0 (subst (λ o. Keeps all o) (sym same) (uncounted_kept n all out kept))),
+      wrote.1,
+    )
+
+front_of : (name : Option (List ℕ)) (tells : Bool) (n k : ℕ) (text : List ℕ) (all out : Option (List ℕ)) → Appends (told_if tells name []) all (take k text) → IsFrontOf (counted n out) all
+    → HasFirst (told_if tells name []) out text n
+front_of name false n k text all out wrote front = tt
+front_of name true n k text all out wrote front =
+    counted_front name n k text all out wrote front
+
+has_front : (n : ℕ) (text : List ℕ) (start out : Option (List ℕ)) (f : Fault) → TellsCount {T = Report} n (Err f) → HasFirst start out text n → HasFront start out text f
+has_front n text start out f is h =
+    after_as f (λ m. m ≡ n) (λ m. m ≡ n) (HasFirst start out text) (HasFirst start out text) (λ m e. subst (λ k. HasFirst start out text k) (sym e) h) (λ m e. subst (λ k. HasFirst start out text k) (sym e) h) is
+
+-- a part of them was
+job_broken : (j : JobView) (name : Option (List ℕ)) (tells : Bool) (n k : ℕ) (outcome : Result Report Fault) (output out : Option (List ℕ)) (has_output : Bool) (start all : Option (List ℕ))
+    → TellsCount n outcome → output ≡ out → start ≡ told_if tells name [] → Appends start all (take k (output_of j)) → IsFrontOf (counted n out) all
+    → Left j name tells outcome has_output output
+job_broken j name tells n k (Ok report) output out has_output start all tells_it same began wrote front = absurd tells_it
+job_broken j name tells n k (Err f) output out has_output start all tells_it same began wrote front =
+    inr (
+      output_of j,
+      report_of j,
+      whole j,
+      inr (has_front n (output_of j) (told_if tells name []) output f tells_it
+          (subst (λ o. HasFirst (told_if tells name []) o (output_of j) n) (sym same)
+          (front_of name tells n k (output_of j) all out (subst (λ s. Appends s all (take k (output_of j))) began wrote) front))),
+    )
+
+-- all of them were handed on, but not all were written out
+pub job_unwritten : (j : JobView) (name : Option (List ℕ)) (tells : Bool) (n : ℕ) (outcome : Result Report Fault) (output out : Option (List ℕ)) (has_output : Bool) (start all : Option (List ℕ))
+    → TellsCount n outcome → output ≡ out → start ≡ told_if tells name [] → Appends start all (output_of j) → IsFrontOf (counted n out) all
+    → Left j name tells outcome has_output output
+job_unwritten j name tells n outcome output out has_output start all tells_it same began wrote front =
+    job_broken j name tells n (length (output_of j)) outcome output out has_output start all tells_it same began
+    (subst (λ t. Appends start all t) (sym (take-length (output_of j))) wrote) front
+
+-- the run broke off
+pub job_broken_off : (j : JobView) (name : Option (List ℕ)) (tells : Bool) (n : ℕ) (error : RunError) (outcome : Result Report Fault) (output out : Option (List ℕ)) (has_output : Bool) (start all : Option (List ℕ))
+    → TellsCount n outcome → output ≡ out → start ≡ told_if tells name []
+    → AfterError error ⊥ (λ k. (k ≤ length (output_of j)) × Appends start all (take k (output_of j))) (λ k. (k ≤ length (output_of j)) × Appends start all (take k (output_of j)))
+    → IsFrontOf (counted n out) all → Left j name tells outcome has_output output
+job_broken_off j name tells n run.Options outcome output out has_output start all tells_it same began wrote front = absurd wrote
+job_broken_off j name tells n (run.Spec e) outcome output out has_output start all tells_it same began wrote front = absurd wrote
+job_broken_off j name tells n (run.Document e) outcome output out has_output start all tells_it same began wrote front = absurd wrote
+job_broken_off j name tells n (run.Plan e) outcome output out has_output start all tells_it same began wrote front = absurd wrote
+job_broken_off j name tells n (run.NoMemory k) outcome output out has_output start all tells_it same began wrote front =
+    job_broken j name tells n k outcome output out has_output start all tells_it same began wrote.1 front
+job_broken_off j name tells n (run.Write k) outcome output out has_output start all tells_it same began wrote front =
+    job_broken j name tells n k outcome output out has_output start all tells_it same began wrote.1 front
+
+said_as : (error : RunError) (n : ℕ) (f : Fault) → IsSaidOf error n f → TellsCount {T = Report} n (Err f)
+said_as (run.NoMemory k) n f h = after_as f (λ m. ⊥) (λ m. m ≡ n) (λ m. m ≡ n) (λ m. m ≡ n) (λ m e. absurd e) (λ m e. e) h
+said_as run.Options n f h = after_as f (λ m. m ≡ n) (λ m. ⊥) (λ m. m ≡ n) (λ m. m ≡ n) (λ m e. e) (λ m e. absurd e) h
+said_as (run.Spec e) n f h = after_as f (λ m. m ≡ n) (λ m. ⊥) (λ m. m ≡ n) (λ m. m ≡ n) (λ m e. e) (λ m e. absurd e) h
+said_as (run.Document e) n f h = after_as f (λ m. m ≡ n) (λ m. ⊥) (λ m. m ≡ n) (λ m. m ≡ n) (λ m e. e) (λ m e. absurd e) h
+said_as (run.Plan e) n f h = after_as f (λ m. m ≡ n) (λ m. ⊥) (λ m. m ≡ n) (λ m. m ≡ n) (λ m e. e) (λ m e. absurd e) h
+said_as (run.Write k) n f h = after_as f (λ m. m ≡ n) (λ m. ⊥) (λ m. m ≡ n) (λ m. m ≡ n) (λ m e. e) (λ m e. absurd e) h
+
+pub said_count : (error : RunError) (n : ℕ) (outcome : Result Report Fault) → MatchResult outcome (λ report. ⊥) (IsSaidOf error n) → TellsCount n outcome
+said_count error n (Ok report) h = absurd h
+said_count error n (Err f) h = said_as error n f h

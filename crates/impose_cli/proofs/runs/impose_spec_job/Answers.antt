@@ -1,0 +1,19 @@
+use Rattle.std.proofs.Common.{is_some, option_and_then, option_map}
+use Rattle.row_runs.proofs.Refused.{spec_unmade}
+use Rattle.row_runs.specs.BySpec.{ImposesBySpec}
+use Rattle.impose_cli.specs.SpecRows.{RefusesSpecRowJob}
+use Rattle.impose_cli.proofs.Coming.{comes_refused}
+use Rattle.impose_cli.proofs.SpecRows.{spec_made_comes}
+use Rattle.impose_cli.proofs.runs.impose_spec_job.Goals as goal
+
+pub returns-in-Err : goal.returns-in-Err
+returns-in-Err g c =
+    comes_refused (RefusesSpecRowJob c.args.job.now) (ImposesBySpec c.args.job.now) _ (g.W.World.tells c.args.world) c.asked_fault_of.result
+    c.stopped.result.outcome (is_some c.stopped.result.output) (option_and_then g.W.Output.Write.contents c.stopped.result.output) c.stopped.ensures.outcome c.stopped.ensures.output
+    (c.in-Err.error, rw c.pages.ensures.count at c.asked_fault_of.ensures, spec_unmade c.args.job.now c.in-Err.error c.in-Err.ensures.refused)
+
+pub returns : goal.returns
+returns g c =
+    spec_made_comes c.args.job.now c.in-Ok.sheets (option_map (λ n. n.now) c.args.name) (g.W.World.tells c.args.world)
+    c.write_sheets.result.outcome (is_some c.write_sheets.result.output) (option_and_then g.W.Output.Write.contents c.write_sheets.result.output)
+    c.in-Ok.ensures.made c.write_sheets.ensures

@@ -1,0 +1,23 @@
+-- What is reported of a run that wrote its sheets.
+use Rattle.std.specs.Prelude.{Result, Ok, Err}
+use Rattle.imposer.specs.declared.outcome.Report.{Report}
+use Rattle.impose_said.specs.declared.fault.Fault.{Fault}
+use Rattle.impose_said.specs.declared.finished.Done.{Done}
+use Rattle.impose_said.specs.declared.finished.Done.TheVariants as done
+use Rattle.impose_said.specs.declared.finished.Finished.{Finished}
+use Rattle.impose_cli.specs.declared.runs.About.{About}
+
+-- the numbers of its report, and what was found before
+abbrev pub finished_by : About → Report → Finished
+finished_by about report = record {
+  report = report;
+  page_paper = about.page_paper;
+  origin = about.origin;
+  cut = about.cut;
+  behind = about.behind;
+  told = about.told;
+}
+
+abbrev pub reported_by : About → Result Report Fault → Result Done Fault
+reported_by about (Ok report) = Ok (done.Imposed (finished_by about report))
+reported_by about (Err f) = Err f

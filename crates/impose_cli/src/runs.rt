@@ -1,0 +1,390 @@
+//! Runs of requests, into outputs that are created once nothing is left to refuse.
+ghost use Rattle.std.specs.Prelude.{◌≡◌, ◌⊎◌, ℕ, List, IfErr, IfOk, IfSome, IsTrue, MatchResult, OnOk, None, Ok, Err, is_some, option_and_then, option_map, string_bytes};
+ghost use Rattle.rules.specs.Admissible.{Takes, most_slots};
+ghost use Rattle.rules.specs.Run.{document_of};
+ghost use Rattle.rows.specs.Sewing.{MayBeSewn};
+ghost use Rattle.sheet_text.specs.Jobs.{is_border};
+ghost use Rattle.imposer.specs.Outcomes.{IsNoRefusal};
+ghost use Rattle.imposer.specs.Runs.{IsRefusal, IsUnwritten, request as asked};
+ghost use Rattle.imposer.specs.Workers.{AreOptions, AreWorkers};
+ghost use Rattle.row_runs.specs.BySpec.{ImposesBySpec};
+ghost use Rattle.row_runs.specs.Runs.{Imposes};
+ghost use Rattle.row_runs.specs.Sheets.{MayBeAsked};
+ghost use Rattle.impose_cli.specs.Tasks.{IsSpec};
+ghost use Rattle.impose_cli.specs.RowTasks.{LaysRows};
+ghost use Rattle.impose_cli.specs.SpecRows.{LaysSpecRow, RefusesSpecRowJob};
+ghost use Rattle.impose_cli.specs.Endings.{Comes, IsNotCreated, RefusesPlan, RefusesRowJob, RefusesTaskRun, Runs};
+ghost use Rattle.impose_cli.specs.Endings.{IsSaidOf, WritesJob, WritesSheets, WritesTask};
+ghost use Rattle.impose_cli.specs.Abouts.{reported_by};
+ghost use Rattle.impose_said.specs.declared.fault.Fault.TheVariants as faults;
+
+use crate::left::{Left, closed, stopped};
+use crate::roomy_text::RoomyText;
+use crate::row_task::{asked_fault_of, impose_task, is_drawn, row_task};
+use crate::spec_row::{impose_spec_task, spec_row_task};
+use crate::task::{Task, WORKERS, task_for};
+use crate::told_pages::told_pages;
+use command_words::name_of;
+use dsc::Document;
+use impose_said::{Done, Fault, Finished, PaperOrigin};
+use impose_words::{Layout, Request};
+use imposer::{Job, Open, Options, Report, RunError, run_plan};
+use lengths::Paper;
+use pagespec::{Spec, read_spec};
+use papers::Cut;
+use row_runs::{PlannedSheets, RowJob, SheetJob, SpecJob};
+use sheet_plan::Plan;
+use std::alloc::Global;
+use std::io::ErrorKind;
+use std::sync::Wait;
+use std::thread::Threads;
+use world::{Created, Refused, World, abandon, created, write_out};
+
+/// Carries a request out for this document: a document that is refused is refused first, then a layout that there isn't, then
+/// what its run refuses. The output that the request names is created once all of it is checked: what is refused has none.
+pub(crate) fn run_request<R: Threads + Wait + Sync, W: World>(
+    rt: &R,
+    alloc: Global,
+    request: &Request,
+    input: RoomyText,
+    world: W,
+) -> Left<W, Done>
+    ensures { Runs request.now input.items (W.tells world) result.outcome
+        (is_some result.output) (option_and_then W.Output.contents result.output) }
+{
+    match &request.layout {
+        Layout::Spec(_) => run_spec(rt, alloc, request, input, world),
+        Layout::SpecRow { .. } => run_spec_row(rt, alloc, request, input, world),
+        _ => run_row(rt, alloc, request, input, world),
+    }
+}
+
+// ---- on the row of a layout
+
+/// Carries a request out whose layout lays rows on sheets.
+fn run_row<R: Threads + Wait + Sync, W: World>(
+    rt: &R,
+    alloc: Global,
+    request: &Request,
+    input: RoomyText,
+    world: W,
+) -> Left<W, Done>
+    requires rows { LaysRows request.now.layout }
+    ensures { Runs request.now input.items (W.tells world) result.outcome
+        (is_some result.output) (option_and_then W.Output.contents result.output) }
+{
+    let told = told_pages(input.as_slice());
+    let task = match row_task(alloc, request, input) {
+        Ok(task) => task,
+        Err(fault) => return stopped(fault, world),
+    };
+    let left = impose_task(rt, alloc, request, &task, world);
+    let about = About {
+        page_paper: task.page_paper,
+        origin: task.origin,
+        cut: task.cut,
+        behind: task.behind,
+        told,
+    };
+    reported(left, about)
+}
+
+/// Imposes a row.
+pub(crate) fn impose_job<R: Threads + Wait + Sync, W: World>(
+    rt: &R,
+    alloc: Global,
+    job: &RowJob<'_, '_>,
+    name: Option<&str>,
+    world: W,
+) -> Left<W, Report>
+    requires asked { MayBeAsked job.now.asked }
+    requires border { IsTrue (is_border job.now.border) }
+    ensures { Comes (RefusesRowJob job.now) (Imposes job.now) (option_map (λ n. n.now) name.entry) (W.tells world) result.outcome
+        (is_some result.output) (option_and_then W.Output.contents result.output) }
+{
+    let row = match job.lay(alloc) {
+        Ok(row) => row,
+        Err(error) => return stopped(asked_fault_of(error, job.document.pages()), world),
+    };
+    let made = SheetJob {
+        document: job.document,
+        sheets: &row.sheets,
+        border: job.border,
+        strokes: row.strokes.as_slice(),
+    };
+    write_sheets(rt, alloc, &made, name, world)
+}
+
+// ---- by a specification on a row
+
+/// Carries a request out whose layout is a specification on a row.
+fn run_spec_row<R: Threads + Wait + Sync, W: World>(
+    rt: &R,
+    alloc: Global,
+    request: &Request,
+    input: RoomyText,
+    world: W,
+) -> Left<W, Done>
+    requires rows { LaysSpecRow request.now.layout }
+    ensures { Runs request.now input.items (W.tells world) result.outcome
+        (is_some result.output) (option_and_then W.Output.contents result.output) }
+{
+    let told = told_pages(input.as_slice());
+    let task = match spec_row_task(alloc, request, input) {
+        Ok(task) => task,
+        Err(fault) => return stopped(fault, world),
+    };
+    let left = impose_spec_task(rt, alloc, request, &task, world);
+    let about = About {
+        page_paper: task.page_paper,
+        origin: task.origin,
+        cut: None,
+        behind: task.behind,
+        told,
+    };
+    reported(left, about)
+}
+
+/// Imposes by a specification on a row.
+pub(crate) fn impose_spec_job<R: Threads + Wait + Sync, W: World>(
+    rt: &R,
+    alloc: Global,
+    job: &SpecJob<'_, '_>,
+    name: Option<&str>,
+    world: W,
+) -> Left<W, Report>
+    requires sewn { IfSome job.now.signing MayBeSewn }
+    requires border { IsTrue (is_border job.now.border) }
+    ensures { Comes (RefusesSpecRowJob job.now) (ImposesBySpec job.now) (option_map (λ n. n.now) name.entry) (W.tells world) result.outcome
+        (is_some result.output) (option_and_then W.Output.contents result.output) }
+{
+    let sheets = match job.lay(alloc) {
+        Ok(sheets) => sheets,
+        Err(error) => return stopped(asked_fault_of(error, job.document.pages()), world),
+    };
+    let made = SheetJob {
+        document: job.document,
+        sheets: &sheets,
+        border: job.border,
+        strokes: &[],
+    };
+    write_sheets(rt, alloc, &made, name, world)
+}
+
+// ---- by a specification
+
+/// Carries a request out by the specification that it names.
+fn run_spec<R: Threads + Wait + Sync, W: World>(
+    rt: &R,
+    alloc: Global,
+    request: &Request,
+    input: RoomyText,
+    world: W,
+) -> Left<W, Done>
+    requires spec { (text : List ℕ) × IsSpec request.now.layout text }
+    ensures { Runs request.now input.items (W.tells world) result.outcome
+        (is_some result.output) (option_and_then W.Output.contents result.output) }
+{
+    let told = told_pages(input.as_slice());
+    let task = match task_for(alloc, request, input) {
+        Ok(task) => task,
+        Err(fault) => return stopped(fault, world),
+    };
+    let left = impose_by_spec(rt, alloc, &task, name_of(&request.outfile), world);
+    let about = About {
+        page_paper: task.options.paper,
+        origin: task.origin,
+        cut: None,
+        behind: task.behind,
+        told,
+    };
+    reported(left, about)
+}
+
+/// Imposes a task as `run` of imposer does it.
+fn impose_by_spec<R: Threads + Wait + Sync, W: World>(
+    rt: &R,
+    alloc: Global,
+    task: &Task,
+    name: Option<&str>,
+    world: W,
+) -> Left<W, Report>
+    requires sides { task.now.options.sides ≡ None }
+    requires workers { AreWorkers task.now.options.workers }
+    ensures { Comes (RefusesTaskRun task.now) (WritesTask task.now) (option_map (λ n. n.now) name.entry) (W.tells world) result.outcome
+        (is_some result.output) (option_and_then W.Output.contents result.output) }
+{
+    let text = task.text.as_slice();
+    let (spec, document) = match read_task(alloc, text, task.spec.as_str(), &task.options) {
+        Ok(read) => read,
+        Err(error) => return stopped(Fault::Run(error), world),
+    };
+    let plan = match Plan::new(alloc, &spec, document.pages()) {
+        Ok(plan) => plan,
+        Err(error) => return stopped(Fault::Run(RunError::from(error)), world),
+    };
+    let job = Job::new(&plan, &document, task.options.paper, task.options.border);
+    write_job(rt, alloc, &job, name, world)
+}
+
+/// Checks the border, and reads the specification and the document.
+fn read_task<'t>(
+    alloc: Global,
+    input: &'t [u8],
+    spec: &str,
+    options: &Options,
+) -> Result<(Spec, Document<'t>), RunError>
+    requires sides { options.now.sides ≡ None }
+    requires workers { AreWorkers options.now.workers }
+    ensures options { OnOk result (AreOptions options.now) }
+    ensures spec { IfOk result (λ read. Takes most_slots spec.now read.0) }
+    ensures document { IfOk result (λ read. document_of input.now ≡ Ok read.1) }
+    ensures refused { IfErr result (IsRefusal (asked options.now spec.now input.now)) }
+    ensures unwritten { IfErr result IsUnwritten }
+{
+    if !is_drawn(options.border) {
+        return Err(RunError::Options);
+    }
+    let spec = read_spec(alloc, spec)?;
+    let document = Document::read(alloc, input)?;
+    Ok((spec, document))
+}
+
+/// What is reported of a run beside its numbers.
+#[derive(Drop)]
+struct About {
+    page_paper: Paper,
+    origin: PaperOrigin,
+    cut: Option<Cut>,
+    behind: usize,
+    told: Option<usize>,
+}
+
+/// What came of a run, with what is reported of it.
+fn reported<W: World>(left: Left<W, Report>, about: About) -> Left<W, Done>
+    ensures outcome { result.outcome ≡ reported_by about left.outcome }
+    ensures output { result.output ≡ left.output }
+{
+    let Left {
+        outcome,
+        world,
+        output,
+    } = left;
+    match outcome {
+        Ok(report) => {
+            let finished = Finished {
+                report,
+                page_paper: about.page_paper,
+                origin: about.origin,
+                cut: about.cut,
+                behind: about.behind,
+                told: about.told,
+            };
+            Left {
+                outcome: Ok(Done::Imposed(finished)),
+                world,
+                output,
+            }
+        }
+        Err(fault) => Left {
+            outcome: Err(fault),
+            world,
+            output,
+        },
+    }
+}
+
+// ---- what is written
+
+/// Plans the sheets, and writes them into the output of this name.
+fn write_sheets<R: Threads + Wait + Sync, W: World>(
+    rt: &R,
+    alloc: Global,
+    made: &SheetJob<'_, '_>,
+    name: Option<&str>,
+    world: W,
+) -> Left<W, Report>
+    requires border { IsTrue (is_border made.now.border) }
+    ensures { Comes (RefusesPlan made.now) (WritesSheets made.now) (option_map (λ n. n.now) name.entry) (W.tells world) result.outcome
+        (is_some result.output) (option_and_then W.Output.contents result.output) }
+{
+    let planned = match PlannedSheets::of_job(alloc, made) {
+        Ok(planned) => planned,
+        Err(error) => return stopped(asked_fault_of(error, made.document.pages()), world),
+    };
+    write_job(rt, alloc, &planned.as_job(), name, world)
+}
+
+/// How much of the output is written at once, in bytes, if sheets are smaller.
+const WRITTEN_AT_ONCE: usize = 16_384;
+
+/// Creates the output of this name, and writes the sheets of a job into it. Nothing is refused.
+fn write_job<R: Threads + Wait + Sync, W: World>(
+    rt: &R,
+    alloc: Global,
+    job: &Job<'_, '_>,
+    name: Option<&str>,
+    world: W,
+) -> Left<W, Report>
+    ensures { Comes (λ fault. ⊥) (WritesJob job.now) (option_map (λ n. n.now) name.entry) (W.tells world) result.outcome
+        (is_some result.output) (option_and_then W.Output.contents result.output) }
+{
+    let mut sink = match created(alloc, WRITTEN_AT_ONCE, name, world) {
+        Ok(sink) => sink,
+        Err(refused) => return uncreated(refused),
+    };
+    match run_plan(rt, alloc, job, WORKERS, &Open, &mut sink) {
+        Ok(report) => {
+            let (is_whole, written) = write_out(sink);
+            if is_whole {
+                closed(Ok(report), written.output)
+            } else {
+                failed_write(written)
+            }
+        }
+        Err(error) => broken_off(error, abandon(sink)),
+    }
+}
+
+/// No output could be created, or there was no memory for its buffer.
+fn uncreated<W: World>(refused: Refused<W>) -> Left<W, Report>
+    ensures { IsNotCreated result.outcome (is_some result.output) }
+{
+    if refused.cause.kind() == ErrorKind::OutOfMemory {
+        return stopped(Fault::no_memory(), refused.world);
+    }
+    let fault = Fault::Write {
+        written: 0,
+        cause: Some(refused.cause),
+    };
+    stopped(fault, refused.world)
+}
+
+/// Memory ran out, or a write failed.
+fn broken_off<W: World>(error: RunError, output: Created<W::Output>) -> Left<W, Report>
+    requires { IsNoRefusal error }
+    ensures fault { MatchResult result.outcome (λ report. ⊥) (IsSaidOf error output.written) }
+    ensures output { result.output ≡ output.output }
+{
+    match error {
+        RunError::NoMemory { .. } => {
+            let written = output.written;
+            closed(
+                Err(Fault::Run(RunError::NoMemory { written })),
+                output.output,
+            )
+        }
+        _ => failed_write(output),
+    }
+}
+
+fn failed_write<W: World>(output: Created<W::Output>) -> Left<W, Report>
+    ensures outcome { result.outcome ≡ Err (faults.Write output.written output.cause) }
+    ensures output { result.output ≡ output.output }
+{
+    let fault = Fault::Write {
+        written: output.written,
+        cause: output.cause,
+    };
+    closed(Err(fault), output.output)
+}

@@ -1,0 +1,23 @@
+//! The exit status of a program whose run failed.
+ghost use Rattle.std.specs.Prelude.{◌≡◌};
+ghost use Rattle.imposer.specs.Statuses.{run_status};
+
+use crate::RunError;
+use dsc::DscError;
+use pagespec::SpecError;
+use sheet_plan::PlanError;
+
+/// The exit status of a run's error: 1 if the specification, the document or the plan is refused, 2 if the options are, 3
+/// if memory ran out or a write failed.
+pub fn run_status(error: &RunError) -> u8
+    ensures { result ≡ run_status error.now }
+{
+    match error {
+        RunError::Options => 2,
+        RunError::Spec(SpecError::NoMemory) => 3,
+        RunError::Document(DscError::NoMemory) => 3,
+        RunError::Plan(PlanError::NoMemory) => 3,
+        RunError::Spec(_) | RunError::Document(_) | RunError::Plan(_) => 1,
+        RunError::NoMemory { .. } | RunError::Write { .. } => 3,
+    }
+}

@@ -1,2 +1,0 @@
--- The exit statuses of a run's errors.
-pub mod Statuses

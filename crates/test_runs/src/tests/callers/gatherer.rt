@@ -1,0 +1,253 @@
+//! Who gathers the pages of a job: a caller of a table, a shelf and a queue, with a seat and a pass of its own.
+ghost use Rattle.std.specs.Prelude.{◌≡◌};
+ghost use Rattle.rules.specs.Sheets.{layout};
+ghost use Rattle.gather_table.specs.Shared.{IsSeatOf};
+ghost use Rattle.handover.specs.Passes.{IsPassOf};
+
+use super::tables::mark_checked;
+use gather_table::{GatherTable, Published, Reply, Seat};
+use handover::{Full, Pass, Prepared, Ready, Shelf};
+use imposer::{DeliverError, Delivered, ImposeError, Imposed, Job, deliver, impose, sheet_text};
+use run_steps::{Answers, Delivery, is_complete};
+use std::alloc::{AllocError, Global};
+use std::sync::Wait;
+
+/// Gathers the pages of a job. The table is one of the job's plan.
+#[derive(Drop)]
+pub(crate) struct Gatherer<'s, 'j, 't, 'd> {
+    pub(crate) job: &'s Job<'j, 'd>,
+    pub(crate) table: &'s GatherTable<'t>,
+    pub(crate) shelf: &'s Shelf<'d>,
+    pub(crate) ready: &'s Ready,
+    pub(crate) seat: Seat,
+    pub(crate) pass: Pass,
+    ghost same_plan: { table.now.layout ≡ layout job.now.plan },
+    ghost seated: { IsSeatOf table.now seat },
+    ghost passed: { IsPassOf ready.now pass },
+}
+
+/// One with this seat and this pass.
+pub(crate) fn gatherer_of<'s, 'j, 't, 'd>(
+    job: &'s Job<'j, 'd>,
+    table: &'s GatherTable<'t>,
+    shelf: &'s Shelf<'d>,
+    ready: &'s Ready,
+    seat: Seat,
+    pass: Pass,
+) -> Gatherer<'s, 'j, 't, 'd>
+    requires plan { table.now.layout ≡ layout job.now.plan }
+    requires seat { IsSeatOf table.now seat }
+    requires pass { IsPassOf ready.now pass }
+{
+    Gatherer {
+        job,
+        table,
+        shelf,
+        ready,
+        seat,
+        pass,
+    }
+}
+
+impl<'s, 'j, 't, 'd> Gatherer<'s, 'j, 't, 'd> {
+    /// Delivers a page. None for one that the job doesn't have.
+    pub(crate) fn deliver<R: Wait>(
+        &mut self,
+        rt: &R,
+        alloc: Global,
+        prepared: Prepared<'d>,
+    ) -> Option<Result<Delivered<'d>, DeliverError<'d>>> {
+        let plan = self.job.plan();
+        if prepared.page() >= plan.pages() {
+            return None;
+        }
+        Some(deliver(
+            rt,
+            alloc,
+            &mut self.seat,
+            &mut self.pass,
+            self.table,
+            self.shelf,
+            self.ready,
+            plan,
+            prepared,
+        ))
+    }
+
+    /// The same with memory for its answers that an earlier delivery leaves.
+    pub(crate) fn deliver_again<R: Wait>(
+        &mut self,
+        rt: &R,
+        prepared: Prepared<'d>,
+        answers: Answers,
+    ) -> Option<Result<Delivered<'d>, DeliverError<'d>>> {
+        let plan = self.job.plan();
+        if prepared.page() >= plan.pages() {
+            return None;
+        }
+        let delivery = Delivery {
+            plan,
+            table: self.table,
+            shelf: self.shelf,
+            ready: self.ready,
+            as_own: false,
+        };
+        Some(delivery.deliver(rt, &mut self.seat, &mut self.pass, prepared, answers))
+    }
+
+    /// Prepares a page of the document. Refused also for a page that isn't there.
+    pub(crate) fn prepare(&self, alloc: Global, page: u32) -> Result<Prepared<'d>, AllocError> {
+        let document = self.job.document();
+        if page >= document.pages() {
+            return Err(AllocError);
+        }
+        match Prepared::new(alloc, page, document.page(page)) {
+            Ok(prepared) => Ok(prepared),
+            Err(_) => Err(AllocError),
+        }
+    }
+
+    /// Prepares a page of the document and delivers it. Refused also for a page that isn't there.
+    pub(crate) fn deliver_page<R: Wait>(
+        &mut self,
+        rt: &R,
+        alloc: Global,
+        page: u32,
+    ) -> Result<Delivered<'d>, AllocError> {
+        let prepared = self.prepare(alloc, page)?;
+        match self.deliver(rt, alloc, prepared) {
+            Some(Ok(delivered)) => Ok(delivered),
+            _ => Err(AllocError),
+        }
+    }
+
+    /// What is missing of a sheet. None for one that the job doesn't have.
+    pub(crate) fn look(&mut self, sheet: u32) -> Option<u64> {
+        if sheet >= self.job.sheets() {
+            return None;
+        }
+        Some(self.table.look(&mut self.seat, sheet))
+    }
+
+    /// The index of a page. None also for one that the job doesn't have.
+    pub(crate) fn page_at(&mut self, page: u32) -> Option<u32> {
+        if page >= self.job.plan().pages() {
+            return None;
+        }
+        self.table.page_at(&mut self.seat, page)
+    }
+
+    /// Publishes a page at this index. None for one that the job doesn't have.
+    pub(crate) fn publish(&mut self, page: u32, index: u32) -> Option<Published> {
+        if page >= self.job.plan().pages() {
+            return None;
+        }
+        Some(self.table.publish(&mut self.seat, page, index))
+    }
+
+    /// Marks a slot. None for one that is blank or isn't there, or whose page has no index.
+    pub(crate) fn mark(&mut self, sheet: u32, slot: u16) -> Option<Reply> {
+        mark_checked(self.table, self.job.plan(), &mut self.seat, sheet, slot)
+    }
+
+    /// Puts a sheet in the queue.
+    pub(crate) fn hand_on<R: Wait>(&mut self, rt: &R, sheet: u32) -> Result<(), Full> {
+        self.ready.put(rt, &mut self.pass, sheet)
+    }
+
+    /// The oldest sheet of the queue.
+    pub(crate) fn take<R: Wait>(&mut self, rt: &R) -> Option<u32> {
+        self.ready.take(rt, &mut self.pass)
+    }
+
+    /// Another one of the same, with a share of one. None if this one has no more than that.
+    pub(crate) fn another(&mut self) -> Option<Gatherer<'s, 'j, 't, 'd>> {
+        if self.seat.share() < 2 || self.pass.share() < 2 {
+            return None;
+        }
+        let seat = self.table.split(&mut self.seat, 1);
+        let pass = self.ready.split(&mut self.pass, 1);
+        Some(Gatherer {
+            job: self.job,
+            table: self.table,
+            shelf: self.shelf,
+            ready: self.ready,
+            seat,
+            pass,
+        })
+    }
+
+    /// Imposes a sheet. None for one that isn't complete or that the job doesn't have.
+    pub(crate) fn impose(self, alloc: Global, sheet: u32) -> Option<Result<Imposed, ImposeError>> {
+        let Gatherer {
+            job,
+            table,
+            shelf,
+            ready: _,
+            mut seat,
+            pass: _,
+        } = self;
+        if sheet >= job.sheets() || !is_complete(&mut seat, table, sheet) {
+            return None;
+        }
+        Some(impose(alloc, &mut seat, job, table, shelf, sheet))
+    }
+}
+
+/// Two others of the same.
+pub(crate) fn two_others<'s, 'j, 't, 'd>(
+    gatherer: &mut Gatherer<'s, 'j, 't, 'd>,
+) -> Result<(Gatherer<'s, 'j, 't, 'd>, Gatherer<'s, 'j, 't, 'd>), AllocError> {
+    let (Some(one), Some(other)) = (gatherer.another(), gatherer.another()) else {
+        return Err(AllocError);
+    };
+    Ok((one, other))
+}
+
+/// What comes of a sheet.
+#[derive(Clone, Copy, Debug, PartialEq, Eq)]
+pub(crate) enum Outcome {
+    /// It has its text.
+    Imposed,
+    OtherText,
+    NotShown,
+    NoMemory,
+    /// It isn't complete, or the job doesn't have it.
+    NotComplete,
+}
+
+/// What comes of a sheet of this job that was imposed.
+fn outcome_of_text(
+    alloc: Global,
+    job: &Job<'_, '_>,
+    sheet: u32,
+    imposed: &Imposed,
+) -> Result<Outcome, AllocError> {
+    if sheet >= job.sheets() || imposed.sheet != sheet {
+        return Ok(Outcome::OtherText);
+    }
+    let text = sheet_text(alloc, job, sheet)?;
+    if imposed.text.as_slice() == text.as_slice() {
+        Ok(Outcome::Imposed)
+    } else {
+        Ok(Outcome::OtherText)
+    }
+}
+
+/// Imposes a sheet.
+pub(crate) fn outcome_of(
+    alloc: Global,
+    gatherer: &mut Gatherer<'_, '_, '_, '_>,
+    sheet: u32,
+) -> Result<Outcome, AllocError> {
+    let job = gatherer.job;
+    let Some(another) = gatherer.another() else {
+        return Err(AllocError);
+    };
+    match another.impose(alloc, sheet) {
+        Some(Ok(imposed)) => outcome_of_text(alloc, job, sheet, &imposed),
+        Some(Err(ImposeError::NotShown)) => Ok(Outcome::NotShown),
+        Some(Err(ImposeError::NoMemory)) => Ok(Outcome::NoMemory),
+        None => Ok(Outcome::NotComplete),
+    }
+}

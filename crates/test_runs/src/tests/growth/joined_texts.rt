@@ -1,0 +1,322 @@
+//! Texts of several sheets in the same memory, and sheets that come together before their turn, with each growth of each
+//! call refused in turn.
+use crate::tests::callers::stories::{Called, number, show, tell};
+use crate::tests::checks::{assert_that, assert_told};
+use sheet_text::{Pieces, Rope, Texts};
+use sheet_writer::{Early, FinishedSheets};
+use std::alloc::{AllocError, Global};
+use std::io::Write;
+use std::mem;
+use std::process::Abort;
+use std::test::Fail;
+use test_tools::{Refused, has_refused, refuse, refuse_each};
+
+/// What a story calls: texts, sheets that are finished, and sheets that came. A text is made in the same memory again and
+/// again, and then added to them. Two slices aren't copied.
+#[derive(Drop)]
+struct InTexts<'r> {
+    long: &'r [u8],
+    longer: &'r [u8],
+    text: Rope<'r>,
+    texts: Texts<'r>,
+    finished: FinishedSheets<'r>,
+    early: Early<'r>,
+}
+
+/// How many pieces are shown of a text.
+const MOST_PIECES: u32 = 20;
+
+impl<'r> InTexts<'r> {
+    /// Makes the text again: of bytes of its own, a slice, and bytes of its own, with a bar between them.
+    fn write(&mut self, parts: &str) -> Result<(), AllocError> {
+        let (long, longer) = (self.long, self.longer);
+        let mut parts = parts.split('|');
+        self.text.clear();
+        self.text.append(parts.next().unwrap_or("").as_bytes())?;
+        match parts.next().unwrap_or("") {
+            "long" => self.text.append_borrowed(long)?,
+            "longer" => self.text.append_borrowed(longer)?,
+            short => self.text.append(short.as_bytes())?,
+        }
+        self.text.append(parts.next().unwrap_or("").as_bytes())
+    }
+
+    /// Adds such a text to the texts: how many they are then.
+    fn push(&mut self, parts: &str, answer: &mut Vec<u8>) -> anyhow::Result<()> {
+        self.write(parts)?;
+        let (count, room) = (self.texts.len(), self.text.capacity());
+        let len = self.text.pieces().len();
+        let is_added = self.texts.push(&mut self.text).is_ok();
+        let has_room = self.text.capacity() == room;
+        let left = self.text.pieces().len();
+        show_added(
+            is_added,
+            [count, self.texts.len()],
+            [len, left],
+            has_room,
+            answer,
+        )
+    }
+
+    /// Adds a sheet with such a text to the finished ones: how many they are then.
+    fn finish(&mut self, sheet: u32, parts: &str, answer: &mut Vec<u8>) -> anyhow::Result<()> {
+        self.write(parts)?;
+        let (count, room) = (self.finished.sheets.len(), self.text.capacity());
+        let len = self.text.pieces().len();
+        let is_added = self.finished.push(sheet, &mut self.text).is_ok();
+        let has_room = self.text.capacity() == room
+            && self.finished.texts.len() == self.finished.sheets.len();
+        let left = self.text.pieces().len();
+        show_added(
+            is_added,
+            [count, self.finished.sheets.len()],
+            [len, left],
+            has_room,
+            answer,
+        )
+    }
+
+    /// From one of the texts on, how many are joined, of so many at most, and their pieces.
+    fn join(&self, nth: u32, most: u32, answer: &mut Vec<u8>) -> anyhow::Result<()> {
+        let (nth, most) = (nth as usize, most as usize);
+        if nth >= self.texts.len() || most == 0 {
+            return show("no such text", answer);
+        }
+        let joined = self.texts.joined(nth, most);
+        show(joined.count, answer)?;
+        self.show_pieces(joined.text, answer)
+    }
+
+    /// The text of a sheet that came.
+    fn text_of(&self, sheet: u32, answer: &mut Vec<u8>) -> anyhow::Result<()> {
+        match self.early.joined(sheet, 1) {
+            Some(joined) => self.show_pieces(joined.text, answer),
+            None => show("no such sheet", answer),
+        }
+    }
+
+    fn show_pieces(&self, text: Pieces<'_, '_>, answer: &mut Vec<u8>) -> anyhow::Result<()> {
+        let mut pieces = text;
+        for _ in 0..MOST_PIECES {
+            let Some(piece) = pieces.take_next() else {
+                return Ok(());
+            };
+            answer.push(b' ')?;
+            if piece == self.long {
+                answer.extend_from_slice(b"long")?;
+            } else if piece == self.longer {
+                answer.extend_from_slice(b"longer")?;
+            } else {
+                answer.extend_from_slice(piece)?;
+            }
+        }
+        Ok(())
+    }
+
+    /// Which of the first sheets are found.
+    fn found(&self, answer: &mut Vec<u8>) -> anyhow::Result<()> {
+        for sheet in 0..8u32 {
+            if self.early.joined(sheet, 1).is_some() {
+                write!(answer, "{sheet};")?;
+            }
+        }
+        Ok(())
+    }
+}
+
+/// Shows how many they are, if one more was added and the text has left its memory. If memory was refused, they are as
+/// many as before, and the text is as long.
+fn show_added(
+    is_added: bool,
+    [before, after]: [usize; 2],
+    [had, has]: [Option<usize>; 2],
+    has_room: bool,
+    answer: &mut Vec<u8>,
+) -> anyhow::Result<()> {
+    if is_added && has == Some(0) && has_room {
+        show(after, answer)
+    } else if !is_added && after == before && has == had && has_room {
+        Ok(write!(answer, "NoMemory")?)
+    } else {
+        show("something else has changed", answer)
+    }
+}
+
+impl<'r> Called for InTexts<'r> {
+    fn call(&mut self, alloc: Global, words: &str, answer: &mut Vec<u8>) -> anyhow::Result<()> {
+        let (name, rest) = words.split_once(' ').unwrap_or((words, ""));
+        let (word, parts) = rest.split_once(' ').unwrap_or((rest, ""));
+        let first = number(Some(word));
+        match name {
+            "push" => self.push(rest, answer),
+            "joined" => self.join(first, number(Some(parts)), answer),
+            "clear" => {
+                self.texts.clear();
+                show(self.texts.len(), answer)
+            }
+            "finish" => self.finish(first, parts, answer),
+            "come" => {
+                let finished = mem::replace(&mut self.finished, FinishedSheets::new(alloc));
+                show(finished.sheets.len(), answer)?;
+                self.early.put(finished);
+                Ok(())
+            }
+            "found" => self.found(answer),
+            "text" => self.text_of(first, answer),
+            "take" => match self.early.take_written(first) {
+                Some(written) => show(written.sheets.len(), answer),
+                None => show(0usize, answer),
+            },
+            _ => show((self.early.places.len(), self.early.groups.len()), answer),
+        }
+    }
+}
+
+/// A story with places for so many sheets that come early.
+#[derive(Drop)]
+struct Story<'s> {
+    places: u32,
+    long: &'s [u8],
+    longer: &'s [u8],
+    story: &'s str,
+}
+
+impl<'s, R: Abort> Refused<R> for Story<'s> {
+    fn refuse(&self, rt: &R, alloc: Global, number: u32) -> Result<bool, Fail> {
+        let mut text = Rope::new(alloc);
+        text.reserve(1_000)?;
+        let mut called = InTexts {
+            long: self.long,
+            longer: self.longer,
+            text,
+            texts: Texts::new(alloc),
+            finished: FinishedSheets::new(alloc),
+            early: Early::new(alloc, self.places)?,
+        };
+        let told = tell(alloc, &mut called, number, self.story)?;
+        assert_told(rt, told.wrong);
+        Ok(told.is_refused)
+    }
+}
+
+/// Tells a story with each growth of its calls refused in turn.
+fn assert_story<R: Abort>(
+    rt: &R,
+    alloc: Global,
+    (long, longer): (&[u8], &[u8]),
+    places: u32,
+    story: &str,
+) -> Result<(), Fail> {
+    let story = Story {
+        places,
+        long,
+        longer,
+        story,
+    };
+    assert_that(rt, refuse_each(rt, alloc, &story)?);
+    Ok(())
+}
+
+/// Long texts and short ones come out as their own.
+const TEXTS: &str = "\
+    push ab|cd|ef = 1\n\
+    push |long|g = 2\n\
+    push h = 3\n\
+    push  = 4\n\
+    push ij|longer| = 5\n\
+    push |long| = 6\n\
+    push k|long|l = 7\n\
+    push m = 8\n\
+    joined 0 1 = 1 abcdef\n\
+    joined 1 1 = 1 long g\n\
+    joined 2 1 = 1 h\n\
+    joined 3 1 = 1\n\
+    joined 4 1 = 1 ij longer\n\
+    joined 5 1 = 1 long\n\
+    joined 6 1 = 1 k long l\n\
+    joined 7 1 = 1 m\n\
+";
+
+/// Neighbours without slices are in one piece.
+const NEIGHBOURS: &str = "\
+    push ab = 1\n\
+    push c = 2\n\
+    push |long| = 3\n\
+    push d = 4\n\
+    push ef = 5\n\
+    push g = 6\n\
+    joined 0 9 = 2 abc\n\
+    joined 1 9 = 1 c\n\
+    joined 2 9 = 1 long\n\
+    joined 3 9 = 3 defg\n\
+    joined 3 2 = 2 def\n\
+    joined 5 9 = 1 g\n\
+    clear = 0\n\
+    push d = 1\n\
+    joined 0 9 = 1 d\n\
+";
+
+/// A sheet that comes is at its place. Another sheet has the same place: it is dropped, and who asks for it leaves the
+/// first one there.
+const ONE_PLACE: &str = "\
+    places = (2, 2)\n\
+    finish 1 a = 1\n\
+    come = 1\n\
+    finish 3 b = 1\n\
+    come = 1\n\
+    found = 1;\n\
+    take 3 = 0\n\
+    take 0 = 0\n\
+    text 1 =  a\n\
+    take 1 = 1\n\
+    take 1 = 0\n\
+    found = \n\
+";
+
+/// Sheets that come together lie at the place of the last of them, and are dropped together if it is taken. One whose own
+/// place belongs to another sheet is as if it had not come.
+const TOGETHER: &str = "\
+    finish 1 = 1\n\
+    finish 3 = 2\n\
+    come = 2\n\
+    finish 4 = 1\n\
+    finish 7 = 2\n\
+    come = 2\n\
+    found = 1;3;\n\
+    finish 5 = 1\n\
+    finish 6 = 2\n\
+    come = 2\n\
+    found = 3;5;6;\n\
+    take 1 = 0\n\
+    take 5 = 0\n\
+    take 3 = 2\n\
+    take 6 = 2\n\
+";
+
+/// Adds a sheet in memory that another one had, with the first growth refused: whether none was asked for.
+fn is_added_anew(alloc: Global) -> Result<bool, AllocError> {
+    let mut finished = FinishedSheets::new(alloc);
+    let mut text = Rope::new(alloc);
+    text.append(b"text")?;
+    finished.push(0, &mut text)?;
+    finished.clear();
+    let is_empty = finished.sheets.is_empty() && finished.texts.len() == 0;
+    text.append(b"text")?;
+    refuse(alloc, 1);
+    let answer = finished.push(1, &mut text);
+    let is_refused = has_refused(alloc);
+    Ok(is_empty && answer.is_ok() && !is_refused && finished.sheets.as_slice() == [1].as_slice())
+}
+
+#[test]
+fn texts_and_sheets_come_out_as_they_were(rt: HostRuntime) -> Result<(), Fail> {
+    let long = [b'x'; 4_096];
+    let longer = [b'y'; 5_000];
+    let slices = (long.as_slice(), longer.as_slice());
+    assert_story(&rt, rt.alloc(), slices, 1, TEXTS)?;
+    assert_story(&rt, rt.alloc(), slices, 1, NEIGHBOURS)?;
+    assert_story(&rt, rt.alloc(), slices, 2, ONE_PLACE)?;
+    assert_story(&rt, rt.alloc(), slices, 4, TOGETHER)?;
+    assert_that(&rt, is_added_anew(rt.alloc())?);
+    Ok(())
+}
