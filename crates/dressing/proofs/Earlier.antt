@@ -1,9 +1,8 @@
 -- Sheets that were the first of their size.
 use Rattle.std.proofs.Common.{ℕ, zero, suc, ◌≡◌, ◌⊎◌, ◌∙◌, inl, inr, refl, ap, sym, subst, arith, [], ◌∷◌, ◌++◌, Bool, true, false, List, Option, Some, length, codes}
 use Rattle.std.specs.Prelude.{cond, slice_get}
-use Rattle.std.specs.BTreeMap.{BTreeMap, IsEmpty, Updates, get, is_at}
-use Rattle.std.specs.Map.{lookup}
-use Rattle.std.proofs.lemmas.Option.{none-some, same_Some}
+use Rattle.std.specs.BTreeMap.{BTreeMap, Updates, get, is_at}
+use Rattle.std.proofs.lemmas.Option.{same_Some}
 use Rattle.rules.specs.Numbers.{printed}
 use Rattle.rules.specs.Papers.{Paper}
 use Rattle.sheet_text.specs.Dressings.{Hem}
@@ -43,10 +42,6 @@ last (y ∷ hems) h (suc n) is = last hems h n (omega (arith, is))
 -- the first sheets stay if one is put after them
 pub firsts_stay : (f : List (List ℕ)) (hems : List Hem) (h : Hem) (firsts : BTreeMap Size ℕ) → AreFirsts f hems firsts → AreFirsts f (hems ++ h ∷ []) firsts
 firsts_stay f hems h firsts all paper sheet at = stays hems h sheet (hem_of_sheet f paper) (all paper sheet at)
-
-pub no_firsts : (f : List (List ℕ)) (hems : List Hem) (firsts : BTreeMap Size ℕ) → IsEmpty firsts → AreFirsts f hems firsts
-no_firsts f hems firsts none paper sheet at =
-    absurd (none-some sheet (sym (ap (λ entries. lookup (is_at (size_order (size_of paper))) entries) none) ∙ at))
 
 found : (b : Bool) (s n : ℕ) (o : Option ℕ) → cond b (Some s) o ≡ Some n → ((b ≡ true) × (s ≡ n)) ⊎ (o ≡ Some n)
 found true s n o e = inl (refl, same_Some s n e)

@@ -4,6 +4,8 @@ pub mod Joined
 pub mod Pairs
 pub mod Outside
 mod Past
+pub mod Between
+pub mod OnFold
 pub mod Beside
 pub mod RowByRow
 pub mod Examples

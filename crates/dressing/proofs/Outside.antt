@@ -16,7 +16,7 @@ use Rattle.dressing.specs.declared.strokes.Stroke.{Stroke}
 -- ---- pieces
 
 -- half of a gap, of which the margin has room
-half : (b : Bool) (gap edge : ℕ) → gap ≤ 2 * edge → 635_000 * (if b then gap else gap + 1) ≤ 1_270_000 * (if b then edge else edge + 1)
+pub half : (b : Bool) (gap edge : ℕ) → gap ≤ 2 * edge → 635_000 * (if b then gap else gap + 1) ≤ 1_270_000 * (if b then edge else edge + 1)
 half true gap edge le = omega (arith, le)
 half false gap edge le = omega (arith, le)
 
@@ -124,7 +124,7 @@ marks_are_outside room g row column some_wide some_high in_rows in_columns = out
 
 -- ---- in the margin
 
-not_zero : (n : ℕ) → (suc n == 0) ≡ false
+pub not_zero : (n : ℕ) → (suc n == 0) ≡ false
 not_zero n = search rules
 
 far_is : (edge : ℕ) → 0 < edge → (if edge == 0 then longest else edge) ≡ edge

@@ -2,7 +2,7 @@
 use Rattle.std.proofs.Common.{ℕ, suc, ◌+◌, ◌≡◌, ◌∙◌, refl, ap, sym, subst, arith, [], ◌∷◌, ◌++◌, List, Some, drop, Bool, true, false, ℤ, int_eq, Ordering, Less, Equal, Greater}
 use Rattle.std.specs.Prelude.{cond, slice_get, if◌then◌else◌, ◌&&◌, ◌||◌}
 use Rattle.std.specs.BTreeMap.{is_at}
-use Rattle.std.specs.BTreeSet.{BTreeSet, IsEmpty, Updates, contains}
+use Rattle.std.specs.BTreeSet.{BTreeSet, Updates, contains}
 use Rattle.std.specs.List.{list_any}
 use Rattle.std.specs.Ordering.{int_cmp, is_eq, ordering_then}
 use Rattle.std.proofs.Math.Seq.{drop-cons}
@@ -75,10 +75,6 @@ one_size p q e =
     let parts = both (int_eq (in_print p.width) (in_print q.width)) (int_eq (in_print p.height) (in_print q.height)) (sym (same_order p q) ∙ e) in
     ap (λ x. size x (in_print p.height)) ((Decides-int_eq (in_print p.width) (in_print q.width)).0 parts.0)
     ∙ ap (λ y. size (in_print q.width) y) ((Decides-int_eq (in_print p.height) (in_print q.height)).0 parts.1)
-
--- ---- the sizes of the papers that are reported
-pub no_sizes : (sizes : BTreeSet Size) → IsEmpty sizes → AreSizesOf [] sizes
-no_sizes sizes none p = ap (λ keys. list_any (is_at (size_order (size_of p))) keys) none
 
 one_more : (t c : Bool) → cond t true c ≡ (c || (t || false))
 one_more true true = refl

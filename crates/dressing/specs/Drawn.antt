@@ -14,7 +14,7 @@ stroke_line s =
     codes "newpath "
     ++ (point_text s.start.0 s.start.1 ++ (codes " moveto " ++ (point_text s.end.0 s.end.1 ++ codes " lineto stroke")))
 
--- strokes are black, and a quarter of a point wide; no strokes are no lines
+-- strokes are black, and a quarter of a point wide; no strokes are no lines (RULES, 15)
 abbrev pub mark_lines : List Stroke → List (List ℕ)
 mark_lines [] = []
 mark_lines (s ∷ strokes) =

@@ -6,6 +6,7 @@ pub mod Strokes
 pub mod Ruled
 pub mod Drawn
 pub mod Laws
+pub mod Between
 pub mod Sizes
 pub mod Dressings
 pub mod Firsts

@@ -8,6 +8,7 @@ abbrev pub grains_in : ℕ → ℕ
 grains_in n = 1_270_000 * n
 
 -- how far the middle of the gap before part k of a side lies, in grains; after the last part it is as if one more came
+-- (RULES, 15)
 abbrev pub gap_at : Room → (side parts k : ℕ) → ℕ
 gap_at room side parts k = grains_in (kept room room.edge + k * step room side parts) - 635_000 * kept room room.gap
 

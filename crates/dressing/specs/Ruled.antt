@@ -7,7 +7,7 @@ use Rattle.layouts.specs.Laws.{Cell, cell_at}
 use Rattle.dressing.specs.Places.{grains_in}
 use Rattle.dressing.specs.declared.strokes.Stroke.{Stroke}
 
--- lines are 24 points apart; in 10^-5 of a point
+-- lines are 24 points apart; in 10^-5 of a point (RULES, 15)
 abbrev pub line_step : ℕ
 line_step = 2_400_000
 

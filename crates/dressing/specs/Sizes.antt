@@ -13,7 +13,7 @@ use Rattle.dressing.specs.declared.told.Size.{Size}
 abbrev pub papers_of : List MadeSheet → List Paper
 papers_of all = map (λ sheet. sheet.paper) all
 
--- the size of a paper
+-- the size of a paper (RULES, 15)
 abbrev pub size_of : Paper → Size
 size_of paper = record { width = in_print paper.width; height = in_print paper.height }
 

@@ -7,7 +7,7 @@ use Rattle.layouts.specs.Cells.{Grid}
 use Rattle.dressing.specs.Places.{gap_at, grains_in}
 use Rattle.dressing.specs.declared.strokes.Stroke.{Stroke}
 
--- the longest stroke has 18 points; in 10^-5 of a point
+-- the longest stroke has 18 points; in 10^-5 of a point (RULES, 15)
 abbrev pub longest : ℕ
 longest = 1_800_000
 

@@ -1,11 +1,22 @@
 //! Laws of the definitions. The functions do nothing.
 ghost use Rattle.dressing.specs.Places.{PiecesAreLike};
+ghost use Rattle.dressing.specs.Between.{FoldMarksAreOnFold, MarksAreBetween};
 ghost use Rattle.dressing.specs.Laws.{LinesAreBeside, LinesAreInCell, MarksAreInMargin, MarksAreOutside, MarksAreTame, MarksMissPages};
 ghost use Rattle.dressing.specs.Dressings.{DressingDresses, NoMarksAreTelling};
 
 /// Cut along all marks of a side, all pieces are as wide.
 pub fn pieces_are_like()
     ensures { PiecesAreLike }
+{}
+
+/// Marks are on lines in the middle between cells, or half a gap outside of them, at both ends of each line.
+pub fn marks_are_between()
+    ensures { MarksAreBetween }
+{}
+
+/// A booklet's fold marks lie on its fold.
+pub fn fold_marks_are_on_fold()
+    ensures { FoldMarksAreOnFold }
 {}
 
 /// No mark goes over a cell.

@@ -50,9 +50,9 @@ pub fn outer_cut_marks(alloc: Global, room: &Room, grid: Grid) -> Result<Vec<Str
 pub fn fold_marks(alloc: Global, room: &Room, grid: Grid) -> Result<Vec<Stroke>, AllocError>
     ensures { IfOk result (λ strokes. strokes.items ≡ fold_of room.now grid) }
 {
-    let mut strokes = Vec::new(alloc);
-    push_between(room, grid, &mut strokes)?;
-    Ok(strokes)
+    let mut folds = Vec::new(alloc);
+    push_between(room, grid, &mut folds)?;
+    Ok(folds)
 }
 
 /// Adds the marks between all cells.

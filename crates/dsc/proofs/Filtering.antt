@@ -17,11 +17,6 @@ use Rattle.dsc.proofs.Walking.{Follows, piece_on, piece_front}
 pub run_grows : (kept run : List ℕ) (n m : ℕ) → kept ++ take (n + m) run ≡ (kept ++ take n run) ++ take m (drop n run)
 run_grows kept run n m = ap (λ t. kept ++ t) (take-add n m run) ∙ sym (append_assoc kept (take n run) (take m (drop n run)))
 
--- one more unit
-keeps_step : (t : Bool) (front bytes rest rest2 : List ℕ) → (t ≡ true → rest ≡ rest2) → (t ≡ false → rest ≡ bytes ++ rest2) → front ++ rest ≡ (front ++ (if t then [] else bytes)) ++ rest2
-keeps_step true front bytes rest rest2 a b = ap (λ t. front ++ t) (a refl) ∙ ap (λ t. t ++ rest2) (sym (append-nil front))
-keeps_step false front bytes rest rest2 a b = ap (λ t. front ++ t) (b refl) ∙ sym (append_assoc front bytes rest2)
-
 kept_bytes : (drops : Drops) (was : Bool) (u : NestedUnit) (us front : List NestedUnit) (t : Bool) → is_dropped drops was u ≡ t
     → bytes_of (kept_after was (drops_of drops) (u ∷ us)) ≡ (if t then bytes_of (kept_after true (drops_of drops) us) else u.unit.bytes ++ bytes_of (kept_after false (drops_of drops) us))
 kept_bytes drops was u us front true e = ap (λ q. bytes_of (if q then kept_after true (drops_of drops) us else u ∷ kept_after false (drops_of drops) us)) e

@@ -136,10 +136,6 @@ outside-end at (u ∷ us) = by_test (begins_page u)
 
 -- What a whole pass found.
 
-abbrev Scanned : ℕ → List ℕ → Marks → Result (List TextUnit) FaultyBlock → Type 0
-Scanned most text m (Ok ps) = (m.starts ≡ take most (starts_of (nested_from 0 ps))) × (m.stop ≡ end_of (nested_from 0 ps))
-Scanned most text m (Err e) = ⊥
-
 scanned-as : (most : ℕ) (text : List ℕ) (m : Marks) (r : Result (List TextUnit) FaultyBlock) → of_units (λ ps. marks_on most [] None 0 (nested_from 0 ps)) r ≡ Ok m
     → (r ≡ Ok (or_none r)) × (m.starts ≡ take most (starts_of (nested_from 0 (or_none r)))) × (m.stop ≡ end_of (nested_from 0 (or_none r)))
 scanned-as most text m (Err e) h = cc

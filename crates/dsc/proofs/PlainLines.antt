@@ -9,7 +9,7 @@ use Rattle.memchr.specs.Find.{FindsNeedle, OccursAt}
 use Rattle.rules.specs.Units.{is_end, content_of, end_len, line_len}
 use Rattle.dsc.specs.Plain.{ArePlain, BeginsPlain, next_line}
 use Rattle.dsc.proofs.Cases.{by_test}
-use Rattle.dsc.proofs.LineLengths.{content_len, line_len-pos, line_len-within, line_len_is, end_len-pos}
+use Rattle.dsc.proofs.LineLengths.{content_len, line_len-pos, line_len-within, line_len_is}
 
 abbrev pub PAIR : List ℕ
 PAIR = 37 ∷ 37 ∷ []
@@ -135,10 +135,6 @@ two_at_most false = omega arith
 end_len-most : (rest : List ℕ) → end_len rest ≤ 2
 end_len-most [] = omega arith
 end_len-most (b ∷ rest) = two_at_most ((b == 13) && starts_with nat_eq rest (10 ∷ []))
-
-end_len-some : (rest : List ℕ) → 0 < length rest → 0 < end_len rest
-end_len-some [] h = absurd (omega (arith, h))
-end_len-some (b ∷ rest) h = end_len-pos b rest
 
 -- the byte after the first one of an end of two bytes
 feed_at : (text : List ℕ) (k : ℕ) → end_len (drop (content_len text) text) ≡ 2 → k ≡ content_len text + 1 → slice_index text k ≡ 10

@@ -1,12 +1,10 @@
 -- One pass over the units notes where the parts begin.
 use Rattle.std.specs.Prelude.{Result, Option, Some, None, nat_lt}
 use Rattle.std.proofs.Common.{append_assoc, append-nil, Bool, true, false, ltb, ◌||◌, ◌&&◌, if◌then◌else◌, ◌≡◌, ℕ, ◌+◌, ◌<◌, ◌≤◌, List, [], ◌∷◌, ◌++◌, length, take, refl, ap, arith, length-append, sym, ◌∙◌}
-use Rattle.std.specs.Str.{bytes_eq}
-use Rattle.std.specs.Prelude.{codes}
 use Rattle.std.proofs.lemmas.Bool.{ltb-false, lt-ltb}
 use Rattle.std.proofs.lemmas.List.{take-append-le}
-use Rattle.rules.specs.Units.{TextUnit, key, FaultyBlock}
-use Rattle.rules.specs.Parts.{NestedUnit, depth_after, begins_page, begins_trailer}
+use Rattle.rules.specs.Units.{TextUnit, FaultyBlock}
+use Rattle.rules.specs.Parts.{NestedUnit, begins_page, begins_trailer}
 use Rattle.dsc.specs.Marks.{starts_from, end_from, Marks, marks_on, noted_starts, noted_end, scan_on}
 use Rattle.dsc.specs.Views.{at_depth}
 use Rattle.dsc.specs.Walks.{Place, behind, IsPieceOf}
@@ -109,10 +107,3 @@ scan_more most z starts new stop new_stop p q u at page ends whole some piece b 
     ∙ ap (λ t. scan_on most (noted_starts most starts stop (begins_page (at_depth p.depth u)) (begins_trailer (at_depth p.depth u)) p.at) t r.depth r.at r.rest)
     (nt ∙ ap (noted_end starts stop ends) a ∙ ap (λ v. noted_end starts stop v p.at) tr)
     ∙ piece_on (follows most z) (record { starts = starts; stop = stop; at = p.at }) p.depth p.at p.rest u some piece.is ∙ i
-
-pub depth_after-within : (d : ℕ) (p : TextUnit) → depth_after d p ≤ d + 1
-depth_after-within d p = by_test p.is_block
-    (λ is. rw is (omega arith))
-    (λ isnt. rw isnt (by_test (bytes_eq (key p.content) (codes "%%BeginDocument"))
-    (λ up. rw up (omega arith))
-    (λ no_. rw no_ (by_test (bytes_eq (key p.content) (codes "%%EndDocument")) (λ down. rw down (omega arith)) (λ even. rw even (omega arith))))))

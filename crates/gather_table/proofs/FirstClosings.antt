@@ -4,12 +4,12 @@ use Rattle.std.specs.Prelude.{slice_index, bit_and, bit_or, if◌then◌else◌}
 use Rattle.std.proofs.lemmas.Bool.{lt-ltb}
 use Rattle.rules.specs.Sheets.{Layout}
 use Rattle.gather_table.specs.declared.lane.Home.{Home}
-use Rattle.gather_table.specs.Homes.{IsHome, blanks_to, closed_to}
+use Rattle.gather_table.specs.Homes.{IsHome, closed_to}
 use Rattle.gather_table.specs.Lanes.{wide_at, group_word}
 use Rattle.gather_table.specs.Rule.{WordsHold}
-use Rattle.gather_table.specs.Table.{TableState, IsSound, slots, is_blank, blank_group, is_full, start, in_group, group_count, group_size, with_closed, HasGroup}
+use Rattle.gather_table.specs.Table.{TableState, IsSound, slots, is_blank, blank_group, is_full, in_group, group_count, group_size, with_closed, HasGroup}
 use Rattle.gather_table.proofs.Bits.{full_bits}
-use Rattle.gather_table.proofs.FirstWords.{holds_same, before_none, before_next, before_all, one_more, none_more}
+use Rattle.gather_table.proofs.FirstWords.{holds_same, one_more, none_more}
 use Rattle.gather_table.proofs.Sheets.{closing_written, group_shown, low_bits, wide_room, few_groups}
 
 -- a group of a wide sheet is closed from the start if its slots are all blank
@@ -27,15 +27,6 @@ has_group layout s g n home at lt is_n low = two (ltb 64 home.slots) refl
         record { sheet = lt; wide = ap (ltb 64) (sym at.slots) ∙ e; group = omega arith }
     two false e = let n_is : n ≡ 0 = is_n ∙ ap (λ (b : Bool). if b then (home.slots + 63) / 64 else 0) e in absurd (omega arith)
 
--- and there are no others
-pub counted : (layout : Layout) (s g n : ℕ) (home : Home) → IsHome layout s home → n ≡ (if ltb 64 home.slots then (home.slots + 63) / 64 else 0) → HasGroup layout s g → g < n
-counted layout s g n home at is_n has =
-    let wide : ltb 64 home.slots ≡ true = ap (ltb 64) at.slots ∙ has.wide in
-    let n_is : n ≡ (home.slots + 63) / 64 = is_n ∙ ap (λ (b : Bool). if b then (home.slots + 63) / 64 else 0) wide in
-    let count = ap (λ (z : ℕ). (z + 63) / 64) at.slots in
-    let lt = has.group in
-    omega arith
-
 -- one more group
 pub group_more : (layout : Layout) (words : List ℕ) (s g : ℕ) → HasGroup layout s g
     → WordsHold layout (if is_full layout s g ((closed_to layout s g).marked s) then with_closed (closed_to layout s g) s g else closed_to layout s g) words → WordsHold layout (closed_to layout s (suc g)) words
@@ -46,20 +37,6 @@ group_more layout words s g has held = two (is_full layout s g (is_blank (slots 
         (λ r i _. one_more (blank_group layout) s g r i (blank_where_full layout s g has ∙ e))
     two false e h = holds_same layout (closed_to layout s g) (closed_to layout s (suc g)) words h (λ p lt. refl) (λ r j lt inn. refl)
         (λ r i _. none_more (blank_group layout) s g r i (blank_where_full layout s g has ∙ e))
-
--- no group yet, one more sheet, and all sheets
-pub none_closed : (layout : Layout) (words : List ℕ) → WordsHold layout (blanks_to layout (length layout.sheets) 0) words → WordsHold layout (closed_to layout 0 0) words
-none_closed layout words h = holds_same layout (blanks_to layout (length layout.sheets) 0) (closed_to layout 0 0) words h (λ p lt. refl)
-    (λ r j lt inn. ap (λ (b : Bool). b && is_blank (slots layout r) j) (before_all (length layout.sheets) r j lt))
-    (λ r g has. sym (ap (λ (b : Bool). b && blank_group layout r g) (before_none r g)))
-
-pub sheet_closed : (layout : Layout) (words : List ℕ) (s n : ℕ) → ((g : ℕ) → HasGroup layout s g → g < n) → WordsHold layout (closed_to layout s n) words → WordsHold layout (closed_to layout (suc s) 0) words
-sheet_closed layout words s n all h = holds_same layout (closed_to layout s n) (closed_to layout (suc s) 0) words h (λ p lt. refl) (λ r j lt inn. refl)
-    (λ r g has. ap (λ (b : Bool). b && blank_group layout r g) (before_next s n r g (λ is. all g (subst (λ (z : ℕ). HasGroup layout z g) is has))))
-
-pub all_closed : (layout : Layout) (words : List ℕ) (n : ℕ) → length layout.sheets ≤ n → WordsHold layout (closed_to layout n 0) words → WordsHold layout (start layout) words
-all_closed layout words n le h = holds_same layout (closed_to layout n 0) (start layout) words h (λ p lt. refl) (λ r j lt inn. refl)
-    (λ r g has. let lt = has.sheet in ap (λ (b : Bool). b && blank_group layout r g) (before_all n r g (omega arith)))
 
 -- the words of a wide sheet's groups exist
 pub groups_in : (layout : Layout) (words : List ℕ) (s g : ℕ) (home : Home) → IsHome layout s home → HasGroup layout s g → wide_at layout (length layout.sheets) ≤ length words → (home.word ≡ wide_at layout s) × (home.word + 1 + g < length words)

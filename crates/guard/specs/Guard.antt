@@ -67,6 +67,6 @@ other_lines =
 abbrev pub guard_lines : Option Paper → List (List ℕ)
 guard_lines sheet_paper = first_lines ++ (page_size_lines sheet_paper ++ other_lines)
 
--- a document with the guard inserted
+-- a document with the guard inserted (RULES, 15)
 abbrev pub guarded : Option Paper → List ℕ → List ℕ
 guarded sheet_paper text = put_in (guard_lines sheet_paper) text

@@ -1,6 +1,6 @@
 -- What each step reveals, as clauses see it; and a pass between two calls stays one.
 use Rattle.std.proofs.Common.{◌≡◌, inl, inr, ℕ, zero, suc, ◌+◌, ◌-◌, ◌<◌, Option, Some, None, refl, sym, ap, ◌∙◌, subst, arith}
-use Rattle.std.specs.Prelude.{Result, Ok, Err, IfSome, MatchOption, MatchResult}
+use Rattle.std.specs.Prelude.{IfSome, MatchOption}
 use Rattle.atomic_table.specs.Seated.{TableId}
 use Rattle.histories.specs.Seats.{Learned, whole_share}
 use Rattle.handover.specs.Queue.{Move, Take, IsQueueHistory}
@@ -34,13 +34,6 @@ take_stands (Some x) v w share room P is s = stands_after v w share room room (T
 pub take_made : (r : Option ℕ) (t t' : TableId) (v w : Sight) (old : PassView) (P : Type 0) → MatchOption r ((w ≡ v) × P) (λ x. Adds v (Take x) w) → Held v → t' ≡ t → pass_view t v ≡ old → IfSome r (λ x. Made old (Take x) (pass_view t' w))
 take_made None t t' v w old P is h same is_old = tt
 take_made (Some x) t t' v w old P is h same is_old = made t t' v w (Take x) old is h same is_old
-
--- an accepted put, and one that was refused
-pub put_accepted : {A B : Type 0} (r : Result A B) (a : A) (v w : Sight) (m : Move) (P : B → Type 0) → MatchResult r (λ _. Adds v m w) P → r ≡ Ok a → Adds v m w
-put_accepted r a v w m P is ok = subst (λ x. MatchResult x (λ _. Adds v m w) P) ok is
-
-pub put_refused : {A B : Type 0} (r : Result A B) (b : B) (Q : A → Type 0) (P : B → Type 0) → MatchResult r Q P → r ≡ Err b → P b
-put_refused r b Q P is err = subst (λ x. MatchResult x Q P) err is
 
 -- a pass may try to put
 pub may_try : (v : Sight) (share : ℕ) (room : Option ℕ) → StandsAlone v share room → (room ≡ Some 0 → share ≡ whole_share) → MayTry v

@@ -1,5 +1,5 @@
 -- What comes of what is to be written.
-use Rattle.std.proofs.Common.{◌≡◌, ◌⊎◌, ◌∙◌, ℕ, ◌≤◌, ◌++◌, ℤ, List, [], Bool, true, false, Option, Some, None, Result, Ok, Err, arith, inl, inr, length, refl, subst, sym, take}
+use Rattle.std.proofs.Common.{◌≡◌, ◌⊎◌, ℕ, ◌≤◌, ℤ, List, [], Bool, true, false, Option, Some, Result, Ok, Err, arith, inl, inr, length, refl, subst, sym, take}
 use Rattle.std.specs.Prelude.{MatchResult}
 use Rattle.std.specs.Io.KnownBytes.{Appends, Keeps}
 use Rattle.std.proofs.KnownBytes.{Appends-kept}

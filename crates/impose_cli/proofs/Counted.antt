@@ -1,5 +1,5 @@
 -- A document that is accepted has pages.
-use Rattle.std.proofs.Common.{arith, ◌≡◌, ℕ, ◌<◌, Bool, true, false, List, Result, Ok, Err, ap, refl, sym, subst}
+use Rattle.std.proofs.Common.{arith, ◌≡◌, ℕ, ◌<◌, Bool, true, false, List, Result, Ok, Err, refl, subst}
 use Rattle.std.specs.Prelude.{◌==◌, length, nat_lt, not, codes, nat_eq}
 use Rattle.std.specs.List.{starts_with}
 use Rattle.rules.specs.Units.{FaultyBlock, TextUnit, ◌>>=◌, cut}

@@ -54,7 +54,7 @@ placed_as_named (layout.Spec specs) s named page_paper sheet_paper pages text si
 
 pub finishes : (r : Request) (input : List ℕ) (task : Task) (told : Option ℕ) (old new : Option (List ℕ)) (report : Report) → ((text : List ℕ) × IsSpec r.layout text) → IsTask r input task → told ≡ told_pages input
     → Accepted (asked_by task) (λ spec us. Appends old new (output (frame_of task.options) task.options.sides spec us) × Reports (frame_of task.options) task.options.sides spec us report)
-    → FinishesSpec r input old new (record { report = report; page_paper = task.options.paper; origin = task.origin; cut = None; behind = task.behind; told = told })
+    → FinishesSpec r input old new (record { report = report; page_paper = task.options.paper; origin = task.origin; cut = None; reach = task.counted.reach; behind = task.counted.behind; told = told })
 finishes r input task told old new report named is tells h =
     let spec = h.0 in
     let units = h.1 in
@@ -72,6 +72,7 @@ finishes r input task told old new report named is tells h =
       units = units;
       taken = ap document_of (sym is.text) ∙ accepted.document;
       cut = refl;
+      reach = is.reach;
       behind = is.behind;
       told = tells;
       plan = subst (λ s. plan_in s spec n ≡ Ok (sheets_in s spec n)) p.1 accepted.plan;
@@ -102,7 +103,7 @@ spec_stops r input tells f outcome has_output written named is none why =
     comes_refused (RefusesImposing r.layout r input) (IsImposed r input) _ tells f outcome has_output written is none (by_spec r.layout named.0 r input f named.1 (inl why))
 
 abbrev pub about_spec : Task → (told : Option ℕ) → About
-about_spec t told = record { page_paper = t.options.paper; origin = t.origin; cut = None; behind = t.behind; told = told }
+about_spec t told = record { page_paper = t.options.paper; origin = t.origin; cut = None; reach = t.counted.reach; behind = t.counted.behind; told = told }
 
 -- what comes of its run comes of the request
 pub spec_runs : (r : Request) (input : List ℕ) (t : Task) (told : Option ℕ) (tells : Bool) (outcome : Result Done Fault) (left : Result Report Fault) (has_output : Bool) (name written : Option (List ℕ))

@@ -13,3 +13,4 @@ pub mod Programs
 pub mod Ranges
 pub mod TrailerLines
 pub mod TakenPages
+pub mod ReachingTaken

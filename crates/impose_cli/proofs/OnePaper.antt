@@ -47,3 +47,7 @@ pub refused_check : (r : Request) (input : List ℕ) (n : ℕ) (f : Fault) → H
 refused_check r input n f has (inl refused) = inl refused
 refused_check r input n f has (inr (inl spent)) = inr (n, has, inr (inl spent))
 refused_check r input n f has (inr (inr other)) = inr (n, has, inr (inr (inl other)))
+
+pub refused_count : (r : Request) (input : List ℕ) (f : Fault) → RefusesDocument input f ⊎ ((n : ℕ) × HasPages input n × (f ≡ without_memory)) → RefusesTask r input f
+refused_count r input f (inl refused) = inl refused
+refused_count r input f (inr spent) = inr (spent.0, spent.1, inr (inl spent.2))

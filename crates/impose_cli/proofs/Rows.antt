@@ -1,9 +1,8 @@
 -- What comes of a task with a row, and of a request.
-use Rattle.std.proofs.Common.{◌≡◌, ◌⊎◌, ◌∙◌, ap, sym, subst, refl, inl, inr, Bool, false, ◌∷◌, List, ℕ, Option, Some, None, Result, Ok, Err}
+use Rattle.std.proofs.Common.{◌≡◌, ◌⊎◌, ◌∙◌, ap, sym, subst, refl, inl, inr, Bool, true, false, ◌∷◌, List, ℕ, Option, Some, None, Result, Ok, Err}
 use Rattle.std.specs.Prelude.{length, option_map, string_bytes}
 use Rattle.std.specs.Io.KnownBytes.{Appends}
 use Rattle.made_sheets.specs.Made.{MadeSheet}
-use Rattle.made_sheets.specs.MadePlans.{made_plan_of}
 use Rattle.dressing.specs.declared.strokes.Stroke.{Stroke}
 use Rattle.rules.specs.Papers.{Paper}
 use Rattle.std.proofs.lemmas.List.{length-map}
@@ -20,11 +19,9 @@ use Rattle.row_runs.specs.Runs.{Imposes, page_count, strokes_on}
 use Rattle.row_runs.specs.Sheets.{AreAsked}
 use Rattle.row_runs.specs.SheetsRuns.{ReportsOn, told_output}
 use Rattle.row_runs.specs.Standing.{StandAsLaid}
-use Rattle.row_runs.specs.declared.error.AskedError.{AskedError}
 use Rattle.row_runs.proofs.Refused.{sheets_refused}
 use Rattle.impose_cli.specs.Abouts.{reported_by}
 use Rattle.impose_cli.specs.Endings.{Comes, IsImposed, RefusesImposing, RefusesRow, RefusesRowJob, RefusesRowTaskRun, Runs}
-use Rattle.impose_cli.specs.Faults.{of_asked}
 use Rattle.impose_cli.specs.declared.runs.About.{About}
 use Rattle.impose_cli.proofs.Coming.{RefusesThese, WritesThese, comes_as, comes_refused, comes_reported}
 use Rattle.papers.specs.AsOne.{as_one, kinds, paper_among}
@@ -39,6 +36,8 @@ use Rattle.impose_cli.specs.ToldPages.{told_pages}
 use Rattle.impose_cli.specs.Tasks.{HasBehind, HasPages}
 use Rattle.impose_said.specs.declared.fault.Fault.TheVariants as fault
 use Rattle.impose_cli.specs.Refusals.{RefusesDocument, RefusesLaying, RefusesRowTask, RefusesSides}
+use Rattle.impose_cli.specs.Reaches.{HasReach, HasReachOver, reach_in, reach_over}
+use Rattle.papers.specs.declared.reach.Reach.{Reach}
 use Rattle.impose_cli.specs.RowTasks.{ArePapersOf, cut_in, papers_in, row_paper, sheet_paper_in, text_for, FinishesRow, ImposesTask, IsJobOf, IsRowJob, IsRowPaper, IsRowTask, LaysRows}
 use Rattle.impose_said.specs.declared.fault.Fault.{Fault}
 use Rattle.impose_words.specs.declared.request.Layout.{Layout}
@@ -71,6 +70,14 @@ are_papers r input us papers cut read own cuts = let same = whole input us read 
 pub is_row_paper : (r : Request) (input : List ℕ) (us : List NestedUnit) (found : Paper × PaperOrigin) → document_of input ≡ Ok us
     → found ≡ row_paper r (bytes_of us) us → IsRowPaper r input found
 is_row_paper r input us found read e = (us, read, e ∙ ap (λ t. row_paper r t us) (whole input us read))
+
+pub has_reach : (r : Request) (input : List ℕ) (us : List NestedUnit) (placed : List Paper) (reach : Option Reach) → document_of input ≡ Ok us
+    → reach ≡ reach_in true r placed (bytes_of us) us → HasReach r input placed reach
+has_reach r input us placed reach read e = (us, read, e ∙ ap (λ t. reach_in true r placed t us) (whole input us read))
+
+pub has_reach_over : (r : Request) (input : List ℕ) (us : List NestedUnit) (paper : Paper) (reach : Option Reach) → document_of input ≡ Ok us
+    → reach ≡ reach_over r paper (bytes_of us) us → HasReachOver r input paper reach
+has_reach_over r input us paper reach read e = (us, read, e ∙ ap (λ t. reach_over r paper t us) (whole input us read))
 
 pub has_behind : (input : List ℕ) (us : List NestedUnit) (n : ℕ) → document_of input ≡ Ok us → n ≡ pages_behind us → HasBehind input n
 has_behind input us n read e = (us, read, e)
@@ -107,13 +114,14 @@ refused_found r input f h = elim h [
 ]
 
 pub finishes_row : (r : Request) (input : List ℕ) (t : RowTask) (told : Option ℕ) (old new : Option (List ℕ)) (report : Report) → IsRowTask r input t → told ≡ told_pages input → ImposesTask r t old new report
-    → FinishesRow r input old new (record { report = report; page_paper = t.page_paper; origin = t.origin; cut = t.cut; behind = t.behind; told = told })
+    → FinishesRow r input old new (record { report = report; page_paper = t.page_paper; origin = t.origin; cut = t.cut; reach = t.reach; behind = t.behind; told = told })
 finishes_row r input t told old new report is tells h = record {
   page_paper = is.page_paper;
   behind = is.behind;
   told = tells;
   job = h.0;
   papers = subst (λ ps. ArePapersOf r input ps t.cut) (sym h.1.papers) is.papers;
+  reach = subst (λ ps. HasReach r input ps t.reach) (sym h.1.papers) is.reach;
   is_job = is_row_job r input t h.0 is h.1;
   imposes = h.2;
 }
@@ -138,7 +146,7 @@ row_stops r input tells f outcome has_output written rows is none why =
 
 -- what is reported of a task with a row
 abbrev pub about_row : RowTask → (told : Option ℕ) → About
-about_row t told = record { page_paper = t.page_paper; origin = t.origin; cut = t.cut; behind = t.behind; told = told }
+about_row t told = record { page_paper = t.page_paper; origin = t.origin; cut = t.cut; reach = t.reach; behind = t.behind; told = told }
 
 -- what comes of its run comes of the request
 pub row_runs : (r : Request) (input : List ℕ) (t : RowTask) (told : Option ℕ) (tells : Bool) (outcome : Result Done Fault) (left : Result Report Fault) (has_output : Bool) (written : Option (List ℕ))

@@ -1,20 +1,15 @@
 -- What comes of a task by a specification on a row.
-use Rattle.std.proofs.Common.{◌≡◌, ◌∙◌, ap, sym, subst, refl, inl, inr, Bool, false, List, [], ℕ, Option, None, Result, Ok, Err}
+use Rattle.std.proofs.Common.{◌≡◌, ◌∙◌, ap, sym, subst, refl, inl, inr, Bool, false, List, [], ℕ, Option, None, Result, Err}
 use Rattle.std.specs.Prelude.{option_map, string_bytes}
-use Rattle.std.specs.Io.KnownBytes.{Appends}
 use Rattle.made_sheets.specs.Made.{MadeSheet}
-use Rattle.made_sheets.specs.MadePlans.{made_plan_of}
 use Rattle.rules.specs.Admissible.{Takes, most_slots}
 use Rattle.rules.specs.Run.{document_of}
 use Rattle.imposer.specs.declared.outcome.Report.{Report}
 use Rattle.row_runs.specs.BySpec.{AreBySpec, ImposesBySpec, pages_of}
-use Rattle.row_runs.specs.SheetsRuns.{RefusesSheets, ReportsOn, told_output}
 use Rattle.row_runs.specs.declared.by_spec.SpecJob.{SpecJob}
-use Rattle.row_runs.specs.declared.error.AskedError.{AskedError}
 use Rattle.row_runs.proofs.Refused.{spec_refused}
 use Rattle.impose_cli.specs.Abouts.{reported_by}
 use Rattle.impose_cli.specs.Endings.{Comes, IsImposed, RefusesImposing, Runs}
-use Rattle.impose_cli.specs.Faults.{of_asked}
 use Rattle.impose_cli.specs.SpecRows.{FinishesSpecRow, ImposesSpecTask, IsSpecJobOf, IsSpecRow, IsSpecRowTask, LaysSpecRow, RefusesSpecRowJob, RefusesSpecRowRun, RefusesSpecRowTask, RefusesSpecTaskRun}
 use Rattle.impose_cli.specs.declared.runs.About.{About}
 use Rattle.impose_cli.specs.ToldPages.{told_pages}
@@ -28,7 +23,7 @@ use Rattle.impose_said.specs.declared.finished.Done.{Done}
 use Rattle.impose_cli.proofs.Coming.{RefusesThese, WritesThese, comes_as, comes_refused, comes_reported}
 
 pub finishes_spec_row : (r : Request) (input : List ℕ) (t : SpecRowTask) (told : Option ℕ) (old new : Option (List ℕ)) (report : Report) → IsSpecRowTask r input t → told ≡ told_pages input → ImposesSpecTask r t old new report
-    → FinishesSpecRow r input old new (record { report = report; page_paper = t.page_paper; origin = t.origin; cut = None; behind = t.behind; told = told })
+    → FinishesSpecRow r input old new (record { report = report; page_paper = t.page_paper; origin = t.origin; cut = None; reach = t.counted.reach; behind = t.counted.behind; told = told })
 finishes_spec_row r input t told old new report is tells h =
     let of = h.1 in
     record {
@@ -45,6 +40,7 @@ finishes_spec_row r input t told old new report is tells h =
       of_pages = of.page_paper;
       border = of.border;
       cut = refl;
+      reach = is.reach;
       imposes = h.2;
     }
 
@@ -68,7 +64,7 @@ spec_row_stops r input tells f outcome has_output written rows is none why =
 
 -- what is reported of a task
 abbrev pub about_spec_row : SpecRowTask → (told : Option ℕ) → About
-about_spec_row t told = record { page_paper = t.page_paper; origin = t.origin; cut = None; behind = t.behind; told = told }
+about_spec_row t told = record { page_paper = t.page_paper; origin = t.origin; cut = None; reach = t.counted.reach; behind = t.counted.behind; told = told }
 
 -- what comes of its run comes of the request
 pub spec_row_runs : (r : Request) (input : List ℕ) (t : SpecRowTask) (told : Option ℕ) (tells : Bool) (outcome : Result Done Fault) (left : Result Report Fault) (has_output : Bool) (written : Option (List ℕ))

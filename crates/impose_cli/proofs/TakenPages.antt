@@ -6,7 +6,8 @@ use Rattle.dsc.proofs.Cases.{by_test}
 use Rattle.std.proofs.lemmas.List.{take_more, length-take-le, get_or-set_same, get_or-set_other}
 use Rattle.rules.specs.Papers.{Paper}
 use Rattle.made_sheets.specs.Rows.{Row}
-use Rattle.impose_cli.specs.RowTasks.{is_page, taken_from, takes}
+use Rattle.impose_cli.specs.Reaches.{is_page, takes}
+use Rattle.impose_cli.specs.RowTasks.{taken_from}
 
 swapped : (a b c : Bool) → (a || (b || c)) ≡ (b || (a || c))
 swapped true true c = refl

@@ -14,6 +14,7 @@ finished_by about report = record {
   page_paper = about.page_paper;
   origin = about.origin;
   cut = about.cut;
+  reach = about.reach;
   behind = about.behind;
   told = about.told;
 }

@@ -19,7 +19,7 @@ abbrev pub of_row : (pages : ℕ) → RowError → Fault
 of_row pages (row.NotInDocument place) = fault.NoSuchPage place pages
 of_row pages other = fault.Row other
 
--- of a run on a row of pages of a document that has so many
+-- of a run on a row of pages of a document that has so many (RULES, 16, steps 11 to 14)
 abbrev pub of_asked : (pages : ℕ) → AskedError → Fault
 of_asked pages (asked.Row e) = of_row pages e
 of_asked pages (asked.Arrangement e) = fault.Layout e
@@ -67,7 +67,7 @@ of_other_input input = if length input == 0 then fault.NoInput
     else (if is_pdf input then fault.Pdf
     else or_packed (packing_of input) (of_unpacked input))
 
--- of an input that is refused for this reason
+-- of an input that is refused for this reason (RULES, 16, step 7)
 abbrev pub of_document : DscError → (input : List ℕ) → Fault
 of_document NotPostScript input = of_other_input input
 of_document TooLong input = fault.TooLong

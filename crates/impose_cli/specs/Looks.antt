@@ -21,7 +21,7 @@ MayBeMade product.Specification l = ⊤
 MayBeMade product.Plan l = LaysRows l
 MayBeMade (product.Picture file) l = LaysRows l
 
--- how many sheets or leaves are listed, or sheets drawn
+-- how many sheets or leaves are listed, or sheets drawn (RULES, 17)
 abbrev pub most_told : ℕ
 most_told = 40
 

@@ -1,5 +1,5 @@
 -- The whole program: what its words ask for, what it reads, what it creates and writes, and how it ends.
-use Rattle.std.specs.Prelude.{⊤, ◌≡◌, ◌⊎◌, ◌<◌, ℕ, List, [], length, take, Bool, true, false, Option, Some, None, Result, Ok, Err}
+use Rattle.std.specs.Prelude.{⊤, ◌≡◌, ◌⊎◌, ◌<◌, ℕ, List, [], length, take, Bool, false, Option, Some, None, Result, Ok, Err}
 use Rattle.std.specs.Prelude.{codes, option_map, string_bytes}
 use Rattle.std.specs.Io.KnownBytes.{Appends}
 use Rattle.clap.specs.Words.{Text}
@@ -14,7 +14,8 @@ use Rattle.impose_cli.specs.Refusals.{HasOnePaper, RefusesTask}
 use Rattle.impose_said.specs.Statuses.{fault_status}
 use Rattle.impose_cli.specs.Tasks.{IsTask}
 use Rattle.impose_cli.specs.Unread.{MayBeRead, RefusesRequest}
-use Rattle.impose_words.specs.Words.{Entered, Reads, Refuses}
+use Rattle.impose_words.specs.Faults.{Refuses}
+use Rattle.impose_words.specs.Words.{Entered, Reads}
 use Rattle.impose_said.specs.declared.fault.Fault.{Fault}
 use Rattle.impose_said.specs.declared.fault.Fault.TheVariants as fault
 use Rattle.impose_said.specs.declared.finished.Done.{Done}
@@ -24,7 +25,6 @@ use Rattle.impose_cli.specs.declared.look.Look.TheVariants as look
 use Rattle.impose_words.specs.declared.request.Product.{Product}
 use Rattle.impose_words.specs.declared.request.Product.TheVariants as product
 use Rattle.impose_words.specs.declared.request.Request.{Request}
-use Rattle.impose_said.specs.declared.finished.Finished.{Finished}
 use Rattle.impose_cli.specs.declared.task.Task.{Task}
 
 -- the exit status: 0 if something was done
@@ -120,7 +120,7 @@ Makes (product.Picture file) r input tells outcome has_output written =
     Shows look.Picture (option_map string_bytes file) r input tells outcome has_output written
 
 -- What comes of a request: it is refused before its input is read; or it isn't, and its input can't be read, and nothing was
--- created; or the input was read, and what is asked for is made of it.
+-- created; or the input was read, and what is asked for is made of it (RULES, 16)
 abbrev pub CarriesOut : Request → Gives → (tells : Bool) → Result Done Fault → (has_output : Bool)
     → (written : Option (List ℕ)) → Type 0
 CarriesOut r gives tells outcome has_output written =

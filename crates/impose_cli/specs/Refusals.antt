@@ -28,6 +28,7 @@ abbrev pub IsRefusedFor : (input : List ℕ) → DscError → Type 0
 IsRefusedFor input e = IfSome (dsc.fault_told e) (λ f. document_of input ≡ Err f)
 
 -- the fault is that of a reason for which the document is refused. Out of memory comes after the checks that need none
+-- (RULES, 16, step 7)
 abbrev pub RefusesDocument : (input : List ℕ) → Fault → Type 0
 RefusesDocument input f = (why : DscError) × (f ≡ of_document why input) × IsRefusedFor input why
     × dsc.PassedFirstChecks why input
@@ -43,6 +44,7 @@ abbrev pub RefusesLaying : Layout → Spacing → (page_paper sheet_paper : Pape
 RefusesLaying l s page_paper sheet_paper f = why_not_laid l s page_paper sheet_paper ≡ Some f
 
 -- why no specification is printed: out of memory, or there is no such layout, or one that no specification says
+-- (RULES, 16, steps 7 to 9)
 abbrev pub RefusesLayout : Layout → Spacing → (page_paper sheet_paper : Paper) → Fault → Type 0
 RefusesLayout layout.Selection s page_paper sheet_paper f = f ≡ fault.NoSpecification
 RefusesLayout (layout.Cards cells) s page_paper sheet_paper f = f ≡ fault.NoSpecification
@@ -82,7 +84,7 @@ RefusesSides (layout.Booklet signing long_edge) f = (f ≡ fault.Run run.Options
 RefusesSides other f = ⊥
 
 -- why there is no task with a row: the document is refused; or it isn't, and the layout is, or the signature, or a border
--- as wide as nothing, or memory ran out
+-- as wide as nothing, or memory ran out (RULES, 16, steps 7, 9, 10)
 abbrev pub RefusesRowTask : Request → (input : List ℕ) → Fault → Type 0
 RefusesRowTask r input f =
     RefusesDocument input f

@@ -1,5 +1,5 @@
 -- What is imposed of a row of pages, and how: a request for a document, if its layout lays rows on sheets.
-use Rattle.std.specs.Prelude.{◌≡◌, ⊤, ℕ, ◌+◌, ◌==◌, Bool, true, false, ◌&&◌, ◌||◌, if◌then◌else◌, List, [], ◌∷◌, length, Option, Some, None, Result, Ok, Err, IfSome, option_map}
+use Rattle.std.specs.Prelude.{◌≡◌, ⊤, ℕ, ◌+◌, Bool, true, false, ◌&&◌, if◌then◌else◌, List, [], ◌∷◌, length, Option, Some, None, Result, Ok, Err, IfSome, option_map}
 use Rattle.std.specs.List.{list_all}
 use Rattle.rules.specs.Papers.{Paper}
 use Rattle.rules.specs.Parts.{NestedUnit, pages}
@@ -32,6 +32,7 @@ use Rattle.row_sheets.specs.declared.poster.Poster.{Poster}
 use Rattle.impose_words.specs.Spacings.{arrangement_in, binding_in, notes_in}
 use Rattle.impose_words.specs.declared.request.Spacing.{Spacing}
 use Rattle.impose_cli.specs.ToldPages.{told_pages}
+use Rattle.impose_cli.specs.Reaches.{HasReach, takes}
 use Rattle.impose_cli.specs.Tasks.{HasBehind, page_paper_found, sheet_paper_found, taken_text}
 use Rattle.impose_said.specs.Said.{is_same}
 use Rattle.impose_said.specs.declared.fault.Fault.{Fault}
@@ -56,7 +57,7 @@ signing_in layout.Selection = None
 signing_in (layout.Spec specs) = None
 signing_in (layout.SpecRow specs signing) = None
 
--- the paper of the sheets of a layout, for pages of this paper: a selection keeps pages on their own
+-- the paper of the sheets of a layout, for pages of this paper: a selection keeps pages on their own (RULES, 12.5)
 abbrev pub sheet_paper_in : Layout → (named : Option Paper) → (page_paper : Paper) → Paper
 sheet_paper_in layout.Selection named page_paper = page_paper
 sheet_paper_in other named page_paper = sheet_paper_found named page_paper
@@ -76,7 +77,7 @@ poster_in s columns rows sheet = record {
   overlap = rounded_up s.overlap;
 }
 
--- how a layout lays a row of pages of a paper on sheets, if it does
+-- how a layout lays a row of pages of a paper on sheets, if it does (RULES, 14)
 abbrev pub laying_in : Layout → Spacing → (page_paper sheet_paper : Paper) → Option Laying
 laying_in (layout.NUp cells) s page_paper sheet_paper =
     Some (laying.Grid (setting_of page_paper sheet_paper (arrangement_in s cells)) (count_of cells))
@@ -94,7 +95,7 @@ laying_in layout.Selection s page_paper sheet_paper = Some (laying.AsTheyAre she
 laying_in (layout.Spec specs) s page_paper sheet_paper = None
 laying_in (layout.SpecRow specs signing) s page_paper sheet_paper = None
 
--- the fault that says why it can't
+-- the fault that says why it can't (RULES, 16, step 9)
 abbrev pub why_not_laid : Layout → Spacing → (page_paper sheet_paper : Paper) → Option Fault
 why_not_laid (layout.NUp cells) s page_paper sheet_paper =
     option_map fault.Layout (why_not_arranged page_paper sheet_paper (arrangement_in s cells))
@@ -124,7 +125,7 @@ guarded_in layout.Selection first sheet_paper = first
 guarded_in other first sheet_paper = sheet_paper
 
 -- the paper for which the guard sets the page size: that of the sheets, and of a selection that of its first sheet, since
--- sheets of several papers set their own
+-- sheets of several papers set their own (RULES, 15)
 abbrev pub guarded_paper : Request → (papers : List Paper) → (page_paper : Paper) → Paper
 guarded_paper r papers page_paper = let sheet_paper = sheet_paper_in r.layout r.sheet_paper page_paper in
     guarded_in r.layout (first_paper (imposed_row (length papers) (choice_in r.choice) None) papers sheet_paper) sheet_paper
@@ -146,14 +147,14 @@ abbrev pub paper_for : Paper × PaperOrigin → (own : List Paper) → Paper × 
 paper_for found own = or_first found (first_instead_of found.0 own)
 
 -- the paper for which sheets and cells are made, and where it was found: the document's, if a page has it or one that
--- counts as the same, and else the first page's own
+-- counts as the same, and else the first page's own (RULES, 12.5)
 abbrev pub row_paper : Request → (input : List ℕ) → List NestedUnit → Paper × PaperOrigin
 row_paper r input us = paper_for (page_paper_found r.page_paper r.home_paper input) (own_in r input us)
 
 abbrev pub IsRowPaper : Request → (input : List ℕ) → Paper × PaperOrigin → Type 0
 IsRowPaper r input found = (us : List NestedUnit) × (document_of input ≡ Ok us) × (found ≡ row_paper r input us)
 
--- the papers by which the pages are placed: with those that count as one taken as one
+-- the papers by which the pages are placed: with those that count as one taken as one (RULES, 12.4)
 abbrev pub papers_in : Request → (input : List ℕ) → List NestedUnit → List Paper
 papers_in r input us = as_one (row_paper r input us).0 (own_in r input us)
 
@@ -164,22 +165,13 @@ has_specification (layout.Booklet signing long_edge) = true
 has_specification other = false
 
 -- all pages have this paper, and sheets and cells are made for it: then a specification says what the row is
+-- (RULES, 16, step 8)
 abbrev pub is_of_one_paper : Request → (input : List ℕ) → List NestedUnit → Paper → Bool
 is_of_one_paper r input us paper = is_same (row_paper r input us).0 paper && list_all (is_same paper) (papers_in r input us)
 
 -- the document is accepted, and this says whether all of its pages have that paper
 abbrev pub TellsOnePaper : Request → (input : List ℕ) → Paper → Bool → Type 0
 TellsOnePaper r input paper is = (us : List NestedUnit) × (document_of input ≡ Ok us) × (is ≡ is_of_one_paper r input us paper)
-
--- an entry of a row is this page
-abbrev pub is_page : Option ℕ → (page : ℕ) → Bool
-is_page None page = false
-is_page (Some entry) page = entry == page
-
--- a row takes this page
-abbrev pub takes : Row → (page : ℕ) → Bool
-takes [] page = false
-takes (entry ∷ row) page = is_page entry page || takes row page
 
 -- papers of pages from this number on, with another one for each page that the row doesn't take
 abbrev pub taken_from : Row → (other : Paper) → (first : ℕ) → (own : List Paper) → List Paper
@@ -196,6 +188,7 @@ abbrev pub cut_by_named : Option Paper → Result Row RowFault → (input : List
 cut_by_named None row input us = None
 cut_by_named (Some named) row input us = cut_on row named (own_papers None paper_named named input us)
 
+-- RULES, 17
 abbrev pub cut_in : Request → (input : List ℕ) → List NestedUnit → Option Cut
 cut_in r input us = cut_by_named r.page_paper (imposed_row (length (pages us)) (choice_in r.choice) None) input us
 
@@ -215,6 +208,7 @@ LaysRows other = ⊤
 -- the task is what the request asks for with this document
 pub record IsRowTask (r : Request) (input : List ℕ) (t : RowTask) : Type 0 where
   pub papers : ArePapersOf r input t.papers.items t.cut
+  pub reach : HasReach r input t.papers.items t.reach
   pub page_paper : IsRowPaper r input (t.page_paper, t.origin)
   pub behind : HasBehind input t.behind
   pub text : t.text.items ≡ text_for r t.papers.items t.page_paper input
@@ -259,5 +253,6 @@ pub record FinishesRow (r : Request) (input : List ℕ) (old new : Option (List 
   pub told : done.told ≡ told_pages input
   pub job : RowJob
   pub papers : ArePapersOf r input job.papers.now done.cut
+  pub reach : HasReach r input job.papers.now done.reach
   pub is_job : IsRowJob r input done.page_paper job
   pub imposes : Imposes job old new done.report

@@ -1,5 +1,5 @@
 -- What is imposed by a specification on a row of pages, and how: a request for a document, if it names both.
-use Rattle.std.specs.Prelude.{◌≡◌, ◌⊎◌, ⊤, ℕ, true, false, List, Option, Some, None, IfSome, Ok, option_map, string_bytes}
+use Rattle.std.specs.Prelude.{◌≡◌, ◌⊎◌, ⊤, ℕ, true, false, List, Option, None, IfSome, Ok, string_bytes}
 use Rattle.rules.specs.Admissible.{Takes, most_slots}
 use Rattle.rules.specs.Run.{document_of}
 use Rattle.rows.specs.Choices.{choice_of}
@@ -17,6 +17,7 @@ use Rattle.impose_cli.specs.Faults.{of_asked}
 use Rattle.impose_cli.specs.Refusals.{RefusesDocument, RefusesText}
 use Rattle.impose_cli.specs.Tasks.{HasBehind, HasPages, page_paper_found, sheet_paper_found, taken_text}
 use Rattle.impose_cli.specs.ToldPages.{told_pages}
+use Rattle.impose_cli.specs.Reaches.{HasReachOver}
 use Rattle.impose_cli.specs.Unread.{RefusesSpecification}
 use Rattle.impose_said.specs.declared.fault.Fault.{Fault}
 use Rattle.impose_said.specs.declared.fault.Fault.TheVariants as fault
@@ -40,7 +41,8 @@ LaysSpecRow other = ⊥
 pub record IsSpecRowTask (r : Request) (input : List ℕ) (t : SpecRowTask) : Type 0 where
   pub page_count : ℕ
   pub document : HasPages input page_count
-  pub behind : HasBehind input t.behind
+  pub behind : HasBehind input t.counted.behind
+  pub reach : HasReachOver r input t.page_paper t.counted.reach
   pub text_of_spec : List ℕ
   pub named : IsSpecRow r.layout text_of_spec t.signing
   pub takes : Takes most_slots text_of_spec t.spec
@@ -79,6 +81,7 @@ pub record FinishesSpecRow (r : Request) (input : List ℕ) (old new : Option (L
   pub of_pages : job.page ≡ done.page_paper
   pub border : job.border ≡ r.border
   pub cut : done.cut ≡ None
+  pub reach : HasReachOver r input done.page_paper done.reach
   pub imposes : ImposesBySpec job old new done.report
 
 -- ---- refusals

@@ -9,6 +9,7 @@ use Rattle.rules.specs.Run.{document_of, plan_in}
 use Rattle.rules.specs.Sheets.{sheets}
 use Rattle.dsc.specs.PagesBehind.{pages_behind}
 use Rattle.impose_cli.specs.ToldPages.{told_pages}
+use Rattle.impose_cli.specs.Reaches.{HasReachOver}
 use Rattle.made_sheets.specs.Choice.{sides_for}
 use Rattle.rows.specs.Sewing.{signing_of}
 use Rattle.guard.specs.Guard.{guarded}
@@ -36,15 +37,16 @@ abbrev pub own_or_home : (home : Paper) → Option (Paper × Comment) → Paper 
 own_or_home home None = (home, AtHome)
 own_or_home home (Some own) = (own.0, ByComment own.1)
 
+-- RULES, 12.2
 abbrev pub page_paper_found : (named : Option Paper) → (home : Paper) → (input : List ℕ) → Paper × PaperOrigin
 page_paper_found (Some page_paper) home input = (page_paper, Named)
 page_paper_found None home input = own_or_home home (document_paper home input)
 
--- the paper of the sheets: the one that is named, else that of the pages
+-- the paper of the sheets: the one that is named, else that of the pages (RULES, 12.5)
 abbrev pub sheet_paper_found : (named : Option Paper) → (page_paper : Paper) → Paper
 sheet_paper_found named page_paper = unwrap_or named page_paper
 
--- the document, with the guard in it if it is asked for
+-- the document, with the guard in it if it is asked for (RULES, 15)
 abbrev pub taken_text : (is_guarded : Bool) → (sheet_paper : Paper) → List ℕ → List ℕ
 taken_text is_guarded sheet_paper input = if is_guarded then guarded (Some sheet_paper) input else input
 
@@ -61,7 +63,7 @@ abbrev pub IsWritten : Spec → (text : List ℕ) → Type 0
 IsWritten spec text = (text ≡ canonical spec) × Takes most_slots text spec
 
 -- The text of the specification and the sides of a signature to which a layout comes, for so many pages of a paper. None
--- says a selection, cards, a stack, lines for notes, a poster, or leaves that creep.
+-- says a selection, cards, a stack, lines for notes, a poster, or leaves that creep (RULES, 14)
 abbrev pub IsPlaced : Layout → Spacing → (page_paper sheet_paper : Paper) → (pages : ℕ) → (text : List ℕ)
     → (sides : Option ℕ) → Type 0
 IsPlaced (layout.NUp cells) s page_paper sheet_paper pages text sides = let a = arrangement_in s cells in
@@ -84,7 +86,8 @@ IsPlaced layout.Selection s page_paper sheet_paper pages text sides = ⊥
 pub record IsTask (request : Request) (input : List ℕ) (task : Task) : Type 0 where
   pub page_count : ℕ
   pub document : HasPages input page_count
-  pub behind : HasBehind input task.behind
+  pub behind : HasBehind input task.counted.behind
+  pub reach : HasReachOver request input task.options.paper task.counted.reach
   pub said : is_said request.choice request.marks ≡ true
   pub page_paper : (task.options.paper, task.origin) ≡ page_paper_found request.page_paper request.home_paper input
   pub placed : IsPlaced request.layout request.spacing task.options.paper (sheet_paper_found request.sheet_paper task.options.paper)
@@ -122,6 +125,7 @@ pub record FinishesSpec (r : Request) (input : List ℕ) (old new : Option (List
   pub units : List NestedUnit
   pub taken : document_of (taken_text r.is_guarded (sheet_paper_found r.sheet_paper done.page_paper) input) ≡ Ok units
   pub cut : done.cut ≡ None
+  pub reach : HasReachOver r input done.page_paper done.reach
   pub behind : HasBehind input done.behind
   pub told : done.told ≡ told_pages input
   pub plan : plan_in None spec (length (pages units)) ≡ Ok (sheets spec (length (pages units)))

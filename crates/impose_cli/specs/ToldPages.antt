@@ -39,5 +39,6 @@ abbrev pub count_by : (field : List ℕ) → (end : List (List ℕ)) → Option 
 count_by field end =
     if bytes_eq field (codes "(atend)") then option_and_then count_of (pages_field end) else count_of field
 
+-- RULES, 17
 abbrev pub told_pages : (text : List ℕ) → Option ℕ
 told_pages text = option_and_then (λ field. count_by field (last_lines text)) (pages_field (header text))

@@ -77,6 +77,7 @@ abbrev pub has_margin : Spacing → Bool
 has_margin s = int_lt (pos 0) s.margin && int_le s.gap (s.margin +ℤ s.margin)
 
 -- the first such option: a paper for sheets that keep their own, and marks outside of pages that have no room for them
+-- (RULES, 16, step 4)
 abbrev pub idle_option : Request → Option IdleOption
 idle_option r = if keeps_papers r.layout && is_some r.sheet_paper then Some Sheet
     else (if r.marks.cut && (is_cut_outside r.layout && not (has_margin r.spacing)) then Some CutMarks else None)
@@ -105,6 +106,7 @@ pub record MayBeRead (r : Request) : Type 0 where
   pub ranges : AreRanges r.choice
 
 -- its options are refused; or they aren't, and its layout is; or it isn't, and its ranges are
+-- (RULES, 16, steps 4 and 5)
 abbrev pub RefusesRequest : Request → Fault → Type 0
 RefusesRequest r f = (option_fault r ≡ Some f)
     ⊎ ((option_fault r ≡ None) × (RefusesUnread r.layout r.spacing r.page_paper r.sheet_paper f

@@ -8,6 +8,7 @@ mod left;
 mod look;
 mod printed;
 mod program;
+mod reach;
 mod roomy_text;
 mod row_task;
 mod runs;
@@ -22,9 +23,9 @@ pub use impose_said::{
     fault_status, fault_text, note_text, report_text, text_said, told_text, words_text,
 };
 pub use impose_words::{
-    CellOption, CommandFault, GridCommand, Layout, LengthOption, PageChoice, PaperOption, Product,
-    ProductOption, Request, Spacing, cells_named, exact_cells, noted_cells, read_command,
-    run_named, scale_named, signing_named, size_named, turned_named,
+    CommandFault, GridCommand, Layout, Opt, PageChoice, Product, ProductOption, Request, Spacing,
+    cells_named, exact_cells, noted_cells, number_alone, read_command, run_named, signing_named,
+    size_named, turned_named,
 };
 pub use look::{Look, look_text};
 pub use printed::printed_task;

@@ -1,5 +1,5 @@
 //! What is imposed of a row of pages that a layout lays on sheets, and how.
-ghost use Rattle.std.specs.Prelude.{◌≡◌, ◌≤◌, ◌&&◌, ◌⊎◌, ℕ, length, IfErr, IfOk, IfSome, IsTrue, None, Ok};
+ghost use Rattle.std.specs.Prelude.{◌≡◌, ◌≤◌, ◌&&◌, ◌⊎◌, ℕ, length, true, IfErr, IfOk, IfSome, IsTrue, None, Ok};
 ghost use Rattle.std.specs.Prelude.{is_some, option_and_then, option_map, string_bytes};
 ghost use Rattle.rows.specs.Sewing.{MayBeSewn};
 ghost use Rattle.row_runs.specs.Sheets.{MayBeLaid};
@@ -17,12 +17,14 @@ ghost use Rattle.std.specs.List.{list_all};
 ghost use Rattle.impose_cli.specs.RowTasks.{TellsOnePaper};
 ghost use Rattle.impose_said.specs.Said.{is_same as are_same};
 ghost use Rattle.impose_cli.specs.RowTasks.{cut_in, cut_on, paper_for, papers_in as papers_found, row_paper};
+ghost use Rattle.impose_cli.specs.Reaches.{HasReach, reach_in};
 ghost use Rattle.impose_cli.specs.Refusals.{RefusesDocument, RefusesRowTask};
 ghost use Rattle.impose_cli.specs.Tasks.{HasBehind, HasPages, page_paper_found};
 ghost use Rattle.dsc.specs.PagesBehind.{pages_behind};
 
 use crate::laying::{laying_for, papers_for, signing_for};
 use crate::left::{Left, stopped};
+use crate::reach::reach_of_pages;
 use crate::roomy_text::RoomyText;
 use crate::runs::impose_job;
 use crate::taken::papers_taken;
@@ -33,7 +35,7 @@ use impose_said::{Fault, PaperOrigin};
 use impose_words::{Layout, PageChoice, Request};
 use imposer::{Report, RunError};
 use lengths::{Grains, Paper};
-use papers::{Cut, as_one, cut_by, first_instead_of, own_papers};
+use papers::{Cut, Reach, as_one, cut_by, first_instead_of, own_papers};
 use row_runs::{Asked, AskedError, Laying, RowJob};
 use rows::{RowError, Signing, imposed_row};
 use std::alloc::{AllocError, Global};
@@ -52,6 +54,8 @@ pub struct RowTask {
     pub(crate) papers: Vec<Paper>,
     /// The pages that the paper cuts which is named for them.
     pub(crate) cut: Option<Cut>,
+    /// The pages that reach beyond the papers by which they are placed.
+    pub(crate) reach: Option<Reach>,
     /// How many pages follow its trailer.
     pub(crate) behind: usize,
     pub(crate) laying: Laying,
@@ -93,6 +97,7 @@ pub(crate) fn row_task(alloc: Global, request: &Request, input: RoomyText) -> Re
             origin: found.origin,
             papers: found.papers,
             cut: found.cut,
+            reach: found.reach,
             behind: found.behind,
             laying,
             signing,
@@ -114,6 +119,8 @@ struct FoundPapers {
     papers: Vec<Paper>,
     /// The pages that the paper cuts which is named for them.
     cut: Option<Cut>,
+    /// The pages that reach beyond those papers.
+    reach: Option<Reach>,
     /// How many pages follow the trailer.
     behind: usize,
 }
@@ -122,6 +129,7 @@ struct FoundPapers {
 fn papers_of(alloc: Global, request: &Request, input: &[u8]) -> Result<FoundPapers, Fault>
     ensures found { IfOk result (λ found. ArePapersOf request.now input.now found.papers.items found.cut) }
     ensures paper { IfOk result (λ found. IsRowPaper request.now input.now (found.page_paper, found.origin)) }
+    ensures reach { IfOk result (λ found. HasReach request.now input.now found.papers.items found.reach) }
     ensures behind { IfOk result (λ found. HasBehind input.now found.behind) }
     ensures count { IfOk result (λ found. found.pages ≡ length found.papers.items) }
     ensures few { IfOk result (λ found. found.pages ≤ most_pages) }
@@ -189,6 +197,8 @@ fn papers_in(
         (found.page_paper, found.origin) ≡ row_paper request.now (bytes_of document.now) document.now) }
     ensures cut { IfOk result (λ found.
         found.cut ≡ cut_in request.now (bytes_of document.now) document.now) }
+    ensures reach { IfOk result (λ found.
+        found.reach ≡ reach_in true request.now found.papers.items (bytes_of document.now) document.now) }
     ensures behind { IfOk result (λ found. found.behind ≡ pages_behind document.now) }
     ensures count { IfOk result (λ found. found.pages ≡ length found.papers.items) }
     ensures few { IfOk result (λ found. found.pages ≤ most_pages) }
@@ -197,12 +207,14 @@ fn papers_in(
     let (page_paper, origin) = paper_of_row(request, document.text(), own.as_slice());
     let papers = as_one(alloc, &page_paper, own.as_slice())?;
     let cut = cut_pages(alloc, request, document)?;
+    let reach = reach_of_pages(alloc, request, document, papers.as_slice(), true)?;
     Ok(FoundPapers {
         pages: document.pages(),
         page_paper,
         origin,
         papers,
         cut,
+        reach,
         behind: document.pages_behind_trailer(),
     })
 }

@@ -31,7 +31,7 @@ use impose_words::{Layout, Request};
 use imposer::{Job, Open, Options, Report, RunError, run_plan};
 use lengths::Paper;
 use pagespec::{Spec, read_spec};
-use papers::Cut;
+use papers::{Cut, Reach};
 use row_runs::{PlannedSheets, RowJob, SheetJob, SpecJob};
 use sheet_plan::Plan;
 use std::alloc::Global;
@@ -83,6 +83,7 @@ fn run_row<R: Threads + Wait + Sync, W: World>(
         page_paper: task.page_paper,
         origin: task.origin,
         cut: task.cut,
+        reach: task.reach,
         behind: task.behind,
         told,
     };
@@ -139,7 +140,8 @@ fn run_spec_row<R: Threads + Wait + Sync, W: World>(
         page_paper: task.page_paper,
         origin: task.origin,
         cut: None,
-        behind: task.behind,
+        reach: task.counted.reach,
+        behind: task.counted.behind,
         told,
     };
     reported(left, about)
@@ -195,7 +197,8 @@ fn run_spec<R: Threads + Wait + Sync, W: World>(
         page_paper: task.options.paper,
         origin: task.origin,
         cut: None,
-        behind: task.behind,
+        reach: task.counted.reach,
+        behind: task.counted.behind,
         told,
     };
     reported(left, about)
@@ -256,6 +259,7 @@ struct About {
     page_paper: Paper,
     origin: PaperOrigin,
     cut: Option<Cut>,
+    reach: Option<Reach>,
     behind: usize,
     told: Option<usize>,
 }
@@ -277,6 +281,7 @@ fn reported<W: World>(left: Left<W, Report>, about: About) -> Left<W, Done>
                 page_paper: about.page_paper,
                 origin: about.origin,
                 cut: about.cut,
+                reach: about.reach,
                 behind: about.behind,
                 told: about.told,
             };

@@ -12,7 +12,7 @@ use crate::left::{Left, stopped};
 use crate::roomy_text::RoomyText;
 use crate::row_task::is_drawn;
 use crate::runs::impose_spec_job;
-use crate::task::{pages_of, paper_of_pages, paper_of_sheets, text_to_impose};
+use crate::task::{CountedPages, pages_of, paper_of_pages, paper_of_sheets, text_to_impose};
 use command_words::name_of;
 use dsc::Document;
 use impose_said::{Fault, PaperOrigin};
@@ -37,8 +37,8 @@ pub struct SpecRowTask {
     pub(crate) page_paper: Paper,
     pub(crate) sheet_paper: Paper,
     pub(crate) origin: PaperOrigin,
-    /// How many pages follow the document's trailer.
-    pub(crate) behind: usize,
+    /// What was counted of the document's pages.
+    pub(crate) counted: CountedPages,
 }
 
 /// The request for this document, and the fault if it is found before the run.
@@ -52,8 +52,9 @@ pub(crate) fn spec_row_task(
     ensures refused { IfErr result (RefusesSpecRowTask request.now input.items) }
 {
     // The document is read as it came, so that a fault has its place there.
-    let (_, behind) = match pages_of(alloc, input.as_slice()) {
-        Ok(counts) => counts,
+    let (page_paper, origin) = paper_of_pages(request, input.as_slice());
+    let counted = match pages_of(alloc, request, input.as_slice(), &page_paper) {
+        Ok(counted) => counted,
         Err(fault) => return Err(fault),
     };
     let (spec, signing) = match spec_and_signing(alloc, &request.layout) {
@@ -63,7 +64,6 @@ pub(crate) fn spec_row_task(
     if !is_drawn(request.border) {
         return Err(Fault::Run(RunError::Options));
     }
-    let (page_paper, origin) = paper_of_pages(request, input.as_slice());
     let sheet_paper = *paper_of_sheets(&request.sheet_paper, &page_paper);
     match text_to_impose(request.is_guarded, &sheet_paper, input) {
         Ok(text) => Ok(SpecRowTask {
@@ -73,7 +73,7 @@ pub(crate) fn spec_row_task(
             page_paper,
             sheet_paper,
             origin,
-            behind,
+            counted,
         }),
         Err(_) => Err(Fault::no_memory()),
     }

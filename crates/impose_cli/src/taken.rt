@@ -1,6 +1,7 @@
 //! Pages that a row takes.
 ghost use Rattle.std.specs.Prelude.{◌≡◌, ℕ, ◌<◌, ◌==◌, ◌||◌, if◌then◌else◌, IfOk, length, get_or, false};
-ghost use Rattle.impose_cli.specs.RowTasks.{is_page, taken_from, takes};
+ghost use Rattle.impose_cli.specs.Reaches.{is_page, takes};
+ghost use Rattle.impose_cli.specs.RowTasks.{taken_from};
 
 use lengths::Paper;
 use std::alloc::{AllocError, Global};
@@ -29,7 +30,11 @@ fn paper_if(is_taken: bool, own: &Paper, other: &Paper) -> Paper
 }
 
 /// Which of so many pages the row takes.
-fn pages_taken(alloc: Global, row: &[Option<u32>], pages: usize) -> Result<Vec<bool>, AllocError>
+pub(crate) fn pages_taken(
+    alloc: Global,
+    row: &[Option<u32>],
+    pages: usize,
+) -> Result<Vec<bool>, AllocError>
     ensures len { IfOk result (λ taken. length taken.items ≡ pages) }
     ensures each { IfOk result (λ taken. (k : ℕ) → k < pages → get_or taken.items k false ≡ takes row.now k) }
 {

@@ -12,6 +12,7 @@ ghost use Rattle.impose_cli.specs.Faults.{of_document as document_fault, of_othe
 ghost use Rattle.impose_cli.specs.RowTasks.{has_specification as is_made_for};
 ghost use Rattle.impose_cli.specs.Tasks.{HasBehind, HasPages, IsPlaced, IsTask, IsWritten, page_paper_found};
 ghost use Rattle.impose_cli.specs.Tasks.{sheet_paper_found, taken_text};
+ghost use Rattle.impose_cli.specs.Reaches.{HasReachOver};
 ghost use Rattle.impose_cli.specs.Refusals.{HasOnePaper, HasOtherPapers, RefusesDocument, RefusesLayout, RefusesTask};
 ghost use Rattle.impose_words.specs.Choices.{is_said as says};
 ghost use Rattle.impose_cli.specs.Unread.{IsPossible, IsSpecification, RefusesSpecification, RefusesUnread};
@@ -19,6 +20,7 @@ ghost use Rattle.impose_words.specs.declared.request.Layout.TheVariants as layou
 ghost use Rattle.impose_said.specs.declared.fault.Fault.TheVariants as faults;
 
 use crate::laying::{laying_for, papers_for};
+use crate::reach::reach_over;
 use crate::roomy_text::RoomyText;
 use crate::row_task::has_one_paper;
 use dressing::Marks;
@@ -29,12 +31,12 @@ use imposer::{Options, RunError, Workers};
 use layouts::{Binding, Cells, Papers, arrange, bind};
 use lengths::Paper;
 use pagespec::{Spec, read_spec, write_spec};
-use papers::document_paper;
+use papers::{Reach, document_paper};
 use rows::{Signing, auto_sides};
 use std::alloc::{AllocError, Global};
 
 /// What is imposed, and how.
-#[derive(Debug, Drop)]
+#[derive(Drop)]
 pub struct Task {
     /// The document, with the guard in it if it is asked for.
     pub text: RoomyText,
@@ -43,8 +45,19 @@ pub struct Task {
     pub options: Options,
     /// Where the paper of the pages was found.
     pub origin: PaperOrigin,
-    /// How many pages follow the document's trailer.
+    /// What was counted of the document's pages.
+    pub counted: CountedPages,
+}
+
+/// What is counted of a document's pages, where all are placed by one paper.
+#[derive(Clone, Copy)]
+pub struct CountedPages {
+    /// How many they are.
+    pub pages: u32,
+    /// How many follow the trailer.
     pub behind: usize,
+    /// Those that reach beyond the paper.
+    pub reach: Option<Reach>,
 }
 
 /// As many preparers and imposers as `pstops` has.
@@ -102,14 +115,14 @@ pub fn task_for(alloc: Global, request: &Request, input: RoomyText) -> Result<Ta
     ensures refused { IfErr result (RefusesTask request.now input.items) }
 {
     // The document is read as it came, so that a fault has its place there.
-    let (pages, behind) = match pages_of(alloc, input.as_slice()) {
-        Ok(counts) => counts,
+    let (page_paper, origin) = paper_of_pages(request, input.as_slice());
+    let counted = match pages_of(alloc, request, input.as_slice(), &page_paper) {
+        Ok(counted) => counted,
         Err(fault) => return Err(fault),
     };
     if !is_said(&request.choice, request.marks) {
         return Err(Fault::NoSpecification);
     }
-    let (page_paper, origin) = paper_of_pages(request, input.as_slice());
     let sheet_paper = *paper_of_sheets(&request.sheet_paper, &page_paper);
     match check_one_paper(alloc, request, input.as_slice(), &page_paper) {
         Ok(()) => {}
@@ -119,7 +132,13 @@ pub fn task_for(alloc: Global, request: &Request, input: RoomyText) -> Result<Ta
         page: page_paper,
         sheet: sheet_paper,
     };
-    let (spec, sides) = match placing(alloc, &request.layout, &request.spacing, &papers, pages) {
+    let (spec, sides) = match placing(
+        alloc,
+        &request.layout,
+        &request.spacing,
+        &papers,
+        counted.pages,
+    ) {
         Ok(placed) => placed,
         Err(fault) => return Err(fault),
     };
@@ -138,7 +157,7 @@ pub fn task_for(alloc: Global, request: &Request, input: RoomyText) -> Result<Ta
         spec,
         options,
         origin,
-        behind,
+        counted,
     })
 }
 
@@ -208,17 +227,32 @@ pub(crate) fn paper_of_sheets<'p>(named: &'p Option<Paper>, page_paper: &'p Pape
     }
 }
 
-/// How many pages the document has, and how many follow its trailer.
-pub(crate) fn pages_of(alloc: Global, input: &[u8]) -> Result<(u32, usize), Fault>
-    ensures counted { IfOk result (λ counts. HasPages input.now counts.0) }
-    ensures behind { IfOk result (λ counts. HasBehind input.now counts.1) }
-    ensures some { IfOk result (λ counts. 0 < counts.0) }
-    ensures within { IfOk result (λ counts. counts.0 ≤ most_pages) }
-    ensures refused { IfErr result (RefusesDocument input.now) }
+/// What is counted of a document's pages, if all are placed by this paper.
+pub(crate) fn pages_of(
+    alloc: Global,
+    request: &Request,
+    input: &[u8],
+    paper: &Paper,
+) -> Result<CountedPages, Fault>
+    ensures counted { IfOk result (λ c. HasPages input.now c.pages) }
+    ensures behind { IfOk result (λ c. HasBehind input.now c.behind) }
+    ensures reach { IfOk result (λ c. HasReachOver request.now input.now paper.now c.reach) }
+    ensures some { IfOk result (λ c. 0 < c.pages) }
+    ensures within { IfOk result (λ c. c.pages ≤ most_pages) }
+    ensures refused { IfErr result (λ f.
+        RefusesDocument input.now f ⊎ ((n : ℕ) × HasPages input.now n × (f ≡ without_memory))) }
 {
-    match Document::read(alloc, input) {
-        Ok(document) => Ok((document.pages(), document.pages_behind_trailer())),
-        Err(error) => Err(of_document(error, input)),
+    let document = match Document::read(alloc, input) {
+        Ok(document) => document,
+        Err(error) => return Err(of_document(error, input)),
+    };
+    match reach_over(alloc, request, &document, paper) {
+        Ok(reach) => Ok(CountedPages {
+            pages: document.pages(),
+            behind: document.pages_behind_trailer(),
+            reach,
+        }),
+        Err(_) => Err(Fault::no_memory()),
     }
 }
 

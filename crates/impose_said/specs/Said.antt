@@ -1,7 +1,7 @@
 -- What is said on standard error of how the program ended: which lines, in which order, and what is in those of a finished run. What
 -- a fault's message is no word here says, nor what is said of words that the command doesn't take.
 use Rattle.std.specs.Prelude.{⊤, ◌≡◌, ◌==◌, ◌⊎◌, ◌++◌, if◌then◌else◌, ℕ, List, [], Bool, true, false, Option, Some, None, Result, Ok, Err}
-use Rattle.std.specs.Prelude.{codes, decimal, nat_eq, ◌||◌, ◌&&◌, not, option_map, string_bytes}
+use Rattle.std.specs.Prelude.{◌-◌, codes, decimal, nat_eq, ◌||◌, ◌&&◌, not, option_map, string_bytes}
 use Rattle.std.specs.List.{ends_with}
 use Rattle.std.specs.IoError.{error_kind}
 use Rattle.std.specs.declared.io.ErrorKind.{ErrorKind}
@@ -13,6 +13,7 @@ use Rattle.rules.specs.Bytes.{line}
 use Rattle.rules.specs.Papers.{Paper}
 use Rattle.papers.specs.declared.media.Comment.TheVariants as comment
 use Rattle.papers.specs.declared.cuts.Cut.{Cut}
+use Rattle.papers.specs.declared.reach.Reach.{Reach}
 use Rattle.imposer.specs.declared.outcome.Report.{Report}
 use Rattle.impose_said.specs.Statuses.{words_status}
 use Rattle.impose_words.specs.declared.fault.CommandFault.TheVariants as command
@@ -27,7 +28,7 @@ use Rattle.impose_said.specs.declared.finished.PaperOrigin.TheVariants as origin
 
 -- ---- messages of a finished run
 
--- where the paper of the pages was found
+-- where the paper of the pages was found (RULES, 17)
 abbrev pub origin_text : PaperOrigin → List ℕ
 origin_text origin.Named = codes "as named"
 origin_text (origin.ByComment comment.DocumentMedia) = codes "by its %%DocumentMedia"
@@ -66,6 +67,18 @@ abbrev pub IsOfCut : Option Cut → (message : Option (List ℕ)) → Type 0
 IsOfCut None message = message ≡ None
 IsOfCut (Some cut) message = (pages own named : List ℕ)
     × (message ≡ Some (codes "--paper cuts " ++ (pages ++ (codes ": " ++ (own ++ (codes " on " ++ named))))))
+
+-- how many more pages reach beyond their papers
+abbrev pub others_text : (pages : ℕ) → List ℕ
+others_text pages = if pages == 0 then []
+    else (if pages == 1 then codes ", and 1 other page beyond its own"
+    else codes ", and " ++ (decimal pages ++ codes " other pages beyond theirs"))
+
+-- of pages that reach beyond their papers, if there are some: the first one, how far it reaches, and its paper
+abbrev pub IsOfReach : Option Reach → (message : Option (List ℕ)) → Type 0
+IsOfReach None message = message ≡ None
+IsOfReach (Some reach) message = (page box placed : List ℕ)
+    × (message ≡ Some (codes "page " ++ (page ++ (codes " reaches " ++ (box ++ (codes " on " ++ (placed ++ others_text (reach.pages - 1))))))))
 
 -- of pages that follow the document's trailer, if there are some
 abbrev pub behind_text : (pages : ℕ) → Option (List ℕ)
@@ -121,20 +134,22 @@ AddsLine message before after = (text : List ℕ) × IsLineOf message text × (a
 
 -- ---- all of it
 
--- Of a finished run five lines are said, in this order: the report, then that pages are cut, that pages follow the
--- trailer, that not as many were found as the document says, and that the output is no PDF.
+-- Of a finished run six lines are said, in this order: the report, then that pages are cut, that pages reach beyond their
+-- papers, that pages follow the trailer, that not as many were found as the document says, and that the output is no PDF.
 pub record SaysLines (finished : Finished) (r : Request) (text : List ℕ) : Type 0 where
   pub report : List ℕ
   pub cut : List ℕ
+  pub reach : List ℕ
   pub behind : List ℕ
   pub told : List ℕ
   pub note : List ℕ
   pub reports : MaySay (IsReport finished r) report
   pub cuts : MaySay (IsOfCut finished.cut) cut
+  pub reaches : MaySay (IsOfReach finished.reach) reach
   pub tells_behind : MaySay (λ message. message ≡ behind_text finished.behind) behind
   pub tells_count : MaySay (λ message. message ≡ told_text finished.told finished.report.pages) told
   pub notes : MaySay (IsNote (option_map string_bytes r.outfile)) note
-  pub in_order : text ≡ report ++ (cut ++ (behind ++ (told ++ note)))
+  pub in_order : text ≡ report ++ (cut ++ (reach ++ (behind ++ (told ++ note))))
 
 -- a quiet request says nothing
 abbrev pub SaysUnless : (quiet : Bool) → Finished → Request → (text : List ℕ) → Type 0

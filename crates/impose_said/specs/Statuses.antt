@@ -44,6 +44,7 @@ abbrev pub sheets_status : MadeError → ℕ
 sheets_status made.NoMemory = 3
 sheets_status other = 1
 
+-- RULES, 16
 abbrev pub fault_status : Fault → ℕ
 fault_status (fault.Command f) = command_status f
 fault_status (fault.Layout e) = layout_status e

@@ -1,7 +1,7 @@
 //! What was done.
 use imposer::Report;
 use lengths::Paper;
-use papers::{Comment, Cut};
+use papers::{Comment, Cut, Reach};
 
 /// Where the paper of the pages was found.
 #[derive(Clone, Copy, Debug, PartialEq, Eq)]
@@ -17,15 +17,17 @@ pub enum PaperOrigin {
 }
 
 /// How a request was carried out.
-#[derive(Clone, Copy, Debug, PartialEq, Eq)]
+#[derive(Clone, Copy)]
 pub struct Finished {
     pub report: Report,
     /// The paper of the pages.
     pub page_paper: Paper,
     /// Where the paper of the pages was found.
     pub origin: PaperOrigin,
-    /// The pages that the paper cuts which was named for them. By a specification none are reported.
+    /// The pages that the paper cuts which was named for them. By a specification they are among those that reach beyond it.
     pub cut: Option<Cut>,
+    /// The pages that reach beyond the papers by which they are placed.
+    pub reach: Option<Reach>,
     /// How many pages follow the document's trailer, which aren't imposed.
     pub behind: usize,
     /// How many pages the document says that it has, if it does.
@@ -33,7 +35,7 @@ pub struct Finished {
 }
 
 /// What was done.
-#[derive(Clone, Copy, Debug, PartialEq, Eq)]
+#[derive(Clone, Copy)]
 pub enum Done {
     /// The pages were imposed.
     Imposed(Finished),

@@ -10,8 +10,8 @@ use clap::error::ErrorKind;
 use command_words::name_of;
 use dsc::DscError;
 use impose_words::{
-    CellOption, CommandFault, GridCommand, Layout, LengthOption, PageChoice, PaperOption, Product,
-    ProductOption, Request, number_in,
+    CommandFault, GridCommand, Layout, Opt, PageChoice, Product, ProductOption, Request,
+    lacks_unit, number_in,
 };
 use imposer::{RunError, run_status};
 use layouts::ArrangementError;
@@ -244,39 +244,56 @@ pub fn command_text(alloc: Global, fault: &CommandFault) -> Result<String, Alloc
             "the command line is no UTF-8 text: rename the file",
         ),
         CommandFault::Lacking => String::from_str(alloc, "bad command line: see impose --help"),
-        CommandFault::UnknownPaper(option, text) => paper_text(alloc, *option, text.as_str()),
-        CommandFault::BadBorder(text) => border_text(alloc, text.as_str()),
-        CommandFault::BadLength(option, text) => {
-            let option = length_option(*option);
-            let text = shown_word(alloc, text.as_str())?;
-            let text = text.as_str();
-            format!(in alloc; "bad length '{text}' after {option}: give it as 5mm, .2in or 14pt")
-        }
-        CommandFault::BadCells(command, text) => cells_text(alloc, *command, text.as_str()),
         CommandFault::BadValue(option, text) => value_text(alloc, *option, text.as_str()),
-        CommandFault::BadSignature(text) => signature_text(alloc, text.as_str()),
         CommandFault::OddAndEven => {
             String::from_str(
                 alloc,
                 "--odd and --even leave no page together: give one of them",
             )
         }
-        CommandFault::OptionAsOutfile(text) => outfile_text(alloc, text.as_str()),
         CommandFault::TwoProducts(one, other) => {
             let one = product_option(*one);
             let other = product_option(*other);
             format!(in alloc; "{one} and {other} ask for two things: give one of them")
         }
-        CommandFault::BadPicture(text) => picture_text(alloc, text.as_str()),
         CommandFault::NoMemory => String::from_str(alloc, "out of memory"),
     }
 }
 
-/// What is said of a text that names no width of a border.
-fn border_text(alloc: Global, text: &str) -> Result<String, AllocError> {
-    let text = shown_word(alloc, text)?;
-    let text = text.as_str();
-    format!(in alloc; "bad width '{text}' after --border: give a length as 1pt, .5mm or .02in")
+/// What is said of a text that is no value of the option or argument.
+fn value_text(alloc: Global, option: Opt, text: &str) -> Result<String, AllocError> {
+    match option {
+        Opt::Paper | Opt::Sheet => paper_text(alloc, option.id(), text),
+        Opt::Border => length_text(alloc, option.id(), text, "1pt, .5mm or .02in"),
+        Opt::Margin | Opt::Gap | Opt::Trim | Opt::Creep | Opt::Overlap => {
+            length_text(alloc, option.id(), text, "5mm, .2in or 14pt")
+        }
+        Opt::Count(command) => cells_text(alloc, command, text),
+        Opt::Signature => signature_text(alloc, text),
+        Opt::Order | Opt::Turned | Opt::Scale | Opt::BookletMarks | Opt::CutMarks => {
+            word_text(alloc, option, text)
+        }
+        Opt::Outfile => outfile_text(alloc, text),
+        Opt::Preview => picture_text(alloc, text),
+    }
+}
+
+/// What is said of a text that is no length for the option, which takes one as these examples.
+fn length_text(
+    alloc: Global,
+    option: &str,
+    text: &str,
+    examples: &str,
+) -> Result<String, AllocError> {
+    let shown = shown_word(alloc, text)?;
+    let shown = shown.as_str();
+    if lacks_unit(text) && !text.starts_with("-") {
+        format!(in alloc;
+            "length '{shown}' after --{option} has no unit: write {shown}cm, {shown}mm, {shown}in or {shown}pt"
+        )
+    } else {
+        format!(in alloc; "bad length '{shown}' after --{option}: give it as {examples}")
+    }
 }
 
 /// What is said of an option in the place of a file.
@@ -373,30 +390,25 @@ fn tiles_text(alloc: Global, text: &str) -> Result<String, AllocError> {
     }
 }
 
-/// What is said of a text that is no value of the option.
-fn value_text(alloc: Global, option: CellOption, text: &str) -> Result<String, AllocError> {
+/// What is said of a text that is none of the option's words, and no number.
+fn word_text(alloc: Global, option: Opt, text: &str) -> Result<String, AllocError> {
     let text = shown_word(alloc, text)?;
     let text = text.as_str();
     match option {
-        CellOption::Order => format!(in alloc;
+        Opt::Order => format!(in alloc;
             "unknown order '{text}' after --order: give right-down, down-right, left-down or down-left"
         ),
-        CellOption::Turned => format!(in alloc;
+        Opt::Turned => format!(in alloc;
             "unknown side '{text}' after --turned: give left or right"
         ),
-        CellOption::Scale => format!(in alloc;
-            "bad scale '{text}' after --scale: give a number as 0.7"
-        ),
-        CellOption::BookletMarks => format!(in alloc;
+        Opt::Scale => format!(in alloc; "bad scale '{text}' after --scale: give a number as 0.7"),
+        Opt::BookletMarks => format!(in alloc;
             "unknown marks '{text}' after --marks: give fold, cut or fold,cut"
         ),
-        CellOption::CutMarks => if text.contains("fold") {
-            format!(in alloc;
-                "only a booklet is folded, so --marks {text} asks too much here: give --marks cut"
-            )
-        } else {
-            format!(in alloc; "unknown marks '{text}' after --marks: give cut")
-        },
+        _ if text.contains("fold") => format!(in alloc;
+            "only a booklet is folded, so --marks {text} asks too much here: give --marks cut"
+        ),
+        _ => format!(in alloc; "unknown marks '{text}' after --marks: give cut"),
     }
 }
 
@@ -408,38 +420,21 @@ fn product_option(option: ProductOption) -> &'static str {
     }
 }
 
-fn length_option(option: LengthOption) -> &'static str {
-    match option {
-        LengthOption::Margin => "--margin",
-        LengthOption::Gap => "--gap",
-        LengthOption::Trim => "--trim",
-        LengthOption::Creep => "--creep",
-        LengthOption::Overlap => "--overlap",
-    }
-}
-
 /// What is said of a text that means no paper.
-fn paper_text(alloc: Global, option: PaperOption, text: &str) -> Result<String, AllocError> {
-    let option = match option {
-        PaperOption::Paper => "--paper",
-        PaperOption::Sheet => "--sheet",
-    };
+fn paper_text(alloc: Global, option: &str, text: &str) -> Result<String, AllocError> {
     let shown = shown_word(alloc, text)?;
     let shown = shown.as_str();
     match read_paper(text.as_bytes()) {
         Err(PaperError::NoUnit) if may_have_unit(alloc, text)? => format!(in alloc;
-            "size '{shown}' after {option} has no unit: write {shown}mm, {shown}in or {shown}pt"
-        ),
-        Err(PaperError::UnitOfWidthAlone) => format!(in alloc;
-            "size '{shown}' after {option} has no unit after the height: write it as 210x297mm or 210mmx297mm"
+            "size '{shown}' after --{option} has no unit at its end: write {shown}mm, {shown}in or {shown}pt"
         ),
         Err(PaperError::NoUnit) | Err(PaperError::NoSuchSize) => format!(in alloc;
-            "size '{shown}' after {option}: a side is zero, negative or too long"
+            "size '{shown}' after --{option}: a side is zero, negative or too long"
         ),
         _ => {
             let names = name_list();
             format!(in alloc;
-                "unknown paper '{shown}' after {option}: name one of {names}, or a size as 210x297mm; \
+                "unknown paper '{shown}' after --{option}: name one of {names}, or a size as 210x297mm; \
                 a name with -landscape after it is the paper on its side"
             )
         }

@@ -1,6 +1,7 @@
 //! What is said of a finished run.
 ghost use Rattle.std.specs.Prelude.{◌≡◌, IfOk, Some, option_map, string_bytes};
-ghost use Rattle.impose_said.specs.Said.{HasCounts, IsNote, IsOfCut, IsReport, behind_text as text_of_behind};
+ghost use Rattle.impose_said.specs.Said.{HasCounts, IsNote, IsOfCut, IsOfReach, IsReport, behind_text as text_of_behind};
+ghost use Rattle.impose_said.specs.Said.{others_text as text_of_others};
 ghost use Rattle.impose_said.specs.Said.{IsOfSheets, is_other_paper as is_other_named, is_same as are_same};
 ghost use Rattle.impose_said.specs.Said.{found_text as text_of_found, pages_text as text_of_pages, told_text as text_of_told};
 ghost use Rattle.impose_said.specs.Said.{is_pdf_name as names_pdf, origin_text as text_of_origin};
@@ -9,8 +10,8 @@ use crate::finished::{Finished, PaperOrigin};
 use crate::shown::shown_word;
 use impose_words::{Layout, Request};
 use imposer::Report;
-use lengths::{Paper, print_points};
-use papers::{Comment, Cut};
+use lengths::{Grains, Paper, print_points};
+use papers::{Comment, Cut, Edges};
 use std::alloc::{AllocError, Global};
 
 /// What is said of a finished run.
@@ -103,10 +104,14 @@ fn leaves_text(alloc: Global, layout: &Layout, sheets: u32) -> Result<String, Al
 
 /// Both sides of a paper, in points.
 fn size_text(alloc: Global, paper: &Paper) -> Result<String, AllocError> {
+    sides_text(alloc, paper.width(), paper.height())
+}
+
+fn sides_text(alloc: Global, width: Grains, height: Grains) -> Result<String, AllocError> {
     let mut size = Vec::new(alloc);
-    print_points(paper.width(), &mut size)?;
+    print_points(width, &mut size)?;
     size.extend_from_slice(b" x ")?;
-    print_points(paper.height(), &mut size)?;
+    print_points(height, &mut size)?;
     Ok(text_or_empty(alloc, size))
 }
 
@@ -124,6 +129,46 @@ pub fn cut_text(alloc: Global, done: &Finished) -> Result<Option<String>, AllocE
     let named = size_text(alloc, &done.page_paper)?;
     let named = named.as_str();
     Ok(Some(format!(in alloc; "--paper cuts {pages}: {own} on {named}")?))
+}
+
+/// What is said of pages that reach beyond the papers by which they are placed: the first of them, and how many more there are.
+pub fn reach_text(alloc: Global, done: &Finished) -> Result<Option<String>, AllocError>
+    ensures { IfOk result (λ text. IsOfReach done.now.reach (option_map string_bytes text)) }
+{
+    let Some(reach) = done.reach else {
+        return Ok(None);
+    };
+    let page = reach.first.saturating_add(1);
+    let edges = edges_text(alloc, &reach.edges)?;
+    let edges = edges.as_str();
+    let placed = size_text(alloc, &reach.paper)?;
+    let placed = placed.as_str();
+    let others = others_text(alloc, reach.pages.saturating_sub(1))?;
+    let others = others.as_str();
+    Ok(Some(format!(in alloc; "page {page} reaches {edges} on {placed}{others}")?))
+}
+
+/// How far a page reaches: to the upper right corner, and from the lower left one if that is before 0.
+fn edges_text(alloc: Global, edges: &Edges) -> Result<String, AllocError> {
+    let upper = sides_text(alloc, edges.right, edges.top)?;
+    let upper = upper.as_str();
+    if edges.left.get() >= 0 && edges.bottom.get() >= 0 {
+        return format!(in alloc; "to {upper}");
+    }
+    let lower = sides_text(alloc, edges.left, edges.bottom)?;
+    let lower = lower.as_str();
+    format!(in alloc; "from {lower} to {upper}")
+}
+
+/// How many more pages reach beyond their papers.
+fn others_text(alloc: Global, pages: usize) -> Result<String, AllocError>
+    ensures { IfOk result (λ text. string_bytes text ≡ text_of_others pages) }
+{
+    match pages {
+        0 => Ok(String::new(alloc)),
+        1 => String::from_str(alloc, ", and 1 other page beyond its own"),
+        _ => format!(in alloc; ", and {pages} other pages beyond theirs"),
+    }
 }
 
 /// The size of a page that is cut; of several, so far they reach.

@@ -6,7 +6,7 @@ use crate::fault::Fault;
 use crate::finished::{Done, Finished};
 use crate::messages::fault_text;
 use crate::mistakes::words_text;
-use crate::reports::{behind_text, cut_text, note_text, report_text, told_text};
+use crate::reports::{behind_text, cut_text, note_text, reach_text, report_text, told_text};
 use clap::Error as WordsError;
 use impose_words::{CommandFault, Request};
 use std::alloc::Global;
@@ -45,6 +45,7 @@ fn text_of_run(alloc: Global, done: &Finished, request: &Request) -> String
     }
     add_line(alloc, &mut said, report_text(alloc, done, request).ok());
     add_line(alloc, &mut said, cut_text(alloc, done).unwrap_or(None));
+    add_line(alloc, &mut said, reach_text(alloc, done).unwrap_or(None));
     add_line(alloc, &mut said, behind_text(alloc, done).unwrap_or(None));
     add_line(alloc, &mut said, told_text(alloc, done).unwrap_or(None));
     add_line(alloc, &mut said, note_text(alloc, request).unwrap_or(None));

@@ -1,6 +1,6 @@
 -- What words stand for, worked out.
 use Rattle.std.proofs.Common.{◌≡◌, true, false, [], ◌∷◌, refl, map}
-use Rattle.std.specs.Prelude.{codes, pos, None, Some}
+use Rattle.std.specs.Prelude.{codes, negsuc, pos, None, Some}
 use Rattle.lengths.specs.Reading.{number_at}
 use Rattle.rules.specs.Papers.{points}
 use Rattle.layouts.specs.Grids.{plain_order}
@@ -10,12 +10,12 @@ use Rattle.layouts.specs.declared.arrangement.Run.{Run}
 use Rattle.layouts.specs.declared.arrangement.Run.TheVariants.{Rows, Columns}
 use Rattle.layouts.specs.declared.arrangement.Turned.TheVariants.{Upright, Left, Right}
 use Rattle.rows.specs.declared.choices.Part.TheVariants.{All, Odd, Even}
-use Rattle.rows.specs.declared.sewing.Signing.TheVariants.{InOne, OfSides, Auto}
+use Rattle.rows.specs.declared.sewing.Signing.TheVariants.{OfSides, Auto}
 use Rattle.papers.specs.Names.{papers}
-use Rattle.impose_words.specs.Signatures.{signing_asked}
-use Rattle.impose_words.specs.Sizes.{size_named}
-use Rattle.impose_words.specs.Arranging.{booklet_marks_named, cells_named, cut_marks_named, noted_alone, run_named, scale_named, turned_named}
-use Rattle.impose_words.specs.Words.{part_by, file_asked, is_outfile, order_by, run_asked, turned_asked}
+use Rattle.impose_words.specs.Signatures.{signing_named}
+use Rattle.impose_words.specs.Sizes.{border_with_unit, length_with_unit, number_alone, size_named}
+use Rattle.impose_words.specs.Arranging.{booklet_marks_named, cells_named, cut_marks_named, noted_alone, run_named, turned_named}
+use Rattle.impose_words.specs.Words.{asked, part_by, file_asked, is_outfile, order_by}
 
 -- Sizes of paper.
 
@@ -26,6 +26,21 @@ a_size = refl
 no_unit : size_named (codes "72x72") ≡ None
 unfolding number_at papers
 no_unit = refl
+
+-- Lengths: each has its unit, but 0.
+
+lengths : map length_with_unit (codes "1pt" ∷ codes "2.54cm" ∷ codes "-25.4mm" ∷ codes "0" ∷ codes "-0.0" ∷ codes "0in" ∷ [])
+    ≡ Some (pos 127_000_000_000) ∷ Some (pos 9_144_000_000_000) ∷ Some (negsuc 9_143_999_999_999) ∷ Some (pos 0) ∷ Some (pos 0) ∷ Some (pos 0) ∷ []
+unfolding number_at
+lengths = refl
+
+no_lengths : map length_with_unit (codes "1" ∷ codes "-1" ∷ codes ".5" ∷ codes "1ft" ∷ codes "cm" ∷ [] ∷ []) ≡ None ∷ None ∷ None ∷ None ∷ None ∷ None ∷ []
+unfolding number_at
+no_lengths = refl
+
+borders : map border_with_unit (codes "1pt" ∷ codes "0" ∷ codes "1" ∷ codes "-1pt" ∷ []) ≡ Some (Some (pos 127_000_000_000)) ∷ Some None ∷ None ∷ None ∷ []
+unfolding number_at
+borders = refl
 
 -- Files and flags.
 
@@ -49,7 +64,7 @@ both = refl
 
 -- Signatures.
 
-signatures : map signing_asked (None ∷ Some (codes "auto") ∷ Some (codes "4") ∷ Some (codes "6") ∷ Some (codes "0") ∷ Some (codes "x") ∷ []) ≡ Some InOne ∷ Some Auto ∷ Some (OfSides 4) ∷ None ∷ None ∷ None ∷ []
+signatures : map signing_named (codes "auto" ∷ codes "4" ∷ codes "6" ∷ codes "0" ∷ codes "x" ∷ []) ≡ Some Auto ∷ Some (OfSides 4) ∷ None ∷ None ∷ None ∷ []
 signatures = refl
 
 -- Cells: a number of them, or columns and rows.
@@ -75,7 +90,7 @@ noted = refl
 runs : map run_named (codes "right-down" ∷ codes "down-right" ∷ codes "left-down" ∷ codes "down-left" ∷ codes "down" ∷ []) ≡ Some (Rows, false) ∷ Some (Columns, false) ∷ Some (Rows, true) ∷ Some (Columns, true) ∷ None ∷ []
 runs = refl
 
-unasked : order_by (run_asked None) false (turned_asked None) ≡ Some plain_order
+unasked : order_by (asked (Rows, false) run_named None) false (asked Upright turned_named None) ≡ Some plain_order
 unasked = refl
 
 abbrev from_right : Run → Order
@@ -88,11 +103,11 @@ turned_round = refl
 sides : map turned_named (codes "left" ∷ codes "right" ∷ codes "up" ∷ []) ≡ Some Left ∷ Some Right ∷ None ∷ []
 sides = refl
 
-scales : map scale_named (codes "0.7" ∷ codes ".5" ∷ codes "2" ∷ []) ≡ Some (pos 700_000_000) ∷ Some (pos 500_000_000) ∷ Some (pos 2_000_000_000) ∷ []
+scales : map number_alone (codes "0.7" ∷ codes ".5" ∷ codes "2" ∷ []) ≡ Some (pos 700_000_000) ∷ Some (pos 500_000_000) ∷ Some (pos 2_000_000_000) ∷ []
 unfolding number_at
 scales = refl
 
-no_scales : map scale_named (codes "70%" ∷ codes "x" ∷ codes "1/2" ∷ codes "100000" ∷ []) ≡ None ∷ None ∷ None ∷ None ∷ []
+no_scales : map number_alone (codes "70%" ∷ codes "x" ∷ codes "1/2" ∷ codes "100000" ∷ []) ≡ None ∷ None ∷ None ∷ None ∷ []
 unfolding number_at
 no_scales = refl
 

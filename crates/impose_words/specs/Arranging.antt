@@ -1,8 +1,8 @@
 -- What the values of those arguments mean that say how pages are arranged in the cells of a sheet.
-use Rattle.std.specs.Prelude.{ℕ, ◌*◌, ℤ, ◌==◌, ◌||◌, Bool, true, false, not, if◌then◌else◌, List, [], ◌∷◌, Option, Some, None, codes}
+use Rattle.std.specs.Prelude.{ℕ, ◌*◌, ◌==◌, ◌||◌, Bool, true, false, if◌then◌else◌, List, [], ◌∷◌, Option, Some, None, codes}
 use Rattle.std.specs.Str.{bytes_eq}
-use Rattle.rules.specs.Numbers.{is_large, number_of}
-use Rattle.lengths.specs.Reading.{digits, is_empty, number_at, past_digits}
+use Rattle.rules.specs.Numbers.{number_of}
+use Rattle.lengths.specs.Reading.{digits, is_empty, past_digits}
 use Rattle.papers.specs.Sizes.{letter_x}
 use Rattle.layouts.specs.Refusals.{is_count}
 use Rattle.dressing.specs.declared.strokes.Marks.{Marks}
@@ -38,6 +38,7 @@ cells_from None = None
 cells_from (Some (n, [])) = at_least n
 cells_from (Some (n, b ∷ rest)) = if b == letter_x then with_rows n (digits_at rest) else None
 
+-- RULES, 13.5
 abbrev pub cells_named : List ℕ → Option Cells
 cells_named text = cells_from (digits_at text)
 
@@ -58,7 +59,7 @@ noted_alone (Some (Exactly columns rows)) = None
 
 -- ---- in which order
 
--- along what pages run, and whether from the right: what comes first says where the second page is
+-- along what pages run, and whether from the right: what comes first says where the second page is (RULES, 13.6)
 abbrev pub run_named : List ℕ → Option (Run × Bool)
 run_named text =
     if bytes_eq text (codes "right-down") then Some (Rows, false)
@@ -72,16 +73,6 @@ turned_named text =
     if bytes_eq text (codes "left") then Some Left
     else (if bytes_eq text (codes "right") then Some Right else None)
 
--- ---- how large
-
--- the number that is all of a text, if it isn't over 99,999
-abbrev pub all_of : Option (ℤ × List ℕ) → Option ℤ
-all_of None = None
-all_of (Some (number, rest)) = if is_large number || not (is_empty rest) then None else Some number
-
-abbrev pub scale_named : List ℕ → Option ℤ
-scale_named text = all_of (number_at text)
-
 -- ---- with which marks
 
 abbrev pub no_marks : Marks
@@ -89,16 +80,16 @@ no_marks = record { fold = false; cut = false; ruled = false }
 
 -- lines for notes alone
 abbrev pub lines_alone : Marks
-lines_alone = record { fold = false; cut = false; ruled = true }
+lines_alone = record no_marks { ruled = true }
 
--- on a booklet, where it is folded, where it is cut, or both
+-- on a booklet, where it is folded, where it is cut, or both (RULES, 15)
 abbrev pub booklet_marks_named : List ℕ → Option Marks
 booklet_marks_named text =
-    if bytes_eq text (codes "fold") then Some (record { fold = true; cut = false; ruled = false })
-    else (if bytes_eq text (codes "cut") then Some (record { fold = false; cut = true; ruled = false })
-    else (if bytes_eq text (codes "fold,cut") || bytes_eq text (codes "cut,fold") then Some (record { fold = true; cut = true; ruled = false })
+    if bytes_eq text (codes "fold") then Some (record no_marks { fold = true })
+    else (if bytes_eq text (codes "cut") then Some (record no_marks { cut = true })
+    else (if bytes_eq text (codes "fold,cut") || bytes_eq text (codes "cut,fold") then Some (record no_marks { fold = true; cut = true })
     else None))
 
 -- on other sheets, which are cut alone
 abbrev pub cut_marks_named : List ℕ → Option Marks
-cut_marks_named text = if bytes_eq text (codes "cut") then Some (record { fold = false; cut = true; ruled = false }) else None
+cut_marks_named text = if bytes_eq text (codes "cut") then Some (record no_marks { cut = true }) else None

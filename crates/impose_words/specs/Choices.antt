@@ -21,5 +21,6 @@ abbrev pub is_whole : PageChoice → Bool
 is_whole c = is_none c.ranges && is_all c.part && not c.backwards
 
 -- a specification says which pages there are, and with which marks: all, in their order, and with none
+-- (RULES, 16, step 8)
 abbrev pub is_said : PageChoice → Marks → Bool
 is_said choice marks = is_whole choice && not (marks.fold || marks.cut || marks.ruled)

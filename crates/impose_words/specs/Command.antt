@@ -1,12 +1,11 @@
 -- The command line: impose nup N, impose booklet, impose cards N, impose stack N, impose notes N, impose poster CxR,
 -- impose select RANGES or impose spec SPECS, with [OPTIONS] [INFILE [OUTFILE]]. N is a number of pages, or columns and rows; for
 -- notes it is a number.
-use Rattle.std.specs.Prelude.{ℕ, pos, true, List, [], ◌∷◌, Some, codes}
+use Rattle.std.specs.Prelude.{ℕ, true, List, [], ◌∷◌, Some, codes}
 use Rattle.std.specs.List.{fold}
 use Rattle.clap.specs.Words.{App, Rule, Shape, Text, new_app, new_rule, with_rule, with_subcommand}
 use Rattle.clap.specs.Simple.{on_top}
 use Rattle.clap.specs.declared.builder.action.ArgAction.TheVariants.{Set, SetTrue}
-use Rattle.clap.specs.declared.builder.value_parser.ValueParser.TheVariants.{Signed}
 
 abbrev pub positional_rule : Text → Rule
 positional_rule id = record (new_rule id) { value_names = 1; action = Some Set }
@@ -25,10 +24,6 @@ flag_rule id = record (new_rule id) { long = Some id; action = Some SetTrue }
 abbrev pub lettered : (letter : ℕ) → Rule → Rule
 lettered letter rule = record rule { short = Some letter }
 
--- its value is a whole number in this range
-abbrev pub ranged : (low high : ℕ) → Rule → Rule
-ranged low high rule = record rule { parser = Some (Signed (pos low) (pos high)) }
-
 abbrev pub letter_p : ℕ
 letter_p = 112
 
@@ -38,7 +33,10 @@ letter_q = 113
 -- the arguments that every subcommand has
 abbrev pub common_rules : List Rule
 common_rules =
-    positional_rule (codes "infile")
+    flag_rule (codes "odd")
+    ∷ flag_rule (codes "even")
+    ∷ flag_rule (codes "reverse")
+    ∷ positional_rule (codes "infile")
     ∷ positional_rule (codes "outfile")
     ∷ lettered letter_p (option_rule (codes "paper"))
     ∷ option_rule (codes "sheet")
@@ -48,74 +46,68 @@ common_rules =
     ∷ lettered letter_q (flag_rule (codes "quiet"))
     ∷ []
 
--- a subcommand with arguments of its own, and after them those
-abbrev pub subcommand_app : (name : Text) → (own : List Rule) → App
-subcommand_app name own = fold with_rule (fold with_rule (new_app name) own) common_rules
+-- a subcommand with arguments of its own, those that it shares with some others, and after them those
+abbrev pub subcommand_app : (name : Text) → (own shared : List Rule) → App
+subcommand_app name own shared = fold with_rule (fold with_rule (fold with_rule (new_app name) own) shared) common_rules
 
 -- what reports on the sheets in place of them
 abbrev pub look_rules : List Rule
 look_rules = flag_rule (codes "plan") ∷ option_rule (codes "preview") ∷ []
 
--- which of the pages, and in which order; and a look at the sheets
-abbrev pub order_rules : List Rule
-order_rules = flag_rule (codes "odd") ∷ flag_rule (codes "even") ∷ flag_rule (codes "reverse") ∷ look_rules
-
--- what is kept free, which marks are drawn, which pages, in which order, and a look at the sheets
-abbrev pub row_rules : List Rule
-row_rules =
-    option_rule (codes "margin")
-    ∷ option_rule (codes "gap")
-    ∷ option_rule (codes "trim")
-    ∷ option_rule (codes "marks")
-    ∷ flag_rule (codes "rtl")
-    ∷ option_rule (codes "pages")
-    ∷ order_rules
+-- the same, and which of the pages
+abbrev pub laid_rules : List Rule
+laid_rules = flag_rule (codes "plan") ∷ option_rule (codes "preview") ∷ option_rule (codes "pages") ∷ []
 
 -- a number of pages, or columns and rows
 abbrev pub count_rule : Rule
 count_rule = required_rule (codes "count")
 
--- in which order pages are in cells, how they lie, and how large they are
+-- how many pages, in which order they are in cells, how they lie, how large they are, what is kept free, and which marks are drawn
 abbrev pub cell_rules : List Rule
 cell_rules =
-    option_rule (codes "order")
+    count_rule
+    ∷ option_rule (codes "order")
     ∷ option_rule (codes "turned")
     ∷ option_rule (codes "scale")
     ∷ flag_rule (codes "same-scale")
-    ∷ row_rules
+    ∷ option_rule (codes "margin")
+    ∷ option_rule (codes "gap")
+    ∷ option_rule (codes "trim")
+    ∷ option_rule (codes "marks")
+    ∷ flag_rule (codes "rtl")
+    ∷ []
 
 abbrev pub nup_app : App
-nup_app = subcommand_app (codes "nup") (count_rule ∷ cell_rules)
+nup_app = subcommand_app (codes "nup") cell_rules laid_rules
 
 abbrev pub cards_app : App
-cards_app = subcommand_app (codes "cards") (count_rule ∷ cell_rules)
+cards_app = subcommand_app (codes "cards") cell_rules laid_rules
 
 abbrev pub stack_app : App
-stack_app = subcommand_app (codes "stack") (count_rule ∷ flag_rule (codes "duplex") ∷ cell_rules)
+stack_app = subcommand_app (codes "stack") cell_rules (flag_rule (codes "duplex") ∷ laid_rules)
 
--- a number of pages, their scale, what is kept free, and which pages
 abbrev pub notes_app : App
 notes_app = subcommand_app (codes "notes")
     (count_rule ∷ flag_rule (codes "same-scale") ∷ option_rule (codes "margin") ∷ option_rule (codes "gap")
-    ∷ option_rule (codes "trim") ∷ option_rule (codes "pages") ∷ order_rules)
+    ∷ option_rule (codes "trim") ∷ []) laid_rules
 
--- columns and rows of sheets, how far these overlap, and which pages
+-- columns and rows of sheets, and how far these overlap
 abbrev pub poster_app : App
 poster_app = subcommand_app (codes "poster")
-    (count_rule ∷ option_rule (codes "overlap") ∷ option_rule (codes "margin") ∷ option_rule (codes "pages") ∷ order_rules)
+    (count_rule ∷ option_rule (codes "overlap") ∷ option_rule (codes "margin") ∷ []) laid_rules
 
 abbrev pub booklet_app : App
 booklet_app = subcommand_app (codes "booklet")
     (option_rule (codes "signature") ∷ option_rule (codes "creep") ∷ flag_rule (codes "long-edge")
-    ∷ flag_rule (codes "same-scale") ∷ row_rules)
+    ∷ flag_rule (codes "same-scale") ∷ option_rule (codes "margin") ∷ option_rule (codes "gap") ∷ option_rule (codes "trim")
+    ∷ option_rule (codes "marks") ∷ flag_rule (codes "rtl") ∷ []) laid_rules
 
 abbrev pub select_app : App
-select_app = subcommand_app (codes "select") (required_rule (codes "ranges") ∷ order_rules)
+select_app = subcommand_app (codes "select") (required_rule (codes "ranges") ∷ []) look_rules
 
 abbrev pub spec_app : App
 spec_app = subcommand_app (codes "spec")
-    (required_rule (codes "specs") ∷ option_rule (codes "signature") ∷ option_rule (codes "pages")
-    ∷ flag_rule (codes "odd") ∷ flag_rule (codes "even") ∷ flag_rule (codes "reverse") ∷ [])
+    (required_rule (codes "specs") ∷ option_rule (codes "signature") ∷ []) (option_rule (codes "pages") ∷ [])
 
 abbrev pub apps : List App
 apps = nup_app ∷ booklet_app ∷ cards_app ∷ stack_app ∷ notes_app ∷ poster_app ∷ select_app ∷ spec_app ∷ []

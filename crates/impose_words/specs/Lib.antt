@@ -8,4 +8,4 @@ pub mod Choices
 pub mod Spacings
 pub mod Products
 pub mod Words
-pub mod Sizing
+pub mod Faults

@@ -25,7 +25,7 @@ picture_in product.Specification = None
 picture_in product.Plan = None
 picture_in (product.Picture file) = Some (option_map string_bytes file)
 
--- a picture is an SVG, and its file is named so; standard output has no name
+-- a picture is an SVG, and its file is named so; standard output has no name (RULES, 16, step 3, and 17)
 abbrev pub is_picture_file : Option (List ℕ) → Bool
 is_picture_file None = true
 is_picture_file (Some name) = ends_with nat_eq name (codes ".svg")

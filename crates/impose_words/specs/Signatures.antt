@@ -4,9 +4,9 @@ use Rattle.std.specs.Str.{bytes_eq}
 use Rattle.rules.specs.Signatures.{most_sides}
 use Rattle.command_words.specs.Matches.{number_of}
 use Rattle.rows.specs.declared.sewing.Signing.{Signing}
-use Rattle.rows.specs.declared.sewing.Signing.TheVariants.{InOne, OfSides, Auto}
+use Rattle.rows.specs.declared.sewing.Signing.TheVariants.{OfSides, Auto}
 
--- a signature may have so many sides: each of its leaves has four
+-- a signature may have so many sides: each of its leaves has four (RULES, 11.3)
 abbrev pub are_sides : ℕ → Bool
 are_sides n = nat_le 4 n && nat_le n most_sides && (n % 4 == 0)
 
@@ -17,8 +17,3 @@ of_sides (Some n) = if are_sides n then Some (OfSides n) else None
 -- `auto`, or a number of sides
 abbrev pub signing_named : List ℕ → Option Signing
 signing_named text = if bytes_eq text (codes "auto") then Some Auto else of_sides (number_of text)
-
--- in one signature if nothing is asked for; and nothing if the text says neither
-abbrev pub signing_asked : Option (List ℕ) → Option Signing
-signing_asked None = Some InOne
-signing_asked (Some text) = signing_named text

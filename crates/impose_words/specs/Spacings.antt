@@ -55,10 +55,11 @@ abbrev pub down_right : Order
 down_right = record { run = Columns; right_to_left = false; turned = Upright }
 
 -- two columns of so many cells, of which as many pages fill the left one, and leave the right one for notes
+-- (RULES, 14)
 abbrev pub notes_in : Spacing → (pages : ℕ) → Arrangement
 notes_in s pages = record (arrangement_in s (Exactly 2 pages)) { order = down_right }
 
--- the halves of a sheet
+-- the halves of a sheet (RULES, 14.1)
 abbrev pub binding_in : Spacing → (long_edge : Bool) → Binding
 binding_in s long_edge = record {
   margin = s.margin;

@@ -1,11 +1,11 @@
 //! The command, its subcommands and their arguments.
 ghost use Rattle.std.specs.Prelude.{◌≡◌, IfOk, codes, map, true};
-ghost use Rattle.std.specs.List.{fold, list_all};
-ghost use Rattle.clap.specs.Words.{app_of, new_app, rule_of, with_rule};
+ghost use Rattle.std.specs.List.{list_all};
+ghost use Rattle.clap.specs.Words.{app_of, rule_of};
 ghost use Rattle.command_words.specs.Arguments.{fits};
-ghost use Rattle.impose_words.specs.Command.{apps, booklet_app, cards_app, common_rules, count_rule, flag_rule, impose};
-ghost use Rattle.impose_words.specs.Command.{nup_app, option_rule, positional_rule, required_rule, select_app, spec_app};
-ghost use Rattle.impose_words.specs.Command.{notes_app, poster_app, stack_app};
+ghost use Rattle.impose_words.specs.Command.{apps, booklet_app, cards_app, cell_rules, common_rules, count_rule, flag_rule, impose};
+ghost use Rattle.impose_words.specs.Command.{laid_rules, lettered, letter_p, letter_q, notes_app, nup_app, option_rule, positional_rule, poster_app, required_rule};
+ghost use Rattle.impose_words.specs.Command.{select_app, spec_app, stack_app, subcommand_app};
 
 use clap::{Arg, ArgAction, Command, value_parser};
 use std::alloc::{AllocError, Global};
@@ -58,87 +58,39 @@ fn nup<'a>(alloc: Global) -> Result<Command<'a>, AllocError>
     ensures { IfOk result (λ c. app_of c ≡ nup_app) }
 {
     let about = "Several pages on each sheet, as large as they fit";
-    let own = vec![in alloc;
-        count(
-            alloc,
-            "How many pages, from 1 to 1024, or columns and rows, as 2x4"
-        ),
-        order(alloc),
-        turned(alloc),
-        scale(alloc),
-        same_scale(alloc),
-        margin(alloc),
-        gap(alloc, "Keep so much free between pages"),
-        trim(alloc),
-        marks(alloc, "Draw short lines where sheets are cut: cut"),
-        rtl(alloc, "From the right to the left"),
-        pages(alloc),
-        odd(alloc),
-        even(alloc),
-        reverse(alloc),
-        plan(alloc),
-        preview(alloc),
-    ]?;
-    subcommand(alloc, "nup", about, own)
+    let help = "How many pages, from 1 to 1024, or columns and rows, as 2x4";
+    subcommand(
+        alloc,
+        "nup",
+        about,
+        cell_args(alloc, help)?,
+        laid_args(alloc)?,
+    )
 }
 
 fn cards<'a>(alloc: Global) -> Result<Command<'a>, AllocError>
     ensures { IfOk result (λ c. app_of c ≡ cards_app) }
 {
     let about = "Each page several times on a sheet, to be cut";
-    let own = vec![in alloc;
-        count(
-            alloc,
-            "How often each page is on a sheet, from 1 to 1024, or columns and rows, as 2x4",
-        ),
-        order(alloc),
-        turned(alloc),
-        scale(alloc),
-        same_scale(alloc),
-        margin(alloc),
-        gap(alloc, "Keep so much free between pages"),
-        trim(alloc),
-        marks(alloc, "Draw short lines where sheets are cut: cut"),
-        rtl(alloc, "From the right to the left"),
-        pages(alloc),
-        odd(alloc),
-        even(alloc),
-        reverse(alloc),
-        plan(alloc),
-        preview(alloc),
-    ]?;
-    subcommand(alloc, "cards", about, own)
+    let help = "How often each page is on a sheet, from 1 to 1024, or columns and rows, as 2x4";
+    subcommand(
+        alloc,
+        "cards",
+        about,
+        cell_args(alloc, help)?,
+        laid_args(alloc)?,
+    )
 }
 
 fn stack<'a>(alloc: Global) -> Result<Command<'a>, AllocError>
     ensures { IfOk result (λ c. app_of c ≡ stack_app) }
 {
-    let duplex = flag(alloc, "duplex").help("For sheets that are printed on both sides");
     let about =
         "Several pages on each sheet: cut the pile, lay its parts on one another, and the pages run on";
-    let own = vec![in alloc;
-        count(
-            alloc,
-            "How many pages, from 1 to 1024, or columns and rows, as 2x4"
-        ),
-        duplex,
-        order(alloc),
-        turned(alloc),
-        scale(alloc),
-        same_scale(alloc),
-        margin(alloc),
-        gap(alloc, "Keep so much free between pages"),
-        trim(alloc),
-        marks(alloc, "Draw short lines where sheets are cut: cut"),
-        rtl(alloc, "From the right to the left"),
-        pages(alloc),
-        odd(alloc),
-        even(alloc),
-        reverse(alloc),
-        plan(alloc),
-        preview(alloc),
-    ]?;
-    subcommand(alloc, "stack", about, own)
+    let help = "How many pages, from 1 to 1024, or columns and rows, as 2x4";
+    let duplex = flag(alloc, "duplex").help("For sheets that are printed on both sides");
+    let laid = vec![in alloc; duplex, plan(alloc), preview(alloc), pages(alloc)]?;
+    subcommand(alloc, "stack", about, cell_args(alloc, help)?, laid)
 }
 
 fn notes<'a>(alloc: Global) -> Result<Command<'a>, AllocError>
@@ -154,46 +106,34 @@ fn notes<'a>(alloc: Global) -> Result<Command<'a>, AllocError>
             "Keep so much free between pages, and before the lines"
         ),
         trim(alloc),
-        pages(alloc),
-        odd(alloc),
-        even(alloc),
-        reverse(alloc),
-        plan(alloc),
-        preview(alloc),
     ]?;
-    subcommand(alloc, "notes", about, own)
+    subcommand(alloc, "notes", about, own, laid_args(alloc)?)
 }
 
 fn poster<'a>(alloc: Global) -> Result<Command<'a>, AllocError>
     ensures { IfOk result (λ c. app_of c ≡ poster_app) }
 {
-    let count = required(alloc, "count", "CxR").help(
-        "Columns and rows of sheets, as 2x3, at most 1024 sheets in all",
-    );
     let about = "Each page over several sheets, to be glued together";
     let own = vec![in alloc;
-        count,
-        overlap(alloc),
+        required(alloc, "count", "CxR").help(
+            "Columns and rows of sheets, as 2x3, at most 1024 sheets in all"
+        ),
+        option(alloc, "overlap", "LENGTH").help(
+            "So much of the page is on both of two neighbouring sheets, as 1cm"
+        ),
         margin(alloc),
-        pages(alloc),
-        odd(alloc),
-        even(alloc),
-        reverse(alloc),
-        plan(alloc),
-        preview(alloc),
     ]?;
-    subcommand(alloc, "poster", about, own)
+    subcommand(alloc, "poster", about, own, laid_args(alloc)?)
 }
 
 fn booklet<'a>(alloc: Global) -> Result<Command<'a>, AllocError>
     ensures { IfOk result (λ c. app_of c ≡ booklet_app) }
 {
-    let long_edge = flag(alloc, "long-edge").help("For printers that flip on the long edge");
     let about = "A booklet, to be printed on both sides, folded and stapled";
     let own = vec![in alloc;
         signature(alloc),
         creep(alloc),
-        long_edge,
+        flag(alloc, "long-edge").help("For printers that flip on the long edge"),
         same_scale(alloc),
         margin(alloc),
         gap(
@@ -206,63 +146,71 @@ fn booklet<'a>(alloc: Global) -> Result<Command<'a>, AllocError>
             "Draw short lines at the fold (fold), where the margin is cut off (cut), or both (fold,cut)"
         ),
         rtl(alloc, "Bind the booklet at the right"),
-        pages(alloc),
-        odd(alloc),
-        even(alloc),
-        reverse(alloc),
-        plan(alloc),
-        preview(alloc),
     ]?;
-    subcommand(alloc, "booklet", about, own)
+    subcommand(alloc, "booklet", about, own, laid_args(alloc)?)
 }
 
 fn select<'a>(alloc: Global) -> Result<Command<'a>, AllocError>
     ensures { IfOk result (λ c. app_of c ≡ select_app) }
 {
-    let ranges = required(alloc, "ranges", "RANGES").help(RANGES_HELP);
     let about = "Some pages, in the order in which they are named, each on a sheet of its own";
-    let own = vec![in alloc;
-        ranges,
-        odd(alloc),
-        even(alloc),
-        reverse(alloc),
-        plan(alloc),
-        preview(alloc),
-    ]?;
-    subcommand(alloc, "select", about, own)
+    let own = vec![in alloc; required(alloc, "ranges", "RANGES").help(RANGES_HELP)]?;
+    let look = vec![in alloc; plan(alloc), preview(alloc)]?;
+    subcommand(alloc, "select", about, own, look)
 }
 
-const RANGES_HELP: &str =
-    "Pages, as 7, 3-9, 9-3, 5- or _1 (the last), blank for an empty one, with commas between them";
+fn spec<'a>(alloc: Global) -> Result<Command<'a>, AllocError>
+    ensures { IfOk result (λ c. app_of c ≡ spec_app) }
+{
+    let about = "Pages as a page specification of pstops places them";
+    let own = vec![in alloc;
+        required(alloc, "specs", "SPECS").help(
+            "A page specification, as 2:0L@.7(21cm,0)+1L@.7(21cm,14.85cm), of the pages that are chosen"
+        ),
+        option(alloc, "signature", "SIDES").help(
+            "Put the pages into signatures of so many sides first, a multiple of four, or auto"
+        ),
+    ]?;
+    let chosen = vec![in alloc; pages(alloc)]?;
+    subcommand(alloc, "spec", about, own, chosen)
+}
+
+/// What commands have that lay pages in cells.
+fn cell_args<'a>(alloc: Global, help: &'a str) -> Result<Vec<Arg<'a>>, AllocError>
+    ensures { IfOk result (λ v. map rule_of v.items ≡ cell_rules) }
+{
+    let args = vec![in alloc;
+        count(alloc, help),
+        option(alloc, "order", "ORDER").help(
+            "Where pages go on: right-down, down-right, left-down or down-left [default: right-down]"
+        ),
+        option(alloc, "turned", "SIDE").help(
+            "The pages lie on their sides, and are turned to the left or to the right to be read"
+        ),
+        option(alloc, "scale", "SCALE").help(
+            "The scale of the pages, as 0.7 [default: as large as they fit]"
+        ),
+        same_scale(alloc),
+        margin(alloc),
+        gap(alloc, "Keep so much free between pages"),
+        trim(alloc),
+        marks(alloc, "Draw short lines where sheets are cut: cut"),
+        rtl(alloc, "From the right to the left"),
+    ]?;
+    Ok(args)
+}
+
+/// What commands have that choose pages by an option, and lay them on sheets.
+fn laid_args<'a>(alloc: Global) -> Result<Vec<Arg<'a>>, AllocError>
+    ensures { IfOk result (λ v. map rule_of v.items ≡ laid_rules) }
+{
+    Ok(vec![in alloc; plan(alloc), preview(alloc), pages(alloc)]?)
+}
 
 fn count<'a>(alloc: Global, help: &'a str) -> Arg<'a>
     ensures { rule_of result ≡ count_rule }
 {
     required(alloc, "count", "N").help(help)
-}
-
-fn order<'a>(alloc: Global) -> Arg<'a>
-    ensures { rule_of result ≡ option_rule (codes "order") }
-{
-    option(alloc, "order", "ORDER").help(
-        "Where pages go on: right-down, down-right, left-down or down-left [default: right-down]",
-    )
-}
-
-fn turned<'a>(alloc: Global) -> Arg<'a>
-    ensures { rule_of result ≡ option_rule (codes "turned") }
-{
-    option(alloc, "turned", "SIDE").help(
-        "The pages lie on their sides, and are turned to the left or to the right to be read",
-    )
-}
-
-fn scale<'a>(alloc: Global) -> Arg<'a>
-    ensures { rule_of result ≡ option_rule (codes "scale") }
-{
-    option(alloc, "scale", "SCALE").help(
-        "The scale of the pages, as 0.7 [default: as large as they fit]",
-    )
 }
 
 fn same_scale<'a>(alloc: Global) -> Arg<'a>
@@ -284,14 +232,6 @@ fn creep<'a>(alloc: Global) -> Arg<'a>
 {
     option(alloc, "creep", "LENGTH").help(
         "Move pages of the innermost leaf so much towards the fold, and of others less, as 2mm",
-    )
-}
-
-fn overlap<'a>(alloc: Global) -> Arg<'a>
-    ensures { rule_of result ≡ option_rule (codes "overlap") }
-{
-    option(alloc, "overlap", "LENGTH").help(
-        "So much of the page is on both of two neighbouring sheets, as 1cm",
     )
 }
 
@@ -327,12 +267,6 @@ fn rtl<'a>(alloc: Global, help: &'a str) -> Arg<'a>
     flag(alloc, "rtl").help(help)
 }
 
-fn pages<'a>(alloc: Global) -> Arg<'a>
-    ensures { rule_of result ≡ option_rule (codes "pages") }
-{
-    option(alloc, "pages", "RANGES").help(RANGES_HELP)
-}
-
 fn odd<'a>(alloc: Global) -> Arg<'a>
     ensures { rule_of result ≡ flag_rule (codes "odd") }
 {
@@ -365,40 +299,31 @@ fn preview<'a>(alloc: Global) -> Arg<'a>
     )
 }
 
-fn spec<'a>(alloc: Global) -> Result<Command<'a>, AllocError>
-    ensures { IfOk result (λ c. app_of c ≡ spec_app) }
+const RANGES_HELP: &str =
+    "Pages, as 7, 3-9, 9-3, 5- or _1 (the last), blank for an empty one, with commas between them";
+
+fn pages<'a>(alloc: Global) -> Arg<'a>
+    ensures { rule_of result ≡ option_rule (codes "pages") }
 {
-    let specs = required(alloc, "specs", "SPECS").help(
-        "A page specification, as 2:0L@.7(21cm,0)+1L@.7(21cm,14.85cm), of the pages that are chosen",
-    );
-    let signature = option(alloc, "signature", "SIDES").help(
-        "Put the pages into signatures of so many sides first, a multiple of four, or auto",
-    );
-    let about = "Pages as a page specification of pstops places them";
-    let own = vec![in alloc;
-        specs,
-        signature,
-        pages(alloc),
-        odd(alloc),
-        even(alloc),
-        reverse(alloc),
-    ]?;
-    subcommand(alloc, "spec", about, own)
+    option(alloc, "pages", "RANGES").help(RANGES_HELP)
 }
 
-/// A subcommand with arguments of its own, and after them those that every subcommand has.
+/// A subcommand with arguments of its own, those that it shares with some others, and those that every subcommand has.
 fn subcommand<'a>(
     alloc: Global,
     name: &'a str,
     about: &'a str,
     own: Vec<Arg<'a>>,
+    shared: Vec<Arg<'a>>,
 ) -> Result<Command<'a>, AllocError>
-    requires { list_all fits (map rule_of own.items) ≡ true }
+    requires own { list_all fits (map rule_of own.items) ≡ true }
+    requires shared { list_all fits (map rule_of shared.items) ≡ true }
     ensures { IfOk result (λ c. app_of c ≡
-        fold with_rule (fold with_rule (new_app name.entry.now) (map rule_of own.entry.items)) common_rules) }
+        subcommand_app name.entry.now (map rule_of own.entry.items) (map rule_of shared.entry.items)) }
 {
     let with_own = Command::new(alloc, name).about(about).args(own)?;
-    with_own.args(common(alloc)?)
+    let with_shared = with_own.args(shared)?;
+    with_shared.args(common(alloc)?)
 }
 
 /// The arguments that every subcommand has, in the order of `common_rules` (specs/Command.antt).
@@ -406,11 +331,12 @@ fn common<'a>(alloc: Global) -> Result<Vec<Arg<'a>>, AllocError>
     ensures { IfOk result (λ v. map rule_of v.items ≡ common_rules) }
 {
     let args = vec![in alloc;
+        odd(alloc),
+        even(alloc),
+        reverse(alloc),
         positional(alloc, "infile", "INFILE").help("The document; - or nothing is standard input"),
         positional(alloc, "outfile", "OUTFILE").help("The sheets; - or nothing is standard output"),
-        option(alloc, "paper", "PAPER").short('p').help(
-            "The paper of the pages, as a4, a5-landscape or 210x297mm [default: the document's]"
-        ),
+        paper(alloc),
         option(alloc, "sheet", "PAPER").help(
             "The paper of the sheets [default: that of the pages]"
         ),
@@ -419,9 +345,23 @@ fn common<'a>(alloc: Global) -> Result<Vec<Arg<'a>>, AllocError>
         flag(alloc, "print-spec").help(
             "Print the specification and a line of pstops for it, and impose nothing"
         ),
-        flag(alloc, "quiet").short('q').help("Leave the report out"),
+        quiet(alloc),
     ]?;
     Ok(args)
+}
+
+fn paper<'a>(alloc: Global) -> Arg<'a>
+    ensures { rule_of result ≡ lettered letter_p (option_rule (codes "paper")) }
+{
+    option(alloc, "paper", "PAPER").short('p').help(
+        "The paper of the pages, as a4, a5-landscape or 210x297mm [default: the document's]",
+    )
+}
+
+fn quiet<'a>(alloc: Global) -> Arg<'a>
+    ensures { rule_of result ≡ lettered letter_q (flag_rule (codes "quiet")) }
+{
+    flag(alloc, "quiet").short('q').help("Leave the report out")
 }
 
 fn positional<'a>(alloc: Global, id: &'a str, name: &'a str) -> Arg<'a>

@@ -4,7 +4,7 @@ ghost use Rattle.impose_words.specs.Arranging as meaning;
 
 use dressing::Marks;
 use layouts::{Cells, Run, Turned};
-use lengths::{Number, read_digits, read_number};
+use lengths::read_digits;
 
 /// How many cells a sheet has at most.
 const MOST_CELLS: u64 = 1_024;
@@ -114,15 +114,12 @@ pub fn turned_named(text: &str) -> Option<Turned>
     }
 }
 
-/// The scale that the text means: a number up to 99,999.999999999, whose decimals past the ninth have no effect.
-pub fn scale_named(text: &str) -> Option<Number>
-    ensures { result ≡ meaning.scale_named text.now }
-{
-    match read_number(text.as_bytes()) {
-        Ok((number, len)) if len == text.len() => Some(number),
-        _ => None,
-    }
-}
+/// No marks.
+pub(crate) const NO_MARKS: Marks = Marks {
+    fold: false,
+    cut: false,
+    ruled: false,
+};
 
 /// The marks that the text means on a booklet, which is folded, and may be cut round its halves.
 pub fn booklet_marks_named(text: &str) -> Option<Marks>
@@ -131,20 +128,18 @@ pub fn booklet_marks_named(text: &str) -> Option<Marks>
     if text == "fold" {
         Some(Marks {
             fold: true,
-            cut: false,
-            ruled: false,
+            ..NO_MARKS
         })
     } else if text == "cut" {
         Some(Marks {
-            fold: false,
             cut: true,
-            ruled: false,
+            ..NO_MARKS
         })
     } else if text == "fold,cut" || text == "cut,fold" {
         Some(Marks {
             fold: true,
             cut: true,
-            ruled: false,
+            ..NO_MARKS
         })
     } else {
         None
@@ -157,9 +152,8 @@ pub fn cut_marks_named(text: &str) -> Option<Marks>
 {
     if text == "cut" {
         Some(Marks {
-            fold: false,
             cut: true,
-            ruled: false,
+            ..NO_MARKS
         })
     } else {
         None

@@ -1,38 +1,33 @@
 //! What the words ask for.
-ghost use Rattle.std.specs.Prelude.{◌≡◌, [], IfOk, IfErr, None, Some, codes, false, map, option_map, string_bytes, true};
+ghost use Rattle.std.specs.Prelude.{◌≡◌, [], ◌∷◌, IfOk, IfErr, None, Option, Some, codes, false, map, option_map, string_bytes, true};
 ghost use Rattle.clap.specs.Words.{Text, fault_of, first_of, found_of, is_simple, rows_of, subcommand_of, subcommand_rows_of};
 ghost use Rattle.impose_words.specs.Command.{impose};
-ghost use Rattle.impose_words.specs.Words.{AsksFor, Entered, ParseRefuses, Reads, Refuses, RefusesFound};
-ghost use Rattle.impose_words.specs.Words.{RefusesArguments, border_found, file_asked, is_outfile, paper_id};
-ghost use Rattle.impose_words.specs.Words.{ChoosesBy, MakesBy, NamesPicture, SpacesBy, length_found, length_id, ranges_id, part_by as of_both};
-ghost use Rattle.impose_words.specs.Words.{cells_found, cells_in as cells_of_command, command_name, order_found, run_found, scale_found};
-ghost use Rattle.impose_words.specs.Words.{marks_asked, marks_found, row_asked, row_signing_found, signing_found, size_found, turned_found};
-ghost use Rattle.impose_words.specs.Arranging.{booklet_marks_named as of_booklet, cut_marks_named as to_cut};
+ghost use Rattle.impose_words.specs.Words.{AsksFor, Entered, ReadsSizes, Reads, border_found, file_asked, given, is_outfile};
+ghost use Rattle.impose_words.specs.Words.{ChoosesBy, MakesBy, NamesPicture, SpacesBy, length_found, ranges_id, part_by as of_both};
+ghost use Rattle.impose_words.specs.Words.{cells_in as cells_of_command, command_name, order_found, run_found, scale_found};
+ghost use Rattle.impose_words.specs.Words.{marks_found, row_asked, signing_found, size_found, turned_found};
 ghost use Rattle.impose_words.specs.Products.{is_plan, is_specification, lays_rows, picture_in};
 ghost use Rattle.impose_words.specs.Spacings.{keeps_room};
-ghost use Rattle.impose_words.specs.Sizing.{ReadsSizes, RefusesBorder, RefusesChoice, RefusesOutfile, RefusesSize};
-ghost use Rattle.impose_words.specs.Sizing.{RefusesMarks};
-ghost use Rattle.impose_words.specs.Sizing.{RefusesLength, RefusesPicture, RefusesProduct, RefusesReading, RefusesSizes};
-ghost use Rattle.impose_words.specs.Sizing.{RefusesSpacing, RefusesValue};
-ghost use Rattle.impose_words.specs.declared.fault.CellOption.TheVariants as cell;
+ghost use Rattle.impose_words.specs.Faults.{NoValue, ParseRefuses, Wrong, Refuses, RefusesFound, Says, wrong_among, wrong_cells, wrong_choice};
+ghost use Rattle.impose_words.specs.Faults.{wrong_for, wrong_layout, wrong_marks, wrong_order, wrong_product, wrong_sizes, wrong_spacing};
+ghost use Rattle.impose_words.specs.Faults.{wrong_specs};
+ghost use Rattle.impose_words.specs.declared.fault.Opt.TheVariants as opt;
 
 use crate::arguments::command;
 use crate::arranging::{
-    booklet_marks_named, cells_named, cut_marks_named, exact_cells, noted_cells, run_named,
-    scale_named, turned_named,
+    NO_MARKS, booklet_marks_named, cells_named, cut_marks_named, exact_cells, noted_cells,
+    run_named, turned_named,
 };
-use crate::fault::{
-    CellOption, CommandFault, GridCommand, LengthOption, PaperOption, ProductOption,
-};
+use crate::fault::{CommandFault, GridCommand, Opt, ProductOption};
 use crate::request::{Layout, PageChoice, Product, Request, Spacing};
 use crate::signature::signing_named;
-use crate::sizes::size_named;
+use crate::sizes::{border_with_unit, length_with_unit, number_alone, size_named};
 use clap::ArgMatches;
 use clap::error::ErrorKind;
-use command_words::{border_named, is_set, number_of, owned, text_of};
+use command_words::{is_set, owned, text_of};
 use dressing::Marks;
 use layouts::{Cells, Order, Run, Turned};
-use lengths::{Grains, Number, Paper, a4, length_named};
+use lengths::{Grains, Number, Paper, a4};
 use rows::{Part, Signing};
 use std::alloc::Global;
 
@@ -89,9 +84,9 @@ fn request_of(alloc: Global, name: &str, found: &ArgMatches<'_>) -> Result<Reque
     ensures read { IfOk result (Reads name.now (rows_of (found_of found.now))) }
     ensures refused { IfErr result (RefusesFound name.now (rows_of (found_of found.now))) }
 {
-    let sizes = match sizes_of(alloc, found) {
+    let sizes = match sizes_of(found) {
         Ok(sizes) => sizes,
-        Err(fault) => return Err(fault),
+        Err(option) => return Err(bad_value(alloc, found, option)),
     };
     match layout_of(alloc, name, found) {
         Ok(layout) => request_for(alloc, sizes, layout, found),
@@ -109,16 +104,15 @@ fn request_for(
     requires sizes { ReadsSizes (rows_of (found_of found.now)) sizes.page_paper sizes.sheet_paper sizes.border }
     ensures read { (name : Text) → AsksFor name (rows_of (found_of found.now)) layout
         → IfOk result (Reads name (rows_of (found_of found.now))) }
-    ensures refused { (name : Text) → AsksFor name (rows_of (found_of found.now)) layout
-        → IfErr result (RefusesFound name (rows_of (found_of found.now))) }
+    ensures refused { IfErr result (λ f. Says (rows_of (found_of found.now)) f (wrong_for layout (rows_of (found_of found.now)))) }
 {
-    let spacing = match spacing_of(alloc, &layout, found) {
+    let spacing = match spacing_of(&layout, found) {
         Ok(spacing) => spacing,
-        Err(fault) => return Err(fault),
+        Err(option) => return Err(bad_value(alloc, found, option)),
     };
-    let marks = match marks_of(alloc, &layout, found) {
+    let marks = match marks_of(&layout, found) {
         Ok(marks) => marks,
-        Err(fault) => return Err(fault),
+        Err(option) => return Err(bad_value(alloc, found, option)),
     };
     let choice = match choice_of(alloc, &layout, found) {
         Ok(choice) => choice,
@@ -158,67 +152,57 @@ struct Sizes {
     border: Option<Grains>,
 }
 
-fn sizes_of(alloc: Global, found: &ArgMatches<'_>) -> Result<Sizes, CommandFault>
+/// The first of them that names none is at fault.
+fn sizes_of(found: &ArgMatches<'_>) -> Result<Sizes, Opt>
     ensures read { IfOk result (λ sizes.
         ReadsSizes (rows_of (found_of found.now)) sizes.page_paper sizes.sheet_paper sizes.border) }
-    ensures refused { IfErr result (RefusesSizes (rows_of (found_of found.now))) }
+    ensures refused { IfErr result (λ option. wrong_sizes (rows_of (found_of found.now)) ≡ Some (NoValue option)) }
 {
-    let page_paper = match paper_of(alloc, found, PaperOption::Paper) {
-        Ok(page_paper) => page_paper,
-        Err(fault) => return Err(fault),
+    let Some(page_paper) = paper_of(found, Opt::Paper) else {
+        return Err(Opt::Paper);
     };
-    let sheet_paper = match paper_of(alloc, found, PaperOption::Sheet) {
-        Ok(sheet_paper) => sheet_paper,
-        Err(fault) => return Err(fault),
+    let Some(sheet_paper) = paper_of(found, Opt::Sheet) else {
+        return Err(Opt::Sheet);
     };
-    match border_of(alloc, found) {
-        Ok(border) => Ok(Sizes {
-            page_paper,
-            sheet_paper,
-            border,
-        }),
-        Err(fault) => Err(fault),
-    }
+    let Some(border) = border_of(found) else {
+        return Err(Opt::Border);
+    };
+    Ok(Sizes {
+        page_paper,
+        sheet_paper,
+        border,
+    })
 }
 
 /// The paper that an option names, if it is there.
-fn paper_of(
-    alloc: Global,
-    found: &ArgMatches<'_>,
-    option: PaperOption,
-) -> Result<Option<Paper>, CommandFault>
-    ensures read { IfOk result (λ size. size_found option (rows_of (found_of found.now)) ≡ Some size) }
-    ensures refused { IfErr result (RefusesSize option (rows_of (found_of found.now))) }
+fn paper_of(found: &ArgMatches<'_>, option: Opt) -> Option<Option<Paper>>
+    ensures { result ≡ size_found option (rows_of (found_of found.now)) }
 {
-    match text_of(found, id_of(option)) {
-        None => Ok(None),
-        Some(text) => match size_named(text) {
-            Some(paper) => Ok(Some(paper)),
-            None => Err(CommandFault::UnknownPaper(option, String::from_str(alloc, text)?)),
-        },
-    }
-}
-
-/// The name of the option's argument.
-fn id_of(option: PaperOption) -> &'static str
-    ensures { result.now ≡ paper_id option }
-{
-    match option {
-        PaperOption::Paper => "paper",
-        PaperOption::Sheet => "sheet",
+    match text_of(found, option.id()) {
+        None => Some(None),
+        Some(text) => Some(Some(size_named(text)?)),
     }
 }
 
 /// The border that is asked for; a width of 0 asks for none.
-fn border_of(alloc: Global, found: &ArgMatches<'_>) -> Result<Option<Grains>, CommandFault>
-    ensures read { IfOk result (λ border. border_found (rows_of (found_of found.now)) ≡ Some border) }
-    ensures refused { IfErr result (RefusesBorder (rows_of (found_of found.now))) }
+fn border_of(found: &ArgMatches<'_>) -> Option<Option<Grains>>
+    ensures { result ≡ border_found (rows_of (found_of found.now)) }
 {
     match text_of(found, "border") {
-        None => Ok(None),
-        Some(text) => match border_named(&a4(), Some(text)) {
-            Some(border) => Ok(border),
-            None => Err(CommandFault::BadBorder(String::from_str(alloc, text)?)),
+        None => Some(None),
+        Some(text) => border_with_unit(text),
+    }
+}
+
+/// The fault of a value that is none.
+fn bad_value(alloc: Global, found: &ArgMatches<'_>, option: Opt) -> CommandFault
+    ensures { (wrong : Option Wrong) → wrong ≡ Some (NoValue option) → Says (rows_of (found_of found.now)) result wrong }
+{
+    match text_of(found, option.id()) {
+        None => CommandFault::BadValue(option, String::new(alloc)),
+        Some(text) => match String::from_str(alloc, text) {
+            Ok(text) => CommandFault::BadValue(option, text),
+            Err(_) => CommandFault::NoMemory,
         },
     }
 }
@@ -226,20 +210,20 @@ fn border_of(alloc: Global, found: &ArgMatches<'_>) -> Result<Option<Grains>, Co
 /// The layout of the subcommand with this name.
 fn layout_of(alloc: Global, name: &str, found: &ArgMatches<'_>) -> Result<Layout, CommandFault>
     ensures read { IfOk result (AsksFor name.now (rows_of (found_of found.now))) }
-    ensures refused { IfErr result (RefusesArguments name.now (rows_of (found_of found.now))) }
+    ensures refused { IfErr result (λ f. Says (rows_of (found_of found.now)) f (wrong_layout name.now (rows_of (found_of found.now)))) }
 {
     if name == "nup" {
-        nup_of(alloc, found)
+        grid_of(alloc, GridCommand::NUp, found)
     } else if name == "booklet" {
         booklet_of(alloc, found)
     } else if name == "cards" {
-        cards_of(alloc, found)
+        grid_of(alloc, GridCommand::Cards, found)
     } else if name == "stack" {
-        stack_of(alloc, found)
+        grid_of(alloc, GridCommand::Stack, found)
     } else if name == "notes" {
-        notes_of(alloc, found)
+        grid_of(alloc, GridCommand::Notes, found)
     } else if name == "poster" {
-        poster_of(alloc, found)
+        grid_of(alloc, GridCommand::Poster, found)
     } else if name == "select" {
         selection_of(found)
     } else if name == "spec" {
@@ -249,77 +233,33 @@ fn layout_of(alloc: Global, name: &str, found: &ArgMatches<'_>) -> Result<Layout
     }
 }
 
-fn nup_of(alloc: Global, found: &ArgMatches<'_>) -> Result<Layout, CommandFault>
-    ensures read { IfOk result (AsksFor (codes "nup") (rows_of (found_of found.now))) }
-    ensures refused { IfErr result (RefusesArguments (codes "nup") (rows_of (found_of found.now))) }
-{
-    match cells_of(alloc, GridCommand::NUp, found) {
-        Ok(cells) => Ok(Layout::NUp(cells)),
-        Err(fault) => Err(fault),
-    }
-}
-
-fn cards_of(alloc: Global, found: &ArgMatches<'_>) -> Result<Layout, CommandFault>
-    ensures read { IfOk result (AsksFor (codes "cards") (rows_of (found_of found.now))) }
-    ensures refused { IfErr result (RefusesArguments (codes "cards") (rows_of (found_of found.now))) }
-{
-    match cells_of(alloc, GridCommand::Cards, found) {
-        Ok(cells) => Ok(Layout::Cards(cells)),
-        Err(fault) => Err(fault),
-    }
-}
-
-fn stack_of(alloc: Global, found: &ArgMatches<'_>) -> Result<Layout, CommandFault>
-    ensures read { IfOk result (AsksFor (codes "stack") (rows_of (found_of found.now))) }
-    ensures refused { IfErr result (RefusesArguments (codes "stack") (rows_of (found_of found.now))) }
-{
-    match cells_of(alloc, GridCommand::Stack, found) {
-        Ok(cells) => Ok(Layout::Stack {
-            cells,
-            duplex: is_set(found, "duplex"),
-        }),
-        Err(fault) => Err(fault),
-    }
-}
-
-fn notes_of(alloc: Global, found: &ArgMatches<'_>) -> Result<Layout, CommandFault>
-    ensures read { IfOk result (AsksFor (codes "notes") (rows_of (found_of found.now))) }
-    ensures refused { IfErr result (RefusesArguments (codes "notes") (rows_of (found_of found.now))) }
-{
-    match cells_of(alloc, GridCommand::Notes, found) {
-        Ok(Cells::AtLeast(pages)) => Ok(Layout::Notes { pages }),
-        Ok(Cells::Exactly { .. }) => unreachable!(),
-        Err(fault) => Err(fault),
-    }
-}
-
-fn poster_of(alloc: Global, found: &ArgMatches<'_>) -> Result<Layout, CommandFault>
-    ensures read { IfOk result (AsksFor (codes "poster") (rows_of (found_of found.now))) }
-    ensures refused { IfErr result (RefusesArguments (codes "poster") (rows_of (found_of found.now))) }
-{
-    match cells_of(alloc, GridCommand::Poster, found) {
-        Ok(Cells::Exactly { columns, rows }) => Ok(Layout::Poster { columns, rows }),
-        Ok(Cells::AtLeast(_)) => unreachable!(),
-        Err(fault) => Err(fault),
-    }
-}
-
-/// The cells that come after the command.
-fn cells_of(
+/// The layout of a command that has cells.
+fn grid_of(
     alloc: Global,
     command: GridCommand,
     found: &ArgMatches<'_>,
-) -> Result<Cells, CommandFault>
-    ensures read { IfOk result (λ cells. cells_found command (rows_of (found_of found.now)) ≡ Some cells) }
-    ensures refused { IfErr result (RefusesArguments (command_name command) (rows_of (found_of found.now))) }
+) -> Result<Layout, CommandFault>
+    ensures read { IfOk result (AsksFor (command_name command) (rows_of (found_of found.now))) }
+    ensures refused { IfErr result (λ f. Says (rows_of (found_of found.now)) f (wrong_cells command (rows_of (found_of found.now)))) }
 {
-    match text_of(found, "count") {
-        None => Err(CommandFault::Lacking),
-        Some(text) => match cells_in(command, text) {
-            Some(cells) => Ok(cells),
-            None => Err(CommandFault::BadCells(command, String::from_str(alloc, text)?)),
+    let Some(text) = text_of(found, "count") else {
+        return Err(CommandFault::Lacking);
+    };
+    let Some(cells) = cells_in(command, text) else {
+        return Err(bad_value(alloc, found, Opt::Count(command)));
+    };
+    Ok(match (command, cells) {
+        (GridCommand::NUp, cells) => Layout::NUp(cells),
+        (GridCommand::Cards, cells) => Layout::Cards(cells),
+        (GridCommand::Stack, cells) => Layout::Stack {
+            cells,
+            duplex: is_set(found, "duplex"),
         },
-    }
+        (GridCommand::Notes, Cells::AtLeast(pages)) => Layout::Notes { pages },
+        (GridCommand::Poster, Cells::Exactly { columns, rows }) => Layout::Poster { columns, rows },
+        (GridCommand::Notes, Cells::Exactly { .. }) => unreachable!(),
+        (GridCommand::Poster, Cells::AtLeast(_)) => unreachable!(),
+    })
 }
 
 /// The cells that a text after the command means. Those of notes are a number of pages, and those of a poster are its sheets,
@@ -336,34 +276,32 @@ fn cells_in(command: GridCommand, text: &str) -> Option<Cells>
 
 fn booklet_of(alloc: Global, found: &ArgMatches<'_>) -> Result<Layout, CommandFault>
     ensures read { IfOk result (AsksFor (codes "booklet") (rows_of (found_of found.now))) }
-    ensures refused { IfErr result (RefusesArguments (codes "booklet") (rows_of (found_of found.now))) }
+    ensures refused { IfErr result (λ f.
+        Says (rows_of (found_of found.now)) f (wrong_among (opt.Signature ∷ []) (rows_of (found_of found.now)))) }
 {
-    match signing_of(alloc, found) {
-        Ok(signing) => Ok(Layout::Booklet {
-            signing,
+    match signing_of(found) {
+        Some(signing) => Ok(Layout::Booklet {
+            signing: signing.unwrap_or(Signing::InOne),
             long_edge: is_set(found, "long-edge"),
         }),
-        Err(fault) => Err(fault),
+        None => Err(bad_value(alloc, found, Opt::Signature)),
     }
 }
 
-/// How a booklet is sewn; in one signature of all pages if nothing is asked for.
-fn signing_of(alloc: Global, found: &ArgMatches<'_>) -> Result<Signing, CommandFault>
-    ensures read { IfOk result (λ signing. signing_found (rows_of (found_of found.now)) ≡ Some signing) }
-    ensures refused { IfErr result (RefusesArguments (codes "booklet") (rows_of (found_of found.now))) }
+/// How leaves are sewn, if anything is asked for.
+fn signing_of(found: &ArgMatches<'_>) -> Option<Option<Signing>>
+    ensures { result ≡ signing_found (rows_of (found_of found.now)) }
 {
     match text_of(found, "signature") {
-        None => Ok(Signing::InOne),
-        Some(text) => match signing_named(text) {
-            Some(signing) => Ok(signing),
-            None => Err(CommandFault::BadSignature(String::from_str(alloc, text)?)),
-        },
+        None => Some(None),
+        Some(text) => Some(Some(signing_named(text)?)),
     }
 }
 
 fn selection_of(found: &ArgMatches<'_>) -> Result<Layout, CommandFault>
     ensures read { IfOk result (AsksFor (codes "select") (rows_of (found_of found.now))) }
-    ensures refused { IfErr result (RefusesArguments (codes "select") (rows_of (found_of found.now))) }
+    ensures refused { IfErr result (λ f.
+        Says (rows_of (found_of found.now)) f (wrong_layout (codes "select") (rows_of (found_of found.now)))) }
 {
     match text_of(found, "ranges") {
         Some(_) => Ok(Layout::Selection),
@@ -373,7 +311,7 @@ fn selection_of(found: &ArgMatches<'_>) -> Result<Layout, CommandFault>
 
 fn spec_of(alloc: Global, found: &ArgMatches<'_>) -> Result<Layout, CommandFault>
     ensures read { IfOk result (AsksFor (codes "spec") (rows_of (found_of found.now))) }
-    ensures refused { IfErr result (RefusesArguments (codes "spec") (rows_of (found_of found.now))) }
+    ensures refused { IfErr result (λ f. Says (rows_of (found_of found.now)) f (wrong_specs (rows_of (found_of found.now)))) }
 {
     let specs = match text_of(found, "specs") {
         Some(specs) => String::from_str(alloc, specs)?,
@@ -382,9 +320,9 @@ fn spec_of(alloc: Global, found: &ArgMatches<'_>) -> Result<Layout, CommandFault
     if !asks_for_row(found) {
         return Ok(Layout::Spec(specs));
     }
-    match row_signing_of(alloc, found) {
-        Ok(signing) => Ok(Layout::SpecRow { specs, signing }),
-        Err(fault) => Err(fault),
+    match signing_of(found) {
+        Some(signing) => Ok(Layout::SpecRow { specs, signing }),
+        None => Err(bad_value(alloc, found, Opt::Signature)),
     }
 }
 
@@ -399,231 +337,124 @@ fn asks_for_row(found: &ArgMatches<'_>) -> bool
         || is_set(found, "reverse")
 }
 
-/// How the row of a specification is sewn; it isn't if nothing is asked for.
-fn row_signing_of(alloc: Global, found: &ArgMatches<'_>) -> Result<Option<Signing>, CommandFault>
-    ensures read { IfOk result (λ signing. row_signing_found (rows_of (found_of found.now)) ≡ Some signing) }
-    ensures refused { IfErr result (RefusesArguments (codes "spec") (rows_of (found_of found.now))) }
-{
-    match text_of(found, "signature") {
-        None => Ok(None),
-        Some(text) => match signing_named(text) {
-            Some(signing) => Ok(Some(signing)),
-            None => Err(CommandFault::BadSignature(String::from_str(alloc, text)?)),
-        },
-    }
-}
-
 /// What is kept free on the sheets of the layout, in which order one reads them, and at which scale the pages are.
-fn spacing_of(
-    alloc: Global,
-    layout: &Layout,
-    found: &ArgMatches<'_>,
-) -> Result<Spacing, CommandFault>
+fn spacing_of(layout: &Layout, found: &ArgMatches<'_>) -> Result<Spacing, Opt>
     ensures read { IfOk result (SpacesBy (keeps_room layout.now) (rows_of (found_of found.now))) }
-    ensures refused { IfErr result (RefusesSpacing (rows_of (found_of found.now))) }
+    ensures refused { IfErr result (λ option.
+        wrong_spacing (keeps_room layout.now) (rows_of (found_of found.now)) ≡ Some (NoValue option)) }
 {
     if !layout.keeps_room() {
         return Ok(Spacing::none());
     }
-    let margin = match length_of(alloc, found, LengthOption::Margin) {
-        Ok(margin) => margin,
-        Err(fault) => return Err(fault),
+    let Some(margin) = length_of(found, Opt::Margin) else {
+        return Err(Opt::Margin);
     };
-    let gap = match length_of(alloc, found, LengthOption::Gap) {
-        Ok(gap) => gap,
-        Err(fault) => return Err(fault),
+    let Some(gap) = length_of(found, Opt::Gap) else {
+        return Err(Opt::Gap);
     };
-    let trim = match length_of(alloc, found, LengthOption::Trim) {
-        Ok(trim) => trim,
-        Err(fault) => return Err(fault),
+    let Some(trim) = length_of(found, Opt::Trim) else {
+        return Err(Opt::Trim);
     };
-    let creep = match length_of(alloc, found, LengthOption::Creep) {
-        Ok(creep) => creep,
-        Err(fault) => return Err(fault),
+    let Some(creep) = length_of(found, Opt::Creep) else {
+        return Err(Opt::Creep);
     };
-    let overlap = match length_of(alloc, found, LengthOption::Overlap) {
-        Ok(overlap) => overlap,
-        Err(fault) => return Err(fault),
+    let Some(overlap) = length_of(found, Opt::Overlap) else {
+        return Err(Opt::Overlap);
     };
-    match reading_of(alloc, found) {
-        Ok(OrderAndScale { order, scale }) => Ok(Spacing {
-            margin,
-            gap,
-            trim,
-            creep,
-            overlap,
-            order,
-            scale,
-            same_scale: is_set(found, "same-scale"),
-        }),
-        Err(fault) => Err(fault),
-    }
+    let order = match order_of(found) {
+        Ok(order) => order,
+        Err(option) => return Err(option),
+    };
+    let Some(scale) = scale_of(found) else {
+        return Err(Opt::Scale);
+    };
+    Ok(Spacing {
+        margin,
+        gap,
+        trim,
+        creep,
+        overlap,
+        order,
+        scale,
+        same_scale: is_set(found, "same-scale"),
+    })
 }
 
 /// The length that an option names; 0 if it isn't there.
-fn length_of(
-    alloc: Global,
-    found: &ArgMatches<'_>,
-    option: LengthOption,
-) -> Result<Grains, CommandFault>
-    ensures read { IfOk result (λ length. length_found option (rows_of (found_of found.now)) ≡ Some length) }
-    ensures refused { IfErr result (RefusesLength option (rows_of (found_of found.now))) }
+fn length_of(found: &ArgMatches<'_>, option: Opt) -> Option<Grains>
+    ensures { result ≡ length_found option (rows_of (found_of found.now)) }
 {
-    match text_of(found, length_name(option)) {
-        None => Ok(Spacing::none().margin),
-        Some(text) => match length_named(&a4(), text.as_bytes()) {
-            Some(length) => Ok(length),
-            None => Err(CommandFault::BadLength(option, String::from_str(alloc, text)?)),
-        },
+    match text_of(found, option.id()) {
+        None => Some(Spacing::none().margin),
+        Some(text) => length_with_unit(text),
     }
 }
 
-/// The name of the option's argument.
-fn length_name(option: LengthOption) -> &'static str
-    ensures { result.now ≡ length_id option }
+/// In which order one reads the cells. Right is turned into left by `--rtl` in whatever order.
+fn order_of(found: &ArgMatches<'_>) -> Result<Order, Opt>
+    ensures read { IfOk result (λ order. order_found (rows_of (found_of found.now)) ≡ Some order) }
+    ensures refused { IfErr result (λ option. wrong_order (rows_of (found_of found.now)) ≡ Some (NoValue option)) }
 {
-    match option {
-        LengthOption::Margin => "margin",
-        LengthOption::Gap => "gap",
-        LengthOption::Trim => "trim",
-        LengthOption::Creep => "creep",
-        LengthOption::Overlap => "overlap",
-    }
-}
-
-/// In which order one reads the cells, and the scale of the pages in them.
-#[derive(Clone, Copy, Drop)]
-struct OrderAndScale {
-    order: Order,
-    scale: Option<Number>,
-}
-
-/// Right is turned into left by `--rtl` in whatever order.
-fn reading_of(alloc: Global, found: &ArgMatches<'_>) -> Result<OrderAndScale, CommandFault>
-    ensures order { IfOk result (λ reading. order_found (rows_of (found_of found.now)) ≡ Some reading.order) }
-    ensures scale { IfOk result (λ reading. scale_found (rows_of (found_of found.now)) ≡ Some reading.scale) }
-    ensures refused { IfErr result (RefusesReading (rows_of (found_of found.now))) }
-{
-    let (run, from_right) = match run_of(alloc, found) {
-        Ok(read) => read,
-        Err(fault) => return Err(fault),
+    let Some((run, from_right)) = run_of(found) else {
+        return Err(Opt::Order);
     };
-    let turned = match turned_of(alloc, found) {
-        Ok(turned) => turned,
-        Err(fault) => return Err(fault),
+    let Some(turned) = turned_of(found) else {
+        return Err(Opt::Turned);
     };
-    match scale_of(alloc, found) {
-        Ok(scale) => Ok(OrderAndScale {
-            order: Order {
-                run,
-                right_to_left: from_right || is_set(found, "rtl"),
-                turned,
-            },
-            scale,
-        }),
-        Err(fault) => Err(fault),
-    }
+    Ok(Order {
+        run,
+        right_to_left: from_right || is_set(found, "rtl"),
+        turned,
+    })
 }
 
 /// Along what pages run, and whether from the right by the order itself.
-fn run_of(alloc: Global, found: &ArgMatches<'_>) -> Result<(Run, bool), CommandFault>
-    ensures read { IfOk result (λ run. run_found (rows_of (found_of found.now)) ≡ Some run) }
-    ensures refused { IfErr result (RefusesValue cell.Order (rows_of (found_of found.now))) }
+fn run_of(found: &ArgMatches<'_>) -> Option<(Run, bool)>
+    ensures { result ≡ run_found (rows_of (found_of found.now)) }
 {
     match text_of(found, "order") {
-        None => Ok((Run::Rows, false)),
-        Some(text) => match run_named(text) {
-            Some(run) => Ok(run),
-            None => Err(CommandFault::BadValue(CellOption::Order, String::from_str(alloc, text)?)),
-        },
+        None => Some((Run::Rows, false)),
+        Some(text) => run_named(text),
     }
 }
 
 /// How pages lie in the cells.
-fn turned_of(alloc: Global, found: &ArgMatches<'_>) -> Result<Turned, CommandFault>
-    ensures read { IfOk result (λ turned. turned_found (rows_of (found_of found.now)) ≡ Some turned) }
-    ensures refused { IfErr result (RefusesValue cell.Turned (rows_of (found_of found.now))) }
+fn turned_of(found: &ArgMatches<'_>) -> Option<Turned>
+    ensures { result ≡ turned_found (rows_of (found_of found.now)) }
 {
     match text_of(found, "turned") {
-        None => Ok(Turned::Upright),
-        Some(text) => match turned_named(text) {
-            Some(turned) => Ok(turned),
-            None => Err(CommandFault::BadValue(CellOption::Turned, String::from_str(alloc, text)?)),
-        },
+        None => Some(Turned::Upright),
+        Some(text) => turned_named(text),
     }
 }
 
 /// The scale that is asked for, if one is.
-fn scale_of(alloc: Global, found: &ArgMatches<'_>) -> Result<Option<Number>, CommandFault>
-    ensures read { IfOk result (λ scale. scale_found (rows_of (found_of found.now)) ≡ Some scale) }
-    ensures refused { IfErr result (RefusesValue cell.Scale (rows_of (found_of found.now))) }
+fn scale_of(found: &ArgMatches<'_>) -> Option<Option<Number>>
+    ensures { result ≡ scale_found (rows_of (found_of found.now)) }
 {
     match text_of(found, "scale") {
-        None => Ok(None),
-        Some(text) => match scale_named(text) {
-            Some(scale) => Ok(Some(scale)),
-            None => Err(CommandFault::BadValue(CellOption::Scale, String::from_str(alloc, text)?)),
-        },
+        None => Some(None),
+        Some(text) => Some(Some(number_alone(text)?)),
     }
 }
 
 /// The marks that are asked for, of those that sheets of the layout have.
-fn marks_of(alloc: Global, layout: &Layout, found: &ArgMatches<'_>) -> Result<Marks, CommandFault>
+fn marks_of(layout: &Layout, found: &ArgMatches<'_>) -> Result<Marks, Opt>
     ensures read { IfOk result (λ marks. marks_found layout.now (rows_of (found_of found.now)) ≡ Some marks) }
-    ensures refused { IfErr result (RefusesMarks layout.now (rows_of (found_of found.now))) }
+    ensures refused { IfErr result (λ option. wrong_marks layout.now (rows_of (found_of found.now)) ≡ Some (NoValue option)) }
 {
-    match layout {
-        Layout::Booklet { .. } => booklet_marks_of(alloc, found),
-        Layout::NUp(_) | Layout::Cards(_) | Layout::Stack { .. } => cut_marks_of(alloc, found),
-        Layout::Notes { .. } => Ok(LINES_ALONE),
-        Layout::Poster { .. } | Layout::Selection => Ok(NO_MARKS),
-        Layout::Spec(_) | Layout::SpecRow { .. } => Ok(NO_MARKS),
-    }
-}
-
-const NO_MARKS: Marks = Marks {
-    fold: false,
-    cut: false,
-    ruled: false,
-};
-
-const LINES_ALONE: Marks = Marks {
-    fold: false,
-    cut: false,
-    ruled: true,
-};
-
-fn booklet_marks_of(alloc: Global, found: &ArgMatches<'_>) -> Result<Marks, CommandFault>
-    ensures read { IfOk result (λ marks.
-        marks_asked of_booklet (first_of (codes "marks") (rows_of (found_of found.now))) ≡ Some marks) }
-    ensures refused { IfErr result (RefusesValue cell.BookletMarks (rows_of (found_of found.now))) }
-{
-    match text_of(found, "marks") {
-        None => Ok(NO_MARKS),
-        Some(text) => match booklet_marks_named(text) {
-            Some(marks) => Ok(marks),
-            None => Err(CommandFault::BadValue(
-                CellOption::BookletMarks,
-                String::from_str(alloc, text)?,
-            )),
-        },
-    }
-}
-
-fn cut_marks_of(alloc: Global, found: &ArgMatches<'_>) -> Result<Marks, CommandFault>
-    ensures read { IfOk result (λ marks.
-        marks_asked to_cut (first_of (codes "marks") (rows_of (found_of found.now))) ≡ Some marks) }
-    ensures refused { IfErr result (RefusesValue cell.CutMarks (rows_of (found_of found.now))) }
-{
-    match text_of(found, "marks") {
-        None => Ok(NO_MARKS),
-        Some(text) => match cut_marks_named(text) {
-            Some(marks) => Ok(marks),
-            None => Err(CommandFault::BadValue(
-                CellOption::CutMarks,
-                String::from_str(alloc, text)?,
-            )),
-        },
+    match (layout, text_of(found, "marks")) {
+        (Layout::Booklet { .. }, Some(text)) => {
+            booklet_marks_named(text).ok_or(Opt::BookletMarks)
+        }
+        (Layout::NUp(_) | Layout::Cards(_) | Layout::Stack { .. }, Some(text)) => {
+            cut_marks_named(text).ok_or(Opt::CutMarks)
+        }
+        (Layout::Notes { .. }, _) => Ok(Marks {
+            ruled: true,
+            ..NO_MARKS
+        }),
+        _ => Ok(NO_MARKS),
     }
 }
 
@@ -634,22 +465,21 @@ fn choice_of(
     found: &ArgMatches<'_>,
 ) -> Result<PageChoice, CommandFault>
     ensures read { IfOk result (ChoosesBy (ranges_id layout.now) (rows_of (found_of found.now))) }
-    ensures refused { IfErr result (RefusesChoice (rows_of (found_of found.now))) }
+    ensures refused { IfErr result (λ f.
+        Says (rows_of (found_of found.now)) f (wrong_choice (ranges_id layout.now) (rows_of (found_of found.now)))) }
 {
     match layout {
-        Layout::NUp(_) | Layout::Cards(_) => choice_by(alloc, "pages", found),
-        Layout::Notes { .. } | Layout::Poster { .. } => choice_by(alloc, "pages", found),
-        Layout::Stack { .. } | Layout::Booklet { .. } => choice_by(alloc, "pages", found),
-        Layout::SpecRow { .. } => choice_by(alloc, "pages", found),
-        Layout::Selection => choice_by(alloc, "ranges", found),
         Layout::Spec(_) => Ok(PageChoice::whole()),
+        Layout::Selection => choice_by(alloc, "ranges", found),
+        _ => choice_by(alloc, "pages", found),
     }
 }
 
 /// The pages that the ranges of this argument name.
 fn choice_by(alloc: Global, id: &str, found: &ArgMatches<'_>) -> Result<PageChoice, CommandFault>
     ensures read { IfOk result (ChoosesBy (Some id.now) (rows_of (found_of found.now))) }
-    ensures refused { IfErr result (RefusesChoice (rows_of (found_of found.now))) }
+    ensures refused { IfErr result (λ f.
+        Says (rows_of (found_of found.now)) f (wrong_choice (Some id.now) (rows_of (found_of found.now)))) }
 {
     match part_of(is_set(found, "odd"), is_set(found, "even")) {
         Some(part) => Ok(PageChoice {
@@ -675,14 +505,15 @@ fn part_of(odd: bool, even: bool) -> Option<Part>
 /// The file that is written. A name that begins with a minus sign is most likely an option that came too late.
 fn outfile_of(alloc: Global, found: &ArgMatches<'_>) -> Result<Option<String>, CommandFault>
     ensures asked { IfOk result (λ outfile.
-        file_asked (first_of (codes "outfile") (rows_of (found_of found.now))) ≡ option_map string_bytes outfile) }
+        file_asked (given opt.Outfile (rows_of (found_of found.now))) ≡ option_map string_bytes outfile) }
     ensures no_option { IfOk result (λ outfile. is_outfile (option_map string_bytes outfile) ≡ true) }
-    ensures refused { IfErr result (RefusesOutfile (rows_of (found_of found.now))) }
+    ensures refused { IfErr result (λ f.
+        Says (rows_of (found_of found.now)) f (wrong_among (opt.Outfile ∷ []) (rows_of (found_of found.now)))) }
 {
     match file_named(text_of(found, "outfile")) {
         None => Ok(None),
         Some(name) => if name.as_bytes().starts_with(b"-") {
-            Err(CommandFault::OptionAsOutfile(String::from_str(alloc, name)?))
+            Err(bad_value(alloc, found, Opt::Outfile))
         } else {
             Ok(Some(String::from_str(alloc, name)?))
         },
@@ -696,7 +527,8 @@ fn product_of(
     found: &ArgMatches<'_>,
 ) -> Result<Product, CommandFault>
     ensures read { IfOk result (MakesBy (lays_rows layout.now) (rows_of (found_of found.now))) }
-    ensures refused { IfErr result (RefusesProduct (lays_rows layout.now) (rows_of (found_of found.now))) }
+    ensures refused { IfErr result (λ f.
+        Says (rows_of (found_of found.now)) f (wrong_product (lays_rows layout.now) (rows_of (found_of found.now)))) }
 {
     let printed = is_set(found, "print-spec");
     if !layout.lays_rows() {
@@ -705,7 +537,7 @@ fn product_of(
     match (printed, is_set(found, "plan"), text_of(found, "preview")) {
         (_, false, None) => Ok(specification_if(printed)),
         (false, true, None) => Ok(Product::Plan),
-        (false, false, Some(name)) => picture_in_file(alloc, name),
+        (false, false, Some(name)) => picture_of(alloc, name, found),
         (true, true, _) => Err(CommandFault::TwoProducts(
             ProductOption::PrintSpec,
             ProductOption::Plan,
@@ -734,17 +566,19 @@ fn specification_if(printed: bool) -> Product
     }
 }
 
-/// The picture in the file of that name, which is named as an SVG is.
-fn picture_in_file(alloc: Global, name: &str) -> Result<Product, CommandFault>
+/// The picture in the file of that name after `--preview`, which is named as an SVG is.
+fn picture_of(alloc: Global, name: &str, found: &ArgMatches<'_>) -> Result<Product, CommandFault>
+    requires { given opt.Preview (rows_of (found_of found.now)) ≡ Some name.now }
     ensures picture { IfOk result (NamesPicture name.now) }
-    ensures refused { IfErr result (RefusesPicture name.now) }
+    ensures refused { IfErr result (λ f.
+        Says (rows_of (found_of found.now)) f (wrong_among (opt.Preview ∷ []) (rows_of (found_of found.now)))) }
 {
     match file_named(Some(name)) {
         None => Ok(Product::Picture(None)),
         Some(name) => if name.as_bytes().ends_with(b".svg") {
             Ok(Product::Picture(Some(String::from_str(alloc, name)?)))
         } else {
-            Err(CommandFault::BadPicture(String::from_str(alloc, name)?))
+            Err(bad_value(alloc, found, Opt::Preview))
         },
     }
 }

@@ -2,23 +2,6 @@
 use clap::Error as WordsError;
 use std::alloc::AllocError;
 
-/// The option that names a paper.
-#[derive(Clone, Copy, Debug, PartialEq, Eq)]
-pub enum PaperOption {
-    Paper,
-    Sheet,
-}
-
-/// The option that names a length.
-#[derive(Clone, Copy, Debug, PartialEq, Eq)]
-pub enum LengthOption {
-    Margin,
-    Gap,
-    Trim,
-    Creep,
-    Overlap,
-}
-
 /// The command that puts pages into the cells of a grid, or beside those for notes, or over its sheets.
 #[derive(Clone, Copy, Debug, PartialEq, Eq)]
 pub enum GridCommand {
@@ -29,15 +12,58 @@ pub enum GridCommand {
     Poster,
 }
 
-/// The option that says in which order pages are in cells, how large they are, or which marks are drawn: on a booklet, or
-/// on other sheets.
+/// An argument or option whose value has a meaning of its own.
 #[derive(Clone, Copy, Debug, PartialEq, Eq)]
-pub enum CellOption {
+pub enum Opt {
+    Paper,
+    Sheet,
+    Border,
+    /// What comes after such a command.
+    Count(GridCommand),
+    Signature,
+    Margin,
+    Gap,
+    Trim,
+    Creep,
+    Overlap,
     Order,
     Turned,
     Scale,
+    /// `--marks` on a booklet.
     BookletMarks,
+    /// `--marks` on other sheets.
     CutMarks,
+    Outfile,
+    Preview,
+}
+
+impl Opt {
+    ghost use Rattle.std.specs.Prelude.{◌≡◌};
+    ghost use Rattle.impose_words.specs.Words.{opt_id};
+
+    /// The name of its argument.
+    pub fn id(self) -> &'static str
+        ensures { result.now ≡ opt_id self }
+    {
+        match self {
+            Opt::Paper => "paper",
+            Opt::Sheet => "sheet",
+            Opt::Border => "border",
+            Opt::Count(_) => "count",
+            Opt::Signature => "signature",
+            Opt::Margin => "margin",
+            Opt::Gap => "gap",
+            Opt::Trim => "trim",
+            Opt::Creep => "creep",
+            Opt::Overlap => "overlap",
+            Opt::Order => "order",
+            Opt::Turned => "turned",
+            Opt::Scale => "scale",
+            Opt::BookletMarks | Opt::CutMarks => "marks",
+            Opt::Outfile => "outfile",
+            Opt::Preview => "preview",
+        }
+    }
 }
 
 /// The option that asks for something in place of the sheets.
@@ -57,26 +83,12 @@ pub enum CommandFault {
     NoText,
     /// The words name no subcommand of the command's, or lack one of its arguments, though the command takes them.
     Lacking,
-    /// The option's value, this text, is no paper.
-    UnknownPaper(PaperOption, String),
-    /// The value of `--border`, this text, is no length above zero, nor zero.
-    BadBorder(String),
-    /// The option's value, this text, is no length.
-    BadLength(LengthOption, String),
-    /// The value of `--signature`, this text, is neither `auto` nor a number of sides that leaves may have.
-    BadSignature(String),
-    /// What comes after the command, this text, names no cells that a sheet takes.
-    BadCells(GridCommand, String),
-    /// The option's value, this text, is none of its values.
-    BadValue(CellOption, String),
+    /// The value, this text, is none that the argument or option takes.
+    BadValue(Opt, String),
     /// Both `--odd` and `--even` are there.
     OddAndEven,
-    /// OUTFILE, this text, begins with a minus sign, as options do.
-    OptionAsOutfile(String),
     /// Both options are there, of which each asks for something else in place of the sheets.
     TwoProducts(ProductOption, ProductOption),
-    /// The file after `--preview`, this text, isn't named as an SVG is.
-    BadPicture(String),
     /// There was no memory for the request.
     NoMemory,
 }

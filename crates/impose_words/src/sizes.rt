@@ -1,8 +1,9 @@
-//! Sizes of paper, as people write them.
+//! Sizes of paper, numbers and lengths, as people write them.
 ghost use Rattle.std.specs.Prelude.{◌≡◌};
 ghost use Rattle.impose_words.specs.Sizes as meaning;
 
-use lengths::Paper;
+use command_words::border_named;
+use lengths::{Grains, Number, Paper, a4, length_named, read_number};
 use papers::read_paper;
 
 /// The paper that the text means, by its name or by its width and height.
@@ -10,4 +11,46 @@ pub fn size_named(text: &str) -> Option<Paper>
     ensures { result ≡ meaning.size_named text.now }
 {
     read_paper(text.as_bytes()).ok()
+}
+
+/// The number that is all of the text, up to 99,999.999999999; decimals past the ninth have no effect.
+pub fn number_alone(text: &str) -> Option<Number>
+    ensures { result ≡ meaning.number_alone text.now }
+{
+    match read_number(text.as_bytes()) {
+        Ok((number, len)) if len == text.len() => Some(number),
+        _ => None,
+    }
+}
+
+/// Whether the text is a number that needs a unit to be a length, as all do but 0.
+pub fn lacks_unit(text: &str) -> bool
+    ensures { result ≡ meaning.lacks_unit text.now }
+{
+    match number_alone(text) {
+        Some(number) => number.billionths() != 0,
+        None => false,
+    }
+}
+
+/// The length that the text means: a number with its unit, or 0.
+pub fn length_with_unit(text: &str) -> Option<Grains>
+    ensures { result ≡ meaning.length_with_unit text.now }
+{
+    if lacks_unit(text) {
+        None
+    } else {
+        length_named(&a4(), text.as_bytes())
+    }
+}
+
+/// The border of the width that the text means; none if the width is 0.
+pub fn border_with_unit(text: &str) -> Option<Option<Grains>>
+    ensures { result ≡ meaning.border_with_unit text.now }
+{
+    if lacks_unit(text) {
+        None
+    } else {
+        border_named(&a4(), Some(text))
+    }
 }

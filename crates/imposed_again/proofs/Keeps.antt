@@ -36,9 +36,6 @@ kept_bytes was drops d (u ∷ us) =
     turn true e f = e
     turn false e f = ap (λ x. u.bytes ++ x) f
 
-abbrev no_more : List TextUnit → List TextUnit → Type 0
-no_more kept us = 0 < length kept → 0 < length us
-
 none_more : (was : Bool) (drops : List ℕ → Bool) (d : ℕ) (us : List TextUnit) → 0 < length (kept_units was drops d us) → 0 < length us
 none_more was drops d [] h = h
 none_more was drops d (u ∷ us) h = omega arith

@@ -138,10 +138,6 @@ opening k frame item =
 
 -- At greater depth even fewer lines begin a part.
 
-or_false : (a b : Bool) → (a || b) ≡ false → (a ≡ false) × (b ≡ false)
-or_false true b e = cc
-or_false false b e = (refl, e)
-
 no_part : (k : ℕ) (u : TextUnit) → (k == 0) ≡ false → begins_part (at_depth k u) ≡ false
 no_part k u h =
     ap (λ t. ((t && not u.is_block) && is_comment (codes "%%Page") u.content) || ((t && not u.is_block) && has_key (codes "%%Trailer" ∷ codes "%%EOF" ∷ []) u.content)) h

@@ -202,11 +202,6 @@ least_next l count number p puts next n is after =
     ap (λ k. if p % count == number then k else 0) (page_weighs l p) in
     subst (λ m. next ≡ min (share_below is_place l count number m) n) e (omega (arith, is, after, one))
 
-pub first_puts : (l : Layout) (count k puts next more : ℕ) → puts ≡ most_puts_of l count k → more ≡ most_puts l count k → next ≡ puts + more → next ≡ most_puts_of l count (k + 1)
-first_puts l count k puts next more is one sum =
-    let e : suc k ≡ k + 1 = omega arith in
-    subst (λ m. next ≡ most_puts_of l count m) e (omega (arith, is, one, sum))
-
 -- there is room for a page of the preparer's own
 pub room_for_page : (layout : Layout) (count number p : ℕ) (old : Tokens) → p < layout.pages → p % count ≡ number → HasRoomFrom layout count number p old → HasRoomForPage layout p old
 room_for_page layout count number p old lt mine room = ⊎_elim
@@ -229,15 +224,6 @@ room_behind layout count number p old new mine room puts =
     let next = next_share layout count number p mine in
     inl (omega (arith, a, next, less, few)))
     (λ (b : length layout.sheets ≤ puts_in old.pass.room + completed_below (length layout.sheets) old). inr (omega (arith, b, less, counted)))
-    room
-
--- a page of another preparer
-pub room_passed : (layout : Layout) (count number p : ℕ) (old : Tokens) → HasRoomFrom layout count number p old → HasRoomFrom layout count number (p + 1) old
-room_passed layout count number p old room = ⊎_elim
-    (λ (a : share_below is_place layout count number layout.pages ≤ puts_in old.pass.room + share_below is_place layout count number p).
-    let all = grows_to is_place layout count number p (p + 1) (omega arith) in
-    inl (omega (arith, a, all)))
-    (λ b. inr b)
     room
 
 -- what a preparer begins with

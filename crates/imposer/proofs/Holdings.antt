@@ -50,11 +50,6 @@ none_of_two : {A : Type 0} (one two new : Option A) → new ≡ option_or one tw
 none_of_two None two new is none = (refl, subst IsNone is none)
 none_of_two (Some a) two new is none = absurd (true≢false (subst IsNone is none))
 
--- a property of both is one of what is taken of them
-pub one_of : {A : Type 0} (P : A → Type 0) (one two : Option A) → IfSome one P → IfSome two P → IfSome (option_or one two) P
-one_of P None two p q = q
-one_of P (Some a) two p q = p
-
 -- a preparer's holding is joined
 pub with_prepared : {G : Type 0} (run : Shared G) (first : Tokens) (count k : ℕ) (all theirs new : Holding)
     → AreOfBoth all.tokens theirs.tokens new.tokens → new.unshelved ≡ option_or all.unshelved theirs.unshelved

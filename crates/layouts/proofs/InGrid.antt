@@ -10,7 +10,7 @@ use Rattle.layouts.specs.declared.arrangement.Turned.TheVariants as sideways
 use Rattle.layouts.specs.Placed.{Room, stands, IsOfPage, LiesWithin, IsLeftOf, IsAbove}
 use Rattle.layouts.specs.Cells.{Grid, wide, high, counted, fitting, whole, to_right, to_top, item_at}
 use Rattle.layouts.specs.Laws.{IsPaper, HasPlace}
-use Rattle.layouts.specs.Refusals.{is_reached, are_reached}
+use Rattle.layouts.specs.Refusals.{is_reached}
 use Rattle.layouts.proofs.AlongSide.{scaled_fits, some_cell}
 use Rattle.layouts.proofs.Sides.{of_sides, LiesIn, within_upright, within_left, left_by_upright, below_by_upright, left_by_left, above_by_left}
 use Rattle.layouts.proofs.OnSide.{HasCell, begins, finishes, comes_before, begins_turned, finishes_turned, comes_before_turned}
@@ -228,8 +228,3 @@ is_above page page' room g s s' k k' row column row' column' is is' on place pla
 
 reached : (n : ℕ) → IsTrue (is_reached n) → n < 12_700_000_000_000_000
 reached n h = search (rules, h)
-
-pub both_reached : (paper : Paper) → IsTrue (are_reached paper) → (nat_abs paper.width < 12_700_000_000_000_000) × (nat_abs paper.height < 12_700_000_000_000_000)
-both_reached paper h =
-    let (across, up) = both_true (is_reached (nat_abs paper.width)) (is_reached (nat_abs paper.height)) h in
-    (reached (nat_abs paper.width) across, reached (nat_abs paper.height) up)

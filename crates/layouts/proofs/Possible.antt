@@ -54,15 +54,6 @@ pub record IsGoodSheet (page sheet : Paper) (margin gap trim : ℤ) : Type 0 whe
   pub trim_is : IsTrue (is_length trim)
   pub shown : IsTrue (is_shown page (room_of sheet margin gap trim))
 
-pub good_sheet : (page sheet : Paper) (margin gap trim : ℤ) → why_no_sheet page sheet margin gap trim None ≡ None → IsGoodSheet page sheet margin gap trim
-good_sheet page sheet margin gap trim h =
-    let one = passed (are_reached page && are_reached sheet) why.SideTooLong (first_of (is_length margin && is_length gap && is_length trim) why.LengthOutOfRange (first_of (is_shown page (room_of sheet margin gap trim)) why.NothingLeftOfPage None)) h in
-    let two = passed (is_length margin && is_length gap && is_length trim) why.LengthOutOfRange (first_of (is_shown page (room_of sheet margin gap trim)) why.NothingLeftOfPage None) one.1 in
-    let three = passed (is_shown page (room_of sheet margin gap trim)) why.NothingLeftOfPage None two.1 in
-    let lengths = both_true (is_length margin && is_length gap) (is_length trim) two.0 in
-    let first = both_true (is_length margin) (is_length gap) lengths.0 in
-    record { margin_is = first.0; gap_is = first.1; trim_is = lengths.1; shown = three.0 }
-
 -- and of a scale
 pub record IsGoodScale (room : Room) (s largest : ℕ) : Type 0 where
   pub scale : IsTrue (is_scale s)

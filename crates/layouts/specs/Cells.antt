@@ -26,7 +26,7 @@ pub record Grid : Type 0 where
 abbrev pub size : Grid → ℕ
 size g = g.rows * g.columns
 
--- how wide and how high the sheet is as one holds it, in grains
+-- how wide and how high the sheet is as one holds it, in grains (RULES, 13.2)
 abbrev pub held_width : Bool → (sheet : Paper) → ℕ
 held_width false sheet = nat_abs sheet.width
 held_width true sheet = nat_abs sheet.height
@@ -38,10 +38,11 @@ held_height true sheet = nat_abs sheet.width
 -- ---- cells
 
 -- what is kept of a length: if pages are trimmed, 10^-5 of a point more, since how far they are moved back is rounded
+-- (RULES, 13.1)
 abbrev pub kept : Room → (length : ℕ) → ℕ
 kept room length = if room.trim == 0 then length else length + 1
 
--- what the margins leave of a side, in grains
+-- what the margins leave of a side, in grains (RULES, 13.2)
 abbrev pub left_free : Room → (side : ℕ) → ℕ
 left_free room side = side - 2_540_000 * kept room room.edge
 
@@ -68,7 +69,7 @@ high room g = step_down room g - kept room room.gap
 
 -- ---- pages in cells
 
--- what counts of a page's side, in grains
+-- what counts of a page's side, in grains (RULES, 13.3)
 abbrev pub counted : Room → (side : ℤ) → ℕ
 counted room side = nat_abs side - 2_540_000 * room.trim
 
@@ -84,6 +85,7 @@ scale_in page room g =
 -- ---- how large pages can be in exact parts, by which grids are compared
 
 -- the largest scale, in 10^-9, that so many equal parts of what the margins and the gaps leave of a side allow
+-- (RULES, 13.5)
 abbrev pub exact_along : Room → (side parts page : ℕ) → ℕ
 exact_along room side parts page =
     (1_000_000_000 * left_free room side + 1_270_000_000_000_000 * kept room room.gap
@@ -96,7 +98,7 @@ exact_scale page room g =
 
 -- ---- where they stand
 
--- half of what a scaled side leaves of its cell, in 10^-5 of a point
+-- half of what a scaled side leaves of its cell, in 10^-5 of a point (RULES, 13.4)
 abbrev pub slack : (cell side scale : ℕ) → ℕ
 slack cell side scale = (1_270_000_000_000_000 * cell - scale * side) / 2_540_000_000_000_000
 
@@ -161,7 +163,7 @@ read_rows sideways.Upright g = g.rows
 read_rows sideways.Left g = g.columns
 read_rows sideways.Right g = g.columns
 
--- how many cells are passed before the next row, or the next column, begins
+-- how many cells are passed before the next row, or the next column, begins (RULES, 13.6)
 abbrev pub run_in : Run → Turned → Grid → ℕ
 run_in Rows t g = read_columns t g
 run_in Columns t g = read_rows t g
@@ -217,7 +219,7 @@ half_turned Left = Right
 half_turned Half = Upright
 half_turned Right = Left
 
--- page n + k of a block, where page k stands if the whole sheet is turned by half
+-- page n + k of a block, where page k stands if the whole sheet is turned by half (RULES, 14.1)
 abbrev pub back_in : (page : Paper) → Room → Grid → Order → (scale n k : ℕ) → Item
 back_in page room g o s n k = record {
   page = n + k;

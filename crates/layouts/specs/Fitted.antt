@@ -17,17 +17,17 @@ use Rattle.layouts.specs.Refusals.{first_of, are_reached, is_shown, why_no_scale
 use Rattle.layouts.specs.Laws.{IsPaper, IsExact, IsInCell, IsInMiddle, cell_at, ComesInRun, ComesInRunBefore, IsNotTiny, Allows, LiesBefore, LiesBehind}
 
 -- one page on a sheet of its own paper, where pages are upright, with nothing kept free, nothing trimmed, and no scale asked
--- for
+-- for (RULES, 13.4)
 abbrev pub is_whole : Setting → (page : Paper) → Bool
 is_whole t page =
     (size t.grid == 1) && is_same page t.room.paper && (t.room.edge == 0) && (t.room.trim == 0) && is_none t.scale
     && not t.grid.turned
 
--- the scale of pages of this paper, in 10^-9: what is asked for, or else the largest that fits
+-- the scale of pages of this paper, in 10^-9: what is asked for, or else the largest that fits (RULES, 13.3)
 abbrev pub scale_on : Setting → (page : Paper) → ℕ
 scale_on t page = scale_for t.scale (scale_in page t.room t.grid)
 
--- a page of this paper in cell k; on a sheet of its own paper it is left as it is
+-- a page of this paper in cell k; on a sheet of its own paper it is left as it is (RULES, 13.4)
 abbrev pub fitted : Setting → (page : Paper) → (k : ℕ) → Item
 fitted t page k = if is_whole t page then alone k else item_in page t.room t.grid t.order (scale_on t page) k
 
@@ -54,7 +54,7 @@ binding_setting_of sheet b = record {
   scale = None;
 }
 
--- the first reason why pages of this paper can't have their scale in these cells
+-- the first reason why pages of this paper can't have their scale in these cells (RULES, 16, step 12)
 abbrev pub why_no_scale_on : Setting → (page : Paper) → Option ArrangementError
 why_no_scale_on t page =
     first_of (are_reached page && are_reached t.room.paper) why.SideTooLong

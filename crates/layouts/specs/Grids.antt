@@ -17,7 +17,7 @@ use Rattle.layouts.specs.declared.arrangement.Order.{Order}
 
 -- ---- the best grid
 
--- the grid of n cells or more with so many columns, and with no row too many
+-- the grid of n cells or more with so many columns, and with no row too many (RULES, 13.5)
 abbrev pub grid : Bool → (n columns : ℕ) → Grid
 grid turned n columns = record { rows = (n + (columns - 1)) / columns; columns = columns; turned = turned }
 
@@ -51,7 +51,7 @@ best_formed page room t columns rows = better page room (formed t false columns 
 
 -- ---- a page as it is
 
--- a page alone, as it is; it is counted from 0
+-- a page alone, as it is; it is counted from 0 (RULES, 13.4)
 abbrev pub alone : ℕ → Item
 alone k = record {
   page = k;
@@ -68,6 +68,7 @@ is_same page sheet = (nat_abs page.width == nat_abs sheet.width) && (nat_abs pag
 -- ---- n pages on each sheet
 
 -- a length in whole 10^-5 of a point, of which none that is asked for is lost; and of which none is added
+-- (RULES, 13.1)
 abbrev pub rounded_up : ℤ → ℕ
 rounded_up length = (nat_abs length + 1_269_999) / 1_270_000
 
@@ -96,12 +97,12 @@ abbrev pub above_zero : ℤ → ℕ
 above_zero (pos n) = n
 above_zero (negsuc n) = 0
 
--- the scale that is asked for, in 10^-9, or else the largest
+-- the scale that is asked for, in 10^-9, or else the largest (RULES, 13.3)
 abbrev pub scale_for : (asked : Option ℤ) → (largest : ℕ) → ℕ
 scale_for None largest = largest
 scale_for (Some s) largest = above_zero s
 
--- one page of the sheet's own paper, of which nothing else is asked
+-- one page of the sheet's own paper, of which nothing else is asked (RULES, 13.4)
 abbrev pub is_itself : (page sheet : Paper) → Arrangement → Bool
 is_itself page sheet a =
     (count_of a.cells == 1) && is_same page sheet && (rounded_up a.margin == 0) && (rounded_down a.trim == 0)
@@ -127,7 +128,7 @@ plain cells = record { cells = cells; margin = pos 0; gap = pos 0; order = plain
 
 -- ---- booklets
 
--- two pages side by side
+-- two pages side by side (RULES, 14.1)
 abbrev pub beside : Bool → Grid
 beside turned = record { rows = 1; columns = 2; turned = turned }
 

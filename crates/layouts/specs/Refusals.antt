@@ -10,7 +10,7 @@ use Rattle.layouts.specs.declared.error.ArrangementError.TheVariants as why
 use Rattle.layouts.specs.Cells.{scale_in, trimmed, whole}
 use Rattle.layouts.specs.Grids.{beside, is_itself, room_of, grid_of, scale_for, count_of}
 
--- how many pages a sheet takes at most
+-- how many pages a sheet takes at most (RULES, 13.5)
 abbrev pub most_on_sheet : ℕ
 most_on_sheet = 1_024
 
@@ -28,7 +28,7 @@ is_reached side = nat_lt side out_of_reach
 abbrev pub are_reached : Paper → Bool
 are_reached paper = is_reached (nat_abs paper.width) && is_reached (nat_abs paper.height)
 
--- the greatest scale of a layout, 99,999, in 10^-9
+-- the greatest scale of a layout, 99,999, in 10^-9 (RULES, 16, step 9)
 abbrev pub greatest_scale : ℕ
 greatest_scale = 99_999_000_000_000
 
@@ -36,7 +36,7 @@ greatest_scale = 99_999_000_000_000
 abbrev pub is_scale : ℕ → Bool
 is_scale scale = nat_le 1 scale && nat_le scale greatest_scale
 
--- the sheet is no wider than high, and upright pages side by side would not be larger than turned ones
+-- the sheet is no wider than high, and upright pages side by side would not be larger than turned ones (RULES, 14.1)
 abbrev pub folds_short : (page : Paper) → Room → Bool
 folds_short page room =
     nat_le (nat_abs room.paper.width) (nat_abs room.paper.height)
@@ -61,7 +61,7 @@ is_near room s = nat_lt (whole (nat_abs room.paper.width) + trimmed room s) 10_0
 abbrev pub first_of : Bool → ArrangementError → Option ArrangementError → Option ArrangementError
 first_of holds e next = if holds then next else Some e
 
--- why pages can't have this scale in cells that take so large ones at most
+-- why pages can't have this scale in cells that take so large ones at most (RULES, 16, step 9)
 abbrev pub why_no_scale : Room → (scale largest : ℕ) → Option ArrangementError
 why_no_scale room s largest =
     first_of (nat_le 1 largest) why.NoRoom

@@ -43,8 +43,3 @@ digits-append (d ∷ ds) t h = digits-yes d (ds ++ t) (All-head IsDigit d ds h) 
 pub past_digits-append : (ds t : List ℕ) → AllPass is_ascii_digit ds → past_digits (ds ++ t) ≡ past_digits t
 past_digits-append [] t h = refl
 past_digits-append (d ∷ ds) t h = past_digits-yes d (ds ++ t) (All-head IsDigit d ds h) ∙ past_digits-append ds t (All-tail IsDigit d ds h)
-
--- no digit follows a row of digits
-pub digits_past : (t : List ℕ) → digits (past_digits t) ≡ []
-digits_past [] = refl
-digits_past (b ∷ t) = elim (by_test (is_ascii_digit b)) [ inl e ↦ ap digits (past_digits-yes b t e) ∙ digits_past t | inr e ↦ ap digits (past_digits-no b t e) ∙ digits-no b t e ]

@@ -148,13 +148,6 @@ number_read text rest v (negative, sign, whole, point, decimals, e, s, w, f, d, 
 pub some_same : {A : Type 0} (x y : A) → Some x ≡ Some y → x ≡ y
 some_same x y e = cc
 
--- a text has one value only
-pub one_value : (text : List ℕ) (v w : ℤ) → IsNumber text v → IsNumber text w → v ≡ w
-one_value text v w a b =
-    let e : number_at (text ++ []) ≡ Some (v, []) = number_read text [] v a tt in
-    let f : number_at (text ++ []) ≡ Some (w, []) = number_read text [] w b tt in
-    ap (λ p. p.0) (some_same (v, []) (w, []) (sym e ∙ f))
-
 length-past_digits : (t : List ℕ) → length (past_digits t) ≤ length t
 length-past_digits t = omega (arith, length-append (digits t) (past_digits t), ap length (digits_whole t))
 

@@ -14,8 +14,8 @@ const LONGEST_SIDE: i128 = 914_399_999_999_990_856;
 /// A paper's width and height, each from 1 to 914,399,999,999,990,856 grains.
 #[derive(Clone, Copy, Debug, PartialEq, Eq, Hash)]
 pub struct Paper {
-    width: Grains,
-    height: Grains,
+    pub width: Grains,
+    pub height: Grains,
 }
 
 impl Model for Paper {

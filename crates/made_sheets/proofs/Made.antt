@@ -30,7 +30,7 @@ abbrev head : (k : ℕ) → List ℕ
 head k = line (codes "%%Page: " ++ decimal (k + 1) ++ codes " " ++ decimal (k + 1))
 
 -- without lines nothing changes
-sheet_same : (frame : Frame) (texts : List (List ℕ)) (k : ℕ) (slots : List Slot)
+pub sheet_same : (frame : Frame) (texts : List (List ℕ)) (k : ℕ) (slots : List Slot)
     → made_sheet_text frame.border undressed texts k (record { paper = frame.paper; slots = map (λ slot. made_slot frame.paper slot.page slot.item) slots })
     ≡ sheet_text frame texts k slots
 sheet_same frame texts k slots =

@@ -7,12 +7,12 @@ use Rattle.rules.specs.Run.{most_pages, refuse_if}
 use Rattle.made_sheets.specs.Rows.{Row, all_pages, odd_part, even_part, in_order_of, leaves_for, auto_sides}
 use Rattle.made_sheets.specs.Ranges.{Range, range_at, pieces_of, has_range, entries_of, row_named}
 
--- the most entries of a row
+-- the most entries of a row (RULES, 11.1)
 abbrev pub most_entries : ℕ
 most_entries = most_pages
 
 -- why there is no row. Something that isn't a range begins at this byte of the text; or the range there has a page
--- that the document lacks; or it exceeds the limit of entries. Or no entry is left
+-- that the document lacks; or it exceeds the limit of entries. Or no entry is left (RULES, 16, steps 5 and 11)
 pub data RowFault : Type 0 where
   NotARange : (at : ℕ) → RowFault
   NotInDocument : (at : ℕ) → RowFault
@@ -62,6 +62,7 @@ row_standing most pages all =
     (refused_at (first_over most 0 pages all) TooManyEntries (Ok (row_named pages (ranges_from all))))
 
 -- the row that a text names, or its first fault: the whole text is read first, then all pages are looked up
+-- (RULES, 11.1 and 11.2)
 abbrev pub row_of_text : (pages : ℕ) → List ℕ → Result Row RowFault
 row_of_text pages text = standing_from 0 (pieces_of text) >>= row_standing most_entries pages
 
@@ -73,6 +74,7 @@ pub data Part : Type 0 where
   Odd : Part
   Even : Part
 
+-- RULES, 11.2
 abbrev pub part_of : Part → Row → Row
 part_of All row = row
 part_of Odd row = odd_part row
@@ -95,6 +97,7 @@ named_row pages (Some text) = row_of_text pages text
 abbrev pub some_left : Row → Result Row RowFault
 some_left row = refuse_if (length row == 0) NoEntries (Ok row)
 
+-- RULES, 11.1 and 11.2
 abbrev pub chosen : (pages : ℕ) → Choice → Result Row RowFault
 chosen pages choice =
     named_row pages choice.ranges >>= λ row. some_left (reversed_if choice.backwards (part_of choice.part row))
@@ -105,6 +108,7 @@ pub data Signing : Type 0 where
   OfSides : (sides : ℕ) → Signing
   Auto : Signing
 
+-- RULES, 11.3
 abbrev pub sides_for : Signing → (entries : ℕ) → ℕ
 sides_for InOne n = leaves_for n * 4
 sides_for (OfSides s) n = s

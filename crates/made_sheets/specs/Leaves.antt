@@ -45,7 +45,7 @@ read_inwards all j = (face_of all (2 * j)).right ∷ (face_of all (2 * j + 1)).l
 abbrev pub read_outwards : List Face → (leaf : ℕ) → Row
 read_outwards all j = (face_of all (2 * j + 1)).right ∷ (face_of all (2 * j)).left ∷ []
 
--- signature b of m leaves as it is read: inwards through all leaves, and then outwards
+-- signature b of m leaves as it is read: inwards through all leaves, and then outwards (RULES, 11.3)
 abbrev pub read_signature : (leaves : ℕ) → List Face → (b : ℕ) → Row
 read_signature m all b =
     flat_map (λ j. read_inwards all (b * m + j)) (range_with_len 0 m)

@@ -20,6 +20,7 @@ made_slot_text border pages (Placed p item paper) =
     ++ body_text (prepared (slice_index_or pages p [])) ++ closing_text
 
 -- sheet s: its page line, the dress's lines at its start, its placed pages, the dress's lines at its end, its showpage
+-- (RULES, 15)
 abbrev pub made_sheet_text : (border : Option ℤ) → Dress → List (List ℕ) → (s : ℕ) → MadeSheet → List ℕ
 made_sheet_text border dress pages s sheet =
     line (codes "%%Page: " ++ decimal (s + 1) ++ codes " " ++ decimal (s + 1))

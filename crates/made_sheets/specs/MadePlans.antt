@@ -37,7 +37,7 @@ abbrev pub refuse_at : {A : Type 0} → Option ℕ → (ℕ → MadeFault) → R
 refuse_at None fault next = next
 refuse_at (Some s) fault next = Err (fault s)
 
--- the sheets of an accepted plan over this many pages, or their first fault
+-- the sheets of an accepted plan over this many pages, or their first fault (RULES, 8 and 16, step 13)
 abbrev pub made_plan_of : (pages : ℕ) → List MadeSheet → Result (List MadeSheet) MadeFault
 made_plan_of pages all =
     refuse_if (nat_lt most_pages pages) MadeTooManyPages

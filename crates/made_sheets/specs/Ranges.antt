@@ -31,7 +31,7 @@ the_last = FromEnd 1
 
 -- ---- texts
 
--- the text means this place: digits, of which only the value counts; an underscore and digits; or `last`
+-- the text means this place: digits, of which only the value counts; an underscore and digits; or `last` (RULES, 11.1)
 abbrev pub IsPlace : List ℕ → Place → Type 0
 IsPlace text (FromStart k) = IsDigits text k
 IsPlace text (FromEnd k) =

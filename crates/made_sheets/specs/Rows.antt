@@ -11,13 +11,13 @@ use Rattle.rules.specs.Signatures.{AreSides, page_in_signature, signature_row, e
 abbrev pub Row : Type 0
 Row = List (Option ℕ)
 
--- all pages of a document, in order
+-- all pages of a document, in order (RULES, 11.1)
 abbrev pub all_pages : (n : ℕ) → Row
 all_pages n = map Some (range_with_len 0 n)
 
 -- ---- parts of a row
 
--- the entries in odd places, counted from 1, and those in even places
+-- the entries in odd places, counted from 1, and those in even places (RULES, 11.2)
 abbrev pub odd_part : Row → Row
 odd_part [] = []
 odd_part (x ∷ []) = x ∷ []
@@ -52,7 +52,7 @@ PartsByNumber = (n : ℕ) →
 
 -- ---- signatures
 
--- the row in signatures of s sides, one after the other. The last one is filled up with blanks
+-- the row in signatures of s sides, one after the other. The last one is filled up with blanks (RULES, 11.3)
 abbrev pub in_signatures : (s : ℕ) → Row → Row
 in_signatures s row =
     flat_map (λ b. map (λ i. entry_of row (b * s + page_in_signature s i)) (range_with_len 0 s))

@@ -43,9 +43,6 @@ pub record Small (l : ParsedItem) (i : WrittenItem) : Type 0 where
   pub page : l.page ≡ i.page
   pub large : l.modifiers.too_large ≡ false
 
-large_item : WrittenItem → Bool
-large_item i = nat_lt 99_999 i.page || list_any has_large i.modifiers
-
 capped_test : (n m : ℕ) → n ≡ min 100_000 m → nat_lt 99_999 n ≡ nat_lt 99_999 m
 capped_test n m e = grind (arith, common_steps)
 

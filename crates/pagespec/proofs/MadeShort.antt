@@ -1,16 +1,14 @@
 -- The length of the canonical text of a specification that was made.
-use Rattle.std.proofs.Common.{arith, ◌≡◌, ℕ, suc, ◌+◌, ◌*◌, ◌^◌, ◌<◌, ◌≤◌, List, [], ◌∷◌, ◌++◌, false, length}
+use Rattle.std.proofs.Common.{arith, ◌≡◌, ℕ, suc, ◌+◌, ◌*◌, ◌^◌, ◌<◌, ◌≤◌, List, [], ◌∷◌, false, length}
 use Rattle.std.specs.Prelude.{pos, map, decimal}
 use Rattle.std.specs.List.{AllByRecursion}
 use Rattle.std.proofs.lemmas.List.{length-append}
 use Rattle.std.proofs.lemmas.Fmt.{length-decimal-le_wide}
-use Rattle.rules.specs.Numbers.{number_text}
 use Rattle.rules.specs.Papers.{Pt}
-use Rattle.rules.specs.Specification.{Measure, Item, Spec, Turn, turn_text, scale_part, offset_part, item_text, joined_by, canonical, modulo_text, measure_text}
+use Rattle.rules.specs.Specification.{Measure, Item, Spec, Turn, item_text, joined_by, canonical, modulo_text}
 use Rattle.rules.specs.Admissible.{most_spec_bytes}
 use Rattle.pagespec.specs.Items.{group_text, groups_text}
-use Rattle.pagespec.proofs.NumberLengths.{positive_few}
-use Rattle.pagespec.proofs.Short.{scale_short, offset_short, turn_few, modulo_short}
+use Rattle.pagespec.proofs.Short.{modulo_short}
 
 abbrev pub in_points : ℕ → Measure
 in_points n = record { number = pos n; unit = Pt }
@@ -21,25 +19,6 @@ forward page t s x y = record { page = page; from_end = false; turn = t; scale =
 
 pub page_few : (digits page : ℕ) → 0 < digits → page < 10 ^ digits → page ≤ 99_999 → length (decimal page) ≤ digits
 page_few digits page some below small = length-decimal-le_wide digits page some below (omega (arith, small))
-
--- with a page number of this many digits it has at most 50 bytes more
-pub forward_few : (digits page : ℕ) (t : Turn) (s x y : ℕ) → length (decimal page) ≤ digits → s ≤ 99_999_999_999_999 → x ≤ 99_999_999_999_999 → y ≤ 99_999_999_999_999
-    → length (item_text (forward page t s x y)) ≤ digits + 50
-forward_few digits page t s x y few small_s small_x small_y =
-    omega (
-      arith,
-      few,
-      four (decimal page) (turn_text t) (scale_part (pos s)) (offset_part (in_points x) (in_points y)),
-      turn_few t,
-      scale_short (pos s) 15 (positive_few s small_s),
-      offset_short (in_points x) (in_points y) 33 (omega (arith, no_unit x small_x, no_unit y small_y)),
-    )
-  where
-    four : (a b c d : List ℕ) → length (a ++ b ++ c ++ d) ≡ length a + length b + length c + length d
-    four a b c d = simp length-append
-
-    no_unit : (n : ℕ) → n ≤ 99_999_999_999_999 → length (measure_text (in_points n)) ≤ 15
-    no_unit n h = omega (arith, positive_few n h, length-append (number_text (pos n)) [])
 
 -- parts of at most this many bytes, and a byte before each but the first
 joined_few : {X : Type 0} (c k : ℕ) (f : X → List ℕ) (xs : List X) → AllByRecursion (λ x. length (f x) ≤ k) xs → length (joined_by c (map f xs)) ≤ suc k * length xs

@@ -6,7 +6,7 @@ use Rattle.rules.specs.Papers.{Paper, points, paper_among}
 use Rattle.rules.specs.Papers as rules
 use Rattle.lengths.specs.Reading.{number_at}
 use Rattle.lengths.specs.Lengths.{a4}
-use Rattle.papers.specs.declared.error.PaperError.TheVariants.{Unknown, NoUnit, UnitOfWidthAlone, NoSuchSize}
+use Rattle.papers.specs.declared.error.PaperError.TheVariants.{Unknown, NoUnit, NoSuchSize}
 use Rattle.papers.specs.Names.{papers, paper_named, listed}
 use Rattle.papers.specs.Sizes.{paper_of, size_of}
 use Rattle.papers.specs.Home.{first_word, home_paper}
@@ -60,25 +60,13 @@ unit_at_each : size_of (codes "8.5inx279.4mm") ≡ Ok letter_in_inches
 unfolding number_at
 unit_at_each = refl
 
-bare_points : size_of (codes "612x792") ≡ Ok (points 612 792)
+no_unit_at_the_end : map size_of (codes "612x792" ∷ codes "210mmx297" ∷ codes "0x0" ∷ []) ≡ Err NoUnit ∷ Err NoUnit ∷ Err NoUnit ∷ []
 unfolding number_at
-bare_points = refl
-
-short_of_150 : size_of (codes "150x792") ≡ Err NoUnit
-unfolding number_at
-short_of_150 = refl
-
-bare_millimetres : size_of (codes "612x150") ≡ Err NoUnit
-unfolding number_at
-bare_millimetres = refl
+no_unit_at_the_end = refl
 
 short_in_points : size_of (codes "72x72pt") ≡ Ok (points 72 72)
 unfolding number_at
 short_in_points = refl
-
-unit_of_the_width : size_of (codes "210mmx297") ≡ Err UnitOfWidthAlone
-unfolding number_at
-unit_of_the_width = refl
 
 no_side : map size_of (codes "0x0mm" ∷ codes "-1x1cm" ∷ []) ≡ Err NoSuchSize ∷ Err NoSuchSize ∷ []
 unfolding number_at

@@ -12,6 +12,8 @@ pub mod KnownNames
 pub mod PageTells
 pub mod DocumentTells
 pub mod CutPages
+pub mod PageBoxes
+pub mod ReachingPages
 pub mod Covered
 pub mod CountedAsOne
 pub mod OwnExamples

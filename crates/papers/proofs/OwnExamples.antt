@@ -1,7 +1,11 @@
--- Papers that count as one, computed from the definitions.
-use Rattle.std.proofs.Common.{◌≡◌, [], ◌∷◌, Some, None, refl}
+-- Papers that count as one, and boxes that reach beyond them, computed from the definitions.
+use Rattle.std.proofs.Common.{◌≡◌, ℕ, List, [], ◌∷◌, Some, None, Bool, true, false, refl}
+use Rattle.std.specs.Prelude.{codes, option_map}
 use Rattle.rules.specs.Papers.{points}
+use Rattle.lengths.specs.Reading.{number_at}
 use Rattle.papers.specs.AsOne.{as_one, first_instead_of}
+use Rattle.papers.specs.Media.{edges_of}
+use Rattle.papers.specs.Reach.{Placing, placing, reach_of, whole}
 
 -- programs' sizes of A4, and one page on its side
 sizes_of_a4 : as_one (points 595 842) (points 595 841 ∷ points 842 595 ∷ points 595 842 ∷ points 596 842 ∷ [])
@@ -18,3 +22,26 @@ box_of_all = refl
 
 of_a_later_page : first_instead_of (points 595 842) (points 842 595 ∷ points 596 842 ∷ []) ≡ None
 of_a_later_page = refl
+
+-- a page that is placed by the paper which it has
+abbrev boxed : (box : List (List ℕ)) → Placing
+boxed box = placing (true ∷ []) (points 595 842 ∷ []) (edges_of box ∷ []) true
+
+rounded_box : reach_of (boxed (codes "0" ∷ codes "0" ∷ codes "596" ∷ codes "843" ∷ [])) (points 595 842 ∷ []) ≡ None
+unfolding number_at
+rounded_box = refl
+
+box_before_zero : option_map (λ r. r.pages) (reach_of (boxed (codes "-5" ∷ codes "0" ∷ codes "9" ∷ codes "9" ∷ [])) (points 595 842 ∷ []))
+    ≡ Some 1
+unfolding number_at
+box_before_zero = refl
+
+-- a page that its paper cuts, unless that is reported apart
+abbrev cut_page : (apart : Bool) → Placing
+cut_page apart = placing (true ∷ []) (points 842 1191 ∷ []) (None ∷ []) apart
+
+cut_alone : option_map (λ r. r.edges) (reach_of (cut_page false) (points 595 842 ∷ [])) ≡ Some (whole (points 842 1191))
+cut_alone = refl
+
+cut_apart : reach_of (cut_page true) (points 595 842 ∷ []) ≡ None
+cut_apart = refl

@@ -8,7 +8,7 @@ use Rattle.papers.specs.declared.kinds.PaperKind.{PaperKind}
 
 -- ---- papers that count as one
 
--- the most kinds of papers
+-- the most kinds of papers (RULES, 12.4)
 abbrev pub most_kinds : ℕ
 most_kinds = 64
 
@@ -53,7 +53,7 @@ NearAreOne = (first : Paper) (own : List Paper) (j k : ℕ) (d : Paper) → j < 
 
 -- ---- the paper of all pages
 
--- a page has this paper, or one near to it
+-- a page has this paper, or one near to it (RULES, 12.5)
 abbrev pub is_used : Paper → (own : List Paper) → Bool
 is_used paper own = list_any (is_near paper) own
 

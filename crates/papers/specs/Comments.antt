@@ -13,6 +13,7 @@ use Rattle.papers.specs.Media.{box_of, box_paper, comment_fields, comment_lines,
 -- ---- where they are
 
 -- a line of a page's head: a comment, the one that begins its setup too, but none that begins anything else
+-- (RULES, 12.3)
 abbrev pub is_in_head : List ℕ → Bool
 is_in_head content =
     is_header content
@@ -76,7 +77,7 @@ first_named_in named [] = None
 first_named_in named (names ∷ more) = else_take (first_named named names) (first_named_in named more)
 
 -- the document's paper: its first medium's; else the first of its papers' names that is known, on its side if the box
--- at 0 0 has its sides exchanged; else that of the box, where this paper is usual
+-- at 0 0 has its sides exchanged; else that of the box, where this paper is usual (RULES, 12.2)
 abbrev pub told_by_document : (named : List ℕ → Option Paper) → (usual : Paper) → (header trailer : List (List ℕ)) → Option Paper
 told_by_document named usual header trailer =
     let box = box_of header trailer in

@@ -4,7 +4,7 @@ use Rattle.rules.specs.Papers.{Paper}
 use Rattle.papers.specs.Own.{covering, covers, is_near}
 use Rattle.papers.specs.declared.cuts.Cut.{Cut}
 
--- a paper cuts a page of its own paper if it doesn't cover it, and the two don't count as one
+-- a paper cuts a page of its own paper if it doesn't cover it, and the two don't count as one (RULES, 17)
 abbrev pub is_cut : (paper own : Paper) → Bool
 is_cut paper own = not (covers paper own) && not (is_near paper own)
 

@@ -2,7 +2,7 @@
 -- Read in this order: what comments say; a page's own paper, and what is said of two papers; how sheets report theirs;
 -- what is found of it.
 -- Read in this order: media that a document knows, as the code keeps them; papers that count as one; pages that a
--- paper cuts.
+-- paper cuts; pages that reach beyond their papers.
 pub mod Names
 pub mod Sizes
 pub mod Home
@@ -14,3 +14,4 @@ pub mod Found
 pub mod Named
 pub mod AsOne
 pub mod Cuts
+pub mod Reach

@@ -92,7 +92,7 @@ comment_lines name [] = []
 comment_lines name (content ∷ rest) = if is_comment name content then fields content ∷ continued rest
     else comment_lines name rest
 
--- the paper of a medium: its name, its width, its height, and more
+-- the paper of a medium: its name, its width, its height, and more (RULES, 12.2)
 abbrev pub media_paper : List (List ℕ) → Option Paper
 media_paper (name ∷ width ∷ height ∷ more) = paper_of (points_of width) (points_of height)
 media_paper other = None

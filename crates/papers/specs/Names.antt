@@ -4,7 +4,7 @@
 use Rattle.std.specs.Prelude.{ℕ, List, [], ◌∷◌, ◌++◌, map, codes, Option}
 use Rattle.rules.specs.Papers.{Paper, NamedPaper, points, paper_among}
 
--- opaque unless it is opened: it is a long list, of which most proofs want nothing
+-- opaque unless it is opened: it is a long list, of which most proofs want nothing (RULES, 12.1)
 unfoldable pub papers : List NamedPaper
 papers =
     record { name = codes "a0"; paper = points 2_384 3_370 }

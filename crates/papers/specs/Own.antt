@@ -20,7 +20,7 @@ abbrev pub medium_by : (header : List (List ℕ)) → (name : List ℕ) → Opti
 medium_by header name = paper_of_medium name (media header)
 
 -- a page's own paper: what it says itself, else what its document says, else the one at home. The header comments, and
--- the lines of the trailer, are the document's
+-- the lines of the trailer, are the document's (RULES, 12.3)
 abbrev pub own_paper : (named : List ℕ → Option Paper) → (home : Paper) → (header trailer : List (List ℕ)) → (page : List ℕ) → Paper
 own_paper named home header trailer page =
     page_or (medium_by header) (page_head page) (or_this (told_by_document named home header trailer) home)
@@ -33,7 +33,7 @@ own_papers None named home text us = map (own_paper named home (header text) (tr
 
 -- ---- two papers
 
--- by so much, 15 points, programs' sizes of one paper may differ
+-- by so much, 15 points, programs' sizes of one paper may differ (RULES, 12.4)
 abbrev pub nearness : ℕ
 nearness = 15 * 127_000_000_000
 

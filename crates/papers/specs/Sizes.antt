@@ -1,15 +1,15 @@
 -- Papers as people write them: by a name, or by a width and a height with an x between them. All here is this project's
 -- own rules.
-use Rattle.std.specs.Prelude.{ℕ, ℤ, pos, ◌+◌, ◌==◌, ◌&&◌, int_lt, Bool, not, nat_lt, if◌then◌else◌, option_map}
+use Rattle.std.specs.Prelude.{ℕ, ℤ, ◌+◌, ◌==◌, not, nat_lt, if◌then◌else◌, option_map, unwrap_or}
 use Rattle.std.specs.Prelude.{List, length, take, drop, Option, Some, None, Result, Ok, Err}
 use Rattle.std.specs.List.{prefix_len}
 use Rattle.rules.specs.Numbers.{is_large}
-use Rattle.rules.specs.Papers.{LengthUnit, Pt, Paper, grains, is_paper}
+use Rattle.rules.specs.Papers.{LengthUnit, Paper, grains, is_paper}
 use Rattle.lengths.specs.Lengths.{a4, unit_named}
 use Rattle.lengths.specs.Reading.{is_empty, number_at}
 use Rattle.papers.specs.Names.{paper_named}
 use Rattle.papers.specs.declared.error.PaperError.{PaperError}
-use Rattle.papers.specs.declared.error.PaperError.TheVariants.{Unknown, NoUnit, UnitOfWidthAlone, NoSuchSize}
+use Rattle.papers.specs.declared.error.PaperError.TheVariants.{Unknown, NoUnit, NoSuchSize}
 
 -- ---- a side: a number, and the unit after it, if there is one
 
@@ -35,17 +35,10 @@ paper_of_sides width height =
 abbrev pub in_units : (width : ℤ) → LengthUnit → (height : ℤ) → LengthUnit → Result Paper PaperError
 in_units width u height v = paper_of_sides (grains a4 width u) (grains a4 height v)
 
--- more than 150, in 10^-9: who writes such a number without a unit means points
-abbrev pub is_over_150 : ℤ → Bool
-is_over_150 number = int_lt (pos 150_000_000_000) number
-
+-- a unit at the end, which must be there, holds for a width without one (RULES, 12.1)
 abbrev pub size_of_sides : (width height : ℤ × Option LengthUnit) → Result Paper PaperError
-size_of_sides (width, Some u) (height, Some v) = in_units width u height v
--- a unit at the end holds for both
-size_of_sides (width, None) (height, Some v) = in_units width v height v
-size_of_sides (width, Some u) (height, None) = Err UnitOfWidthAlone
-size_of_sides (width, None) (height, None) =
-    if is_over_150 width && is_over_150 height then in_units width Pt height Pt else Err NoUnit
+size_of_sides (width, u) (height, Some v) = in_units width (unwrap_or u v) height v
+size_of_sides (width, u) (height, None) = Err NoUnit
 
 abbrev pub size_of_both : (width height : Option (ℤ × Option LengthUnit)) → Result Paper PaperError
 size_of_both (Some width) (Some height) = size_of_sides width height

@@ -53,6 +53,7 @@ setting_line paper =
 -- the lines that set the device's page size, if the interpreter has `setpagedevice`. A page that is placed on a sheet may
 -- itself be a sheet with these lines, where they mustn't do anything: there `PStoPSenablepage`, if there is such a name,
 -- is false (psutils' name, which the guard takes over), and else `showpage` is an empty procedure of userdict
+-- (RULES, 15)
 abbrev pub page_size_lines : Paper → List (List ℕ)
 page_size_lines paper =
     codes "/PStoPSenablepage where {pop PStoPSenablepage}"

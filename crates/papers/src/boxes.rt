@@ -15,11 +15,11 @@ const ONE_POINT: i128 = 127_000_000_000;
 
 /// The edges of a box.
 #[derive(Clone, Copy)]
-struct Edges {
-    left: Grains,
-    bottom: Grains,
-    right: Grains,
-    top: Grains,
+pub struct Edges {
+    pub left: Grains,
+    pub bottom: Grains,
+    pub right: Grains,
+    pub top: Grains,
 }
 
 /// The paper of a box where this one would be taken without it: its own, if it begins at 0 0. Else, if it reaches over
@@ -98,7 +98,7 @@ fn sum(one: Grains, other: Grains) -> i128
 }
 
 /// The edges of a box: left, bottom, right, top, and more.
-fn edges_of(value: &[u8]) -> Option<Edges>
+pub(crate) fn edges_of(value: &[u8]) -> Option<Edges>
     ensures { result ≡ meaning.edges_of (fields_in value.now) }
 {
     let (left, rest) = next_field(value)?;

@@ -11,7 +11,7 @@ use lengths::Paper;
 const NEARNESS: u128 = 15 * 127_000_000_000;
 
 /// Pages of a document that a paper cuts.
-#[derive(Clone, Copy, Debug, PartialEq, Eq)]
+#[derive(Clone, Copy)]
 pub struct Cut {
     /// The first of them, counted from 0.
     pub first: usize,
@@ -59,7 +59,7 @@ fn with_page(cut: Option<Cut>, page: usize, paper: &Paper) -> Cut
 }
 
 /// Whether a paper cuts a page of that one.
-fn is_cut(paper: &Paper, own: &Paper) -> bool
+pub(crate) fn is_cut(paper: &Paper, own: &Paper) -> bool
     ensures { result ≡ is_cut_by paper.now own.now }
 {
     !covers(paper, own) && !is_near(paper, own)

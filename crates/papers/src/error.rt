@@ -5,10 +5,8 @@
 pub enum PaperError {
     /// It is no name, and no width and height with an `x` between them.
     Unknown,
-    /// No unit follows the numbers, and one of them is too small to be meant in points.
+    /// No unit follows the height.
     NoUnit,
-    /// A unit follows the width, and none the height.
-    UnitOfWidthAlone,
     /// A side is zero, negative or too long.
     NoSuchSize,
 }

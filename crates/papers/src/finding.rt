@@ -149,7 +149,7 @@ fn boxed_paper(head: &[u8], other: &Paper) -> Option<Paper>
 }
 
 /// What follows the first line.
-fn behind_first_line(text: &[u8]) -> &[u8]
+pub(crate) fn behind_first_line(text: &[u8]) -> &[u8]
     ensures { result.now ≡ drop (line_len text.now) text.now }
 {
     let content = first_content(text);

@@ -137,7 +137,7 @@ fn media_in(header: &[u8]) -> Option<Paper>
 }
 
 /// What follows the colon of the first box among the comments, which may be in the trailer.
-fn box_of<'t>(header: &'t [u8], text: &'t [u8]) -> Option<&'t [u8]>
+pub(crate) fn box_of<'t>(header: &'t [u8], text: &'t [u8]) -> Option<&'t [u8]>
     ensures { option_map (λ value. fields_in value.now) result
         ≡ meaning.box_of (meaning.contents header.now) (meaning.trailer_lines (units_of text.now)) }
 {

@@ -7,9 +7,6 @@ use crate::error::PaperError;
 use crate::names::paper_by_name;
 use lengths::{Grains, Number, Paper, Unit, a4, read_number, to_grains, unit_by_name};
 
-/// The number above which two numbers without a unit are points.
-const LEAST_POINTS: i64 = 150_000_000_000;
-
 /// A number, and the unit after it, if there is one.
 #[derive(Clone, Copy, Debug, PartialEq, Eq)]
 struct Side {
@@ -20,8 +17,7 @@ struct Side {
 /// The paper that a text means: the one with this name, or of this width and height with an `x` between them.
 ///
 /// A side is a number up to 99,999.999999999 with `pt`, `cm`, `mm` or `in` after it. A unit after the height alone holds
-/// for both, as in `210x297mm`. Numbers without any unit are points if both are over 150; else they are refused, since who
-/// writes `8.5x11` means another unit.
+/// for both, as in `210x297mm`.
 pub fn read_paper(text: &[u8]) -> Result<Paper, PaperError>
     ensures { result ≡ meaning.paper_of text.now }
 {
@@ -86,19 +82,7 @@ fn size_of_sides(width: Side, height: Side) -> Result<Paper, PaperError>
     match (width.unit, height.unit) {
         (Some(u), Some(v)) => in_units(width.number, u, height.number, v),
         (None, Some(v)) => in_units(width.number, v, height.number, v),
-        (Some(_), None) => Err(PaperError::UnitOfWidthAlone),
-        (None, None) => in_points(width.number, height.number),
-    }
-}
-
-/// The paper of two numbers without a unit.
-fn in_points(width: Number, height: Number) -> Result<Paper, PaperError>
-    ensures { result ≡ meaning.size_of_sides (width, None) (height, None) }
-{
-    if width.billionths() > LEAST_POINTS && height.billionths() > LEAST_POINTS {
-        in_units(width, Unit::Pt, height, Unit::Pt)
-    } else {
-        Err(PaperError::NoUnit)
+        (_, None) => Err(PaperError::NoUnit),
     }
 }
 

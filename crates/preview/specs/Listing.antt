@@ -129,6 +129,7 @@ abbrev pub flip_text : Sides → List ℕ
 flip_text One = []
 flip_text (Both flip) = edge_line flip
 
+-- RULES, 17
 abbrev pub plan_text : Reading → (most : ℕ) → List MadeSheet → List ℕ
 plan_text r most all =
     shortened r most (row_count r.sides (length all)) all ++ totals r.sides all ++ flip_text r.sides ++ ways_text all

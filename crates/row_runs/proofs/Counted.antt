@@ -1,6 +1,6 @@
 -- Sheets that pass a limit by their number alone.
-use Rattle.std.proofs.Common.{arith, ◌≡◌, ℕ, suc, zero, ◌+◌, ◌-◌, ◌*◌, ◌/◌, ◌%◌, ◌<◌, ◌≤◌, ◌&&◌, Bool, true, false, List, [], ◌∷◌, ◌++◌, length, map, get_or, inr, refl, sym, ap, subst, ◌∙◌, Option, Some, None}
-use Rattle.std.specs.Prelude.{All, cond, not, nat_le, nat_lt, if◌then◌else◌, position, sum_by, flat_map}
+use Rattle.std.proofs.Common.{arith, ◌≡◌, ℕ, suc, zero, ◌+◌, ◌-◌, ◌*◌, ◌/◌, ◌%◌, ◌<◌, ◌≤◌, ◌&&◌, Bool, true, false, List, [], ◌∷◌, length, map, get_or, refl, sym, ap, subst, ◌∙◌, Option, Some, None}
+use Rattle.std.specs.Prelude.{All, cond, not, nat_le, nat_lt, if◌then◌else◌, position, sum_by}
 use Rattle.std.specs.List.{position_from, range_with_len}
 use Rattle.std.proofs.Math.Nat.{suc-mul}
 use Rattle.std.proofs.lemmas.Bool.Decides.{nat_tests}
@@ -14,25 +14,19 @@ use Rattle.rules.specs.Papers.{Paper}
 use Rattle.made_sheets.specs.Made.{MadeSheet, Blank, Placed}
 use Rattle.made_sheets.specs.MadePlans.{is_slot_count, slot_count}
 use Rattle.made_sheets.specs.Rows.{Row}
-use Rattle.layouts.specs.declared.setting.Setting.{Setting}
-use Rattle.layouts.specs.declared.error.ArrangementError.{ArrangementError}
-use Rattle.layouts.specs.declared.error.ArrangementError.TheVariants as why
 use Rattle.sheet_plan.specs.MadeRefusals.{RefusesMade}
 use Rattle.sheet_plan.specs.declared.error.MadeError.{MadeError}
 use Rattle.sheet_plan.specs.declared.error.MadeError.TheVariants as plan
 use Rattle.sheet_plan.proofs.Accepted.{looked_none, found_at, slots_out, too_many_places, too_many_sheets, uneven}
 use Rattle.row_sheets.specs.Filled.{Filling, card_entry, card_sheets, is_turned, slot_on}
-use Rattle.row_sheets.specs.Posters.{IsNoPosterIn, entry_tiles, poster_paper, row_tiles, tile_item}
-use Rattle.row_sheets.specs.Shapes.{IsRefusedIn, filling}
+use Rattle.row_sheets.specs.Posters.{entry_tiles, poster_paper, row_tiles, tile_item}
+use Rattle.row_sheets.specs.Shapes.{filling}
 use Rattle.row_sheets.specs.declared.poster.Poster.{Poster}
-use Rattle.row_sheets.specs.declared.poster.PosterError.{PosterError}
-use Rattle.row_sheets.specs.declared.poster.PosterError.TheVariants as no_poster
 use Rattle.row_runs.specs.declared.asked.Laying.{Laying}
 use Rattle.row_runs.specs.declared.asked.Laying.TheVariants as laying
-use Rattle.row_runs.specs.Errors.{of_arrangement, of_poster}
 use Rattle.row_runs.specs.Evened.{evened_if}
 use Rattle.row_runs.specs.Limits.{AreFew, AreFewAsLaid, limit_in, limit_passed}
-use Rattle.row_runs.specs.Sheets.{MayBeLaid, RefusesLaying, WhyNoPlan, sheets_laid}
+use Rattle.row_runs.specs.Sheets.{MayBeLaid, WhyNoPlan, sheets_laid}
 
 -- ---- sheets with as many places each
 abbrev HaveSlots : (places : ℕ) → List MadeSheet → Type 0
@@ -235,23 +229,3 @@ pub few_made : (same_scale : Bool) (l even : Laying) (leaves : ℕ) (papers : Li
 few_made same_scale l even leaves papers row made is laid few =
     few_evened same_scale l papers row made
     (subst (λ (h : Laying). AreFewAsLaid h made) is (subst (AreFewAsLaid even) (sym laid) (few_laid even leaves papers row few)))
-
--- ---- pages without a place
-pub cell_refused : (setting : Setting) (cells leaves : ℕ) (papers : List Paper) (row : Row) (e : ArrangementError) → IsRefusedIn (filling setting papers) row e → RefusesLaying (laying.Cards setting cells) leaves papers row (of_arrangement e)
-cell_refused setting cells leaves papers row why.NoMemory h = tt
-cell_refused setting cells leaves papers row why.CellsOutOfRange h = inr h
-cell_refused setting cells leaves papers row why.SideTooLong h = inr h
-cell_refused setting cells leaves papers row why.LengthOutOfRange h = inr h
-cell_refused setting cells leaves papers row why.NothingLeftOfPage h = inr h
-cell_refused setting cells leaves papers row why.FoldOnLongEdge h = inr h
-cell_refused setting cells leaves papers row why.NoRoom h = inr h
-cell_refused setting cells leaves papers row why.ScaleOutOfRange h = inr h
-cell_refused setting cells leaves papers row why.ScaleTooLarge h = inr h
-cell_refused setting cells leaves papers row why.CreepOverFold h = inr h
-
-pub poster_refused : (poster : Poster) (leaves : ℕ) (papers : List Paper) (row : Row) (e : PosterError) → IsNoPosterIn poster papers row e → RefusesLaying (laying.Poster poster) leaves papers row (of_poster e)
-poster_refused poster leaves papers row no_poster.NoMemory h = tt
-poster_refused poster leaves papers row no_poster.TilesOutOfRange h = inr h
-poster_refused poster leaves papers row no_poster.SideTooLong h = inr h
-poster_refused poster leaves papers row no_poster.NothingButOverlap h = inr h
-poster_refused poster leaves papers row no_poster.ScaleOutOfRange h = inr h

@@ -1,25 +1,38 @@
 -- The sheets that are asked for, of pages that have their places.
-use Rattle.std.proofs.Common.{arith, ◌≡◌, ◌∙◌, ℕ, ◌+◌, ◌*◌, ◌%◌, Bool, true, false, List, Ok, Option, Some, None, refl, sym, ap, subst}
-use Rattle.std.specs.Prelude.{◌==◌, if◌then◌else◌, length}
+use Rattle.std.proofs.Common.{arith, ◌≡◌, ◌∙◌, ℕ, ◌+◌, ◌*◌, ◌%◌, ◌<◌, Bool, true, false, List, [], ◌++◌, Ok, Some, sym, ap, subst, None}
+use Rattle.std.specs.Prelude.{◌==◌, if◌then◌else◌, length, nat_abs, pos}
+use Rattle.std.specs.List.{AllByRecursion}
 use Rattle.rules.specs.Papers.{Paper}
 use Rattle.rules.specs.Sheets.{blocks}
 use Rattle.rules.specs.Signatures.{entry_of}
 use Rattle.made_sheets.specs.Choice.{signed}
 use Rattle.made_sheets.specs.Made.{MadeSheet}
 use Rattle.made_sheets.specs.Rows.{Row}
-use Rattle.layouts.specs.Cells.{size}
-use Rattle.row_sheets.specs.Filled.{card_entry, duplex_entry, grid_entry, stack_entry, behind_in}
+use Rattle.layouts.specs.Placed.{Room}
+use Rattle.layouts.specs.Cells.{Grid, size, wide}
+use Rattle.layouts.specs.Grids.{beside}
+use Rattle.layouts.proofs.Folds.{fold}
+use Rattle.layouts.proofs.OnSide.{cell}
+use Rattle.row_sheets.specs.Creep.{AreHalves, creeping_sheets}
+use Rattle.row_sheets.specs.Filled.{Filling, card_entry, duplex_entry, grid_entry, stack_entry, behind_in}
 use Rattle.row_sheets.specs.Posters.{AllMayBePosters, poster_paper}
 use Rattle.row_sheets.specs.Shapes.{filling}
+use Rattle.row_sheets.specs.Standing.{AllFitOnLeaves}
 use Rattle.row_sheets.specs.declared.poster.Poster.{Poster}
 use Rattle.row_sheets.proofs.InCells.{filled_stands_in_cells}
+use Rattle.row_sheets.proofs.OnLeaves.{leaves_fold, leaves_stand}
+use Rattle.row_sheets.proofs.Stacking.{leaves_are_read, stack_is_read}
 use Rattle.row_sheets.proofs.Shown.{can_be, poster_has_tiles, row_is_shown}
+use Rattle.dressing.specs.Between.{IsAlong}
+use Rattle.dressing.specs.Strokes.{fold_marks}
+use Rattle.dressing.proofs.OnFold.{mark_is}
 use Rattle.row_runs.specs.declared.asked.Asked.{Asked}
 use Rattle.row_runs.specs.declared.asked.Laying.{Laying}
 use Rattle.row_runs.specs.declared.asked.Laying.TheVariants as laying
-use Rattle.row_runs.specs.Evened.{evened_if}
-use Rattle.row_runs.specs.InPlaces.{AskedStandInPlaces, IsShownOn, StandInPlaces}
+use Rattle.row_runs.specs.Evened.{evened_if, why_not_even_if}
+use Rattle.row_runs.specs.InPlaces.{AskedStandInPlaces, IsMarkedAtFold, IsShownOn, StandInPlaces}
 use Rattle.row_runs.specs.Sheets.{AreAsked, FitAsLaid, MayBeLaid, laying_for, leaves_in, row_chosen, sewn, sheets_laid}
+use Rattle.row_runs.proofs.NotLaid.{after_even, laid_none}
 
 -- ---- what is asked for
 
@@ -27,14 +40,21 @@ abbrev pub LaidSo : Laying → (leaves : ℕ) → List Paper → Row → List Ma
 LaidSo l leaves papers row made = (made ≡ sheets_laid l leaves papers row) × FitAsLaid l leaves papers row
 
 pub asked_so : (pages : ℕ) (papers : List Paper) (a : Asked) (row printed : Row) (leaves : ℕ) (l : Laying) (made : List MadeSheet) → row_chosen pages a ≡ Ok row → printed ≡ signed (sewn a) row → leaves ≡ leaves_in (sewn a) row
-    → l ≡ evened_if a.same_scale a.laying papers printed → LaidSo l leaves papers printed made → AreAsked pages papers a made
-asked_so pages papers a row printed leaves l made chosen is_printed many evened laid =
+    → l ≡ evened_if a.same_scale a.laying papers printed → why_not_even_if a.same_scale a.laying papers printed ≡ None → LaidSo l leaves papers printed made → AreAsked pages papers a made
+asked_so pages papers a row printed leaves l made chosen is_printed many evened even laid =
     let l_is : l ≡ laying_for a papers row = evened ∙ ap (evened_if a.same_scale a.laying papers) is_printed in
     let so : LaidSo (laying_for a papers row) (leaves_in (sewn a) row) papers (signed (sewn a) row) made =
     subst (λ r. LaidSo (laying_for a papers row) (leaves_in (sewn a) row) papers r made) is_printed
     (subst (λ n. LaidSo (laying_for a papers row) n papers printed made) many
     (subst (λ x. LaidSo x leaves papers printed made) l_is laid)) in
-    record { row = row; is_chosen = chosen; are_laid = so.0; fits = so.1 }
+    record {
+      row = row;
+      is_chosen = chosen;
+      are_laid = so.0;
+      fits = so.1;
+      accepted = after_even _ _ _ (subst (λ r. why_not_even_if a.same_scale a.laying papers r ≡ None) is_printed even)
+          (laid_none (laying_for a papers row) (leaves_in (sewn a) row) papers (signed (sewn a) row) so.1);
+    }
 
 -- ---- where its pages are
 
@@ -56,6 +76,26 @@ shown_on p papers row fits i page is = record {
   shown = λ at of. row_is_shown p papers row i page at fits is of;
 }
 
+-- the marks of two halves lie along the fold
+marks_along : (room : Room) (g : Grid) (twice : ℕ) → g ≡ beside true → twice ≡ fold room (nat_abs room.paper.height) → AllByRecursion (IsAlong room twice) (fold_marks room g ++ [])
+marks_along room g twice halves at =
+    let along = ap pos (mark_is room (nat_abs room.paper.height)) in
+    subst (λ h. AllByRecursion (IsAlong room twice) (fold_marks room h ++ [])) (sym halves)
+    (subst (λ n. AllByRecursion (IsAlong room n) (fold_marks room (beside true) ++ [])) (sym at) ((along, along), ((along, along), tt)))
+
+has_room : (room : Room) (g : Grid) → g ≡ beside true → 0 < wide room g → 0 < cell room (nat_abs room.paper.height) 2
+has_room room g halves some = subst (λ h. 0 < wide room h) halves some
+
+at_fold : (f : Filling) (turned_backs : Bool) (creep leaves : ℕ) (row : Row) → AreHalves f.setting → AllFitOnLeaves f creep leaves row
+    → IsMarkedAtFold f.setting turned_backs creep (creeping_sheets f turned_backs creep leaves row)
+at_fold f turned_backs creep leaves row halved fits =
+    let t = f.setting in
+    let sheets = blocks 2 (length row) in (
+      leaves_stand f turned_backs creep leaves sheets row halved (λ s k in_s in_k. fits s k in_k),
+      λ some. marks_along t.room t.grid _ halved.0
+          (leaves_fold f turned_backs creep leaves sheets row halved (λ s k in_s in_k. fits s k in_k) (has_room t.room t.grid halved.0 some)),
+    )
+
 in_places : (l : Laying) (leaves : ℕ) (papers : List Paper) (row : Row) → MayBeLaid l → FitAsLaid l leaves papers row → StandInPlaces l papers row (sheets_laid l leaves papers row)
 in_places (laying.AsTheyAre blank) leaves papers row may fits = tt
 in_places (laying.Grid t cells) leaves papers row may fits =
@@ -63,13 +103,17 @@ in_places (laying.Grid t cells) leaves papers row may fits =
 in_places (laying.Cards t cells) leaves papers row may fits =
     filled_stands_in_cells (filling t papers) (length row) cells (card_entry row) may.1 (λ s c. fits s)
 in_places (laying.Stack t cells) leaves papers row may fits =
-    let sheets = blocks cells (length row) in
-    filled_stands_in_cells (filling t papers) sheets cells (stack_entry sheets row) may.1 (λ s c. fits (c * sheets + s))
+    let sheets = blocks cells (length row) in (
+      filled_stands_in_cells (filling t papers) sheets cells (stack_entry sheets row) may.1 (λ s c. fits (c * sheets + s)),
+      stack_is_read (filling t papers) cells row,
+    )
 in_places (laying.Leaves t) leaves papers row may fits =
-    let many = blocks (2 * size t.grid) (length row) in
-    filled_stands_in_cells (filling t papers) (2 * many) (size t.grid) (duplex_entry many (behind_in t) row) (omega arith)
-    (λ s c. fits ((if s % 2 == 0 then c else behind_in t c) * (2 * many) + s))
-in_places (laying.Booklet t turned_backs creep) leaves papers row may fits = tt
+    let many = blocks (2 * size t.grid) (length row) in (
+      filled_stands_in_cells (filling t papers) (2 * many) (size t.grid) (duplex_entry many (behind_in t) row) (omega arith)
+          (λ s c. fits ((if s % 2 == 0 then c else behind_in t c) * (2 * many) + s)),
+      leaves_are_read (filling t papers) row,
+    )
+in_places (laying.Booklet t turned_backs creep) leaves papers row may fits = at_fold (filling t papers) turned_backs creep leaves row may fits
 in_places (laying.Poster p) leaves papers row may fits = shown_on p papers row fits
 
 pub asked_stand_in_places : AskedStandInPlaces

@@ -5,6 +5,7 @@ pub mod Lines
 mod Alone
 mod Counted
 mod OneScale
+mod NotLaid
 pub mod Refused
 mod Fit
 mod ReadInOrder

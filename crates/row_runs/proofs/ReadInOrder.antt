@@ -1,5 +1,5 @@
 -- A booklet that is asked for is read in the order of its row.
-use Rattle.std.proofs.Common.{arith, ◌≡◌, ◌∙◌, ℕ, ◌*◌, ◌/◌, ◌%◌, Bool, true, false, List, Some, Option, length, map, refl, sym, ap, subst}
+use Rattle.std.proofs.Common.{arith, ◌≡◌, ◌∙◌, ℕ, ◌*◌, ◌/◌, ◌%◌, Bool, true, false, List, Some, Option, length, map, ap, subst}
 use Rattle.std.specs.Prelude.{flat_map, option_map, IfSome}
 use Rattle.std.specs.List.{range_with_len}
 use Rattle.rules.specs.Papers.{Paper}

@@ -1,56 +1,24 @@
 -- What a refusal says of what was asked for, of a run, and of its sheets.
-use Rattle.std.proofs.Common.{◌≡◌, ◌≤◌, ℕ, List, Ok, inl, inr, refl, sym, subst}
+use Rattle.std.proofs.Common.{◌≡◌, ℕ, List, inl, inr, refl, sym, subst}
 use Rattle.std.specs.Prelude.{IsOk}
-use Rattle.rules.specs.Papers.{Paper}
 use Rattle.made_sheets.specs.Choice.{signed}
-use Rattle.made_sheets.specs.Rows.{Row}
-use Rattle.row_runs.specs.declared.asked.Asked.{Asked}
-use Rattle.row_runs.specs.declared.asked.Laying.{Laying}
-use Rattle.row_runs.specs.declared.asked.Laying.TheVariants as laying
 use Rattle.row_runs.specs.declared.error.AskedError.{AskedError}
 use Rattle.row_runs.specs.declared.error.AskedError.TheVariants as error
 use Rattle.row_runs.specs.declared.run.RowJob.{RowJob}
-use Rattle.row_runs.specs.Evened.{evened_if}
 use Rattle.row_runs.specs.SheetsRuns.{RefusesSheets}
 use Rattle.row_runs.specs.Runs.{RefusesRun, page_count}
 use Rattle.row_runs.specs.BySpec.{AreBySpec, RefusesBySpec, RefusesSheetsBySpec, pages_of}
 use Rattle.row_runs.specs.declared.by_spec.SpecJob.{SpecJob}
 use Rattle.made_sheets.specs.Made.{MadeSheet}
-use Rattle.row_runs.specs.Sheets.{AreAsked, FitAsLaid, HaveSpace, RefusesAsked, RefusesLaying, laying_for, leaves_in, row_chosen, sewn, sheets_laid}
-
-of_laying : (pages : ℕ) (papers : List Paper) (a : Asked) (row : Row) (e : AskedError) → pages ≤ 1_000_000 → row_chosen pages a ≡ Ok row → RefusesLaying (laying_for a papers row) (leaves_in (sewn a) row) papers (signed (sewn a) row) e
-    → RefusesAsked pages papers a e
-of_laying pages papers a row (error.Row e) le is h = absurd h
-of_laying pages papers a row (error.Arrangement e) le is h = (row, is, inr h)
-of_laying pages papers a row (error.Poster e) le is h = (row, is, h)
-of_laying pages papers a row (error.Sheets e) le is h = (row, is, h.0, h.1 pages le)
-of_laying pages papers a row error.NoMemory le is h = subst IsOk (sym is) refl
-
--- a row that isn't laid
-pub asked_refused : (pages : ℕ) (papers : List Paper) (a : Asked) (row printed : Row) (even : Laying) (leaves : ℕ) (e : AskedError) → pages ≤ 1_000_000 → row_chosen pages a ≡ Ok row → printed ≡ signed (sewn a) row
-    → even ≡ evened_if a.same_scale a.laying papers printed → leaves ≡ leaves_in (sewn a) row → RefusesLaying even leaves papers printed e → RefusesAsked pages papers a e
-asked_refused pages papers a row printed even leaves e le is made scaled sides h =
-    of_laying pages papers a row e le is
-    (subst (λ (p : Row). RefusesLaying (evened_if a.same_scale a.laying papers p) (leaves_in (sewn a) row) papers p e) made
-    (subst (λ (n : ℕ). RefusesLaying (evened_if a.same_scale a.laying papers printed) n papers printed e) sides
-    (subst (λ (l : Laying). RefusesLaying l leaves papers printed e) scaled h)))
-
--- what has space fits
-have_space : (l : Laying) (leaves : ℕ) (papers : List Paper) (row : Row) → HaveSpace l papers row → FitAsLaid l leaves papers row
-have_space (laying.AsTheyAre blank) leaves papers row h = absurd h
-have_space (laying.Grid setting cells) leaves papers row h = absurd h
-have_space (laying.Cards setting cells) leaves papers row h = h
-have_space (laying.Stack setting cells) leaves papers row h = absurd h
-have_space (laying.Leaves setting) leaves papers row h = absurd h
-have_space (laying.Booklet setting turned_backs creep) leaves papers row h = absurd h
-have_space (laying.Poster poster) leaves papers row h = h
+use Rattle.row_runs.specs.Sheets.{AreAsked, RefusesAsked, laying_for, leaves_in, sewn, sheets_laid}
+use Rattle.row_runs.proofs.NotLaid.{have_space}
 
 of_asked : (j : RowJob) (e : AskedError) → RefusesAsked (page_count j) j.papers.now j.asked e → RefusesRun j e
 of_asked j (error.Row e) h = h
 of_asked j (error.Arrangement e) h = h
 of_asked j (error.Poster e) h = h
 of_asked j (error.Sheets e) h =
-    (sheets_laid (laying_for j.asked j.papers.now h.0) (leaves_in (sewn j.asked) h.0) j.papers.now (signed (sewn j.asked) h.0), record { row = h.0; is_chosen = h.1; are_laid = refl; fits = have_space (laying_for j.asked j.papers.now h.0) (leaves_in (sewn j.asked) h.0) j.papers.now (signed (sewn j.asked) h.0) h.2 }, h.3)
+    (sheets_laid (laying_for j.asked j.papers.now h.0) (leaves_in (sewn j.asked) h.0) j.papers.now (signed (sewn j.asked) h.0), record { row = h.0; is_chosen = h.1; are_laid = refl; fits = have_space (laying_for j.asked j.papers.now h.0) (leaves_in (sewn j.asked) h.0) j.papers.now (signed (sewn j.asked) h.0) h.3; accepted = h.2 }, h.4)
 of_asked j error.NoMemory h = h
 
 -- a run that makes no sheets

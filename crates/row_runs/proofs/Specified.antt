@@ -1,5 +1,5 @@
 -- With pages of one paper, the sheets of a grid are those of a specification.
-use Rattle.std.proofs.Common.{arith, ◌≡◌, ◌∙◌, ℕ, ◌+◌, ◌-◌, ◌*◌, Bool, true, false, List, [], ◌∷◌, ◌++◌, Option, Some, None, length, map, refl, sym, ap}
+use Rattle.std.proofs.Common.{◌≡◌, ◌∙◌, ℕ, ◌+◌, ◌-◌, ◌*◌, Bool, true, false, List, [], ◌∷◌, Option, Some, None, length, map, refl, ap}
 use Rattle.std.specs.Prelude.{flat_map, if◌then◌else◌}
 use Rattle.std.specs.List.{range_with_len}
 use Rattle.std.proofs.lemmas.List.Concat.{flat_map-cons}
@@ -7,16 +7,16 @@ use Rattle.rules.specs.Papers.{Paper}
 use Rattle.rules.specs.Specification.{Item, Spec}
 use Rattle.rules.specs.Sheets.{blocks, place}
 use Rattle.rules.specs.Signatures.{entry_of}
-use Rattle.made_sheets.specs.Made.{MadeSheet, MadeSlot, Blank, Placed, made_slot}
+use Rattle.made_sheets.specs.Made.{MadeSlot, made_slot}
 use Rattle.made_sheets.specs.Rows.{Row}
 use Rattle.layouts.specs.declared.setting.Setting.{Setting}
 use Rattle.layouts.specs.Cells.{item_in}
 use Rattle.layouts.specs.Fitted.{fitted, halves, is_whole, scale_on, binding_setting_of, setting_of}
-use Rattle.layouts.specs.Grids.{alone, arranged, bound, count_of}
+use Rattle.layouts.specs.Grids.{alone, count_of}
 use Rattle.layouts.proofs.Fitting.{arranged_is_fitted, bound_is_fitted}
 use Rattle.row_sheets.specs.BySpec.{by_spec, sheet_by, slot_by}
 use Rattle.row_sheets.proofs.GroupByGroup.{made_sheets_are}
-use Rattle.row_sheets.specs.Filled.{Filling, booklet_sheets, filled, grid_entry, grid_sheets, slot_in}
+use Rattle.row_sheets.specs.Filled.{grid_entry, grid_sheets, slot_in}
 use Rattle.row_runs.specs.Specified.{GridIsSpecified, BookletIsSpecified, of_paper}
 
 -- ---- lists

@@ -17,7 +17,7 @@ limit_passed sheets places =
     else (if nat_lt most_places (sheets * places) then Some plan.TooManyPlaces else None))
 
 -- the one that the sheets of so many entries pass. Only cards and posters have more places than entries, but for the last
--- sheet
+-- sheet (RULES, 16, step 13)
 abbrev pub limit_in : Laying → (entries : ℕ) → Option MadeError
 limit_in (laying.Cards setting cells) n = limit_passed n cells
 limit_in (laying.Poster poster) n = limit_passed (n * (poster.rows * poster.columns)) 1

@@ -7,7 +7,7 @@ use Rattle.made_sheets.specs.MadePlans.{made_plan_of}
 use Rattle.sheet_plan.specs.MadeRefusals.{RefusesMade}
 use Rattle.imposer.specs.declared.outcome.Report.{Report}
 use Rattle.row_runs.specs.SheetsRuns.{ReportsOn, told_output}
-use Rattle.row_runs.specs.Sheets.{AreAsked, WhyNotLaid, row_chosen}
+use Rattle.row_runs.specs.Sheets.{AreAsked, row_chosen}
 use Rattle.row_runs.specs.Sheets as sheets
 use Rattle.row_runs.specs.Marked.{strokes_in}
 use Rattle.dressing.specs.declared.strokes.Stroke.{Stroke}

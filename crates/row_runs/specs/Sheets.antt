@@ -1,8 +1,8 @@
 -- The sheets that are asked for.
-use Rattle.std.specs.Prelude.{◌≡◌, ◌⊎◌, true, ⊤, ℕ, ◌*◌, ◌/◌, ◌<◌, ◌≤◌, List, length, IsOk, IfSome, Option, Some, None, Ok, Result, option_map}
+use Rattle.std.specs.Prelude.{◌≡◌, ◌⊎◌, ⊤, ℕ, ◌*◌, ◌/◌, ◌<◌, ◌≤◌, List, length, IsOk, IfSome, Option, Some, None, Ok, Result, option_map}
+use Rattle.std.specs.Option.{option_or}
 use Rattle.rules.specs.Papers.{Paper}
 use Rattle.rules.specs.Run.{most_pages}
-use Rattle.rules.specs.Signatures.{entry_of}
 use Rattle.made_sheets.specs.Made.{MadeSheet}
 use Rattle.made_sheets.specs.Rows.{Row}
 use Rattle.made_sheets.specs.Choice.{RowFault, Signing, chosen, sides_for, signed}
@@ -14,14 +14,13 @@ use Rattle.rows.specs.Sewing.{MayBeSewn, signing_of}
 use Rattle.rows.specs.Refusals.{RefusesRow}
 use Rattle.row_sheets.specs.RowSheets.{selected}
 use Rattle.row_sheets.specs.Filled.{card_sheets, duplex_sheets, grid_sheets, stack_sheets}
-use Rattle.row_sheets.specs.Creep.{AreHalves, IsRefusedCreeping, creeping_sheets}
-use Rattle.row_sheets.specs.Shapes.{IsRefusedFor, filling}
-use Rattle.row_sheets.specs.Posters.{AllMayBePosters, IsNoPosterFor, most_tiles, row_tiles}
+use Rattle.row_sheets.specs.Creep.{AreHalves, creeping_sheets, first_over_fold}
+use Rattle.row_sheets.specs.Shapes.{filling, first_refused}
+use Rattle.row_sheets.specs.Posters.{AllMayBePosters, first_no_poster, most_tiles, row_tiles}
 use Rattle.row_sheets.specs.Standing.{AllFit, AllFitOnLeaves}
 use Rattle.sheet_plan.specs.MadeRefusals.{RefusesMade}
 use Rattle.sheet_plan.specs.declared.error.MadeError.{MadeError}
-use Rattle.row_sheets.specs.declared.poster.PosterError.{PosterError}
-use Rattle.row_runs.specs.Evened.{WhyNotEven, evened_if}
+use Rattle.row_runs.specs.Evened.{evened_if, why_not_even_if}
 use Rattle.row_runs.specs.declared.asked.Asked.{Asked}
 use Rattle.row_runs.specs.declared.asked.Laying.{Laying}
 use Rattle.row_runs.specs.declared.asked.Laying.TheVariants as laying
@@ -56,7 +55,7 @@ abbrev pub leaves_in : Option Signing → Row → ℕ
 leaves_in None row = 0
 leaves_in (Some how) row = sides_for how (length row) / 4
 
--- a row of pages with these papers, laid on sheets; if it is in signatures, each has so many leaves
+-- a row of pages with these papers, laid on sheets; if it is in signatures, each has so many leaves (RULES, 14)
 abbrev pub sheets_laid : Laying → (leaves : ℕ) → List Paper → Row → List MadeSheet
 sheets_laid (laying.AsTheyAre blank) leaves papers row = selected papers blank row
 sheets_laid (laying.Grid setting cells) leaves papers row = grid_sheets (filling setting papers) cells row
@@ -67,21 +66,20 @@ sheets_laid (laying.Booklet setting turned_backs creep) leaves papers row =
     creeping_sheets (filling setting papers) turned_backs creep leaves row
 sheets_laid (laying.Poster poster) leaves papers row = row_tiles poster papers row
 
--- why it can't be laid: out of memory, or a page that doesn't fit its cell
-abbrev pub WhyNotLaid : Laying → (leaves : ℕ) → List Paper → Row → ArrangementError → Type 0
-WhyNotLaid (laying.AsTheyAre blank) leaves papers row e = e ≡ why.NoMemory
-WhyNotLaid (laying.Grid setting cells) leaves papers row e = IsRefusedFor (filling setting papers) row e
-WhyNotLaid (laying.Cards setting cells) leaves papers row e = IsRefusedFor (filling setting papers) row e
-WhyNotLaid (laying.Stack setting cells) leaves papers row e = IsRefusedFor (filling setting papers) row e
-WhyNotLaid (laying.Leaves setting) leaves papers row e = IsRefusedFor (filling setting papers) row e
-WhyNotLaid (laying.Booklet setting turned_backs creep) leaves papers row e =
-    IsRefusedCreeping (filling setting papers) creep leaves row e
-WhyNotLaid (laying.Poster poster) leaves papers row e = ⊥
+-- why it can't be laid so: the first page of the row that doesn't fit its cell, or can't be a poster
+abbrev pub why_not_laid : Laying → (leaves : ℕ) → List Paper → Row → Option AskedError
+why_not_laid (laying.AsTheyAre blank) leaves papers row = None
+why_not_laid (laying.Grid setting cells) leaves papers row = option_map error.Arrangement (first_refused (filling setting papers) row)
+why_not_laid (laying.Cards setting cells) leaves papers row = option_map error.Arrangement (first_refused (filling setting papers) row)
+why_not_laid (laying.Stack setting cells) leaves papers row = option_map error.Arrangement (first_refused (filling setting papers) row)
+why_not_laid (laying.Leaves setting) leaves papers row = option_map error.Arrangement (first_refused (filling setting papers) row)
+why_not_laid (laying.Booklet setting turned_backs creep) leaves papers row =
+    option_map error.Arrangement (first_over_fold (filling setting papers) creep leaves row)
+why_not_laid (laying.Poster poster) leaves papers row = option_map error.Poster (first_no_poster poster papers row)
 
--- why it can't be on posters: out of memory, or a page that can't be one
-abbrev pub WhyNoPosters : Laying → List Paper → Row → PosterError → Type 0
-WhyNoPosters (laying.Poster poster) papers row e = IsNoPosterFor poster papers row e
-WhyNoPosters other papers row e = ⊥
+-- the cells aren't filled for that reason, or out of memory
+abbrev pub WhyNotLaid : Laying → (leaves : ℕ) → List Paper → Row → ArrangementError → Type 0
+WhyNotLaid l leaves papers row e = (e ≡ why.NoMemory) ⊎ (why_not_laid l leaves papers row ≡ Some (error.Arrangement e))
 
 -- each page of the row has its place, laid so: for none of them there is such a reason
 abbrev pub FitAsLaid : Laying → (leaves : ℕ) → List Paper → Row → Type 0
@@ -106,8 +104,8 @@ WhyNoPlan l leaves papers row e = (pages : ℕ) → pages ≤ most_pages → Ref
 
 -- a refusal says why; a limit that is passed, only if all pages have their places
 abbrev pub RefusesLaying : Laying → (leaves : ℕ) → List Paper → Row → AskedError → Type 0
-RefusesLaying l leaves papers row (error.Arrangement e) = WhyNotLaid l leaves papers row e
-RefusesLaying l leaves papers row (error.Poster e) = WhyNoPosters l papers row e
+RefusesLaying l leaves papers row (error.Arrangement e) = why_not_laid l leaves papers row ≡ Some (error.Arrangement e)
+RefusesLaying l leaves papers row (error.Poster e) = why_not_laid l leaves papers row ≡ Some (error.Poster e)
 RefusesLaying l leaves papers row error.NoMemory = ⊤
 RefusesLaying l leaves papers row (error.Row e) = ⊥
 RefusesLaying l leaves papers row (error.Sheets e) = HaveSpace l papers row × WhyNoPlan l leaves papers row e
@@ -126,6 +124,13 @@ sewn a = option_map signing_of a.signing
 abbrev pub laying_for : Asked → List Paper → Row → Laying
 laying_for a papers row = evened_if a.same_scale a.laying papers (signed (sewn a) row)
 
+-- why a page is refused: the first that has no scale of its own, if there is to be one for all, or else the first that
+-- has no place as it is laid (RULES, 16, step 12)
+abbrev pub why_not_asked : List Paper → Asked → Row → Option AskedError
+why_not_asked papers a row = let printed = signed (sewn a) row in
+    option_or (option_map error.Arrangement (why_not_even_if a.same_scale a.laying papers printed))
+    (why_not_laid (laying_for a papers row) (leaves_in (sewn a) row) papers printed)
+
 -- these are the sheets that are asked for: the row that is chosen, in signatures if there are to be some, laid as is asked,
 -- and no page of it had to be refused
 pub record AreAsked (pages : ℕ) (papers : List Paper) (a : Asked) (made : List MadeSheet) : Type 0 where
@@ -133,16 +138,18 @@ pub record AreAsked (pages : ℕ) (papers : List Paper) (a : Asked) (made : List
   pub is_chosen : row_chosen pages a ≡ Ok row
   pub are_laid : made ≡ sheets_laid (laying_for a papers row) (leaves_in (sewn a) row) papers (signed (sewn a) row)
   pub fits : FitAsLaid (laying_for a papers row) (leaves_in (sewn a) row) papers (signed (sewn a) row)
+  pub accepted : why_not_asked papers a row ≡ None
 
--- a refusal names the fault of the row, or, if there is one, why it can't be laid
+-- a refusal names the fault of the row; or, if there is one, why a page of it is refused; or, if none is, the limit that its
+-- sheets pass (RULES, 16, steps 11 to 13)
 abbrev pub RefusesAsked : (pages : ℕ) → List Paper → Asked → AskedError → Type 0
 RefusesAsked pages papers a (error.Row e) = RefusesRow (row_chosen pages a) e
-RefusesAsked pages papers a (error.Arrangement e) = (row : Row) × (row_chosen pages a ≡ Ok row)
-    × (((a.same_scale ≡ true) × WhyNotEven a.laying papers (signed (sewn a) row) e)
-    ⊎ WhyNotLaid (laying_for a papers row) (leaves_in (sewn a) row) papers (signed (sewn a) row) e)
-RefusesAsked pages papers a (error.Poster e) = (row : Row) × (row_chosen pages a ≡ Ok row)
-    × WhyNoPosters (laying_for a papers row) papers (signed (sewn a) row) e
+RefusesAsked pages papers a (error.Arrangement e) =
+    (row : Row) × (row_chosen pages a ≡ Ok row) × (why_not_asked papers a row ≡ Some (error.Arrangement e))
+RefusesAsked pages papers a (error.Poster e) =
+    (row : Row) × (row_chosen pages a ≡ Ok row) × (why_not_asked papers a row ≡ Some (error.Poster e))
 RefusesAsked pages papers a (error.Sheets e) = (row : Row) × (row_chosen pages a ≡ Ok row)
+    × (why_not_asked papers a row ≡ None)
     × HaveSpace (laying_for a papers row) papers (signed (sewn a) row)
     × RefusesMade pages (sheets_laid (laying_for a papers row) (leaves_in (sewn a) row) papers (signed (sewn a) row)) e
 RefusesAsked pages papers a error.NoMemory = IsOk (row_chosen pages a)

@@ -76,8 +76,8 @@ pub struct Asked<'t> {
 }
 
 /// The sheets that are asked for of a document with so many pages, whose papers are in their order. A page whose paper
-/// isn't known has the sheet's. What is wrong with the row is refused first, then a page that fits no cell, or can't be
-/// a poster, then cards and posters that pass a limit of a plan: none of their sheets is made.
+/// isn't known has the sheet's. What is wrong with the row is refused first, then the first page that fits no cell, or
+/// can't be a poster, then cards and posters that pass a limit of a plan: none of their sheets is made.
 pub fn asked_sheets(
     alloc: Global,
     pages: u32,

@@ -1,6 +1,6 @@
 //! Layings with one scale for all pages of a row.
-ghost use Rattle.std.specs.Prelude.{◌≡◌, IfErr, IfOk, true};
-ghost use Rattle.row_runs.specs.Evened.{WhyNotEven, evened as evened_of, evened_if as evened_if_asked};
+ghost use Rattle.std.specs.Prelude.{◌≡◌, IfErr, IfOk, None, OnOk, Some};
+ghost use Rattle.row_runs.specs.Evened.{evened as evened_of, evened_if as evened_if_asked, why_not_even, why_not_even_if};
 ghost use Rattle.row_runs.specs.Evened.{setting_in as setting_of, with_setting as with_setting_of};
 ghost use Rattle.row_runs.specs.Sheets.{MayBeLaid};
 
@@ -19,7 +19,8 @@ pub(crate) fn evened_if(
     requires { MayBeLaid laying.now }
     ensures made { IfOk result (λ made. made ≡ evened_if_asked same_scale laying.now papers.now row.now) }
     ensures may_be { IfOk result MayBeLaid }
-    ensures refused { IfErr result (λ e. (same_scale ≡ true) × WhyNotEven laying.now papers.now row.now e) }
+    ensures accepted { OnOk result (why_not_even_if same_scale laying.now papers.now row.now ≡ None) }
+    ensures refused { IfErr result (λ error. why_not_even_if same_scale laying.now papers.now row.now ≡ Some error) }
 {
     if same_scale {
         evened(laying, papers, row)
@@ -36,7 +37,8 @@ fn evened(
     requires { MayBeLaid laying.now }
     ensures made { IfOk result (λ made. made ≡ evened_of laying.now papers.now row.now) }
     ensures may_be { IfOk result MayBeLaid }
-    ensures refused { IfErr result (WhyNotEven laying.now papers.now row.now) }
+    ensures accepted { OnOk result (why_not_even laying.now papers.now row.now ≡ None) }
+    ensures refused { IfErr result (λ error. why_not_even laying.now papers.now row.now ≡ Some error) }
 {
     let setting = match setting_in(laying) {
         Some(setting) => setting,

@@ -3,8 +3,8 @@ ghost use Rattle.row_runs.specs.InPlaces.{AskedStandInPlaces};
 ghost use Rattle.row_runs.specs.ReadAsBound.{AskedIsRead};
 ghost use Rattle.row_runs.specs.Specified.{GridIsSpecified, BookletIsSpecified};
 
-/// The pages of the sheets that are asked for are fitted into their cells and read in order, and each point of those of
-/// posters is shown: none of them had to be refused.
+/// The pages of the sheets that are asked for are fitted into their cells and read in order, stacks are the row once they are
+/// cut and laid, and each point of a poster's pages is shown: none of them had to be refused.
 pub fn asked_stand_in_places()
     ensures { AskedStandInPlaces }
 {}

@@ -1,9 +1,11 @@
 -- Leaves that don't creep.
-use Rattle.std.proofs.Common.{arith, rules, ◌≡◌, ℕ, ◌+◌, ◌-◌, ◌*◌, ◌/◌, ◌%◌, Bool, true, false, inl, inr, Option, Some, None, List, [], ◌∷◌, refl, sym, ap, ap₂, ◌∙◌}
+use Rattle.std.proofs.Common.{arith, rules, ◌≡◌, ℕ, ◌-◌, ◌*◌, ◌/◌, ◌%◌, Bool, true, false, length, Option, Some, None, List, [], ◌∷◌, refl, sym, ap, ap₂, ◌∙◌}
 use Rattle.std.specs.Prelude.{ℤ, pos, neg_ℤ, ◌-ℤ◌, nat_le, if◌then◌else◌, map}
 use Rattle.std.specs.List.{range_with_len}
+use Rattle.std.specs.Option.{option_or}
 use Rattle.std.proofs.Math.IntN.{+ℤ_idr}
 use Rattle.rules.specs.Papers.{Paper, Pt}
+use Rattle.rules.specs.Signatures.{entry_of}
 use Rattle.rules.specs.Specification.{Item}
 use Rattle.made_sheets.specs.Made.{Placed}
 use Rattle.made_sheets.specs.Rows.{Row}
@@ -14,10 +16,11 @@ use Rattle.layouts.specs.Refusals.{first_of}
 use Rattle.layouts.specs.Placed.{Room}
 use Rattle.layouts.specs.Fitted.{why_not_fitted}
 use Rattle.row_sheets.specs.Filled.{Filling, grid_entry, is_turned, slot_on}
-use Rattle.row_sheets.specs.Shapes.{IsRefusedFor}
-use Rattle.row_sheets.specs.Creep.{AreHalves, IsRefusedCreeping, NoCreepIsPlain, creep_on, creeping, creeping_slot, in_half, is_before_fold, moved_up, or_else, up_to_fold, why_not_creeping}
+use Rattle.row_sheets.specs.Shapes.{first_refused, why_no_place}
+use Rattle.row_sheets.specs.Creep.{AreHalves, NoCreepIsPlain, creep_on, creeping, creeping_slot, first_over_fold, in_half, is_before_fold, moved_up, up_to_fold, why_no_half, why_not_creeping}
 use Rattle.row_sheets.proofs.Creeping.{halves, of_halves}
 use Rattle.row_sheets.proofs.Filling.{sheet}
+use Rattle.row_sheets.proofs.Refused.{same_fault}
 
 same_maps : {X Y : Type 0} (f g : X → Y) (xs : List X) → ((x : X) → f x ≡ g x) → map f xs ≡ map g xs
 same_maps f g [] h = refl
@@ -73,22 +76,26 @@ sheets_at_rest f turned_backs leaves row sheets h =
     ap (λ n. creeping_slot f (is_turned turned_backs s) k n (grid_entry 2 row s k)) (no_creep leaves s)
     ∙ slot_at_rest f (is_turned turned_backs s) k (grid_entry 2 row s k) h)))
 
-or_else_none : (one : Option ArrangementError) → or_else one None ≡ one
-or_else_none None = refl
-or_else_none (Some e) = refl
+or_none : (one : Option ArrangementError) → option_or one None ≡ one
+or_none None = refl
+or_none (Some e) = refl
 
 free : (n : ℕ) → nat_le (2 * 0) n ≡ true
 free n = search rules
 
 not_for_creep : (t : Setting) (page : Paper) → why_not_creeping t page 0 ≡ why_not_fitted t page
 not_for_creep t page =
-    ap (λ b. or_else (why_not_fitted t page) (first_of b why.CreepOverFold None)) (free _)
-    ∙ or_else_none (why_not_fitted t page)
+    ap (λ b. option_or (why_not_fitted t page) (first_of b why.CreepOverFold None)) (free _)
+    ∙ or_none (why_not_fitted t page)
 
-refused_at_rest : (f : Filling) (leaves : ℕ) (row : Row) (e : ArrangementError) → IsRefusedCreeping f 0 leaves row e → IsRefusedFor f row e
-refused_at_rest f leaves row e (inl h) = inl h
-refused_at_rest f leaves row e (inr (s, k, less, h)) =
-    inr (s * 2 + k, (h.0, h.1, sym (not_for_creep f.setting (f.paper_of h.0)) ∙ (ap (why_not_creeping f.setting (f.paper_of h.0)) (sym (no_creep leaves s)) ∙ h.2)))
+half_at_rest : (f : Filling) (entry : Option ℕ) → why_no_half f 0 entry ≡ why_no_place f entry
+half_at_rest f None = refl
+half_at_rest f (Some page) = not_for_creep f.setting (f.paper_of page)
+
+refused_at_rest : (f : Filling) (leaves : ℕ) (row : Row) → first_over_fold f 0 leaves row ≡ first_refused f row
+refused_at_rest f leaves row =
+    same_fault (λ i. why_no_half f (creep_on 0 leaves (i / 2)) (entry_of row i)) (λ i. why_no_place f (entry_of row i)) (length row)
+    (λ i. ap (λ n. why_no_half f n (entry_of row i)) (no_creep leaves (i / 2)) ∙ half_at_rest f (entry_of row i))
 
 pub no_creep_is_plain : NoCreepIsPlain
-no_creep_is_plain = λ f turned_backs leaves row h. (sheets_at_rest f turned_backs leaves row _ h, λ e. refused_at_rest f leaves row e)
+no_creep_is_plain = λ f turned_backs leaves row h. (sheets_at_rest f turned_backs leaves row _ h, refused_at_rest f leaves row)

@@ -1,5 +1,5 @@
 -- Pages on leaves that creep stay within reach, as long as there is room at the fold.
-use Rattle.std.proofs.Common.{arith, rules, ◌≡◌, ℕ, suc, zero, ◌+◌, ◌*◌, ◌<◌, ◌≤◌, Bool, true, false, inr, Option, None, [], ◌∷◌, sym, ap, subst, ◌∙◌}
+use Rattle.std.proofs.Common.{arith, rules, ◌≡◌, ℕ, suc, zero, ◌+◌, ◌*◌, ◌<◌, ◌≤◌, Bool, true, false, Option, None, [], ◌∷◌, sym, ap, subst, ◌∙◌}
 use Rattle.std.specs.Prelude.{ℤ, pos, neg_ℤ, ◌+ℤ◌, ◌-ℤ◌, ◌*ℤ◌, nat_abs, nat_le, nat_lt, IsTrue, map}
 use Rattle.std.specs.List.{range_with_len}
 use Rattle.std.proofs.lemmas.Int.{ints}
@@ -10,7 +10,6 @@ use Rattle.rules.specs.Signatures.{entry_of}
 use Rattle.made_sheets.specs.Made.{MadeSlot}
 use Rattle.made_sheets.specs.Rows.{Row}
 use Rattle.layouts.specs.declared.error.ArrangementError.{ArrangementError}
-use Rattle.layouts.specs.declared.error.ArrangementError.TheVariants as why
 use Rattle.layouts.specs.declared.setting.Setting.{Setting}
 use Rattle.layouts.specs.Placed.{Room}
 use Rattle.layouts.specs.Cells.{size, slack, trimmed, whole}
@@ -21,7 +20,7 @@ use Rattle.layouts.proofs.OnSide.{HasCell, cell, shown, from_start}
 use Rattle.layouts.proofs.InGrid.{fits, both_true}
 use Rattle.layouts.proofs.Folds.{kept_little}
 use Rattle.layouts.proofs.Fitting.{has_scale}
-use Rattle.row_sheets.specs.Creep.{in_half, up_to_fold, moved_up, may_creep, creep_on, creeping, creeping_slot, AreHalves, IsRefusedCreep, IsRefusedCreeping}
+use Rattle.row_sheets.specs.Creep.{in_half, up_to_fold, moved_up, may_creep, creeping, creeping_slot, AreHalves}
 use Rattle.row_sheets.specs.Standing.{EntryCreeps}
 use Rattle.row_sheets.specs.Filled.{Filling}
 
@@ -163,9 +162,3 @@ pub both_creep : (P : ℕ → Type 0) → P 0 → P 1 → (k : ℕ) → k < 2 �
 both_creep P p q zero less = p
 both_creep P p q (suc zero) less = q
 both_creep P p q (suc (suc k)) less = absurd (omega (arith, less))
-
--- what refuses an entry refuses the sides
-pub entry_refused : (f : Filling) (row : Row) (creep leaves s k by place : ℕ) (entry : Option ℕ) (e : ArrangementError) → k < 2 → IsRefusedCreep f by entry e → by ≡ creep_on creep leaves s → entry ≡ entry_of row place → place ≡ s * 2 + k
-    → IsRefusedCreeping f creep leaves row e
-entry_refused f row creep leaves s k by place entry e less h b is at =
-    inr (s, k, less, subst (λ x. IsRefusedCreep f (creep_on creep leaves s) x e) (is ∙ ap (entry_of row) at) (subst (λ n. IsRefusedCreep f n entry e) b h))

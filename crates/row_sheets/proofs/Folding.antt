@@ -12,7 +12,7 @@ use Rattle.made_sheets.proofs.Faces.{faces_len, left_of, right_of}
 use Rattle.made_sheets.proofs.Folded.{row_is_read}
 use Rattle.row_sheets.specs.Filled.{Filling, grid_entry, is_turned}
 use Rattle.row_sheets.specs.Creep.{creep_on, creeping_slot, creeping_sheets}
-use Rattle.row_sheets.specs.Bound.{BookletIsRead, as_bound, face, face_in, faces_from, faces_on, is_first_left, read_bound, shown_in}
+use Rattle.row_sheets.specs.Bound.{BookletIsRead, as_bound, face, face_in, faces_from, faces_on, is_first_left, shown_in}
 use Rattle.row_sheets.proofs.Filling.{sheet}
 
 -- ---- a side
@@ -80,17 +80,3 @@ booklet_is_read f turned_backs creep m row =
 
 abbrev eight : Filling → (turned_backs : Bool) → List MadeSheet
 eight f turned_backs = creeping_sheets f turned_backs 850_393 2 (in_signatures 8 (all_pages 8))
-
--- bound at the left the outer leaf has the last page and the first one on its front, and bound at the right the other way round
-left_faces : (f : Filling) → faces_on false false (eight f false) ≡ face (Some 7) (Some 0) ∷ face (Some 1) (Some 6) ∷ face (Some 5) (Some 2) ∷ face (Some 3) (Some 4) ∷ []
-left_faces f = refl
-
-right_faces : (f : Filling) → faces_on true true (eight f true) ≡ face (Some 0) (Some 7) ∷ face (Some 6) (Some 1) ∷ face (Some 2) (Some 5) ∷ face (Some 4) (Some 3) ∷ []
-right_faces f = refl
-
--- and each is read from the first page to the last
-left_read : (f : Filling) → read_bound false 2 (faces_on false false (eight f false)) 0 ≡ all_pages 8
-left_read f = refl
-
-right_read : (f : Filling) → read_bound true 2 (faces_on true true (eight f true)) 0 ≡ all_pages 8
-right_read f = refl

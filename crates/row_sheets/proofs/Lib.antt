@@ -2,14 +2,17 @@ pub mod BlockByBlock
 pub mod GroupByGroup
 mod Runs
 mod Behind
+mod BackToBack
 mod Inside
 mod OnSheets
 pub mod InCells
 mod Places
-mod OnLeaves
+pub mod OnLeaves
+pub mod Refused
 mod Leaves
 mod Creeping
 pub mod Folding
+pub mod Stacking
 mod AtRest
 mod Tiles
 pub mod Shown

@@ -1,5 +1,6 @@
 -- Leaves whose pages have their places are laid out well, also if they creep.
 use Rattle.std.proofs.Common.{arith, rules, ◌≡◌, ℕ, ◌+◌, ◌-◌, ◌*◌, ◌<◌, ◌≤◌, Bool, true, false, Option, Some, None, [], ◌∷◌, refl, sym, ap, subst}
+use Rattle.std.specs.Option.{option_or}
 use Rattle.std.specs.Prelude.{ℤ, pos, neg_ℤ, ◌≤ℤ◌, ◌+ℤ◌, ◌-ℤ◌, ◌*ℤ◌, nat_abs, nat_lt, if◌then◌else◌}
 use Rattle.std.specs.List.{range_with_len}
 use Rattle.std.proofs.Math.Nat.{div-mul-le_self}
@@ -25,7 +26,7 @@ use Rattle.layouts.proofs.AlongSide.{cells_fit}
 use Rattle.layouts.proofs.Folds.{fold, kept_little, in_middle, fold_on_sheet, has_cell}
 use Rattle.layouts.proofs.Fitting.{fitted_stands, has_scale, scale_of_many, stands_back, one_of_many, in_cell}
 use Rattle.row_sheets.specs.Filled.{Filling, SlotIsInside, is_turned, grid_entry}
-use Rattle.row_sheets.specs.Creep.{AreHalves, creeping, creeping_slot, creeping_sides, creep_on, leaf_item, may_creep, moved_up, or_else, to_fold, StaysBefore, StaysBehind}
+use Rattle.row_sheets.specs.Creep.{AreHalves, creeping, creeping_slot, creeping_sides, creep_on, leaf_item, may_creep, moved_up, to_fold, StaysBefore, StaysBehind}
 use Rattle.row_sheets.specs.Standing.{AllStand, EntryCreeps, EntryFits, FitsIn, FitsOnLeaf, LeavesStand, SlotStaysBefore, SlotStaysBehind, StandsOnLeaf, fold_on, is_first_before}
 use Rattle.row_sheets.proofs.AtRest.{sheets_at_rest}
 use Rattle.row_sheets.proofs.Creeping.{halves, of_halves}
@@ -276,7 +277,7 @@ back_before page room b s creep c =
 
 -- ---- an entry in its half
 
-none_both : (one other : Option ArrangementError) → or_else one other ≡ None → (one ≡ None) × (other ≡ None)
+none_both : (one other : Option ArrangementError) → option_or one other ≡ None → (one ≡ None) × (other ≡ None)
 none_both None other h = (refl, h)
 none_both (Some e) other h = absurd (cc (h))
 
@@ -485,3 +486,13 @@ leaves_stand f turned_backs creep leaves sheets row halved has =
           (λ s less. side_stands f (is_turned turned_backs s) (creep_on creep leaves s) (grid_entry 2 row s 0) (grid_entry 2 row s 1) halved (has s 0 less (omega arith)) (has s 1 less (omega arith)));
       apart = plain_stand f turned_backs creep leaves sheets row halved has;
     }
+
+-- where their fold is, if the halves have room for pages
+pub leaves_fold : (f : Filling) (turned_backs : Bool) (creep leaves sheets : ℕ) (row : Row) (halved : AreHalves f.setting) (has : AllCreep f creep leaves sheets row)
+    → 0 < cell f.setting.room (nat_abs f.setting.room.paper.height) 2
+    → (leaves_stand f turned_backs creep leaves sheets row halved has).twice ≡ fold f.setting.room (nat_abs f.setting.room.paper.height)
+unfolding leaves_stand
+leaves_fold f turned_backs creep leaves sheets row halved has some =
+    let room = f.setting.room in
+    let h = nat_abs room.paper.height in
+    first_one (nat_lt 0 (cell room h 2)) (fold room h) (whole h) (is_below (cell room h 2) some)

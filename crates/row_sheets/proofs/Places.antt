@@ -20,7 +20,7 @@ use Rattle.row_sheets.specs.Standing.{AllFit, AllFitOnLeaves, EntryCreeps, Entry
 use Rattle.row_sheets.proofs.Behind.{behind_is_mirror, behind_twice}
 
 -- after the end of a row all is blank
-past_end : (row : Row) (i : ℕ) → length row ≤ i → entry_of row i ≡ None
+pub past_end : (row : Row) (i : ℕ) → length row ≤ i → entry_of row i ≡ None
 past_end row i past = get_or_past row i None past
 
 each_entry : (f : Filling) (row : Row) → ((i : ℕ) → i < length row → EntryFits f (entry_of row i)) → AllFit f row
@@ -30,13 +30,13 @@ each_entry f row fits i = elim (cases_lt i (length row)) [
 ]
 
 -- place i in blocks of so many, of which there are enough
-record IsIn (i many most : ℕ) : Type 0 where
+pub record IsIn (i many most : ℕ) : Type 0 where
   pub some : 0 < many
   pub block : i / many < most
   pub place : i % many < many
   pub is : i / many * many + i % many ≡ i
 
-in_blocks : (i n many most : ℕ) → i < n → n ≤ most * many → IsIn i many most
+pub in_blocks : (i n many most : ℕ) → i < n → n ≤ most * many → IsIn i many most
 in_blocks i n zero most less enough = absurd (omega (arith, less, enough))
 in_blocks i n (suc m) most less enough =
     let some : 0 < suc m = omega arith in record {

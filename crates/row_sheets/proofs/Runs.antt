@@ -1,5 +1,5 @@
 -- Sheets cut and laid: rows that run on.
-use Rattle.std.proofs.Common.{arith, rules, ◌≡◌, ℕ, suc, zero, ◌+◌, ◌*◌, ◌%◌, ◌<◌, List, [], ◌∷◌, ◌++◌, Bool, true, false, refl, sym, ap, ◌∙◌}
+use Rattle.std.proofs.Common.{arith, rules, ◌≡◌, ℕ, suc, zero, ◌+◌, ◌*◌, ◌%◌, ◌<◌, List, [], ◌∷◌, ◌++◌, Bool, true, false, Option, refl, sym, ap, ◌∙◌}
 use Rattle.std.specs.Prelude.{map, flat_map, ◌==◌, if◌then◌else◌}
 use Rattle.std.specs.List.{range_with_len}
 use Rattle.std.proofs.Math.Nat.{suc-mul, zero-mul}
@@ -7,7 +7,7 @@ use Rattle.rules.specs.Signatures.{entry_of}
 use Rattle.made_sheets.specs.Rows.{Row}
 use Rattle.layouts.specs.Cells.{size}
 use Rattle.layouts.specs.declared.setting.Setting.{Setting}
-use Rattle.row_sheets.specs.Filled.{duplex_entry, part_of_leaf, behind_in, GridRunsOn, StackRunsOn, DuplexRunsOn}
+use Rattle.row_sheets.specs.Filled.{duplex_entry, stack_entry, behind_in, GridRunsOn}
 use Rattle.row_sheets.proofs.Behind.{behind_twice}
 
 -- numbers that go on
@@ -62,7 +62,7 @@ blocks_run f n a (suc m) =
 pub grid_runs_on : GridRunsOn
 grid_runs_on cells sheets row = blocks_run (entry_of row) cells 0 sheets ∙ ap (λ k. map (entry_of row) (range_with_len k (sheets * cells))) (zero-mul cells)
 
-pub stack_runs_on : StackRunsOn
+pub stack_runs_on : (cells sheets : ℕ) (row : Row) → flat_map (λ c. map (λ s. stack_entry sheets row s c) (range_with_len 0 sheets)) (range_with_len 0 cells) ≡ map (entry_of row) (range_with_len 0 (cells * sheets))
 stack_runs_on cells sheets row = blocks_run (entry_of row) sheets 0 cells ∙ ap (λ k. map (entry_of row) (range_with_len k (cells * sheets))) (zero-mul sheets)
 
 -- pairs, one after the other
@@ -83,7 +83,7 @@ pairs_run f b a (suc m) =
     more m = omega arith
 
 -- what is the same for each number of a range
-same_each : {X : Type 0} (g h : ℕ → List X) (a n : ℕ) → ((c : ℕ) → c < a + n → g c ≡ h c) → flat_map g (range_with_len a n) ≡ flat_map h (range_with_len a n)
+pub same_each : {X : Type 0} (g h : ℕ → List X) (a n : ℕ) → ((c : ℕ) → c < a + n → g c ≡ h c) → flat_map g (range_with_len a n) ≡ flat_map h (range_with_len a n)
 same_each g h a zero e = refl
 same_each g h a (suc n) e =
     ap (λ xs. xs ++ flat_map g (range_with_len (a + 1) n)) (e a (omega arith))
@@ -111,7 +111,10 @@ other_way : {X : Type 0} (b : Bool) (x y : X) → b ≡ false → (if b then x e
 other_way true x y e = cc
 other_way false x y e = refl
 
--- a leaf of a part
+-- the front of a part of leaf l, and what is behind it
+abbrev pub part_of_leaf : (leaves : ℕ) → (behind : ℕ → ℕ) → Row → (c l : ℕ) → List (Option ℕ)
+part_of_leaf leaves behind row c l = duplex_entry leaves behind row (2 * l) c ∷ duplex_entry leaves behind row (2 * l + 1) (behind c) ∷ []
+
 leaf_is : (t : Setting) (leaves : ℕ) (row : Row) (c l : ℕ) → c < size t.grid
     → part_of_leaf leaves (behind_in t) row c l ≡ entry_of row (c * (2 * leaves) + 2 * l) ∷ entry_of row (c * (2 * leaves) + (2 * l + 1)) ∷ []
 leaf_is t leaves row c l within =
@@ -127,7 +130,8 @@ part_is t leaves row c within =
     same_each (part_of_leaf leaves (behind_in t) row c) (λ l. entry_of row (c * (2 * leaves) + 2 * l) ∷ entry_of row (c * (2 * leaves) + (2 * l + 1)) ∷ []) 0 leaves (λ l less. leaf_is t leaves row c l within)
     ∙ (pairs_run (entry_of row) (c * (2 * leaves)) 0 leaves ∙ sym (shifted (entry_of row) (c * (2 * leaves)) 0 (2 * leaves)))
 
-pub duplex_runs_on : DuplexRunsOn
+pub duplex_runs_on : (t : Setting) (leaves : ℕ) (row : Row)
+    → flat_map (λ c. flat_map (part_of_leaf leaves (behind_in t) row c) (range_with_len 0 leaves)) (range_with_len 0 (size t.grid)) ≡ map (entry_of row) (range_with_len 0 (size t.grid * (2 * leaves)))
 duplex_runs_on t leaves row =
     same_each (λ c. flat_map (part_of_leaf leaves (behind_in t) row c) (range_with_len 0 leaves)) (λ c. map (λ i. entry_of row (c * (2 * leaves) + i)) (range_with_len 0 (2 * leaves))) 0 (size t.grid)
     (λ c less. part_is t leaves row c (omega (arith, less)))

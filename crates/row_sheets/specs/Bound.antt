@@ -49,7 +49,7 @@ read_bound right_to_left leaves all signature = read_signature leaves (map (as_b
 
 -- a row that is put into signatures of m leaves, and on the sides of a booklet's leaves, is read in its order: leaf by leaf,
 -- signature by signature, whichever way it is bound, whether backs are turned, and however far leaves creep. Behind its end
--- are the blanks that fill up the last signature: a law
+-- are the blanks that fill up the last signature: a law (RULES, 14.1)
 abbrev pub BookletIsRead : Type 0
 BookletIsRead = (f : Filling) (turned_backs : Bool) (creep m : ℕ) (row : Row) →
     (let right_to_left = f.setting.order.right_to_left in

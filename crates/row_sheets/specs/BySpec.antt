@@ -16,7 +16,7 @@ abbrev pub made_on : (sheet page : Paper) → List (List Slot) → List MadeShee
 made_on sheet page all = map (λ slots. record { paper = sheet; slots = map (λ slot. made_slot page slot.page slot.item) slots }) all
 
 -- the sheets of a specification, on this paper: the place that an item names in a block is that of an entry of the row, and
--- all its pages have this paper
+-- all its pages have this paper (RULES, 14)
 abbrev pub by_spec : Spec → (sheet page : Paper) → Row → List MadeSheet
 by_spec spec sheet page row = made_on sheet page (sheets_of_row spec row)
 

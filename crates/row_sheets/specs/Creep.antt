@@ -3,10 +3,12 @@
 use Rattle.std.specs.Prelude.{◌≡◌, ◌⊎◌, ℕ, ◌+◌, ◌-◌, ◌*◌, ◌/◌, ◌%◌, ◌<◌, ◌≤◌, ℤ, pos, ◌+ℤ◌, ◌-ℤ◌, ◌*ℤ◌, neg_ℤ, ◌≤ℤ◌}
 use Rattle.std.specs.Prelude.{Bool, true, false, ◌==◌, if◌then◌else◌, nat_le, nat_abs, List, map, length, Option, Some, None}
 use Rattle.std.specs.List.{range_with_len}
+use Rattle.std.specs.Option.{option_or}
 use Rattle.rules.specs.Papers.{Paper, Pt}
 use Rattle.rules.specs.Specification.{Item}
 use Rattle.rules.specs.Placement.{Point}
 use Rattle.rules.specs.Sheets.{blocks}
+use Rattle.rules.specs.Signatures.{entry_of}
 use Rattle.made_sheets.specs.Made.{MadeSlot, Blank, Placed, MadeSheet}
 use Rattle.made_sheets.specs.Rows.{Row}
 use Rattle.layouts.specs.declared.error.ArrangementError.{ArrangementError}
@@ -19,9 +21,11 @@ use Rattle.layouts.specs.Laws.{IsPaper, HasPlace}
 use Rattle.layouts.specs.Refusals.{first_of}
 use Rattle.layouts.specs.Fitted.{fitted, fitted_back, scale_on, why_not_fitted}
 use Rattle.row_sheets.specs.Filled.{Filling, booklet_sheets, is_turned, grid_entry}
-use Rattle.row_sheets.specs.Shapes.{IsRefusedFor}
+use Rattle.row_sheets.specs.FirstFault.{first_fault}
+use Rattle.row_sheets.specs.Shapes.{first_refused}
 
 -- how far leaf i of m is moved, in 10^-5 of a point; leaf 0 is the outermost, and one leaf alone doesn't creep
+-- (RULES, 14.2)
 abbrev pub creep_of : (creep leaves i : ℕ) → ℕ
 creep_of creep leaves i = if nat_le leaves 1 then 0 else i * creep / (leaves - 1)
 
@@ -130,27 +134,28 @@ creeping_sheets f turned_backs creep leaves row =
 abbrev pub AreHalves : Setting → Type 0
 AreHalves t = (t.grid ≡ beside true) × (t.order ≡ leaf_order t.order.right_to_left)
 
-abbrev pub or_else : (one other : Option ArrangementError) → Option ArrangementError
-or_else None other = other
-or_else (Some e) other = Some e
-
 -- why a page can't lie in a half that creeps so far: as it can't lie there at all, or as it would cross the fold
+-- (RULES, 16, step 12)
 abbrev pub why_not_creeping : Setting → (page : Paper) → (creep : ℕ) → Option ArrangementError
 why_not_creeping t page creep =
-    or_else (why_not_fitted t page) (first_of (may_creep page t.room (scale_on t page) creep) why.CreepOverFold None)
+    option_or (why_not_fitted t page) (first_of (may_creep page t.room (scale_on t page) creep) why.CreepOverFold None)
 
--- this is why the entry can't lie there
-abbrev pub IsRefusedCreep : Filling → (creep : ℕ) → (entry : Option ℕ) → ArrangementError → Type 0
-IsRefusedCreep f creep entry e =
-    (page : ℕ) × (entry ≡ Some page) × (why_not_creeping f.setting (f.paper_of page) creep ≡ Some e)
+-- why an entry can't lie there, if it can't
+abbrev pub why_no_half : Filling → (creep : ℕ) → (entry : Option ℕ) → Option ArrangementError
+why_no_half f creep None = None
+why_no_half f creep (Some page) = why_not_creeping f.setting (f.paper_of page) creep
 
--- it is out of memory, or the reason for a page on one of the sides
+-- why the first entry of the row that can't lie in its half can't; each side has two
+abbrev pub first_over_fold : Filling → (creep leaves : ℕ) → Row → Option ArrangementError
+first_over_fold f creep leaves row =
+    first_fault (λ i. why_no_half f (creep_on creep leaves (i / 2)) (entry_of row i)) (length row)
+
+-- it is that reason, or out of memory
 abbrev pub IsRefusedCreeping : Filling → (creep leaves : ℕ) → Row → ArrangementError → Type 0
-IsRefusedCreeping f creep leaves row e = (e ≡ why.NoMemory)
-    ⊎ ((s k : ℕ) × (k < 2) × IsRefusedCreep f (creep_on creep leaves s) (grid_entry 2 row s k) e)
+IsRefusedCreeping f creep leaves row e = (e ≡ why.NoMemory) ⊎ (first_over_fold f creep leaves row ≡ Some e)
 
--- leaves that don't creep are those of `booklet_sheets`, and are refused for nothing else: a law
+-- leaves that don't creep are those of `booklet_sheets`, and the same page of theirs is refused: a law
 abbrev pub NoCreepIsPlain : Type 0
 NoCreepIsPlain = (f : Filling) (turned_backs : Bool) (leaves : ℕ) (row : Row) → AreHalves f.setting
     → (creeping_sheets f turned_backs 0 leaves row ≡ booklet_sheets f turned_backs row)
-    × ((e : ArrangementError) → IsRefusedCreeping f 0 leaves row e → IsRefusedFor f row e)
+    × (first_over_fold f 0 leaves row ≡ first_refused f row)

@@ -1,6 +1,6 @@
 -- Sheets whose cells are filled from a row: grids, cards, stacks. Each page is fitted into its cell by its own paper. All
 -- here is this project's own rules.
-use Rattle.std.specs.Prelude.{◌≡◌, ◌≢◌, ℕ, ◌+◌, ◌-◌, ◌*◌, ◌/◌, ◌%◌, ◌<◌, ◌≤◌, nat_abs, Bool, true, false, ◌&&◌, ◌==◌, if◌then◌else◌, List, [], ◌∷◌}
+use Rattle.std.specs.Prelude.{◌≡◌, ◌≢◌, ℕ, ◌+◌, ◌-◌, ◌*◌, ◌/◌, ◌%◌, ◌<◌, ◌≤◌, nat_abs, Bool, true, false, ◌&&◌, ◌==◌, if◌then◌else◌, List}
 use Rattle.std.specs.Prelude.{map, flat_map, length, Option, Some, None, ⊤}
 use Rattle.std.specs.List.{range_with_len}
 use Rattle.rules.specs.Papers.{Paper}
@@ -40,6 +40,7 @@ slot_on f false c entry = slot_in f c entry
 slot_on f true c entry = back_slot_in f c entry
 
 -- sheets are fronts and backs in turn, from a front on; if backs are turned, each of them is turned by half
+-- (RULES, 14.1)
 abbrev pub is_turned : (turned_backs : Bool) → (s : ℕ) → Bool
 is_turned turned_backs s = turned_backs && (s % 2 == 1)
 
@@ -56,7 +57,7 @@ filled f sheets cells entry = sides f false sheets cells entry
 
 -- ---- what is where
 
--- a grid: the row goes on from cell to cell, and from sheet to sheet
+-- a grid: the row goes on from cell to cell, and from sheet to sheet (RULES, 14)
 abbrev pub grid_entry : (cells : ℕ) → Row → (s c : ℕ) → Option ℕ
 grid_entry cells row s c = entry_of row (s * cells + c)
 
@@ -94,7 +95,7 @@ abbrev pub duplex_sheets : Filling → Row → List MadeSheet
 duplex_sheets f row = let leaves = blocks (2 * size f.setting.grid) (length row) in
     filled f (2 * leaves) (size f.setting.grid) (duplex_entry leaves (behind_in f.setting) row)
 
--- the sides of a booklet's leaves, two entries on each: the row is in signature order
+-- the sides of a booklet's leaves, two entries on each: the row is in signature order (RULES, 14.1)
 abbrev pub booklet_sheets : Filling → (turned_backs : Bool) → Row → List MadeSheet
 booklet_sheets f turned_backs row = sides f turned_backs (blocks 2 (length row)) 2 (grid_entry 2 row)
 
@@ -109,25 +110,6 @@ abbrev pub GridRunsOn : Type 0
 GridRunsOn = (cells sheets : ℕ) (row : Row)
     → flat_map (λ s. map (grid_entry cells row s) (range_with_len 0 cells)) (range_with_len 0 sheets)
     ≡ map (entry_of row) (range_with_len 0 (sheets * cells))
-
--- sheets that are cut, and of which the parts of each cell, from the first sheet to the last, are laid on one another: the
--- parts are the row, and after its end blanks
-abbrev pub StackRunsOn : Type 0
-StackRunsOn = (cells sheets : ℕ) (row : Row)
-    → flat_map (λ c. map (λ s. stack_entry sheets row s c) (range_with_len 0 sheets)) (range_with_len 0 cells)
-    ≡ map (entry_of row) (range_with_len 0 (cells * sheets))
-
--- the front of a part of leaf l, and what is behind it
-abbrev pub part_of_leaf : (leaves : ℕ) → (behind : ℕ → ℕ) → Row → (c l : ℕ) → List (Option ℕ)
-part_of_leaf leaves behind row c l = duplex_entry leaves behind row (2 * l) c
-    ∷ duplex_entry leaves behind row (2 * l + 1) (behind c) ∷ []
-
--- leaves that are cut, laid on one another, and read leaf by leaf, front and back: the row. So each page is behind its
--- predecessor, or on the next leaf
-abbrev pub DuplexRunsOn : Type 0
-DuplexRunsOn = (t : Setting) (leaves : ℕ) (row : Row)
-    → flat_map (λ c. flat_map (part_of_leaf leaves (behind_in t) row c) (range_with_len 0 leaves)) (range_with_len 0 (size t.grid))
-    ≡ map (entry_of row) (range_with_len 0 (size t.grid * (2 * leaves)))
 
 -- the cell behind a cell is in its row, and as far from the right as this one is from the left
 abbrev pub BehindIsMirror : Type 0

@@ -1,6 +1,6 @@
 -- Posters: one page over several sheets, which are its tiles. All here is this project's own rules.
 use Rattle.std.specs.Prelude.{◌≡◌, ◌⊎◌, ⊤, ℕ, ◌+◌, ◌-◌, ◌*◌, ◌/◌, ◌%◌, ◌<◌, min, pos, ◌+ℤ◌, ◌-ℤ◌, ◌≤ℤ◌, nat_abs, nat_le, nat_lt, ◌&&◌}
-use Rattle.std.specs.Prelude.{false, if◌then◌else◌, List, [], ◌∷◌, map, flat_map, slice_get, slice_index_or, Option, Some, None}
+use Rattle.std.specs.Prelude.{false, if◌then◌else◌, List, [], ◌∷◌, length, map, flat_map, slice_get, slice_index_or, Option, Some, None}
 use Rattle.std.specs.List.{range_with_len}
 use Rattle.rules.specs.Papers.{Paper}
 use Rattle.rules.specs.Specification.{Item, Upright}
@@ -12,12 +12,13 @@ use Rattle.layouts.specs.Laws.{IsPaper}
 use Rattle.rules.specs.Signatures.{entry_of}
 use Rattle.made_sheets.specs.Made.{MadeSheet, Blank, Placed}
 use Rattle.made_sheets.specs.Rows.{Row}
+use Rattle.row_sheets.specs.FirstFault.{first_fault}
 use Rattle.row_sheets.specs.declared.poster.Poster.{Poster}
 use Rattle.row_sheets.specs.declared.poster.Laid.{Laid}
 use Rattle.row_sheets.specs.declared.poster.PosterError.{PosterError}
 use Rattle.row_sheets.specs.declared.poster.PosterError.TheVariants as why
 
--- what the margins leave of a side
+-- what the margins leave of a side (RULES, 14.3)
 abbrev pub tile : (side edge : ℕ) → ℕ
 tile side edge = whole side - 2 * edge
 
@@ -68,7 +69,7 @@ poster_sheets page p k = map (λ n. record {
 abbrev pub most_tiles : ℕ
 most_tiles = 1_024
 
--- the first reason why there is no such poster, if there is one
+-- the first reason why there is no such poster, if there is one (RULES, 16, steps 9 and 12)
 abbrev pub why_no_poster : (page : Paper) → Poster → Option PosterError
 why_no_poster page p =
     if nat_le 1 (p.rows * p.columns) && nat_le (p.rows * p.columns) most_tiles
@@ -104,18 +105,18 @@ entry_tiles p papers (Some page) = poster_sheets (poster_paper p papers page) p 
 abbrev pub row_tiles : Poster → List Paper → Row → List MadeSheet
 row_tiles p papers row = flat_map (entry_tiles p papers) row
 
--- this is why the entry's page can't be a poster
-abbrev pub IsNoPosterFrom : Poster → List Paper → (entry : Option ℕ) → PosterError → Type 0
-IsNoPosterFrom p papers entry e =
-    (page : ℕ) × (entry ≡ Some page) × (why_no_poster (poster_paper p papers page) p ≡ Some e)
+-- why an entry can't be a poster, if it can't
+abbrev pub why_no_tiles : Poster → List Paper → (entry : Option ℕ) → Option PosterError
+why_no_tiles p papers None = None
+why_no_tiles p papers (Some page) = why_no_poster (poster_paper p papers page) p
 
--- it is the reason for a page of the row
-abbrev pub IsNoPosterIn : Poster → List Paper → Row → PosterError → Type 0
-IsNoPosterIn p papers row e = (i : ℕ) × IsNoPosterFrom p papers (entry_of row i) e
+-- why the first page of the row that can't be one can't
+abbrev pub first_no_poster : Poster → List Paper → Row → Option PosterError
+first_no_poster p papers row = first_fault (λ i. why_no_tiles p papers (entry_of row i)) (length row)
 
--- or it is out of memory
+-- it is that reason, or out of memory
 abbrev pub IsNoPosterFor : Poster → List Paper → Row → PosterError → Type 0
-IsNoPosterFor p papers row e = (e ≡ why.NoMemory) ⊎ IsNoPosterIn p papers row e
+IsNoPosterFor p papers row e = IsNoPoster (first_no_poster p papers row) e
 
 -- ---- the page on the tiles
 

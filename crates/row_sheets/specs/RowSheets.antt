@@ -13,7 +13,7 @@ paper_of papers other p = slice_index_or papers p other
 abbrev pub as_it_is : Item
 as_it_is = record { page = 0; from_end = false; turn = Upright; scale = pos 1_000_000_000; x = zero_points; y = zero_points }
 
--- a page as it is, on a sheet of its own paper; a blank on a sheet of this paper
+-- a page as it is, on a sheet of its own paper; a blank on a sheet of this paper (RULES, 14)
 abbrev pub selected_sheet : (papers : List Paper) → (blank : Paper) → Option ℕ → MadeSheet
 selected_sheet papers blank None = record { paper = blank; slots = Blank ∷ [] }
 selected_sheet papers blank (Some p) =

@@ -1,5 +1,5 @@
 -- One scale for all pages of a row: that of the largest paper. All here is this project's own rules.
-use Rattle.std.specs.Prelude.{◌≡◌, ℕ, ◌<◌, ◌≤◌, ℤ, pos, int_le, if◌then◌else◌, Option, Some, None}
+use Rattle.std.specs.Prelude.{◌≡◌, ℕ, ◌<◌, ◌≤◌, ℤ, pos, int_le, if◌then◌else◌, length, Option, Some, None}
 use Rattle.std.specs.List.{fold}
 use Rattle.rules.specs.Papers.{Paper}
 use Rattle.rules.specs.Signatures.{entry_of}
@@ -10,6 +10,7 @@ use Rattle.layouts.specs.Cells.{size}
 use Rattle.layouts.specs.Fitted.{IsFitted, fitted, scale_on, why_no_scale_on}
 use Rattle.layouts.specs.Laws.{IsPaper}
 use Rattle.row_sheets.specs.Filled.{Filling}
+use Rattle.row_sheets.specs.FirstFault.{first_fault}
 
 -- the scale of a page, by its own paper
 abbrev pub own_scale : Filling → (page : ℕ) → ℕ
@@ -25,6 +26,7 @@ least_with f None (Some page) = Some (pos (own_scale f page))
 least_with f (Some least) (Some page) = Some (lesser least (pos (own_scale f page)))
 
 -- the least of the scales of a row's pages, which is that of the largest paper; none if the row has no page
+-- (RULES, 13.3)
 abbrev pub least_scale : Filling → Row → Option ℤ
 least_scale f row = fold (least_with f) None row
 
@@ -37,14 +39,14 @@ at_one_scale f row = record {
   scale = least_scale f row;
 }
 
--- this is why an entry's page has no scale of its own
-abbrev pub HasNoScale : Filling → (entry : Option ℕ) → ArrangementError → Type 0
-HasNoScale f entry e =
-    (page : ℕ) × (entry ≡ Some page) × (why_no_scale_on f.setting (f.paper_of page) ≡ Some e)
+-- why an entry has no scale of its own, if it has none
+abbrev pub why_no_own_scale : Filling → (entry : Option ℕ) → Option ArrangementError
+why_no_own_scale f None = None
+why_no_own_scale f (Some page) = why_no_scale_on f.setting (f.paper_of page)
 
--- and why one of a row has none
-abbrev pub HaveNoScale : Filling → Row → ArrangementError → Type 0
-HaveNoScale f row e = (i : ℕ) × HasNoScale f (entry_of row i) e
+-- why the first page of the row that has none has none
+abbrev pub first_unscaled : Filling → Row → Option ArrangementError
+first_unscaled f row = first_fault (λ i. why_no_own_scale f (entry_of row i)) (length row)
 
 -- ---- laws
 

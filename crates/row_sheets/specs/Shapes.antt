@@ -1,5 +1,5 @@
 -- How rows are put into cells, and why they can't be. All here is this project's own rules.
-use Rattle.std.specs.Prelude.{◌≡◌, ◌⊎◌, ℕ, ◌+◌, ◌*◌, ◌%◌, ◌==◌, Bool, true, false, if◌then◌else◌, List, length, slice_index_or, Option, Some}
+use Rattle.std.specs.Prelude.{◌≡◌, ◌⊎◌, ℕ, ◌+◌, ◌*◌, ◌%◌, ◌==◌, Bool, true, false, if◌then◌else◌, List, length, slice_index_or, Option, Some, None}
 use Rattle.rules.specs.Papers.{Paper}
 use Rattle.rules.specs.Sheets.{blocks}
 use Rattle.rules.specs.Signatures.{entry_of}
@@ -13,6 +13,7 @@ use Rattle.row_sheets.specs.declared.fill.CellKind.{CellKind}
 use Rattle.row_sheets.specs.declared.fill.CellKind.TheVariants as kind
 use Rattle.row_sheets.specs.declared.fill.Shape.{Shape}
 use Rattle.row_sheets.specs.Filled.{Filling, behind_in, filled}
+use Rattle.row_sheets.specs.FirstFault.{first_fault}
 
 -- the cells of a sheet, and the papers of the pages in their order; a page whose paper isn't known has the sheet's
 abbrev pub filling : Setting → List Paper → Filling
@@ -22,7 +23,7 @@ filling t papers = record { setting = t; paper_of = λ page. slice_index_or pape
 abbrev pub cell_on : Setting → (s c : ℕ) → ℕ
 cell_on t s c = if s % 2 == 0 then c else behind_in t c
 
--- which entry of the row is in cell c of sheet s
+-- which entry of the row is in cell c of sheet s (RULES, 14)
 abbrev pub place_by : CellKind → Setting → (sheets cells s c : ℕ) → ℕ
 place_by kind.Grid t sheets cells s c = s * cells + c
 place_by kind.Cards t sheets cells s c = s
@@ -52,14 +53,15 @@ abbrev pub sheets_by : CellKind → Filling → (cells : ℕ) → Row → List M
 sheets_by way f cells row = let sheets = sheet_count way cells (length row) in
     filled f sheets cells (λ s c. entry_of row (place_by way f.setting sheets cells s c))
 
--- this is why the entry can't lie in its cell
-abbrev pub IsRefusedFrom : Filling → (entry : Option ℕ) → ArrangementError → Type 0
-IsRefusedFrom f entry e = (page : ℕ) × (entry ≡ Some page) × (why_not_fitted f.setting (f.paper_of page) ≡ Some e)
+-- why an entry can't lie in a cell, if it can't
+abbrev pub why_no_place : Filling → (entry : Option ℕ) → Option ArrangementError
+why_no_place f None = None
+why_no_place f (Some page) = why_not_fitted f.setting (f.paper_of page)
 
--- it is the reason for a page of the row
-abbrev pub IsRefusedIn : Filling → Row → ArrangementError → Type 0
-IsRefusedIn f row e = (i : ℕ) × IsRefusedFrom f (entry_of row i) e
+-- why the first page of the row that can't lie in a cell can't, whatever sheet it is on (RULES, 16, step 12)
+abbrev pub first_refused : Filling → Row → Option ArrangementError
+first_refused f row = first_fault (λ i. why_no_place f (entry_of row i)) (length row)
 
--- or it is out of memory
+-- it is that reason, or out of memory
 abbrev pub IsRefusedFor : Filling → Row → ArrangementError → Type 0
-IsRefusedFor f row e = (e ≡ why.NoMemory) ⊎ IsRefusedIn f row e
+IsRefusedFor f row e = (e ≡ why.NoMemory) ⊎ (first_refused f row ≡ Some e)

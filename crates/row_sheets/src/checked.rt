@@ -1,10 +1,10 @@
 //! Whether the pages of a row can be laid, looked at without a sheet being made.
-ghost use Rattle.std.specs.Prelude.{◌<◌, IfErr, OnOk, Some, ℕ};
+ghost use Rattle.std.specs.Prelude.{◌≡◌, ◌<◌, IfErr, OnOk, Some, ℕ};
 ghost use Rattle.rules.specs.Signatures.{entry_of};
 ghost use Rattle.layouts.specs.Cells.{size};
-ghost use Rattle.row_sheets.specs.Shapes.{filling, IsRefusedFrom, IsRefusedIn};
+ghost use Rattle.row_sheets.specs.Shapes.{filling, first_refused, why_no_place};
 ghost use Rattle.row_sheets.specs.Standing.{EntryFits};
-ghost use Rattle.row_sheets.specs.Posters.{EntryMayBePoster, IsNoPosterFrom, IsNoPosterIn};
+ghost use Rattle.row_sheets.specs.Posters.{EntryMayBePoster, first_no_poster, why_no_tiles};
 
 use crate::poster::{Poster, PosterError, check_poster};
 use crate::selecting::paper_or;
@@ -20,7 +20,7 @@ pub fn check_cells(
 ) -> Result<(), ArrangementError>
     requires { 0 < size setting.now.grid }
     ensures fits { OnOk result ((i : ℕ) → EntryFits (filling setting.now papers.now) (entry_of row.now i)) }
-    ensures refused { IfErr result (IsRefusedIn (filling setting.now papers.now) row.now) }
+    ensures refused { IfErr result (λ error. first_refused (filling setting.now papers.now) row.now ≡ Some error) }
 {
     for entry in row {
         check_cell(setting, papers, *entry)?;
@@ -35,7 +35,7 @@ fn check_cell(
 ) -> Result<(), ArrangementError>
     requires { 0 < size setting.now.grid }
     ensures fits { OnOk result (EntryFits (filling setting.now papers.now) entry) }
-    ensures refused { IfErr result (IsRefusedFrom (filling setting.now papers.now) entry) }
+    ensures refused { IfErr result (λ error. why_no_place (filling setting.now papers.now) entry ≡ Some error) }
 {
     let page = match entry {
         Some(page) => page,
@@ -55,7 +55,7 @@ pub fn check_posters(
     row: &[Option<u32>],
 ) -> Result<(), PosterError>
     ensures possible { OnOk result ((i : ℕ) → EntryMayBePoster poster.now papers.now (entry_of row.now i)) }
-    ensures refused { IfErr result (IsNoPosterIn poster.now papers.now row.now) }
+    ensures refused { IfErr result (λ error. first_no_poster poster.now papers.now row.now ≡ Some error) }
 {
     for entry in row {
         check_entry(poster, papers, *entry)?;
@@ -65,7 +65,7 @@ pub fn check_posters(
 
 fn check_entry(poster: &Poster, papers: &[Paper], entry: Option<u32>) -> Result<(), PosterError>
     ensures possible { OnOk result (EntryMayBePoster poster.now papers.now entry) }
-    ensures refused { IfErr result (IsNoPosterFrom poster.now papers.now entry) }
+    ensures refused { IfErr result (λ error. why_no_tiles poster.now papers.now entry ≡ Some error) }
 {
     match entry {
         Some(page) => check_poster(poster, &paper_or(papers, page, &poster.sheet)),

@@ -10,7 +10,7 @@ ghost use Rattle.row_sheets.specs.Filled.{is_turned as is_turned_on};
 ghost use Rattle.row_sheets.specs.Shapes.{filling};
 ghost use Rattle.row_sheets.specs.Creep.{creep_on as creep_on_side, up_to_fold, moved_up as moved_up_by};
 ghost use Rattle.row_sheets.specs.Creep.{in_half, creeping, creeping_slot as creeping_slot_of, creeping_sheets as creeping_of};
-ghost use Rattle.row_sheets.specs.Creep.{AreHalves, may_creep, why_not_creeping, IsRefusedCreep, IsRefusedCreeping};
+ghost use Rattle.row_sheets.specs.Creep.{AreHalves, may_creep, why_no_half, why_not_creeping, IsRefusedCreeping};
 ghost use Rattle.row_sheets.specs.Standing.{AllFitOnLeaves, EntryCreeps, FitsIn, FitsOnLeaf, LeavesStand};
 
 use super::fill::{blocks_of, entry_at};
@@ -32,7 +32,8 @@ pub struct Creep {
 
 /// The sides of a booklet's leaves, fronts and backs in turn, for a row that is in signature order: two entries on each
 /// side. For printers that flip a sheet about its longer edge the backs are turned by half. Each page is moved towards the
-/// fold as far as its leaf creeps, and is refused if it would cross it. A page whose paper isn't known has the sheet's.
+/// fold as far as its leaf creeps, and is refused if it would cross it: the first one is reported. A page whose paper isn't
+/// known has the sheet's.
 pub fn creeping_booklet_sheets(
     alloc: Global,
     setting: &Setting,
@@ -109,7 +110,7 @@ fn creeping_slot(
     ensures made { IfOk result (λ slot. slot_of slot
         ≡ creeping_slot_of (filling setting.now papers.now) by_half cell creep entry) }
     ensures fits { OnOk result (EntryCreeps (filling setting.now papers.now) creep entry) }
-    ensures refused { IfErr result (IsRefusedCreep (filling setting.now papers.now) creep entry) }
+    ensures refused { IfErr result (λ error. why_no_half (filling setting.now papers.now) creep entry ≡ Some error) }
 {
     let page = match entry {
         Some(page) => page,

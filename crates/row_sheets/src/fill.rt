@@ -10,9 +10,10 @@ ghost use Rattle.row_sheets.specs.Filled.{behind_in, slot_in as slot_of_cell, fi
 ghost use Rattle.row_sheets.specs.Filled.{grid_sheets as grid_of, card_sheets as cards_of, stack_sheets as stack_of};
 ghost use Rattle.row_sheets.specs.Filled.{duplex_sheets as leaves_of};
 ghost use Rattle.row_sheets.specs.Shapes.{filling, is_two_sided, sheets_by, sheet_count, place as place_of, cell_on, entry_in};
-ghost use Rattle.row_sheets.specs.Shapes.{IsRefusedFor, IsRefusedFrom};
+ghost use Rattle.row_sheets.specs.Shapes.{IsRefusedFor};
 ghost use Rattle.row_sheets.specs.Standing.{AllFit, AllStand, EntryFits};
 
+use super::checked::check_cells;
 use super::selecting::paper_or;
 use layouts::{ArrangementError, Run, Setting, read_sides};
 use lengths::Paper;
@@ -134,9 +135,23 @@ fn in_cells(
                 sheets,
                 cells,
             };
-            filled(alloc, setting, papers, row, shape)
+            match filled(alloc, setting, papers, row, shape) {
+                Ok(made) => Ok(made),
+                Err(_) => Err(refusal(setting, papers, row)),
+            }
         }
         Err(error) => Err(error),
+    }
+}
+
+/// Why the cells aren't filled. The first page of the row that doesn't fit is reported, on whatever sheet it would be.
+fn refusal(setting: &Setting, papers: &[Paper], row: &[Option<u32>]) -> ArrangementError
+    requires { 0 < size setting.now.grid }
+    ensures { IsRefusedFor (filling setting.now papers.now) row.now result }
+{
+    match check_cells(setting, papers, row) {
+        Ok(()) => ArrangementError::NoMemory,
+        Err(error) => error,
     }
 }
 
@@ -189,7 +204,6 @@ fn filled(
     ensures stands { IfOk result (AllStand setting.now.room) }
     ensures fits { OnOk result ((s c : ℕ) → s < shape.sheets → c < shape.cells
         → EntryFits (filling setting.now papers.now) (entry_in shape setting.now row.now s c)) }
-    ensures refused { IfErr result (IsRefusedFor (filling setting.now papers.now) row.now) }
 {
     let mut made = MadeSheets::new(alloc);
     let mut slots = Vec::new(alloc);
@@ -221,7 +235,6 @@ fn fill_slots(
         (range_with_len 0 shape.cells)) }
     ensures fits { OnOk result ((c : ℕ) → c < shape.cells
         → EntryFits (filling setting.now papers.now) (entry_in shape setting.now row.now s c)) }
-    ensures refused { IfErr result (IsRefusedFor (filling setting.now papers.now) row.now) }
 {
     slots.clear();
     for c in 0..shape.cells {
@@ -248,7 +261,6 @@ fn slot_in(
     requires { cell < size setting.now.grid }
     ensures made { IfOk result (λ slot. slot_of slot ≡ slot_of_cell (filling setting.now papers.now) cell entry) }
     ensures fits { OnOk result (EntryFits (filling setting.now papers.now) entry) }
-    ensures refused { IfErr result (IsRefusedFrom (filling setting.now papers.now) entry) }
 {
     let page = match entry {
         Some(page) => page,

@@ -1,9 +1,10 @@
 //! Laws of the definitions. The functions do nothing.
 ghost use Rattle.row_sheets.specs.BySpec.{BySpecOnAll};
-ghost use Rattle.row_sheets.specs.Filled.{GridRunsOn, StackRunsOn, DuplexRunsOn, BehindIsMirror};
+ghost use Rattle.row_sheets.specs.Filled.{GridRunsOn, BehindIsMirror};
 ghost use Rattle.row_sheets.specs.Filled.{FilledIsInside, FilledIsApart, SidesAreInside, SidesAreApart, BookletIsGrid, BookletKeepsFold};
 ghost use Rattle.row_sheets.specs.Creep.{CreepMoves, CreepGrows, CreepKeepsSides, NoCreepIsPlain};
 ghost use Rattle.row_sheets.specs.Bound.{BookletIsRead};
+ghost use Rattle.row_sheets.specs.Stacked.{CellsLieBehind, LeavesAreRead, StackIsRead};
 ghost use Rattle.row_sheets.specs.Posters.{PosterCovers, PosterHasTiles, RowIsShown, TilesOverlap};
 ghost use Rattle.row_sheets.specs.SameScale.{HaveOneScale, OneScaleStands};
 ghost use Rattle.row_sheets.specs.Standing.{FilledStandsInCells};
@@ -18,14 +19,19 @@ pub fn grid_runs_on()
     ensures { GridRunsOn }
 {}
 
-/// The sheets of a stack, cut and laid, are the row.
-pub fn stack_runs_on()
-    ensures { StackRunsOn }
+/// The sheets of a stack, cut, with the piles of their cells laid on one another, are the row.
+pub fn stack_is_read()
+    ensures { StackIsRead }
 {}
 
 /// The leaves of a stack that is printed on both sides, cut and laid, and read front and back, are the row.
-pub fn duplex_runs_on()
-    ensures { DuplexRunsOn }
+pub fn leaves_are_read()
+    ensures { LeavesAreRead }
+{}
+
+/// The parts of a leaf lie back to back: the cell behind a cell covers it, to 10^-5 of a point for each column.
+pub fn cells_lie_behind()
+    ensures { CellsLieBehind }
 {}
 
 /// What is behind a cell is in its row, and as far from the other side.

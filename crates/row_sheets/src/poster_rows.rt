@@ -1,7 +1,7 @@
 //! Posters of the pages of a row.
-ghost use Rattle.std.specs.Prelude.{◌≡◌, ◌⊎◌, ◌++◌, ◌*◌, ◌≤◌, IfErr, IfOk, OnOk};
+ghost use Rattle.std.specs.Prelude.{◌≡◌, ◌++◌, ◌*◌, ◌≤◌, IfErr, IfOk, OnOk};
 ghost use Rattle.row_sheets.specs.Posters.{most_tiles, blank_tiles, entry_tiles, row_tiles};
-ghost use Rattle.row_sheets.specs.Posters.{AllMayBePosters, EntryMayBePoster, IsNoPosterFor, IsNoPosterFrom};
+ghost use Rattle.row_sheets.specs.Posters.{AllMayBePosters, EntryMayBePoster, IsNoPoster, IsNoPosterFor, why_no_tiles};
 ghost use Rattle.row_sheets.specs.declared.poster.PosterError.TheVariants as why;
 
 use crate::poster::{Poster, PosterError, push_poster};
@@ -11,7 +11,7 @@ use sheet_plan::{MadeSheets, MadeSlot};
 use std::alloc::Global;
 
 /// The pages of a row, each over the sheets of such a poster, one page after the other. A blank leaves as many sheets
-/// blank, and a page whose paper isn't known has the sheets'.
+/// blank, and a page whose paper isn't known has the sheets'. The first page that can't be a poster is reported.
 pub fn poster_row_sheets(
     alloc: Global,
     poster: &Poster,
@@ -40,7 +40,7 @@ fn push_entry(
     requires { poster.now.rows * poster.now.columns ≤ most_tiles }
     ensures pushed { OnOk result (made.new ≡ made.old ++ entry_tiles poster.now papers.now entry) }
     ensures fits { OnOk result (EntryMayBePoster poster.now papers.now entry) }
-    ensures refused { IfErr result (λ e. (e ≡ why.NoMemory) ⊎ IsNoPosterFrom poster.now papers.now entry e) }
+    ensures refused { IfErr result (IsNoPoster (why_no_tiles poster.now papers.now entry)) }
 {
     match entry {
         Some(page) => push_poster(poster, &paper_or(papers, page, &poster.sheet), page, made),

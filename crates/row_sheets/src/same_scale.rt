@@ -1,22 +1,23 @@
 //! One scale for all pages of a row.
-ghost use Rattle.std.specs.Prelude.{◌≡◌, IfErr, IfOk};
+ghost use Rattle.std.specs.Prelude.{◌≡◌, IfErr, IfOk, None, OnOk, Some};
 ghost use Rattle.row_sheets.specs.Shapes.{filling};
 ghost use Rattle.row_sheets.specs.SameScale.{at_one_scale as setting_of, least_with, lesser as lesser_of};
-ghost use Rattle.row_sheets.specs.SameScale.{HasNoScale, HaveNoScale};
+ghost use Rattle.row_sheets.specs.SameScale.{first_unscaled, why_no_own_scale};
 
 use crate::selecting::paper_or;
 use layouts::{ArrangementError, Setting};
 use lengths::{Number, Paper};
 
 /// The cells with one scale for all pages of the row: that of the largest paper, the least of the pages' own. A page whose
-/// paper isn't known has the sheet's.
+/// paper isn't known has the sheet's. The first page that has no scale of its own is reported.
 pub fn at_one_scale(
     setting: &Setting,
     papers: &[Paper],
     row: &[Option<u32>],
 ) -> Result<Setting, ArrangementError>
     ensures made { IfOk result (λ t. t ≡ setting_of (filling setting.now papers.now) row.now) }
-    ensures refused { IfErr result (HaveNoScale (filling setting.now papers.now) row.now) }
+    ensures accepted { OnOk result (first_unscaled (filling setting.now papers.now) row.now ≡ None) }
+    ensures refused { IfErr result (λ error. first_unscaled (filling setting.now papers.now) row.now ≡ Some error) }
 {
     let mut least = None;
     for entry in row {
@@ -38,7 +39,8 @@ fn with_entry(
     entry: Option<u32>,
 ) -> Result<Option<Number>, ArrangementError>
     ensures value { IfOk result (λ found. found ≡ least_with (filling setting.now papers.now) least entry) }
-    ensures refused { IfErr result (HasNoScale (filling setting.now papers.now) entry) }
+    ensures accepted { OnOk result (why_no_own_scale (filling setting.now papers.now) entry ≡ None) }
+    ensures refused { IfErr result (λ error. why_no_own_scale (filling setting.now papers.now) entry ≡ Some error) }
 {
     let page = match entry {
         Some(page) => page,

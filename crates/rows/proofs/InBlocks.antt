@@ -3,7 +3,7 @@ use Rattle.std.proofs.Common.{ℕ, zero, suc, ◌+◌, ◌-◌, ◌*◌, ◌/◌
 use Rattle.std.specs.Prelude.{flat_map}
 use Rattle.std.specs.List.{range_with_len}
 use Rattle.std.proofs.lemmas.Grind.{div_ceil_times}
-use Rattle.std.proofs.lemmas.Nat.{div-mul-add, mul-le}
+use Rattle.std.proofs.lemmas.Nat.{div-mul-add}
 use Rattle.std.proofs.lemmas.List.{flat_map_more}
 use Rattle.rules.specs.Sheets.{blocks}
 use Rattle.rules.specs.Signatures.{entry_of, page_in_signature}
@@ -17,14 +17,6 @@ ceil n m pos = let t = div_ceil_times n m pos in by_bounds (n / m + min 1 (n % m
     by_bounds q low high =
         let split : q * m + (n + (m - 1) - q * m) ≡ n + (m - 1) = omega arith in
         sym (div-mul-add q m (n + (m - 1) - q * m) (omega arith)) ∙ ap (λ k. k / m) split
-
--- a signature begins within the row
-pub begins_within : (n m k : ℕ) → 0 < m → k < n / m + min 1 (n % m) → k * m < n
-begins_within n m k pos lt =
-    let t = div_ceil_times n m pos in
-    let more : suc k * m ≤ (n / m + min 1 (n % m)) * m = mul-le (suc k) m (n / m + min 1 (n % m)) m (omega arith) (omega arith) in
-    let next : suc k * m ≡ k * m + m = grind arith in
-    omega (arith, t.1, more, next)
 
 abbrev pub signature_of : (row : Row) (sides b : ℕ) → Row
 signature_of row sides b = map (λ i. entry_of row (b * sides + page_in_signature sides i)) (range_with_len 0 sides)

@@ -17,6 +17,7 @@ abbrev pub ranges_in : Option (Bor (List ℕ)) → Option (List ℕ)
 ranges_in None = None
 ranges_in (Some text) = Some text.now
 
+-- RULES, 11
 abbrev pub choice_of : code.Choice → Choice
 choice_of c = record { ranges = ranges_in c.ranges; part = part_named c.part; backwards = c.backwards }
 

@@ -45,6 +45,6 @@ entries_if (Some range) = entries_found range
 abbrev pub piece_found : (pages : ℕ) → List ℕ → Row
 piece_found pages piece = entries_if (option_map (found_in pages) (range_at piece))
 
--- those of all pieces between commas
+-- those of all pieces between commas (RULES, 11.1)
 abbrev pub row_found : (pages : ℕ) → List ℕ → Row
 row_found pages text = flat_map (piece_found pages) (pieces_of text)

@@ -6,6 +6,7 @@ use Rattle.rows.specs.declared.error.RowError.{RowError}
 use Rattle.rows.specs.declared.error.RowError.TheVariants as error
 
 -- what each refusal says of the row asked for: its first fault, or, at NoMemory, that there is none
+-- (RULES, 16, steps 5 and 11)
 abbrev pub RefusesRow : Result Row RowFault → RowError → Type 0
 RefusesRow asked (error.NotARange at) = asked ≡ Err (NotARange at)
 RefusesRow asked (error.NotInDocument at) = asked ≡ Err (NotInDocument at)

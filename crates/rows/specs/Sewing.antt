@@ -20,7 +20,7 @@ MayBeSewn (sewn.OfSides sides) = AreSides sides
 MayBeSewn how = ⊤
 
 -- if a signed row is laid on leaves, folded and read signature by signature, it is read in its order. The blanks
--- that fill up the last signature follow it
+-- that fill up the last signature follow it (RULES, 11.3)
 abbrev pub SignedIsRead : Type 0
 SignedIsRead = (how : Signing) (row : Row) → AreSides (sides_for how (length row)) →
     (let sides = sides_for how (length row) in

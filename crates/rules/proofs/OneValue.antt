@@ -1,9 +1,9 @@
 -- A number text has one value.
-use Rattle.std.proofs.Common.{arith, ◌≡◌, ◌≢◌, ℕ, suc, ◌+◌, ◌*◌, ◌^◌, List, [], ◌∷◌, ◌++◌, Bool, true, false, not, ◌||◌, refl, sym, subst, true≢false, ◌∙◌, append_assoc}
+use Rattle.std.proofs.Common.{arith, ◌≡◌, ◌≢◌, ℕ, suc, ◌+◌, ◌*◌, ◌^◌, List, [], ◌∷◌, ◌++◌, Bool, true, false, not, ◌||◌, refl, sym, subst, true≢false, ◌∙◌}
 use Rattle.std.specs.Prelude.{ℤ, ◌==◌}
 use Rattle.std.specs.List.{AllPass}
 use Rattle.std.specs.Char.{is_ascii_digit}
-use Rattle.rules.specs.Numbers.{IsNumber, IsSign, IsFraction, signed, number_of, decimals_value}
+use Rattle.rules.specs.Numbers.{IsSign, IsFraction, signed, number_of, decimals_value}
 
 pub head_passes : (b : ℕ) (rest : List ℕ) → AllPass is_ascii_digit (b ∷ rest) → is_ascii_digit b ≡ true
 head_passes b rest w = w 0 0 (omega arith)
@@ -51,16 +51,6 @@ rest_begins [] [] decimals w p ne = absurd (ne p)
 rest_begins [] (x ∷ fraction) decimals w (p, q) ne = rw p refl
 rest_begins (x ∷ whole) fraction decimals w p ne = digit_begins x (head_passes x whole w)
 
-fraction_ends : (fraction decimals : List ℕ) → IsFraction fraction decimals → ends_digits fraction ≡ true
-fraction_ends [] decimals p = refl
-fraction_ends (x ∷ fraction) decimals (p, q) = rw p refl
-
-same_fraction : (p q d f : List ℕ) → p ≡ q → IsFraction p d → IsFraction q f → d ≡ f
-same_fraction [] [] d f e a b = a ∙ sym b
-same_fraction [] (x ∷ q) d f e a b = cc
-same_fraction (x ∷ p) [] d f e a b = cc
-same_fraction (x ∷ p) (y ∷ q) d f e (a, a') (b, b') = sym a' ∙ same_tail x y p q e ∙ b'
-
 sign_apart : (n : Bool) (b : ℕ) (xs r : List ℕ) → r ≡ b ∷ xs → IsSign (b ∷ []) n → begins_unsigned r ≡ true → ⊥
 sign_apart true b xs r e (s, t) u = true≢false (sym (subst (λ x. is_ascii_digit x || (x == 46) ≡ true) t (subst (λ x. begins_unsigned x ≡ true) e u)))
 sign_apart false b xs r e (s, t) u = true≢false (sym (subst (λ x. is_ascii_digit x || (x == 46) ≡ true) t (subst (λ x. begins_unsigned x ≡ true) e u)))
@@ -91,10 +81,3 @@ same_sign (x ∷ []) (y ∷ z ∷ t) r q n m a (b, b') c d e = cc
 pub same_value : (n m : Bool) (whole whole' d d' : List ℕ) (v w : ℤ) → n ≡ m → whole ≡ whole' → d ≡ d'
     → v ≡ signed n (number_of whole * 10 ^ 9 + decimals_value 9 d) → w ≡ signed m (number_of whole' * 10 ^ 9 + decimals_value 9 d') → v ≡ w
 same_value n m whole whole' d d' v w e f g a b = rw a (rw b (rw e (rw f (rw g refl))))
-
--- a number text has one value
-pub one_value : (text : List ℕ) (v w : ℤ) → IsNumber text v → IsNumber text w → v ≡ w
-one_value text v w (n, s, whole, p, d, e, sg, ds, fr, dd, ne, val) (n', s', whole', p', d', e', sg', ds', fr', dd', ne', val') =
-    let h = same_sign s s' (whole ++ p) (whole' ++ p') n n' sg sg' (rest_begins whole p d ds fr ne) (rest_begins whole' p' d' ds' fr' ne') (sym (append_assoc s whole p) ∙ (sym e ∙ (e' ∙ append_assoc s' whole' p'))) in
-    let g = same_digits whole whole' p p' ds ds' (fraction_ends p d fr) (fraction_ends p' d' fr') h.2 in
-    same_value n n' whole whole' d d' v w h.0 g.0 (same_fraction p p' d d' g.1 fr fr') val val'

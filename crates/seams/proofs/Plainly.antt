@@ -94,6 +94,3 @@ number n = record { is = no_ends_decimal n }
 
 pub length_of : (g : ℤ) → Whole (points_text g)
 length_of g = record { is = no_ends_points g }
-
-pub scale_of : (v : ℤ) → Whole (scale_text v)
-scale_of v = record { is = no_ends_scale v }

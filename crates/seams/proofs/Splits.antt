@@ -26,10 +26,6 @@ passes_append t d (u ∷ us) vs e h =
     let w = passes_cons t d u us e h in
     ap (λ b. if b then None else passes t (depth_after d u) (us ++ vs)) w.0 ∙ passes_append t (depth_after d u) us vs e w.1
 
-pub nested_append : (t : NestedUnit → Bool) (d : ℕ) (us vs : List TextUnit) (e : ℕ) → passes t d us ≡ Some e → nested_from d (us ++ vs) ≡ nested_from d us ++ nested_from e vs
-nested_append t d [] vs e h = ap (λ k. nested_from k vs) (same_some d e h)
-nested_append t d (u ∷ us) vs e h = let w = passes_cons t d u us e h in ap (λ ws. at_depth d u ∷ ws) (nested_append t (depth_after d u) us vs e w.1)
-
 pub up_to_passed : (t : NestedUnit → Bool) (d : ℕ) (us vs : List TextUnit) (e : ℕ) → passes t d us ≡ Some e → up_to t (nested_from d (us ++ vs)) ≡ nested_from d us ++ up_to t (nested_from e vs)
 up_to_passed t d [] vs e h = ap (λ k. up_to t (nested_from k vs)) (same_some d e h)
 up_to_passed t d (u ∷ us) vs e h =

@@ -85,9 +85,6 @@ block_ok text content n (Ok m) u w = (m, refl, cc)
 line_ok : (text content : List ℕ) (n : ℕ) (u : TextUnit) → ◌≡◌ {A = Result TextUnit BlockFault} (Ok (record { content = content; bytes = take n text; is_block = false })) (Ok u) → u.bytes ≡ take n text
 line_ok text content n u e = sym (ap bytes_or e)
 
-taken_len : (n : ℕ) (text : List ℕ) → n ≤ length text → length (take n text) ≡ n
-taken_len n text h = omega (arith, h, length-take n text)
-
 -- the line of a unit that ends within x ends within x
 line_first : (t : Bool) (x r content : List ℕ) (n : ℕ) (fs : List (List ℕ)) (u : TextUnit) → n ≤ length (x ++ r) → chosen t (x ++ r) content n fs ≡ Ok u → length u.bytes ≤ length x → n ≤ length x
 line_first true x r content n fs u within e h =
@@ -174,9 +171,6 @@ fed u = record { content = u.content; bytes = u.bytes ++ 10 ∷ []; is_block = u
 
 abbrev pub FedUnit : TextUnit → Result TextUnit BlockFault → Type 0
 FedUnit u new = (new ≡ Ok u) ⊎ (new ≡ Ok (fed u))
-
-whole_taken : (n : ℕ) (x : List ℕ) → take n x ≡ x → length x ≤ n
-whole_taken n x e = let size : length (take n x) ≡ length x = ap length e in omega (arith, size, length-take n x)
 
 one_more : (x ys : List ℕ) → take (suc (length x)) (x ++ 10 ∷ ys) ≡ x ++ 10 ∷ []
 one_more [] ys = refl

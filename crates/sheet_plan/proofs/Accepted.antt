@@ -12,7 +12,7 @@ use Rattle.rules.specs.Sheets.{Plan, Slot, layout}
 use Rattle.rules.specs.Run.{refuse_if}
 use Rattle.made_sheets.specs.Made.{MadeSlot, Blank, Placed, MadeSheet}
 use Rattle.made_sheets.specs.MadePlans.{MadeFault, MadeTooManyPages, MadeTooManySheets, MadeSlotsOutOfRange, MadeTooManyPlaces, MadeNoSuchPage, page_of, is_missing, slot_count, is_slot_count, refuse_at, made_plan_of, made_layout}
-use Rattle.sheet_plan.specs.OfSheets.{slots_at, item_in, slot_in, made_plan, IsOfSheets}
+use Rattle.sheet_plan.specs.OfSheets.{slots_at, item_in, slot_in, made_plan}
 use Rattle.sheet_plan.specs.Plans.{pages_on, items_on, IsSound}
 use Rattle.sheet_plan.proofs.Admitted.{none_passes}
 use Rattle.sheet_plan.proofs.Limits.{refused, passed, above, within}
@@ -94,9 +94,6 @@ slots_pass pages all e = going (position uneven all) MadeSlotsOutOfRange (places
 places_pass : (pages : ℕ) (all : List MadeSheet) → sum_by slot_count all ≤ 4_000_000 → places_tested pages all ≡ pages_tested pages all
 places_pass pages all le = passed (nat_lt 4_000_000 (sum_by slot_count all)) MadeTooManyPlaces (pages_tested pages all) (within 4_000_000 (sum_by slot_count all) le)
 
-pub too_many_pages : (pages : ℕ) (all : List MadeSheet) → 1_000_000 < pages → made_plan_of pages all ≡ Err MadeTooManyPages
-too_many_pages pages all lt = refused (nat_lt 1_000_000 pages) MadeTooManyPages (sheets_tested pages all) (above 1_000_000 pages lt)
-
 pub too_many_sheets : (pages : ℕ) (all : List MadeSheet) → pages ≤ 1_000_000 → 1_000_000 < length all → made_plan_of pages all ≡ Err MadeTooManySheets
 too_many_sheets pages all le lt = pages_pass pages all le ∙ refused (nat_lt 1_000_000 (length all)) MadeTooManySheets (slots_tested pages all) (above 1_000_000 (length all) lt)
 
@@ -105,9 +102,6 @@ slots_out pages all s le few e = pages_pass pages all le ∙ sheets_pass pages a
 
 pub too_many_places : (pages : ℕ) (all : List MadeSheet) → pages ≤ 1_000_000 → length all ≤ 1_000_000 → position uneven all ≡ None → 4_000_000 < sum_by slot_count all → made_plan_of pages all ≡ Err MadeTooManyPlaces
 too_many_places pages all le few even lt = pages_pass pages all le ∙ sheets_pass pages all few ∙ slots_pass pages all even ∙ refused (nat_lt 4_000_000 (sum_by slot_count all)) MadeTooManyPlaces (pages_tested pages all) (above 4_000_000 (sum_by slot_count all) lt)
-
-pub no_such_page : (pages : ℕ) (all : List MadeSheet) (s : ℕ) → pages ≤ 1_000_000 → length all ≤ 1_000_000 → position uneven all ≡ None → sum_by slot_count all ≤ 4_000_000 → position (lacks pages) all ≡ Some s → made_plan_of pages all ≡ Err (MadeNoSuchPage s)
-no_such_page pages all s le few even fit e = pages_pass pages all le ∙ sheets_pass pages all few ∙ slots_pass pages all even ∙ places_pass pages all fit ∙ stopped (position (lacks pages) all) s MadeNoSuchPage (Ok all) e
 
 pub accepted : (pages : ℕ) (all : List MadeSheet) → pages ≤ 1_000_000 → length all ≤ 1_000_000 → position uneven all ≡ None → sum_by slot_count all ≤ 4_000_000 → position (lacks pages) all ≡ None → made_plan_of pages all ≡ Ok all
 accepted pages all le few even fit there = pages_pass pages all le ∙ sheets_pass pages all few ∙ slots_pass pages all even ∙ places_pass pages all fit ∙ going (position (lacks pages) all) MadeNoSuchPage (Ok all) there
@@ -236,9 +230,6 @@ sound_made pages all e =
           (ap (λ xs. slice_get (map page_of xs) k) (sym (slots_are all s lt')) ∙ ap (λ xs. slice_get xs k) (sym (pages_are pages all s)) ∙ at);
     }
 
-pub of_made : (pages : ℕ) (all : List MadeSheet) → made_plan_of pages all ≡ Ok all → IsOfSheets (made_plan pages all)
-of_made pages all e = record { all = all; accepted = e; same = refl }
-
 -- ---- what is read from it
 pub row_len : (pages : ℕ) (all : List MadeSheet) (s : ℕ) → length (pages_on (made_plan pages all) s) ≡ length (slots_at all s)
 row_len pages all s = ap length (pages_are pages all s) ∙ length-map (slots_at all s) page_of
@@ -251,15 +242,8 @@ pub item_read : (pages : ℕ) (all : List MadeSheet) (plan : Plan) (s k : ℕ) (
 item_read pages all plan s k slot view at =
     ap (λ p. slice_get (items_on p s) k) (sym view) ∙ ap (λ xs. slice_get xs k) (items_are pages all s) ∙ slice_get-map item_in (slots_at all s) k ∙ ap (option_map item_in) at
 
--- a sheet of the plan is one of those that were made
-pub sheet_made : (pages : ℕ) (all : List MadeSheet) (plan : Plan) (s : ℕ) → made_plan pages all ≡ plan → s < length plan.sheets → s < length all
-sheet_made pages all plan s view lt = let e = ap (λ (p : Plan). length p.sheets) view in let l = plan_len pages all in omega arith
-
 pub slot_made : (pages : ℕ) (all : List MadeSheet) (plan : Plan) (s k : ℕ) → made_plan pages all ≡ plan → k < length (pages_on plan s) → k < length (slots_at all s)
 slot_made pages all plan s k view lt = let e = ap (λ (p : Plan). length (pages_on p s)) view in let l = row_len pages all s in omega arith
 
 pub sound_as : (pages : ℕ) (all : List MadeSheet) (plan : Plan) → made_plan pages all ≡ plan → made_plan_of pages all ≡ Ok all → IsSound plan
 sound_as pages all plan view e = subst IsSound view (sound_made pages all e)
-
-pub made_as : (pages : ℕ) (all : List MadeSheet) (plan : Plan) → made_plan pages all ≡ plan → made_plan_of pages all ≡ Ok all → IsOfSheets plan
-made_as pages all plan view e = subst IsOfSheets view (of_made pages all e)

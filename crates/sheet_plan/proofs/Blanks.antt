@@ -1,13 +1,12 @@
 -- Which slots have no page.
-use Rattle.std.proofs.Common.{arith, ◌≡◌, ℕ, zero, suc, ◌+◌, ◌-◌, ◌*◌, ◌^◌, ◌%◌, ◌<◌, ◌≤◌, List, [], ◌∷◌, ◌++◌, length, take, refl, sym, ap, ◌∙◌, subst, Option, Some, None, true, false, Bool, inl, inr, cond, min}
+use Rattle.std.proofs.Common.{arith, ◌≡◌, ℕ, zero, suc, ◌+◌, ◌-◌, ◌*◌, ◌^◌, ◌%◌, ◌<◌, ◌≤◌, List, [], ◌∷◌, ◌++◌, take, refl, sym, ap, ◌∙◌, subst, Option, Some, None, true, false, Bool, inl, inr, cond}
 use Rattle.std.specs.Prelude.{if◌then◌else◌, slice_get, is_none, is_some, bit_or, filter}
 use Rattle.std.specs.List.{list_all, range_with_len}
 use Rattle.std.proofs.lemmas.List.{map-id, append-nil}
 use Rattle.std.proofs.lemmas.List.FromFn.{filter_of_map_range_with_len_more}
 use Rattle.std.specs.Int.{bit_at, w64}
 use Rattle.std.proofs.lemmas.Bool.{cases_lt, cases_eq}
-use Rattle.std.proofs.lemmas.Nat.Bits.{bit_at_set_same, bit_at_set_other, bit_at-zero}
-use Rattle.std.proofs.lemmas.Option.{slice_get_past}
+use Rattle.std.proofs.lemmas.Nat.Bits.{bit_at_set_same, bit_at_set_other}
 use Rattle.sheet_plan.specs.Plans.{is_page}
 
 -- so far no slot has a page
@@ -37,9 +36,6 @@ pub record IsMarked (xs : List (Option ℕ)) (first k word : ℕ) : Type 0 where
   pub begun : first ≤ k
   pub told : (j : ℕ) → first + j < k → bit_at word j ≡ bit_of xs (first + j)
   pub rest : (j : ℕ) → k ≤ first + j → bit_at word j ≡ 0
-
-pub marked_none : (xs : List (Option ℕ)) (first : ℕ) → IsMarked xs first first 0
-marked_none xs first = record { begun = omega arith; told = λ j lt. absurd (omega arith); rest = λ j le. bit_at-zero j }
 
 pub marked_page : (xs : List (Option ℕ)) (first k p word : ℕ) → IsMarked xs first k word → k < first + 64 → slice_get xs k ≡ Some (Some p)
     → IsMarked xs first (k + 1) (bit_or word (1 * 2 ^ (k - first) % 2 ^ 64))
@@ -78,13 +74,6 @@ marked_blank xs first k word m e =
   where
     at_k : (j : ℕ) → first + j ≡ k → bit_at word j ≡ bit_of xs (first + j)
     at_k j same = m.rest j (omega arith) ∙ sym (ap (bit_of xs) same ∙ ap (λ o. if is_page o then 1 else 0) e)
-
--- up to the end of the group or of the sheet
-pub marked_all : (xs : List (Option ℕ)) (first k end word : ℕ) → IsMarked xs first k word → end ≡ min (length xs) (first + 64) → end ≤ k → (j : ℕ) → j < 64 → bit_at word j ≡ bit_of xs (first + j)
-marked_all xs first k end word m is le j in64 = elim (cases_lt (first + j) k) [
-  | inl low ↦ m.told j low
-  | inr high ↦ m.rest j high ∙ sym (ap (λ o. if is_page o then 1 else 0) (slice_get_past xs (first + j) (omega arith)))
-]
 
 -- ---- by the test of a slot
 pub none_more : (k : ℕ) (o : Option ℕ) (xs : List (Option ℕ)) → list_all is_none (take k xs) ≡ true → slice_get xs k ≡ Some o → is_some o ≡ false → list_all is_none (take (k + 1) xs) ≡ true

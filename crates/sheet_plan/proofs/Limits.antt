@@ -44,9 +44,6 @@ past_pages sides spec n le = passed (nat_lt 1_000_000 (row_len sides n)) PlanToo
 past_sheets : (sides : Option ℕ) (spec : Spec) (n : ℕ) → length (sheets_in sides spec n) ≤ 1_000_000 → sheets_tested sides spec n ≡ places_tested sides spec n
 past_sheets sides spec n le = passed (nat_lt 1_000_000 (length (sheets_in sides spec n))) TooManySheets (places_tested sides spec n) (within 1_000_000 (length (sheets_in sides spec n)) le)
 
-pub too_many_pages : (sides : Option ℕ) (spec : Spec) (n : ℕ) → 1_000_000 < row_len sides n → plan_in sides spec n ≡ Err PlanTooManyPages
-too_many_pages sides spec n lt = refused (nat_lt 1_000_000 (row_len sides n)) PlanTooManyPages (sheets_tested sides spec n) (above 1_000_000 (row_len sides n) lt)
-
 pub too_many_sheets : (sides : Option ℕ) (spec : Spec) (n : ℕ) → row_len sides n ≤ 1_000_000 → 1_000_000 < length (sheets_in sides spec n) → plan_in sides spec n ≡ Err TooManySheets
 too_many_sheets sides spec n le lt = past_pages sides spec n le ∙ refused (nat_lt 1_000_000 (length (sheets_in sides spec n))) TooManySheets (places_tested sides spec n) (above 1_000_000 (length (sheets_in sides spec n)) lt)
 

@@ -1,5 +1,5 @@
 -- Sheets that are kept stay as they are while slots and placings are added, and while one more is added after them.
-use Rattle.std.proofs.Common.{arith, ◌≡◌, ℕ, zero, suc, ◌+◌, ◌-◌, ◌<◌, ◌≤◌, List, [], ◌∷◌, ◌++◌, length, map, get_or, take, drop, refl, sym, ap, ◌∙◌, subst, Bool, true, false, Option, Some, None, Result, Ok, Err}
+use Rattle.std.proofs.Common.{arith, ◌≡◌, ℕ, zero, suc, ◌+◌, ◌-◌, ◌<◌, ◌≤◌, List, [], ◌∷◌, ◌++◌, length, map, get_or, take, drop, refl, sym, ap, ◌∙◌, subst, Option, Some, None, Result, Ok, Err}
 use Rattle.std.specs.Prelude.{if◌then◌else◌, slice_get, slice_range, option_map, sum_by, All, OnErr}
 use Rattle.std.proofs.Math.Seq.{take-length, drop-length, take-append_seam, drop-append_seam}
 use Rattle.std.proofs.lemmas.List.{length-take, length-take-le, length-drop, length-map, take-take, drop-take, take_rest, take-append-drop, drop-append-le, map-append, map_more}
@@ -39,10 +39,6 @@ begins_self xs = take-length xs
 
 pub begins_more : {X : Type 0} (a b c : List X) → Begins a b → Begins b c → Begins a c
 begins_more a b c h g = sym (take-take (length a) (length b) c (begins_len a b h)) ∙ ap (take (length a)) g ∙ h
-
-pub begins_pushed : {X : Type 0} (t : Bool) (old new : List X) (x : X) → new ≡ (if t then old ++ x ∷ [] else old) → Begins old new
-begins_pushed true old new x is = ap (take (length old)) is ∙ take-append_seam old (x ∷ [])
-begins_pushed false old new x is = ap (take (length old)) is ∙ take-length old
 
 -- ---- a slot by its placing
 pub slot_same : (old new : List Placing) (page n : ℕ) → Begins old new → n ≤ length old → slot_by new page n ≡ slot_by old page n
@@ -301,13 +297,6 @@ pub paper_read : (placings : List Placing) (slots : List KeptSlot) (sheets : Lis
 paper_read placings slots sheets all k s placing kept view at is =
     let r = read_sheet placings slots sheets k s kept at in
     ap (λ xs. slice_get (map (λ (sheet : MadeSheet). sheet.paper) xs) k) (sym view) ∙ r.paper_is ∙ ap (λ o. Some (paper_by o)) is
-
-pub get_pushed : {X : Type 0} (xs : List X) (x : X) → slice_get (xs ++ x ∷ []) (length xs) ≡ Some x
-get_pushed [] x = refl
-get_pushed (y ∷ ys) x = get_pushed ys x
-
-pub get_behind : {X : Type 0} (old new : List X) (x : X) (k : ℕ) → new ≡ old ++ x ∷ [] → k ≡ length old → slice_get new k ≡ Some x
-get_behind old new x k is e = ap (λ xs. slice_get xs k) is ∙ ap (slice_get (old ++ x ∷ [])) e ∙ get_pushed old x
 
 -- one slot more
 pub grown_slot : (placings : List Placing) (old new : List KeptSlot) (slot : KeptSlot) → new ≡ old ++ slot ∷ [] → slot.placing ≤ length placings → IsGrown placings placings old new

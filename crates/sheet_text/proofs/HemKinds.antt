@@ -1,9 +1,9 @@
 -- What the sheets of a dress have, if there is one kind of lines more, or one sheet more.
-use Rattle.std.proofs.Common.{ℕ, List, [], ◌∷◌, ◌++◌, ◌+◌, ◌<◌, ◌≡◌, Some, ap, sym, refl, ◌∙◌, length, map, arith}
+use Rattle.std.proofs.Common.{ℕ, List, [], ◌∷◌, ◌++◌, ◌+◌, ◌<◌, ◌≡◌, Some, ap, sym, refl, ◌∙◌, length, map}
 use Rattle.std.specs.Prelude.{All, slice_get, option_map}
 use Rattle.std.proofs.Math.Seq.{take-append_seam}
 use Rattle.std.proofs.lemmas.List.{map-append, length-append}
-use Rattle.std.proofs.lemmas.List.Elements.{All-head, All-tail, All-push, All-weaker}
+use Rattle.std.proofs.lemmas.List.Elements.{All-head, All-tail}
 use Rattle.std.proofs.lemmas.Option.{slice_get-map, same_Some}
 use Rattle.sheet_plan.proofs.Stored.{begins_get}
 use Rattle.sheet_text.specs.Dressings.{Hem, Dressing}
@@ -22,11 +22,6 @@ kind_more kinds more (k ∷ sheets) all =
 longer : (kinds : List SheetLines) (more : SheetLines) → length (kinds ++ more ∷ []) ≡ length kinds + 1
 longer kinds more = length-append kinds (more ∷ [])
 
-pub kinds_more : (kinds : List SheetLines) (more : SheetLines) (sheets : List ℕ) → All (λ k. k < length kinds) sheets → All (λ k. k < length (kinds ++ more ∷ [])) sheets
-kinds_more kinds more sheets all =
-    let l = longer kinds more in
-    All-weaker (λ k. k < length kinds) (λ k. k < length (kinds ++ more ∷ [])) (λ k lt. omega (arith, l, lt)) sheets all
-
 last_there : (kinds : List SheetLines) (more : SheetLines) → slice_get (kinds ++ more ∷ []) (length kinds) ≡ Some more
 last_there [] more = refl
 last_there (x ∷ kinds) more = last_there kinds more
@@ -38,12 +33,6 @@ sheet_more kinds more sheets kind is all =
     map-append (hems_by (kinds ++ more ∷ [])) sheets (kind ∷ [])
     ∙ ap (λ hs. hs ++ hems_by (kinds ++ more ∷ []) kind ∷ []) (kind_more kinds more sheets all)
     ∙ ap (λ o. map (hems_by kinds) sheets ++ hem_of o ∷ []) (ap (slice_get (kinds ++ more ∷ [])) is ∙ last_there kinds more)
-
-pub sheets_more : (kinds : List SheetLines) (more : SheetLines) (sheets : List ℕ) (kind : ℕ) → kind ≡ length kinds → All (λ k. k < length kinds) sheets
-    → All (λ k. k < length (kinds ++ more ∷ [])) (sheets ++ kind ∷ [])
-sheets_more kinds more sheets kind is all =
-    let l = longer kinds more in
-    All-push (λ k. k < length (kinds ++ more ∷ [])) sheets kind (kinds_more kinds more sheets all) (omega (arith, l, is))
 
 -- a sheet more, which has what an earlier one has
 pub like_more : (kinds : List SheetLines) (sheets : List ℕ) (s kind : ℕ) (hem : Hem) → slice_get sheets s ≡ Some kind → slice_get (map (hems_by kinds) sheets) s ≡ Some hem

@@ -1,24 +1,22 @@
 -- A job of one paper: its sheets are those of the plan, and its output is that of the specification that the plan is of.
-use Rattle.std.proofs.Common.{ℕ, zero, suc, List, [], ◌∷◌, ◌++◌, Option, Some, None, ◌+◌, ◌≡◌, ap, sym, refl, ◌∙◌, length, append-nil}
-use Rattle.std.specs.Prelude.{map, flat_map, codes, slice_get, slice_index_or}
+use Rattle.std.proofs.Common.{ℕ, zero, suc, List, [], ◌∷◌, Option, Some, None, ◌+◌, ◌≡◌, ap, sym, refl, ◌∙◌, length}
+use Rattle.std.specs.Prelude.{map, slice_get, slice_index_or}
 use Rattle.std.specs.List.{enumerate_from}
 use Rattle.std.proofs.lemmas.Option.{same_Some, none-some}
-use Rattle.rules.specs.Bytes.{line}
 use Rattle.rules.specs.Papers.{Paper}
 use Rattle.rules.specs.Parts.{NestedUnit, pages}
 use Rattle.rules.specs.Sheets.{Plan, Slot}
 use Rattle.rules.specs.Signatures.{sheets_in}
 use Rattle.rules.specs.Specification.{Spec, Item}
-use Rattle.rules.specs.Output.{Frame, output, slot_text, sheet_text}
+use Rattle.rules.specs.Output.{Frame, output, sheet_text}
 use Rattle.made_sheets.specs.Made.{Blank, made_slot, made_of}
 use Rattle.made_sheets.specs.Dress.{undressed}
 use Rattle.made_sheets.specs.Dressed.{DressedSheet, dressed_in, dressed_sheets, dressed_sheet_text}
-use Rattle.made_sheets.specs.MadeOutput.{made_slot_text}
 use Rattle.made_sheets.specs.MadePlans.{page_of}
 use Rattle.made_sheets.proofs.Dressed.{dressed_is_made}
-use Rattle.made_sheets.proofs.Made.{made_is_output}
+use Rattle.made_sheets.proofs.Made.{made_is_output, sheet_same}
 use Rattle.sheet_plan.specs.Plans.{planned_in, pages_on, items_on}
-use Rattle.sheet_text.specs.Jobs.{AreOfPlan, no_sheet, of_frame, output_of, page_line, text_of}
+use Rattle.sheet_text.specs.Jobs.{AreOfPlan, no_sheet, of_frame, output_of, text_of}
 use Rattle.sheet_text.proofs.Outputs.{output_dressed}
 
 -- ---- the pages of the sheets are those of the plan
@@ -98,31 +96,8 @@ output_is frame sides spec us =
     ∙ made_is_output frame sides spec us
 
 -- ---- the text of a sheet is that of the plan's sheet
-slot_same : (frame : Frame) (texts : List (List ℕ)) (page : Option ℕ) (item : Item)
-    → made_slot_text frame.border texts (made_slot frame.paper page item) ≡ slot_text frame texts page item
-slot_same frame texts None item = refl
-slot_same frame texts (Some p) item = refl
-
-slots_same : (frame : Frame) (texts : List (List ℕ)) (slots : List Slot)
-    → flat_map (made_slot_text frame.border texts) (map (λ slot. made_slot frame.paper slot.page slot.item) slots)
-    ≡ flat_map (λ slot. slot_text frame texts slot.page slot.item) slots
-slots_same frame texts [] = refl
-slots_same frame texts (slot ∷ slots) =
-    ap (λ t. t ++ flat_map (made_slot_text frame.border texts) (map (λ next. made_slot frame.paper next.page next.item) slots))
-    (slot_same frame texts slot.page slot.item)
-    ∙ ap (λ t. slot_text frame texts slot.page slot.item ++ t) (slots_same frame texts slots)
-
--- no lines change nothing
-text_same : (frame : Frame) (texts : List (List ℕ)) (s : ℕ) (slots : List Slot)
-    → dressed_sheet_text frame.border texts s (plain frame.paper slots) ≡ sheet_text frame texts s slots
-text_same frame texts s slots =
-    let inside : List ℕ = flat_map (made_slot_text frame.border texts) (map (λ slot. made_slot frame.paper slot.page slot.item) slots) in
-    ap (λ t. t ++ inside ++ [] ++ line (codes "showpage")) (append-nil (page_line s))
-    ∙ ap (λ t. t ++ line (codes "showpage")) (append-nil (page_line s ++ inside))
-    ∙ ap (λ t. page_line s ++ t ++ line (codes "showpage")) (slots_same frame texts slots)
-
 pub text_is : (frame : Frame) (plan : Plan) (us : List NestedUnit) (s : ℕ)
     → text_of (of_frame plan us frame) s ≡ sheet_text frame (pages us) s (slice_index_or plan.sheets s [])
 text_is frame plan us s =
     ap (λ sheet. dressed_sheet_text frame.border (pages us) s sheet) (sheet_is frame.paper plan s)
-    ∙ text_same frame (pages us) s (slice_index_or plan.sheets s [])
+    ∙ sheet_same frame (pages us) s (slice_index_or plan.sheets s [])

@@ -1,7 +1,6 @@
 -- What is written before a placed page: items that place their pages alike have the same text.
 use Rattle.std.proofs.Common.{rules, ℕ, List, Bool, true, false, ◌&&◌, ◌≡◌, ◌++◌, ◌∙◌, ap, sym, refl}
-use Rattle.std.proofs.Math.Seq.{drop-append_seam}
-use Rattle.std.specs.Prelude.{ℤ, Option, Some, None, codes, length, drop}
+use Rattle.std.specs.Prelude.{ℤ, Option, Some, None, codes}
 use Rattle.std.specs.Option.{option_eq}
 use Rattle.std.specs.Ordering.{int_eq}
 use Rattle.std.proofs.lemmas.Bool.Decides.{Decides-int_eq}
@@ -66,7 +65,3 @@ pub measure_same : (a b : code.Measure) (t : Bool) → t ≡ (int_eq a.number b.
 measure_same a b t is told =
     let parts = both (int_eq a.number b.number) (sameb the_type a.unit b.unit) (sym is ∙ told) in
     measure_is a b ((Decides-int_eq a.number b.number).0 parts.0) (same_true the_type (search rules) _ _ parts.1)
-
--- what an append added comes after the bytes that were there
-pub behind : (old new text : List ℕ) → new ≡ old ++ text → drop (length old) new ≡ text
-behind old new text is = ap (λ t. drop (length old) t) is ∙ drop-append_seam old text

@@ -105,12 +105,6 @@ pub placed_behind : (own : List ℕ) (ss new : List Placed) (s : Placed) → new
 placed_behind own ss new s is at some placed =
     subst (λ x. AreInPlace 0 (length own) x) (sym is) (in_place_more 0 (length own) ss s at some placed)
 
--- what is counted before the first slice
-pub counted_all : (own : List ℕ) (ss : List Placed) (items : List Placed) (value : List ℕ) {count : ℕ} → woven 0 own ss ≡ value → items ≡ ss → count ≡ length own
-    → count + bytes_of items ≡ length value
-counted_all own ss items value view is count_is =
-    ap (λ n. n + bytes_of items) count_is ∙ ap (λ x. length own + bytes_of x) is ∙ sym (length_woven 0 own ss) ∙ ap (λ x. length x) view
-
 -- the same of an append whose clauses speak of success and refusal apart
 pub kept_or_more : {E : Type 0} (r : Result (Unit {0}) E) (own new more : List ℕ) → OnOk r (new ≡ own ++ more) → OnErr r (new ≡ own) → length own ≤ length new
 kept_or_more (Ok u) own new more is same = grown true new own more is

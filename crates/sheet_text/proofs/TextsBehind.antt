@@ -4,7 +4,7 @@ use Rattle.std.specs.Prelude.{slice_get, Some, ◌==◌}
 use Rattle.std.proofs.lemmas.Option.{slice_get_read, same_Some}
 use Rattle.std.proofs.lemmas.List.{take-append-le, drop-append-le, append-nil, map-append, length-map, nil_from_length, length-take-le}
 use Rattle.std.proofs.lemmas.List.Concat.{flat_map-append}
-use Rattle.std.proofs.Math.Seq.{take-length, drop-cons, drop-append_seam}
+use Rattle.std.proofs.Math.Seq.{take-length, drop-append_seam}
 use Rattle.lengths.proofs.Numbers.{same_byte}
 use Rattle.sheet_text.specs.declared.texts.Part.{Part}
 use Rattle.sheet_text.specs.declared.rope.Placed.{Placed}
@@ -65,10 +65,6 @@ pushed_behind own more own_now ps ps_now p {ss} {texts} {text} grown added start
     let last : text_in (own ++ more) p ≡ text = text_behind own more p start (end ∙ ap (λ x. length x) grown) ∙ ap (λ xs. woven 0 more xs) same ∙ one in
     ap (λ xs. texts_in xs ps_now) grown ∙ ap (λ qs. texts_in (own ++ more) qs) added ∙ map-append (text_in (own ++ more)) ps (p ∷ [])
     ∙ ap (λ ts. ts ++ text_in (own ++ more) p ∷ []) front ∙ ap (λ t. texts ++ t ∷ []) last
-
--- the part at this index is the first of those from it on
-pub part_first : (n : ℕ) (ps : List Part) (d : Part) → n < length ps → drop n ps ≡ slice_index_or ps n d ∷ drop (n + 1) ps
-part_first n ps d h = let next : suc n ≡ n + 1 = omega arith in drop-cons ps n d h ∙ ap (λ k. slice_index_or ps n d ∷ drop k ps) next
 
 -- each part has its bytes
 pub is_in_at : (own : List ℕ) (n : ℕ) (ps : List Part) (d : Part) → n < length ps → AreIn own ps → IsIn own (slice_index_or ps n d)

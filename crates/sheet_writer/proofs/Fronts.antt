@@ -161,11 +161,6 @@ some_inside {A = A} x y e = ap (λ o. inside o) e
     inside None = x
     inside (Some z) = z
 
--- a sheet's place was emptied
-pub early_taken : (job : JobView) (places : List (Option FinishedSheets)) (j : ℕ) (x : Option FinishedSheets) → x ≡ None → AreEarly job places → AreEarly job (slice_set places j x)
-early_taken job places j x none early k m at =
-    ⊎_elim (λ p. absurd (cc (none, p.1))) (λ p. early k m p) (found_after places j k x (Some m) at)
-
 -- a sheet's place was filled
 pub early_filled : (job : JobView) (places : List (Option FinishedSheets)) (j : ℕ) (new : FinishedSheets) → HaveTexts (text_of job) new → AreEarly job places → AreEarly job (slice_set places j (Some new))
 early_filled job places j new is early k m at = ⊎_elim

@@ -19,8 +19,10 @@ use crate::documents::known_laws::call_laws;
 use crate::documents::paper_commands::answer_of_papers;
 use crate::documents::row_commands::answer_of_rows;
 use crate::documents::words::words_of;
+use crate::refusals::{MOST_REFUSED, reports_no_memory};
 use std::alloc::Global;
 use test_cases::{Case, Document, Found, Tally, load};
+use test_tools::{has_refused, refuse};
 
 const FILES: [&str; 6] = [
     "cuts.cases",
@@ -47,8 +49,29 @@ pub fn run_all(rt: &HostRuntime) -> anyhow::Result<()> {
     tally.end(rt)
 }
 
-/// The result of a command: its answer, or why it has none.
+/// The result of a command, once no growth of it is refused. One in which a growth is refused fails, or reports that memory
+/// is out.
 fn found(alloc: Global, case: &Case, documents: &[Document]) -> anyhow::Result<Found> {
+    for number in 1..MOST_REFUSED {
+        refuse(alloc, number);
+        let found = found_once(alloc, case, documents);
+        if !has_refused(alloc) {
+            return found;
+        }
+        if let Ok(mut found) = found {
+            if !reports_no_memory(found.output.as_slice()) {
+                found
+                    .error
+                    .extend_from_slice(b"a refused growth isn't reported\n")?;
+                return Ok(found);
+            }
+        }
+    }
+    found_once(alloc, case, documents)
+}
+
+/// The result of a command: its answer, or why it has none.
+fn found_once(alloc: Global, case: &Case, documents: &[Document]) -> anyhow::Result<Found> {
     let words = words_of(alloc, case)?;
     let (status, text) = match answer(alloc, words.as_slice(), documents) {
         Ok(Some(text)) => (0, text),

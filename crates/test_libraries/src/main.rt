@@ -3,6 +3,7 @@
 #![tactic(auto)]
 
 mod documents;
+mod refusals;
 mod specifications;
 
 fn main(rt: HostRuntime) -> anyhow::Result<()> {

@@ -12,8 +12,10 @@ mod printed;
 mod specifications;
 mod words;
 
+use crate::refusals::{MOST_REFUSED, reports_no_memory};
 use crate::specifications::answer::Answer;
 use test_cases::{Case, CaseFile, Found, Tally, load};
+use test_tools::{has_refused, refuse};
 
 /// The case files.
 const NAMES: [&str; 7] = [
@@ -62,8 +64,26 @@ fn found(rt: &HostRuntime, output: Vec<u8>) -> Found {
     }
 }
 
-/// The result of a command, if it is one.
+/// The result of a command, if it is one, once no growth of it is refused. One in which a growth is refused has no result, or
+/// reports that memory is out.
 fn answer_of(rt: &HostRuntime, case: &Case) -> Option<Vec<u8>> {
+    for number in 1..MOST_REFUSED {
+        refuse(rt.alloc(), number);
+        let answer = answer_once(rt, case);
+        if !has_refused(rt.alloc()) {
+            return answer;
+        }
+        if let Some(text) = answer {
+            if !reports_no_memory(text.as_slice()) {
+                return Vec::from_slice(rt.alloc(), b"a refused growth isn't reported\n").ok();
+            }
+        }
+    }
+    answer_once(rt, case)
+}
+
+/// The result of a command, if it is one.
+fn answer_once(rt: &HostRuntime, case: &Case) -> Option<Vec<u8>> {
     let mut out = Answer::new(rt.alloc());
     let words = words::without_form(&mut out, case.words.as_slice());
     run(&mut out, words)?;

@@ -1,8 +1,7 @@
 -- Outputs whose bytes are counted.
-use Rattle.std.proofs.Common.{◌≡◌, ◌∙◌, ℕ, ◌+◌, ◌++◌, ◌==◌, ◌≤◌, min, List, [], ◌∷◌, Bool, true, false, Option, Some, None, ap, append-nil, append_assoc, arith, length, map, refl, subst, sym, take}
+use Rattle.std.proofs.Common.{◌≡◌, ◌∙◌, ℕ, ◌+◌, ◌++◌, ◌==◌, ◌≤◌, min, List, [], ◌∷◌, Bool, true, false, Option, Some, None, ap, append_assoc, arith, length, map, refl, sym, take}
 use Rattle.std.specs.Prelude.{if◌then◌else◌}
 use Rattle.std.specs.Io.KnownBytes.{Appends, Keeps}
-use Rattle.std.proofs.KnownBytes.{Keeps-refl}
 use Rattle.std.proofs.lemmas.Bool.{eq-eqb, eqb-true, false≢true, ne_eqb}
 use Rattle.std.proofs.lemmas.List.{length-append, length-take, take-take}
 use Rattle.std.proofs.Math.Seq.{take-append-add, take-append_seam}
@@ -42,11 +41,6 @@ are_some : (n : ℕ) (found : Option (List ℕ)) (bytes : List ℕ) → found �
 are_some n found bytes is long = ap (are_many n) is ∙ eq-eqb (length bytes) n long
 
 -- ---- what is written
-
-pub counted_kept : (n : ℕ) (old new : Option (List ℕ)) → Keeps old new → Keeps (counted n old) (counted n new)
-counted_kept n None new h = tt
-counted_kept n (Some xs) None h = absurd h
-counted_kept n (Some xs) (Some ys) h = subst (λ zs. Keeps (counted n (Some xs)) (counted n (Some zs))) (sym h) (Keeps-refl (counted n (Some xs)))
 
 appended_if : (b c : Bool) (xs ys bs : List ℕ) → (b ≡ true → c ≡ true) → ys ≡ xs ++ bs → Appends (if b then Some xs else None) (if c then Some ys else None) bs
 appended_if false c xs ys bs same e = tt

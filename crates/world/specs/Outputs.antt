@@ -1,6 +1,6 @@
 -- What an output reports: its name, and then the bytes that were written to it.
 use Rattle.std.specs.Prelude.{⊤, ◌≡◌, ◌+◌, ◌++◌, ◌∷◌, ◌==◌, ℕ, Bool, false, if◌then◌else◌, List, [], length}
-use Rattle.std.specs.Prelude.{Option, Some, None, map, option_map}
+use Rattle.std.specs.Prelude.{Option, Some, None, map}
 
 -- A file's name, or none for standard output, as a list that no other name's list begins: so name and bytes can be
 -- in one list, and whoever appends bytes to it keeps the name.

@@ -1,11 +1,12 @@
 //! What single words of commands mean.
 use anyhow::Context;
+use dsc::NoMemory;
 use lengths::{Paper, paper_by_name};
-use std::alloc::{AllocError, Global};
+use std::alloc::Global;
 use test_cases::{Case, Document};
 
 /// The words of a case.
-pub fn words_of(alloc: Global, case: &Case) -> Result<Vec<&str>, AllocError> {
+pub fn words_of(alloc: Global, case: &Case) -> Result<Vec<&str>, NoMemory> {
     let mut words = Vec::new(alloc);
     for word in case.words.iter() {
         words.push(word.as_str())?;
@@ -41,7 +42,7 @@ pub fn papers(alloc: Global, words: &[&str]) -> anyhow::Result<Vec<Paper>> {
 }
 
 /// Bytes in quotes, with escapes.
-pub fn quoted(alloc: Global, bytes: &[u8]) -> Result<String, AllocError> {
+pub fn quoted(alloc: Global, bytes: &[u8]) -> Result<String, NoMemory> {
     let text = String::from_utf8_lossy(alloc, bytes)?;
     format!(in alloc; "{text:?}")
 }

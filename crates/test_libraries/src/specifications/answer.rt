@@ -51,6 +51,12 @@ impl Answer {
         self.is_whole = self.is_whole && is_added;
     }
 
+    /// Notes whether a library could append a text to so many bytes, which stay as they were if it couldn't.
+    pub fn note_appended(&mut self, before: usize, is_appended: bool) {
+        let len = self.bytes.len();
+        self.note(is_appended || len != before);
+    }
+
     pub fn text(&mut self, text: &str) {
         let added = self.bytes.extend_from_slice(text.as_bytes());
         self.note(added.is_ok());

@@ -3,12 +3,13 @@ use crate::specifications::answer::Answer;
 use crate::specifications::words::{item, number, paper, word};
 use lengths::{Grains, Paper};
 use pagespec::Item;
-use placement::{closing_text, matrix_of, matrix_text, opening_text};
+use placement::{Matrix, closing_text, matrix_of, matrix_text, opening_text};
 use std::alloc::Global;
 
 pub fn run(out: &mut Answer, words: &[String]) -> Option<()> {
     match word(words, 0)? {
         "matrix" => matrix(out, &placed(out.alloc, words)?, &paper(words, 2)?),
+        "matrix_parts" => parts(out, &placed(out.alloc, words)?, &paper(words, 2)?),
         "apply" => applied(
             out,
             &placed(out.alloc, words)?,
@@ -41,9 +42,20 @@ fn border(words: &[String], at: usize) -> Option<Grains> {
 }
 
 fn matrix(out: &mut Answer, item: &Item, paper: &Paper) {
+    let before = out.bytes.len();
     let added = matrix_text(&matrix_of(item, paper), &mut out.bytes);
-    out.note(added.is_ok());
+    out.note_appended(before, added.is_ok());
     out.text("\n");
+}
+
+/// The numbers of a matrix, in 10^-9, and its lengths, in grains.
+fn parts(out: &mut Answer, item: &Item, paper: &Paper) {
+    let Matrix { a, b, c, d, tx, ty } = matrix_of(item, paper);
+    for number in [a, b, c, d] {
+        out.show(number.billionths());
+        out.text(" ");
+    }
+    out.line(format_args!("{} {}", tx.get(), ty.get()));
 }
 
 fn applied(out: &mut Answer, item: &Item, paper: &Paper, point: (i32, i32)) {
@@ -54,8 +66,10 @@ fn applied(out: &mut Answer, item: &Item, paper: &Paper, point: (i32, i32)) {
 /// What comes before a page, appended to a text, and what comes after the page.
 fn page_texts(out: &mut Answer, item: &Item, paper: &Paper, border: Option<Grains>) {
     out.text("% page\n");
+    let before = out.bytes.len();
     let added = opening_text(item, paper, border, &mut out.bytes);
-    out.note(added.is_ok());
+    out.note_appended(before, added.is_ok());
+    let before = out.bytes.len();
     let added = closing_text(&mut out.bytes);
-    out.note(added.is_ok());
+    out.note_appended(before, added.is_ok());
 }

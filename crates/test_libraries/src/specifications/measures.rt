@@ -2,8 +2,8 @@
 use crate::specifications::answer::Answer;
 use crate::specifications::words::{number, paper, word};
 use lengths::{
-    Grains, Number, Unit, paper_by_name, print_number, print_points, print_scale, read_digits,
-    read_number, to_grains, unit_by_name,
+    Grains, Number, NumberError, Unit, paper_by_name, print_number, print_points, print_scale,
+    read_digits, read_number, to_grains, unit_by_name,
 };
 
 pub fn run(out: &mut Answer, words: &[String]) -> Option<()> {
@@ -32,7 +32,7 @@ fn billionths(words: &[String]) -> Option<Number> {
 fn number_at_start(out: &mut Answer, text: &str) {
     match read_number(text.as_bytes()) {
         Ok((number, len)) => out.line(format_args!("{} {len}", number.billionths())),
-        Err(error) => out.refusal(error),
+        Err(error) => out.refusal::<NumberError>(error),
     }
 }
 
@@ -53,6 +53,10 @@ fn unit(words: &[String]) -> Option<Unit> {
     match word(words, 2)? {
         "w" => Some(Unit::W),
         "h" => Some(Unit::H),
+        "Pt" => Some(Unit::Pt),
+        "Cm" => Some(Unit::Cm),
+        "Mm" => Some(Unit::Mm),
+        "In" => Some(Unit::In),
         name => unit_by_name(name.as_bytes()),
     }
 }
@@ -60,17 +64,20 @@ fn unit(words: &[String]) -> Option<Unit> {
 /// A number after a text, in full and as a specification has it.
 fn printed(out: &mut Answer, number: Number) {
     out.text("@");
+    let before = out.bytes.len();
     let added = print_scale(number, &mut out.bytes);
-    out.note(added.is_ok());
+    out.note_appended(before, added.is_ok());
     out.text(" @");
+    let before = out.bytes.len();
     let added = print_number(number, &mut out.bytes);
-    out.note(added.is_ok());
+    out.note_appended(before, added.is_ok());
     out.text("\n");
 }
 
 fn points(out: &mut Answer, length: Grains) {
+    let before = out.bytes.len();
     let added = print_points(length, &mut out.bytes);
-    out.note(added.is_ok());
+    out.note_appended(before, added.is_ok());
     out.text("\n");
 }
 

@@ -1,8 +1,8 @@
 //! Pages as their printed matrices place them on a sheet.
 use lengths::Paper;
 use pagespec::Spec;
-use placement::{matrix_of, matrix_text};
-use std::alloc::{AllocError, Global};
+use placement::{NoMemory, matrix_of, matrix_text};
+use std::alloc::Global;
 
 /// A rectangle, in 10^-9 of a point.
 #[derive(Clone, Copy)]
@@ -34,7 +34,7 @@ pub struct Placed {
 }
 
 /// The numbers of a matrix's text, in 10^-9.
-fn numbers(alloc: Global, text: &[u8]) -> Result<Vec<i64>, AllocError> {
+fn numbers(alloc: Global, text: &[u8]) -> Result<Vec<i64>, NoMemory> {
     let mut row = Vec::new(alloc);
     let mut value: i64 = 0;
     let mut weight: i64 = 0;
@@ -123,7 +123,7 @@ pub fn pages_of(
     sheet: usize,
     page: &Paper,
     sides: (i64, i64),
-) -> Result<Vec<Placed>, AllocError> {
+) -> Result<Vec<Placed>, NoMemory> {
     let mut pages = Vec::new(alloc);
     let Some(group) = spec.groups().get(sheet) else {
         return Ok(pages);

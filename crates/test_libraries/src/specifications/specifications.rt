@@ -1,8 +1,8 @@
 //! Specifications: what is read, refused and written.
 use crate::specifications::answer::Answer;
 use crate::specifications::words::{specification, word};
-use pagespec::{Item, Measure, Spec, SpecError, read_spec, write_spec};
-use std::alloc::{AllocError, Global};
+use pagespec::{Item, Measure, NoMemory, Spec, SpecError, read_spec, write_spec};
+use std::alloc::Global;
 
 pub fn run(out: &mut Answer, words: &[String]) -> Option<()> {
     match word(words, 0)? {
@@ -72,7 +72,7 @@ fn syntax(out: &mut Answer, text: &str) {
 
 /// The longest prefix that can be continued to a text of the grammar, by trying every prefix with each end that one
 /// may need.
-fn longest_prefix(alloc: Global, text: &str) -> Result<usize, AllocError> {
+fn longest_prefix(alloc: Global, text: &str) -> Result<usize, NoMemory> {
     let mut longest = 0;
     for k in 0..text.len() + 1 {
         if let Some(prefix) = text.get(..k) {
@@ -85,7 +85,7 @@ fn longest_prefix(alloc: Global, text: &str) -> Result<usize, AllocError> {
 }
 
 /// Whether some end completes it to a text of the grammar.
-fn goes_on(alloc: Global, prefix: &str) -> Result<bool, AllocError> {
+fn goes_on(alloc: Global, prefix: &str) -> Result<bool, NoMemory> {
     for end in [
         "", "0", "0,0)", ",0)", "t,0)", "m,0)", "n,0)", "0)", ")", "t)", "m)", "n)",
     ] {

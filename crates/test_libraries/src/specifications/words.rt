@@ -1,8 +1,8 @@
 //! The words of a command.
 use crate::specifications::answer::{Answer, Form};
-use lengths::{Grains, Paper, paper_by_name};
+use lengths::{Grains, NoMemory, Paper, paper_by_name};
 use pagespec::{Item, Spec, read_spec};
-use std::alloc::{AllocError, Global};
+use std::alloc::Global;
 
 /// The words after `line` or `taken`, which say what is shown of the answer.
 pub fn without_form<'w>(out: &mut Answer, words: &'w [String]) -> &'w [String] {
@@ -73,7 +73,7 @@ pub fn long_text(alloc: Global, text: &str) -> Option<String> {
 }
 
 /// This many times a text with another between them, after the front and before the back.
-fn repeated(alloc: Global, parts: [&str; 4], times: i128) -> Result<String, AllocError> {
+fn repeated(alloc: Global, parts: [&str; 4], times: i128) -> Result<String, NoMemory> {
     let [front, one, between, back] = parts;
     let mut text = String::from_str(alloc, front)?;
     for time in 0..times {

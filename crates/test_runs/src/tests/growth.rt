@@ -3,9 +3,6 @@
 //!
 //! Run as they are, these trials find that nothing is refused, and compare each answer once. `checks/refused-calls`
 //! runs them beside a library that refuses.
-mod documents;
 mod joined_texts;
-mod named_rows;
 mod runs;
 mod tables;
-mod texts;

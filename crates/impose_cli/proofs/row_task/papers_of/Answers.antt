@@ -1,5 +1,5 @@
-use Rattle.std.proofs.Common.{inl, inr, refl}
-use Rattle.impose_cli.proofs.Rows.{accepted_has_pages, are_papers, has_behind, is_row_paper}
+use Rattle.std.proofs.Common.{inl, inr}
+use Rattle.impose_cli.proofs.Rows.{accepted_has_pages, are_papers, has_behind, has_reach, is_row_paper}
 use Rattle.impose_cli.proofs.row_task.papers_of.Goals as goal
 
 pub returns-in-Err-clause-refused : goal.returns-in-Err-clause-refused
@@ -10,6 +10,9 @@ returns-in-Ok-papers_in-clause-found c = are_papers c.args.request.now c.args.in
 
 pub returns-in-Ok-papers_in-clause-paper : goal.returns-in-Ok-papers_in-clause-paper
 returns-in-Ok-papers_in-clause-paper c = is_row_paper c.args.request.now c.args.input.now _ _ c.in-Ok.ensures.answer c.in-Ok-papers_in.ensures.paper
+
+pub returns-in-Ok-papers_in-clause-reach : goal.returns-in-Ok-papers_in-clause-reach
+returns-in-Ok-papers_in-clause-reach c = has_reach c.args.request.now c.args.input.now _ _ _ c.in-Ok.ensures.answer c.in-Ok-papers_in.ensures.reach
 
 pub returns-in-Ok-papers_in-clause-behind : goal.returns-in-Ok-papers_in-clause-behind
 returns-in-Ok-papers_in-clause-behind c = has_behind c.args.input.now _ _ c.in-Ok.ensures.answer c.in-Ok-papers_in.ensures.behind

@@ -30,6 +30,7 @@ returns-then-not-is_drawn-clause-refused c =
 pub returns-in-Ok-text_to_impose-clause-is_task : goal.returns-in-Ok-text_to_impose-clause-is_task
 returns-in-Ok-text_to_impose-clause-is_task c = record {
   papers = rw c.as_slice.ensures.value at c.in-Ok.ensures.found;
+  reach = rw c.as_slice.ensures.value at c.in-Ok.ensures.reach;
   page_paper = rw c.as_slice.ensures.value at c.in-Ok.ensures.paper;
   behind = rw c.as_slice.ensures.value at c.in-Ok.ensures.behind;
   text = c.in-Ok-text_to_impose.ensures ∙ ap (λ p. taken_text c.args.request.now.is_guarded p c.args.input.items)

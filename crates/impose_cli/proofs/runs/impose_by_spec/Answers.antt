@@ -1,4 +1,4 @@
-use Rattle.std.proofs.Common.{◌≡◌, Ok, ap, is_some, option_and_then, option_map, refl, subst}
+use Rattle.std.proofs.Common.{◌≡◌, Ok, is_some, option_and_then, option_map, refl, subst}
 use Rattle.rules.specs.Admissible.{Takes, most_slots}
 use Rattle.rules.specs.Run.{document_of}
 use Rattle.imposer.specs.Runs.{IsRefusal}

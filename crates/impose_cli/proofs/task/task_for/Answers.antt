@@ -5,18 +5,19 @@ use Rattle.impose_words.specs.Choices.{is_said}
 use Rattle.impose_said.specs.Faults.{without_memory}
 use Rattle.impose_said.specs.declared.fault.Fault.TheVariants as fault
 use Rattle.impose_cli.specs.Tasks.{page_paper_found, sheet_paper_found}
-use Rattle.impose_cli.specs.Refusals.{HasOnePaper, HasOtherPapers, RefusesDocument, RefusesLayout}
-use Rattle.impose_cli.proofs.OnePaper.{by_layout, refused_check}
+use Rattle.impose_cli.specs.Refusals.{HasOtherPapers, RefusesDocument, RefusesLayout}
+use Rattle.impose_cli.proofs.OnePaper.{by_layout, refused_check, refused_count}
 use Rattle.impose_said.specs.declared.finished.PaperOrigin.{PaperOrigin}
 use Rattle.impose_cli.proofs.task.task_for.Goals as goal
 
 pub returns-clause-is_task : goal.returns-clause-is_task
 returns-clause-is_task c = record {
-  page_count = c.in-Ok.counts.0;
-  document = rw c.as_slice.ensures.value at c.in-Ok.ensures.counted;
+  page_count = c.in-Ok.counted.pages;
+  document = rw c.as_slice-2.ensures.value at c.in-Ok.ensures.counted;
   said = search rules;
-  behind = rw c.as_slice.ensures.value at c.in-Ok.ensures.behind;
-  page_paper = rw c.as_slice-2.ensures.value at c.paper_of_pages-page_paper.ensures;
+  behind = rw c.as_slice-2.ensures.value at c.in-Ok.ensures.behind;
+  reach = rw c.as_slice-2.ensures.value at c.in-Ok.ensures.reach;
+  page_paper = rw c.as_slice.ensures.value at c.paper_of_pages-page_paper.ensures;
   placed = rw c.paper_of_sheets.ensures at c.in-Ok-placing.ensures.placed;
   text = rw c.paper_of_sheets.ensures at c.in-Ok-text_to_impose.ensures;
   border = refl;
@@ -24,24 +25,25 @@ returns-clause-is_task c = record {
 }
 
 pub returns-in-Err-clause-refused : goal.returns-in-Err-clause-refused
-returns-in-Err-clause-refused c = inl (rw c.as_slice.ensures.value at c.in-Err.ensures.refused)
+returns-in-Err-clause-refused c =
+    refused_count c.args.request.now c.args.input.items c.in-Err.fault (rw c.as_slice-2.ensures.value at c.in-Err.ensures.refused)
 
 pub returns-in-Err-placing-clause-refused : goal.returns-in-Err-placing-clause-refused
 returns-in-Err-placing-clause-refused c =
     let request = c.args.request.now in
-    let found : c.paper_of_pages-page_paper.result ≡ page_paper_found request.page_paper request.home_paper c.args.input.items = rw c.as_slice-2.ensures.value at c.paper_of_pages-page_paper.ensures in
+    let found : c.paper_of_pages-page_paper.result ≡ page_paper_found request.page_paper request.home_paper c.args.input.items = rw c.as_slice.ensures.value at c.paper_of_pages-page_paper.ensures in
     let refused = rw c.paper_of_sheets.ensures at c.in-Err-placing.ensures.refused in
     let there = subst (λ (p : Paper × PaperOrigin). (c.in-Err-placing.fault ≡ without_memory) ⊎ RefusesLayout request.layout request.spacing p.0 (sheet_paper_found request.sheet_paper p.0) c.in-Err-placing.fault) found refused in
-    inr (c.in-Ok.counts.0, rw c.as_slice.ensures.value at c.in-Ok.ensures.counted, inr (by_layout request c.args.input.items c.in-Err-placing.fault there))
+    inr (c.in-Ok.counted.pages, rw c.as_slice-2.ensures.value at c.in-Ok.ensures.counted, inr (by_layout request c.args.input.items c.in-Err-placing.fault there))
 
 pub returns-then-not-is_said-clause-refused : goal.returns-then-not-is_said-clause-refused
 returns-then-not-is_said-clause-refused c =
     let part : is_said c.args.request.now.choice c.args.request.now.marks ≡ false = search rules in
-    inr (c.in-Ok.counts.0, rw c.as_slice.ensures.value at c.in-Ok.ensures.counted, inl (refl, part))
+    inr (c.in-Ok.counted.pages, rw c.as_slice-2.ensures.value at c.in-Ok.ensures.counted, inl (refl, part))
 
 pub returns-in-Err-text_to_impose-clause-refused : goal.returns-in-Err-text_to_impose-clause-refused
 returns-in-Err-text_to_impose-clause-refused c =
-    inr (c.in-Ok.counts.0, rw c.as_slice.ensures.value at c.in-Ok.ensures.counted, inr (inl c.no_memory.ensures))
+    inr (c.in-Ok.counted.pages, rw c.as_slice-2.ensures.value at c.in-Ok.ensures.counted, inr (inl c.no_memory.ensures))
 
 pub returns-clause-one_paper : goal.returns-clause-one_paper
 returns-clause-one_paper c = rw c.as_slice-3.ensures.value at c.in-Ok-check_one_paper.ensures.one
@@ -49,8 +51,8 @@ returns-clause-one_paper c = rw c.as_slice-3.ensures.value at c.in-Ok-check_one_
 pub returns-in-Err-check_one_paper-clause-refused : goal.returns-in-Err-check_one_paper-clause-refused
 returns-in-Err-check_one_paper-clause-refused c =
     let request = c.args.request.now in
-    let found : c.paper_of_pages-page_paper.result ≡ page_paper_found request.page_paper request.home_paper c.args.input.items = rw c.as_slice-2.ensures.value at c.paper_of_pages-page_paper.ensures in
+    let found : c.paper_of_pages-page_paper.result ≡ page_paper_found request.page_paper request.home_paper c.args.input.items = rw c.as_slice.ensures.value at c.paper_of_pages-page_paper.ensures in
     let refused = rw c.as_slice-3.ensures.value at c.in-Err-check_one_paper.ensures.refused in
-    refused_check request c.args.input.items _ c.in-Err-check_one_paper.fault (rw c.as_slice.ensures.value at c.in-Ok.ensures.counted)
+    refused_check request c.args.input.items _ c.in-Err-check_one_paper.fault (rw c.as_slice-2.ensures.value at c.in-Ok.ensures.counted)
     (subst (λ (p : Paper × PaperOrigin). RefusesDocument c.args.input.items c.in-Err-check_one_paper.fault
     ⊎ ((c.in-Err-check_one_paper.fault ≡ without_memory) ⊎ ((c.in-Err-check_one_paper.fault ≡ fault.SeveralPapers) × HasOtherPapers request c.args.input.items p.0))) found refused)

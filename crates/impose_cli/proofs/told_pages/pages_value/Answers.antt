@@ -1,6 +1,5 @@
 use Rattle.std.proofs.Common.{sym, codes}
-use Rattle.papers.specs.Media.{contents, continued}
-use Rattle.dsc.specs.Fields.{fields_in}
+use Rattle.papers.specs.Media.{contents}
 use Rattle.papers.proofs.Contents.{first_told, none_told}
 use Rattle.impose_cli.proofs.told_pages.pages_value.Goals as goal
 

@@ -14,8 +14,10 @@ common_fits = refl
 pub returns : goal.returns
 returns c =
     let bare : app_of c.about.result ≡ new_app c.args.name.now = ap app_of_fields c.about.ensures ∙ c.new.ensures.app in
-    let own = chain_app c.about.result c.in_ok-with_own.with_own c.args.own.items c.in_ok-with_own.ensures c.requires in
+    let own = chain_app c.about.result c.in_ok-with_own.with_own c.args.own.items c.in_ok-with_own.ensures c.requires.own in
     let first = own ∙ ap (λ a. fold with_rule a (map rule_of c.args.own.items)) bare in
-    IfOk-weaker c.args-3.result _ _ (λ d chain.
-    chain_app c.in_ok-with_own.with_own d c.in_ok-common.field-0.items chain (ap (list_all fits) c.in_ok-common.ensures ∙ common_fits)
-    ∙ ap₂ (fold with_rule) first c.in_ok-common.ensures) c.args-3.ensures
+    let shared = chain_app c.in_ok-with_own.with_own c.in_ok-with_shared.with_shared c.args.shared.items c.in_ok-with_shared.ensures c.requires.shared in
+    let second = shared ∙ ap (λ a. fold with_rule a (map rule_of c.args.shared.items)) first in
+    IfOk-weaker c.args-4.result _ _ (λ d chain.
+    chain_app c.in_ok-with_shared.with_shared d c.in_ok-common.field-0.items chain (ap (list_all fits) c.in_ok-common.ensures ∙ common_fits)
+    ∙ ap₂ (fold with_rule) second c.in_ok-common.ensures) c.args-4.ensures

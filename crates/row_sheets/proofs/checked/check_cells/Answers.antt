@@ -1,9 +1,19 @@
-use Rattle.std.proofs.Common.{rules}
+use Rattle.std.proofs.Common.{rules, ◌≡◌, Some, refl}
 use Rattle.rules.specs.Signatures.{entry_of}
-use Rattle.row_sheets.specs.Shapes.{filling}
+use Rattle.row_sheets.specs.Shapes.{filling, first_refused, why_no_place}
 use Rattle.row_sheets.specs.Standing.{EntryFits}
 use Rattle.row_sheets.proofs.Filling.{one_more}
+use Rattle.row_sheets.proofs.Refused.{first_entry, fits_none, handed_on}
 use Rattle.row_sheets.proofs.checked.check_cells.Goals as goal
 
 pub loop-entry-preserved : goal.loop-entry-preserved
 loop-entry-preserved c = one_more (λ i. EntryFits (filling c.args.setting.now c.args.papers.now) (entry_of c.args.row.now i)) c.loop-entry.entry-index c.loop-entry.invariant (search rules)
+
+pub returns-in_err-check_cell-clause-refused : goal.returns-in_err-check_cell-clause-refused
+returns-in_err-check_cell-clause-refused c =
+    let f = filling c.args.setting.now c.args.papers.now in
+    let row = c.args.row.now in
+    let e = c.in_err-check_cell.field-0.0 in
+    let here : why_no_place f (entry_of row c.loop-entry.entry-index) ≡ Some e = search rules in
+    handed_on c.from_residual.result e (λ error. first_refused f row ≡ Some error) c.from_residual.ensures.1
+    (first_entry (λ j. why_no_place f) row c.loop-entry.entry-index e (λ j. refl) (λ j less. fits_none f (entry_of row j) (c.loop-entry.invariant j less)) here)

@@ -10,18 +10,28 @@ use Rattle.row_sheets.specs.Standing.{EntryCreeps, LeavesStand}
 use Rattle.row_sheets.proofs.Filling.{sheet, sheet_more, one_more}
 use Rattle.row_sheets.proofs.OnLeaves.{leaves_stand}
 use Rattle.row_sheets.proofs.Places.{creeping_fit}
-use Rattle.row_sheets.proofs.Creeping.{both_slots, both_creep, entry_creeps, entry_is, entry_refused}
+use Rattle.row_sheets.proofs.Creeping.{both_slots, both_creep, entry_creeps, entry_is}
+use Rattle.row_sheets.proofs.Refused.{first_half, second_half, sides_none}
 use Rattle.row_sheets.proofs.creep.creeping_booklet_sheets.Goals as goal
 
 pub returns-in-Err-creeping_slot-clause-refused : goal.returns-in-Err-creeping_slot-clause-refused
 returns-in-Err-creeping_slot-clause-refused c =
-    entry_refused (filling c.args.setting.now c.args.papers.now) c.args.row.now c.args.creep.innermost c.args.creep.leaves c.loop-s.s 0 c.creep_on-by.result _ c.entry_at-entry.result c.in-Err-creeping_slot.error (omega arith)
-    c.in-Err-creeping_slot.ensures.refused c.creep_on-by.ensures c.entry_at-entry.ensures (omega arith)
+    let f = filling c.args.setting.now c.args.papers.now in
+    let row = c.args.row.now in
+    let leaves = c.args.creep.leaves in
+    let s = c.loop-s.s in
+    let none = sides_none f c.args.creep.innermost leaves s row c.loop-s.invariant.fits in
+    first_half f row c.args.creep.innermost leaves s c.creep_on-by.result _ c.entry_at-entry.result c.in-Err-creeping_slot.error none c.creep_on-by.ensures c.entry_at-entry.ensures (omega arith) c.in-Err-creeping_slot.ensures.refused
 
 pub returns-in-Err-creeping_slot-2-clause-refused : goal.returns-in-Err-creeping_slot-2-clause-refused
 returns-in-Err-creeping_slot-2-clause-refused c =
-    entry_refused (filling c.args.setting.now c.args.papers.now) c.args.row.now c.args.creep.innermost c.args.creep.leaves c.loop-s.s 1 c.creep_on-by.result _ c.entry_at-next.result c.in-Err-creeping_slot-2.error (omega arith)
-    c.in-Err-creeping_slot-2.ensures.refused c.creep_on-by.ensures c.entry_at-next.ensures (omega arith)
+    let f = filling c.args.setting.now c.args.papers.now in
+    let row = c.args.row.now in
+    let leaves = c.args.creep.leaves in
+    let s = c.loop-s.s in
+    let none = sides_none f c.args.creep.innermost leaves s row c.loop-s.invariant.fits in
+    second_half f row c.args.creep.innermost leaves s c.creep_on-by.result _ _ c.entry_at-entry.result c.entry_at-next.result c.in-Err-creeping_slot-2.error none c.creep_on-by.ensures
+    c.entry_at-entry.ensures (omega arith) c.in-Ok-creeping_slot.ensures.fits c.entry_at-next.ensures (omega arith) c.in-Err-creeping_slot-2.ensures.refused
 
 pub loop-s-preserved : goal.loop-s-preserved
 loop-s-preserved c =

@@ -1,4 +1,4 @@
-use Rattle.std.proofs.Common.{◌≡◌, ◌≤◌, ◌∙◌, ◌+◌, ◌-◌, ap, refl, sym, subst, take, drop, length, arith, rules}
+use Rattle.std.proofs.Common.{◌≡◌, ◌≤◌, ◌∙◌, ap, refl, sym, subst, take, drop, length, arith, rules}
 use Rattle.world.specs.Input.{IsFirst, most_bytes}
 use Rattle.world.specs.declared.read.TheConstants.{MOST_BYTES}
 use Rattle.world.proofs.Reading.{filled_more, none_more, all_first, most_first, room_kept, length_read}

@@ -1,0 +1,172 @@
+-- What may be wrong with what was found, which of it comes first, and what a fault says of it.
+use Rattle.std.specs.Prelude.{◌≡◌, ◌⊎◌, ⊤, Bool, true, false, if◌then◌else◌, is_some, unwrap_or, List, [], ◌∷◌, Option, Some, None}
+use Rattle.std.specs.Prelude.{codes, option_map, string_bytes}
+use Rattle.std.specs.Str.{bytes_eq}
+use Rattle.clap.specs.Words.{IsAmong, Row, Text, fault_of, first_of, kind_of, subcommand_of}
+use Rattle.impose_words.specs.Arranging.{booklet_marks_named, cut_marks_named, no_marks}
+use Rattle.impose_words.specs.Command.{impose}
+use Rattle.impose_words.specs.Products.{is_picture_file, lays_rows}
+use Rattle.impose_words.specs.Spacings.{keeps_room}
+use Rattle.impose_words.specs.Words.{AsksFor, Entered, asked, border_found, cells_found, file_asked, given, is_outfile, length_found}
+use Rattle.impose_words.specs.Words.{part_found, picture_found, ranges_id, row_asked, run_found, scale_found, signing_found, size_found}
+use Rattle.impose_words.specs.Words.{turned_found, two_found}
+use Rattle.impose_words.specs.declared.fault.CommandFault.{CommandFault}
+use Rattle.impose_words.specs.declared.fault.CommandFault.TheVariants as fault
+use Rattle.impose_words.specs.declared.fault.GridCommand.{GridCommand}
+use Rattle.impose_words.specs.declared.fault.GridCommand.TheVariants as grid
+use Rattle.impose_words.specs.declared.fault.Opt.{Opt}
+use Rattle.impose_words.specs.declared.fault.Opt.TheVariants as opt
+use Rattle.impose_words.specs.declared.fault.ProductOption.{ProductOption}
+use Rattle.impose_words.specs.declared.request.Layout.{Layout}
+use Rattle.impose_words.specs.declared.request.Layout.TheVariants as layout
+
+-- an argument isn't there, a value is none, --odd and --even are there, or two options that ask for something in place of the
+-- sheets
+pub data Wrong : Type 0 where
+  Missing : Wrong
+  NoValue : Opt → Wrong
+  OddEven : Wrong
+  Two : ProductOption → ProductOption → Wrong
+
+-- of two the first that there is
+abbrev pub first : Option Wrong → Option Wrong → Option Wrong
+first None wrong = wrong
+first (Some earlier) wrong = Some earlier
+
+-- ---- a value
+
+-- no picture is asked for, or its file is named as one
+abbrev pub is_picture_asked : Option (Option Text) → Bool
+is_picture_asked None = true
+is_picture_asked (Some file) = is_picture_file file
+
+-- what was found for the option is one of its values
+abbrev pub is_value : Opt → (found : List Row) → Bool
+is_value opt.Paper found = is_some (size_found opt.Paper found)
+is_value opt.Sheet found = is_some (size_found opt.Sheet found)
+is_value opt.Border found = is_some (border_found found)
+is_value (opt.Count command) found = is_some (cells_found command found)
+is_value opt.Signature found = is_some (signing_found found)
+is_value opt.Margin found = is_some (length_found opt.Margin found)
+is_value opt.Gap found = is_some (length_found opt.Gap found)
+is_value opt.Trim found = is_some (length_found opt.Trim found)
+is_value opt.Creep found = is_some (length_found opt.Creep found)
+is_value opt.Overlap found = is_some (length_found opt.Overlap found)
+is_value opt.Order found = is_some (run_found found)
+is_value opt.Turned found = is_some (turned_found found)
+is_value opt.Scale found = is_some (scale_found found)
+is_value opt.BookletMarks found = is_some (asked no_marks booklet_marks_named (given opt.BookletMarks found))
+is_value opt.CutMarks found = is_some (asked no_marks cut_marks_named (given opt.CutMarks found))
+is_value opt.Outfile found = is_outfile (file_asked (given opt.Outfile found))
+is_value opt.Preview found = is_picture_asked (picture_found found)
+
+-- the first of these options whose value is none
+abbrev pub wrong_among : List Opt → (found : List Row) → Option Wrong
+wrong_among [] found = None
+wrong_among (option ∷ options) found = if is_value option found then wrong_among options found else Some (NoValue option)
+
+-- ---- in their order
+
+-- the papers and the border
+abbrev pub wrong_sizes : (found : List Row) → Option Wrong
+wrong_sizes found = wrong_among (opt.Paper ∷ opt.Sheet ∷ opt.Border ∷ []) found
+
+-- the argument isn't there, or this is wrong
+abbrev pub missing_or : (id : Text) → (found : List Row) → Option Wrong → Option Wrong
+missing_or id found wrong = if is_some (first_of id found) then wrong else Some Missing
+
+abbrev pub wrong_cells : GridCommand → (found : List Row) → Option Wrong
+wrong_cells command found = missing_or (codes "count") found (wrong_among (opt.Count command ∷ []) found)
+
+-- a specification is sewn only if it is laid on a row
+abbrev pub wrong_specs : (found : List Row) → Option Wrong
+wrong_specs found = missing_or (codes "specs") found (if row_asked found then wrong_among (opt.Signature ∷ []) found else None)
+
+-- what comes after the command, or how a booklet is sewn
+abbrev pub wrong_layout : (name : Text) → (found : List Row) → Option Wrong
+wrong_layout name found =
+    if bytes_eq name (codes "nup") then wrong_cells grid.NUp found
+    else (if bytes_eq name (codes "booklet") then wrong_among (opt.Signature ∷ []) found
+    else (if bytes_eq name (codes "cards") then wrong_cells grid.Cards found
+    else (if bytes_eq name (codes "stack") then wrong_cells grid.Stack found
+    else (if bytes_eq name (codes "notes") then wrong_cells grid.Notes found
+    else (if bytes_eq name (codes "poster") then wrong_cells grid.Poster found
+    else (if bytes_eq name (codes "select") then missing_or (codes "ranges") found None
+    else (if bytes_eq name (codes "spec") then wrong_specs found else Some Missing)))))))
+
+-- in which order one reads the cells
+abbrev pub wrong_order : (found : List Row) → Option Wrong
+wrong_order found = wrong_among (opt.Order ∷ opt.Turned ∷ []) found
+
+-- what is kept free, the order and the scale, of a layout that keeps room
+abbrev pub wrong_spacing : (keeps : Bool) → (found : List Row) → Option Wrong
+wrong_spacing false found = None
+wrong_spacing true found =
+    first (wrong_among (opt.Margin ∷ opt.Gap ∷ opt.Trim ∷ opt.Creep ∷ opt.Overlap ∷ []) found)
+    (first (wrong_order found) (wrong_among (opt.Scale ∷ []) found))
+
+-- the marks, of sheets that have some
+abbrev pub wrong_marks : Layout → (found : List Row) → Option Wrong
+wrong_marks (layout.NUp cells) found = wrong_among (opt.CutMarks ∷ []) found
+wrong_marks (layout.Cards cells) found = wrong_among (opt.CutMarks ∷ []) found
+wrong_marks (layout.Stack cells duplex) found = wrong_among (opt.CutMarks ∷ []) found
+wrong_marks (layout.Booklet signing long_edge) found = wrong_among (opt.BookletMarks ∷ []) found
+wrong_marks other found = None
+
+-- the pages, if they are chosen
+abbrev pub wrong_choice : (ranges : Option Text) → (found : List Row) → Option Wrong
+wrong_choice None found = None
+wrong_choice (Some id) found = if is_some (part_found found) then None else Some OddEven
+
+-- what is made, of a layout that lays rows
+abbrev pub wrong_product : (rows : Bool) → (found : List Row) → Option Wrong
+wrong_product false found = None
+wrong_product true found = first (option_map (λ two. Two two.0 two.1) (two_found found)) (wrong_among (opt.Preview ∷ []) found)
+
+-- all that comes after the layout
+abbrev pub wrong_for : Layout → (found : List Row) → Option Wrong
+wrong_for layout found =
+    first (wrong_spacing (keeps_room layout) found)
+    (first (wrong_marks layout found)
+    (first (wrong_choice (ranges_id layout) found)
+    (first (wrong_among (opt.Outfile ∷ []) found) (wrong_product (lays_rows layout) found))))
+
+-- ---- the refusals
+
+-- the text after the option, or none
+abbrev pub text_given : Opt → (found : List Row) → Text
+text_given option found = unwrap_or (given option found) []
+
+-- this is wrong with what was found, as the fault says, unless it is that memory is short
+abbrev pub Says : (found : List Row) → CommandFault → Option Wrong → Type 0
+Says found (fault.BadValue option text) wrong = (wrong ≡ Some (NoValue option)) × (text_given option found ≡ string_bytes text)
+Says found fault.Lacking wrong = wrong ≡ Some Missing
+Says found fault.OddAndEven wrong = wrong ≡ Some OddEven
+Says found (fault.TwoProducts one other) wrong = wrong ≡ Some (Two one other)
+Says found fault.NoMemory wrong = ⊤
+Says found (fault.Words error) wrong = ⊥
+Says found fault.NoText wrong = ⊥
+
+-- a refusal of what was found: of the papers, the border or what asks for a layout; or of what comes after the layout that they ask
+-- for
+abbrev pub RefusesFound : (name : Text) → (found : List Row) → CommandFault → Type 0
+RefusesFound name found f = Says found f (first (wrong_sizes found) (wrong_layout name found))
+    ⊎ ((layout : Layout) × AsksFor name found layout × (wrong_sizes found ≡ None) × Says found f (wrong_for layout found))
+
+-- what a refusal says of the words: clap's own faults are those of the words, or a call for help or for the version
+abbrev pub Refuses : (words : List Text) → CommandFault → Type 0
+Refuses words (fault.Words error) = IsAmong (kind_of error) (fault_of impose words)
+Refuses words fault.NoText = ⊥
+Refuses words fault.NoMemory = ⊤
+Refuses words fault.Lacking = (subcommand_of impose words ≡ None)
+    ⊎ Entered words (λ name found. RefusesFound name found fault.Lacking)
+Refuses words fault.OddAndEven = Entered words (λ name found. RefusesFound name found fault.OddAndEven)
+Refuses words (fault.BadValue option text) = Entered words (λ name found. RefusesFound name found (fault.BadValue option text))
+Refuses words (fault.TwoProducts one other) =
+    Entered words (λ name found. RefusesFound name found (fault.TwoProducts one other))
+
+-- what a refusal says of the words before what was found is looked at
+abbrev pub ParseRefuses : (words : List Text) → CommandFault → Type 0
+ParseRefuses words (fault.Words error) = IsAmong (kind_of error) (fault_of impose words)
+ParseRefuses words fault.NoMemory = ⊤
+ParseRefuses words other = ⊥

@@ -1,0 +1,222 @@
+//! Pages that reach beyond the papers by which they are placed.
+ghost use Rattle.std.specs.Prelude.{◌≡◌, ◌<◌, ◌+ℤ◌, false, codes, get_or, int_lt, length, map, option_and_then, option_map, IfOk, IfSome, None, Some};
+ghost use Rattle.rules.specs.Parts.{bytes_of, pages};
+ghost use Rattle.dsc.specs.Fields.{fields_in};
+ghost use Rattle.papers.specs.Media.{comment_fields, edges_of as edges_told};
+ghost use Rattle.papers.specs.Comments.{head_of};
+ghost use Rattle.papers.specs.Reach as meaning;
+
+use crate::boxes::{Edges, edges_of};
+use crate::cuts::is_cut;
+use crate::finding::behind_first_line;
+use crate::media::box_of;
+use crate::page_heads::value_in_head;
+use dsc::{Document, header_len};
+use lengths::{Grains, Paper};
+use std::alloc::{AllocError, Global};
+
+/// The boxes of a document's pages, in order: each page's own, and else the document's, unless the page names a medium. Refused
+/// out of memory alone.
+pub fn page_boxes(alloc: Global, document: &Document<'_>) -> Result<Vec<Option<Edges>>, AllocError>
+    ensures { IfOk result (λ boxes. boxes.items ≡ meaning.page_boxes (bytes_of document.now) document.now) }
+{
+    let text = document.text();
+    let (header, _) = text.split_at(header_len(text));
+    boxes_or(alloc, document, box_of(header, text))
+}
+
+/// Each page's own box, and else this one, unless the page names a medium.
+fn boxes_or(
+    alloc: Global,
+    document: &Document<'_>,
+    other: Option<&[u8]>,
+) -> Result<Vec<Option<Edges>>, AllocError>
+    ensures { IfOk result (λ boxes. boxes.items
+        ≡ map (meaning.page_box (option_map (λ v. fields_in v.now) other.entry)) (pages document.now)) }
+{
+    let mut boxes = Vec::new(alloc);
+    for page in 0..document.pages() {
+        boxes.push(page_box(document.page(page), other))?;
+    }
+    Ok(boxes)
+}
+
+/// A page's own box, and else this one, unless the page names a medium.
+fn page_box(page: &[u8], other: Option<&[u8]>) -> Option<Edges>
+    ensures { result ≡ meaning.page_box (option_map (λ v. fields_in v.now) other.entry) page.now }
+{
+    let head = behind_first_line(page);
+    match value_in_head(head, b"%%PageBoundingBox", b"%%PageBoundingBox:") {
+        Some(own) => edges_of(own),
+        None => edges_if(unless_medium(head, other)),
+    }
+}
+
+/// This box, unless the comments name a medium: with several media it covers them all.
+fn unless_medium<'t>(head: &[u8], other: Option<&'t [u8]>) -> Option<&'t [u8]>
+    ensures { option_map (λ v. fields_in v.now) result ≡ meaning.unless_named
+        (comment_fields (codes "%%PageMedia") (head_of (length head.now) head.now)) (option_map (λ v. fields_in v.now) other.entry) }
+{
+    match value_in_head(head, b"%%PageMedia", b"%%PageMedia:") {
+        Some(_) => None,
+        None => other,
+    }
+}
+
+fn edges_if(value: Option<&[u8]>) -> Option<Edges>
+    ensures { result ≡ option_and_then edges_told (option_map (λ v. fields_in v.now) value.entry) }
+{
+    edges_of(value?)
+}
+
+/// How pages are placed.
+#[derive(Clone, Copy)]
+pub struct PlacedPages<'p> {
+    /// Which of them are taken.
+    pub taken: &'p [bool],
+    /// The papers by which they are placed.
+    pub papers: &'p [Paper],
+    /// Their own papers.
+    pub own: &'p [Paper],
+    /// Their boxes.
+    pub boxes: &'p [Option<Edges>],
+    /// Whether those that their papers cut are reported apart, as `cut_by` finds them.
+    pub cut_apart: bool,
+}
+
+/// Pages that reach beyond the papers by which they are placed.
+#[derive(Clone, Copy)]
+pub struct Reach {
+    /// The first of them, counted from 0.
+    pub first: usize,
+    /// The paper by which it is placed.
+    pub paper: Paper,
+    /// How far it reaches.
+    pub edges: Edges,
+    /// How many pages there are.
+    pub pages: usize,
+}
+
+/// Which pages that are taken reach beyond the papers by which they are placed, by more than a point: by their boxes, and by
+/// their own papers if those are cut.
+pub fn reach_beyond(pages: &PlacedPages<'_>) -> Option<Reach>
+    ensures { result ≡ meaning.reach_of (meaning.placing
+        pages.now.taken.now pages.now.own.now pages.now.boxes.now pages.now.cut_apart) pages.now.papers.now }
+{
+    let papers = pages.papers;
+    let mut reach = None;
+    for (page, paper) in papers.iter().enumerate() {
+        reach = with_if_beyond(reach, page, paper, extent_at(pages, page, paper));
+    }
+    reach
+}
+
+/// The same pages, and after them this one if its edges are beyond its paper.
+fn with_if_beyond(
+    reach: Option<Reach>,
+    page: usize,
+    paper: &Paper,
+    edges: Option<Edges>,
+) -> Option<Reach>
+    requires few { IfSome reach (λ r. r.pages < usize.MAX) }
+    ensures { result ≡ meaning.with_all reach (meaning.if_beyond page paper.now edges) }
+{
+    match edges {
+        Some(edges) if is_beyond(paper, &edges) => Some(with_page(reach, page, paper, edges)),
+        _ => reach,
+    }
+}
+
+/// The same pages, and after them this one.
+fn with_page(reach: Option<Reach>, page: usize, paper: &Paper, edges: Edges) -> Reach
+    requires few { IfSome reach (λ r. r.pages < usize.MAX) }
+    ensures { result ≡ meaning.with_page reach (page, paper.now, edges) }
+{
+    match reach {
+        None => Reach {
+            first: page,
+            paper: *paper,
+            edges,
+            pages: 1,
+        },
+        Some(reach) => Reach {
+            pages: reach.pages + 1,
+            ..reach
+        },
+    }
+}
+
+/// How far a page reaches, if it is taken.
+fn extent_at(pages: &PlacedPages<'_>, page: usize, paper: &Paper) -> Option<Edges>
+    ensures { result ≡ meaning.extent (meaning.placing
+        pages.now.taken.now pages.now.own.now pages.now.boxes.now pages.now.cut_apart) page paper.now }
+{
+    if !is_taken(pages.taken, page) {
+        return None;
+    }
+    let own = own_at(pages.own, page, paper);
+    if !is_cut(paper, &own) {
+        box_at(pages.boxes, page)
+    } else if pages.cut_apart {
+        None
+    } else {
+        whole(&own)
+    }
+}
+
+fn is_taken(taken: &[bool], page: usize) -> bool
+    ensures { result ≡ get_or taken.now page false }
+{
+    match taken.get(page) {
+        Some(taken) => *taken,
+        None => false,
+    }
+}
+
+fn own_at(own: &[Paper], page: usize, other: &Paper) -> Paper
+    ensures { result ≡ get_or own.now page other.now }
+{
+    match own.get(page) {
+        Some(own) => *own,
+        None => *other,
+    }
+}
+
+fn box_at(boxes: &[Option<Edges>], page: usize) -> Option<Edges>
+    ensures { result ≡ get_or boxes.now page None }
+{
+    match boxes.get(page) {
+        Some(edges) => *edges,
+        None => None,
+    }
+}
+
+/// The edges of a paper.
+fn whole(paper: &Paper) -> Option<Edges>
+    ensures { result ≡ Some (meaning.whole paper.now) }
+{
+    Some(Edges {
+        left: Grains::new(0)?,
+        bottom: Grains::new(0)?,
+        right: paper.width(),
+        top: paper.height(),
+    })
+}
+
+/// So much, a point, is left for rounding.
+const ROUNDING: i128 = 127_000_000_000;
+
+/// Whether edges are beyond a paper.
+fn is_beyond(paper: &Paper, edges: &Edges) -> bool
+    ensures { result ≡ meaning.is_beyond paper.now edges.now }
+{
+    (is_past(edges.left, 0) || is_past(edges.bottom, 0))
+        || (is_past(paper.width(), edges.right.get()) || is_past(paper.height(), edges.top.get()))
+}
+
+/// Whether it is past this length by more than is left for rounding.
+fn is_past(length: Grains, grains: i128) -> bool
+    ensures { result ≡ int_lt (length +ℤ meaning.rounding) grains }
+{
+    length.get() + ROUNDING < grains
+}
