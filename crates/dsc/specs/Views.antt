@@ -3,7 +3,7 @@ use Rattle.std.specs.Prelude.{◌≡◌, ℕ, List, [], false, Option, Result, O
 use Rattle.rules.specs.Units.{TextUnit, BlockFault}
 use Rattle.rules.specs.Units as block
 use Rattle.rules.specs.Parts.{NestedUnit}
-use Rattle.dsc.specs.declared.units.Unit.{Unit as CodeUnit}
+use Rattle.dsc.specs.declared.units.LineOrBlock.{LineOrBlock as CodeUnit}
 use Rattle.dsc.specs.declared.units.UnitError.{UnitError}
 use Rattle.dsc.specs.declared.units.UnitError.TheVariants as fault
 

@@ -7,7 +7,7 @@ ghost use Rattle.dsc.specs.TrailerBoxes.{box_in as told_box, found_after, part_a
 
 use crate::comments::comment_value;
 use crate::keys::Meaning;
-use crate::units::Unit;
+use crate::units::LineOrBlock;
 use crate::walk::Walk;
 
 /// A part of a document.
@@ -64,7 +64,7 @@ fn next_part(part: Section, meaning: Meaning) -> Section
 fn found_by<'d>(
     part: Section,
     found: Option<&'d [u8]>,
-    unit: &Unit<'d>,
+    unit: &LineOrBlock<'d>,
     depth: usize,
 ) -> Option<&'d [u8]>
     ensures { option_map (λ value. fields_in value.now) result
@@ -80,7 +80,7 @@ fn found_by<'d>(
 }
 
 /// What follows the colon of a `%%BoundingBox:` outside embedded documents.
-fn box_in<'d>(unit: &Unit<'d>, depth: usize) -> Option<&'d [u8]>
+fn box_in<'d>(unit: &LineOrBlock<'d>, depth: usize) -> Option<&'d [u8]>
     ensures { option_map (λ value. fields_in value.now) result ≡ told_box (at_depth depth (unit_of unit.now)) }
 {
     if unit.is_block || depth != 0 {

@@ -15,7 +15,7 @@ ghost use Rattle.dsc.specs.Filters.{drops_of, is_dropped, filter_on};
 use crate::errors::{CutError, DscError, widen};
 use crate::keys::{comment_letter, key_of};
 use crate::lines::is_line_end;
-use crate::units::Unit;
+use crate::units::LineOrBlock;
 use crate::walk::Walk;
 use itoa::Buffer;
 use std::alloc::{AllocError, Global};
@@ -65,7 +65,7 @@ fn drops_in_header(content: &[u8]) -> bool
 }
 
 /// Whether the filter drops this unit; `was` is whether it dropped the one before.
-pub fn drops_unit(drops: Drops, was: bool, unit: &Unit<'_>, depth: usize) -> bool
+pub fn drops_unit(drops: Drops, was: bool, unit: &LineOrBlock<'_>, depth: usize) -> bool
     ensures { result ≡ is_dropped drops was (at_depth depth (unit_of unit.now)) }
 {
     if unit.is_block {

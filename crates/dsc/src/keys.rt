@@ -6,7 +6,7 @@ ghost use Rattle.rules.specs.Parts.{begins_page, begins_trailer, depth_after};
 ghost use Rattle.dsc.specs.Letters.{letter_of};
 ghost use Rattle.dsc.specs.Views.{unit_of, at_depth, comment_line};
 
-use crate::units::Unit;
+use crate::units::LineOrBlock;
 
 /// The length of the key of a line.
 fn key_len(content: &[u8]) -> usize
@@ -98,7 +98,7 @@ fn meaning_of_key(content: &[u8], depth: usize) -> Meaning
 }
 
 /// What a unit means, if this is the depth before it.
-pub fn meaning_of(unit: &Unit<'_>, depth: usize) -> Meaning
+pub fn meaning_of(unit: &LineOrBlock<'_>, depth: usize) -> Meaning
     requires { depth < usize.MAX }
     ensures page { result.is_page ≡ begins_page (at_depth depth (unit_of unit.now)) }
     ensures trailer { result.is_trailer ≡ begins_trailer (at_depth depth (unit_of unit.now)) }

@@ -10,7 +10,7 @@ use crate::lines::{content_end, line_end_after, lines_end};
 
 /// A line with its end, or a data block: a line and the data after it. The content is the line's, without its end.
 #[derive(Clone, Copy)]
-pub struct Unit<'d> {
+pub struct LineOrBlock<'d> {
     pub content: &'d [u8],
     pub bytes: &'d [u8],
     pub is_block: bool,
@@ -82,7 +82,7 @@ fn data_len(behind: &[u8], may_count_lines: bool, rest: &[u8]) -> Result<usize, 
 }
 
 /// The first unit of a text that isn't empty.
-pub fn first_unit(text: &[u8]) -> Result<Unit<'_>, UnitError>
+pub fn first_unit(text: &[u8]) -> Result<LineOrBlock<'_>, UnitError>
     requires { 0 < length text.now }
     ensures unit { Reads unit_of fault_of result (first_unit text.now) }
     ensures within { IfOk result (λ u. (0 < length u.bytes.now) × (length u.bytes.now ≤ length text.now)) }
@@ -93,7 +93,7 @@ pub fn first_unit(text: &[u8]) -> Result<Unit<'_>, UnitError>
     match data_heading(content) {
         None => {
             let (bytes, _) = text.split_at(line_len);
-            Ok(Unit {
+            Ok(LineOrBlock {
                 content,
                 bytes,
                 is_block: false,
@@ -106,7 +106,7 @@ pub fn first_unit(text: &[u8]) -> Result<Unit<'_>, UnitError>
                 Err(e) => return Err(e),
             };
             let (bytes, _) = text.split_at(line_len + len);
-            Ok(Unit {
+            Ok(LineOrBlock {
                 content,
                 bytes,
                 is_block: true,

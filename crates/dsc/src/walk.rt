@@ -8,7 +8,7 @@ ghost use Rattle.dsc.specs.Walks.{start_of, behind, IsPiece, IsPieceOf};
 use crate::errors::FaultyBlock;
 use crate::keys::{Meaning, meaning_of};
 use crate::plain::plain_len;
-use crate::units::{Unit, UnitError, first_unit};
+use crate::units::{LineOrBlock, UnitError, first_unit};
 use memchr::memmem::Finder;
 use std::marker::Model;
 
@@ -37,7 +37,7 @@ impl<'d> Model for Walk<'d> {
 /// lines that don't begin with two percent signs are one unit without content.
 #[derive(Clone, Copy)]
 pub struct WalkStep<'d> {
-    pub unit: Unit<'d>,
+    pub unit: LineOrBlock<'d>,
     pub at: usize,
     pub depth: usize,
     pub meaning: Meaning,
@@ -98,7 +98,7 @@ impl<'d> Walk<'d> {
 }
 
 /// The first unit of a text that isn't empty, or the lines at its start that don't begin with two percent signs.
-fn first_piece<'d>(percent_signs: &Finder<'_>, text: &'d [u8]) -> Result<Unit<'d>, UnitError>
+fn first_piece<'d>(percent_signs: &Finder<'_>, text: &'d [u8]) -> Result<LineOrBlock<'d>, UnitError>
     requires needle { percent_signs.now ≡ codes "%%" }
     requires some { 0 < length text.now }
     ensures piece { IfOk result (λ u. IsPieceOf (unit_of u) text.now) }
@@ -109,7 +109,7 @@ fn first_piece<'d>(percent_signs: &Finder<'_>, text: &'d [u8]) -> Result<Unit<'d
         return first_unit(text);
     }
     let (bytes, _) = text.split_at(plain);
-    Ok(Unit {
+    Ok(LineOrBlock {
         content: &[],
         bytes,
         is_block: false,

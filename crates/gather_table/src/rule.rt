@@ -5,11 +5,11 @@ use std::marker::Model;
 
 /// What a seat knows: a history that its caller has seen, and the caller's own calls in it. No value of this type
 /// is ever made.
-pub struct View {
+pub struct SeatKnowledge {
     nothing: (),
 }
 
-impl Model for View {
+impl Model for SeatKnowledge {
     ghost use Rattle.gather_table.specs.Rule.{Sight, spent};
 
     ghost Value = { Sight };
@@ -19,9 +19,9 @@ impl Model for View {
 
 /// Between any two steps there is one legal history. The words hold its state, and every seat has seen a beginning
 /// of it.
-pub struct OneHistory;
+pub struct TableHistory;
 
-impl<'s> TableRule<(), View, Plan<'s>> for OneHistory {
+impl<'s> TableRule<(), SeatKnowledge, Plan<'s>> for TableHistory {
     ghost use Rattle.rules.specs.Sheets.{layout};
     ghost use Rattle.histories.specs.Seats.{opening_sight};
     ghost use Rattle.gather_table.specs.Rule.{Kept};

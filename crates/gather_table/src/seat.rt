@@ -2,7 +2,7 @@
 ghost use Rattle.std.specs.Prelude.{◌≡◌};
 ghost use Rattle.gather_table.specs.Shared.{IsSeat};
 
-use crate::rule::View;
+use crate::rule::SeatKnowledge;
 use std::fmt;
 use std::marker::Model;
 
@@ -10,7 +10,7 @@ use std::marker::Model;
 /// caller's own calls in it. Neither is stored: a seat is eight bytes, its share.
 #[derive(Drop)]
 pub struct Seat {
-    pub(crate) token: atomic_table::Seat<(), View>,
+    pub(crate) token: atomic_table::Seat<(), SeatKnowledge>,
     pub(crate) share: u64,
 }
 

@@ -1,12 +1,12 @@
 //! What each step reveals, and how seats are split and joined.
-use crate::rule::View;
+use crate::rule::SeatKnowledge;
 use atomic_table::{Join, Play, Split};
 use std::marker::{Brand, PhantomData};
 
 /// A publish.
 pub(crate) struct Publishes;
 
-impl Play<(), View> for Publishes {
+impl Play<(), SeatKnowledge> for Publishes {
     ghost use Rattle.gather_table.specs.Steps.{publishes};
 
     ghost then = { publishes };
@@ -15,7 +15,7 @@ impl Play<(), View> for Publishes {
 /// A look-up of a page.
 pub(crate) struct Finds;
 
-impl Play<(), View> for Finds {
+impl Play<(), SeatKnowledge> for Finds {
     ghost use Rattle.gather_table.specs.Steps.{finds};
 
     ghost then = { finds };
@@ -40,16 +40,16 @@ pub(crate) struct Calls<E: Tells> {
     of: PhantomData<E>,
 }
 
-impl<E: Tells> Play<(), View> for Calls<E> {
+impl<E: Tells> Play<(), SeatKnowledge> for Calls<E> {
     ghost use Rattle.gather_table.specs.Steps.{calls};
 
     ghost then = { calls E.entry };
 }
 
 /// A join.
-pub(crate) struct Both;
+pub(crate) struct JoinSeats;
 
-impl Join<View> for Both {
+impl Join<SeatKnowledge> for JoinSeats {
     ghost use Rattle.histories.specs.Seats.{absorbed};
     ghost use Rattle.gather_table.specs.Rule.{spent};
 
@@ -61,7 +61,7 @@ impl Join<View> for Both {
 /// A look after a join, from which the seat learns what the rule says about it.
 pub(crate) struct Learns;
 
-impl Play<(), View> for Learns {
+impl Play<(), SeatKnowledge> for Learns {
     ghost use Rattle.gather_table.specs.Steps.{learns};
 
     ghost then = { learns };
@@ -94,7 +94,7 @@ pub(crate) struct Parted<P: Parts> {
     of: PhantomData<P>,
 }
 
-impl<P: Parts> Split<View> for Parted<P> {
+impl<P: Parts> Split<SeatKnowledge> for Parted<P> {
     ghost use Rattle.histories.specs.Seats.{keeps_back, given};
 
     ghost left = { keeps_back P.first P.share };

@@ -9,7 +9,7 @@ use Rattle.pictures.specs.Operators.{Work, with_operands, judged, located, loade
 use Rattle.pictures.specs.Calculations.{compared}
 use Rattle.pictures.specs.Chains.{is_same_chain, are_same_operands}
 use Rattle.pictures.specs.Machine.{State, Graphics, Segment, Runs, push, worked, traced, may_precede, procedure_for, numbers_before}
-use Rattle.pictures.specs.Sheets.{run_of, among, Numbers, zero_text, edge, point, edge_tokens, border_tokens, saving_tokens, placing_tokens, place_in, border_in, in_userdict}
+use Rattle.pictures.specs.Sheets.{run_of, among, BorderNumbers, Numbers, zero_text, edge, point, edge_tokens, border_tokens, saving_tokens, placing_tokens, place_in, border_in, in_userdict}
 use Rattle.pictures.specs.Sheets.{matrix_of}
 use Rattle.pictures.proofs.Runs.{runs_one, runs_none, runs_join}
 use Rattle.pictures.proofs.Straight.{Known, straight, straight_runs}
@@ -576,16 +576,16 @@ up_to_clip n =
     Name (codes "[") ∷ Number n.a ∷ Number n.b ∷ Number n.c ∷ Number n.d ∷ Number n.x ∷ Number n.y ∷ Name (codes "]")
     ∷ Name (codes "concat") ∷ edge_tokens n
 
-abbrev behind_clip : Numbers → Option (List ℕ) → List Token
-behind_clip n border = Name (codes "newpath") ∷ border_tokens n border
+abbrev behind_clip : Option BorderNumbers → List Token
+behind_clip border = Name (codes "newpath") ∷ border_tokens border
 
 -- with the border painted
-abbrev pub bordered : List Outer → State → Numbers → Option (List ℕ) → State
+abbrev pub bordered : List Outer → State → Numbers → Option BorderNumbers → State
 bordered outers s n border = record (begun outers s n) { painted = border_in s.graphics n border ++ s.painted }
 
-border_is : (outers : List Outer) (n : Numbers) (s : State) (border : Option (List ℕ)) → straight looked_up (behind_clip n border) (begun outers s n) ≡ Some (run_of s.left (bordered outers s n border))
+border_is : (outers : List Outer) (n : Numbers) (s : State) (border : Option BorderNumbers) → straight looked_up (behind_clip border) (begun outers s n) ≡ Some (run_of s.left (bordered outers s n border))
 border_is outers n s None = refl
-border_is outers n s (Some width) = refl
+border_is outers n s (Some b) = refl
 
 all_put_apart : (outers : List Outer) (made : ℕ) (n : Numbers) → all_apart (all_put made n ++ outer_entries outers) looked_up ≡ true
 all_put_apart [] made n = refl
@@ -600,7 +600,7 @@ behind_save outers s n more h =
     let made : ℕ = s.work.made in
     let chain : List Call = (place_in s.graphics n).chain in
     let end : State = run_of more (bordered outers s n n.border) in
-    let clip : List Token = Name (codes "clip") ∷ (behind_clip n n.border ++ more) in
+    let clip : List Token = Name (codes "clip") ∷ (behind_clip n.border ++ more) in
     let s1 : State = within s os (h.guard.number ∷ ds) (put_entries s) made s.graphics in
     let s2 : State = within s os (h.guard.number ∷ ds) (put_entries s) made (record { chain = chain; path = edge n chain; clip = s.graphics.clip; settings = s.graphics.settings }) in
     let first_known : Known looked_up_first s1.work =
@@ -610,9 +610,9 @@ behind_save outers s n more h =
     let names : Known looked_up (begun outers s n).work =
     known_through looked_up ds (all_put (outer_made outers s.work.made) n ++ outer_entries outers) (put_entries s) (differ (all_put (outer_made outers s.work.made) n ++ outer_entries outers) looked_up (all_put_apart outers (outer_made outers s.work.made) n)) here in
     runs_join false (run_of (up_to_clip n ++ clip) s1) (run_of clip s2) end (straight_runs looked_up_first (up_to_clip n) clip s1 s2 first_known refl)
-    (by_name (codes "clip") (behind_clip n n.border ++ more) s2 (run_of (clip_tokens ++ (behind_clip n n.border ++ more)) s2) end (Some (Procedure clip_tokens)) (ap (λ x. or x (meaning ds (put_entries s) (codes "clip"))) h.guard.clip_is) refl
-    (runs_join false (run_of (clip_tokens ++ (behind_clip n n.border ++ more)) s2) (run_of (behind_clip n n.border ++ more) (begun outers s n)) end (page_clips outers s n (behind_clip n n.border ++ more) h)
-    (straight_runs looked_up (behind_clip n n.border) more (begun outers s n) (bordered outers s n n.border) names (border_is outers n s n.border))))
+    (by_name (codes "clip") (behind_clip n.border ++ more) s2 (run_of (clip_tokens ++ (behind_clip n.border ++ more)) s2) end (Some (Procedure clip_tokens)) (ap (λ x. or x (meaning ds (put_entries s) (codes "clip"))) h.guard.clip_is) refl
+    (runs_join false (run_of (clip_tokens ++ (behind_clip n.border ++ more)) s2) (run_of (behind_clip n.border ++ more) (begun outers s n)) end (page_clips outers s n (behind_clip n.border ++ more) h)
+    (straight_runs looked_up (behind_clip n.border) more (begun outers s n) (bordered outers s n n.border) names (border_is outers n s n.border))))
 
 pub page_begins : PageBegins
 unfolding bears

@@ -1,11 +1,11 @@
 -- What a machine prints of an output of a guarded document.
-use Rattle.std.specs.Prelude.{Option, Ok, slice_index_or, ℤ}
+use Rattle.std.specs.Prelude.{Option, Ok, slice_index_or}
 use Rattle.std.proofs.Common.{◌≡◌, ℕ, suc, ◌≤◌, ap, sym, subst, false, true, List, [], length}
 use Rattle.rules.specs.Specification.{Spec}
 use Rattle.rules.specs.Papers.{Paper}
 use Rattle.rules.specs.Parts.{NestedUnit, pages, preamble, bytes_of}
 use Rattle.rules.specs.Run.{document_of, most_input_bytes}
-use Rattle.rules.specs.Output.{Frame, output}
+use Rattle.rules.specs.Output.{Border, Frame, output}
 use Rattle.rules.specs.Signatures.{sheets_in}
 use Rattle.made_sheets.specs.Made.{MadeSheet, made_of}
 use Rattle.made_sheets.specs.Dress.{Dress, undressed}
@@ -46,7 +46,7 @@ page_again frame us again s p picture same h =
     subst (λ page. IsComplete page × (page_comments_apart page ≡ true) × PaintsSheltered [] s (outline_of frame) (tokens page) picture) (ap (λ ps. slice_index_or ps p []) (sym same)) h
 
 -- What impose makes of a document, with the guard put in, if it is in these states after so many pages.
-pub states_are_shown : (at : ℕ → State) (least : ℕ) (sheet : Option Paper) (border : Option ℤ) (dress : Dress) (all : List MadeSheet) (text : List ℕ) (us : List NestedUnit) (picture : ℕ → List Painting)
+pub states_are_shown : (at : ℕ → State) (least : ℕ) (sheet : Option Paper) (border : Option Border) (dress : Dress) (all : List MadeSheet) (text : List ℕ) (us : List NestedUnit) (picture : ℕ → List Painting)
     → ((k : ℕ) (x : Shown) → PaintsSheltered [] (at (suc k)) (outline_tokens x.placed.numbers) x.placed.body x.picture → Places (Runs false) at (at 0).graphics k x)
     → ((k : ℕ) → least ≤ k → Prints (Runs false) (at k))
     → IsQuiet dress → document_of text ≡ Ok us → length (guarded sheet text) ≤ most_input_bytes → preamble_comments_apart (units_of (guarded sheet text)) ≡ true
@@ -71,14 +71,14 @@ by_specification_shown at frame sides spec us again picture same h =
     (subst (λ sheets. Runs false (started (tokens (made_output frame.border undressed sheets again))) (shown_at at frame.border again picture all)) alike h)
 
 -- an accepted document in whose preamble the guard has run
-pub guarded_is_shown : (border : Option ℤ) (dress : Dress) (all : List MadeSheet) (text : List ℕ) (us : List NestedUnit) (picture : ℕ → List Painting) (s : State)
+pub guarded_is_shown : (border : Option Border) (dress : Dress) (all : List MadeSheet) (text : List ℕ) (us : List NestedUnit) (picture : ℕ → List Painting) (s : State)
     → IsQuiet dress → document_of text ≡ Ok us → preamble_comments_apart us ≡ true → PreambleRuns IsGuarded (bytes_of (preamble us)) s
     → OnSheetsFrom (Bodies (Runs false) (still s) border us picture) 0 all → MadeIsPrinted border dress all us picture s
 guarded_is_shown border dress all text us picture s q d apart (complete, run, left, painted, printed, g) bodies =
     still_document_is_shown (Runs false) free_are_runs started border dress all text us picture s q d apart (free_runs_on (bytes_of (preamble us)) s complete run left) painted
     (guarded_prints (Runs false) free_are_runs s g) bodies
 
-pub guarded_bodies : (border : Option ℤ) (us : List NestedUnit) (picture : ℕ → List Painting) (s : State) → IsGuarded s → (all : List MadeSheet)
+pub guarded_bodies : (border : Option Border) (us : List NestedUnit) (picture : ℕ → List Painting) (s : State) → IsGuarded s → (all : List MadeSheet)
     → OnSheetsFrom (λ k own p. GuardedPagePaints (frame_of border own) us s p (picture p)) 0 all → OnSheetsFrom (Bodies (Runs false) (still s) border us picture) 0 all
 guarded_bodies border us picture s g all h =
     on_sheets (λ k own p. GuardedPagePaints (frame_of border own) us s p (picture p)) (Bodies (Runs false) (still s) border us picture)
@@ -91,7 +91,7 @@ guarded_sheets_show_the_pages frame sides spec text us picture s d apart run h =
     (guarded_is_shown frame.border undressed all text us picture s undressed_is_quiet d apart run (guarded_bodies frame.border us picture s run.5 all h))
 
 -- with the guard put in
-pub guarded_again : (border : Option ℤ) (us again : List NestedUnit) (picture : ℕ → List Painting) (s : State) (all : List MadeSheet) → pages again ≡ pages us
+pub guarded_again : (border : Option Border) (us again : List NestedUnit) (picture : ℕ → List Painting) (s : State) (all : List MadeSheet) → pages again ≡ pages us
     → OnSheetsFrom (λ k own p. GuardedPagePaints (frame_of border own) us s p (picture p)) 0 all → OnSheetsFrom (λ k own p. GuardedPagePaints (frame_of border own) again s p (picture p)) 0 all
 guarded_again border us again picture s all same h =
     on_sheets (λ k own p. GuardedPagePaints (frame_of border own) us s p (picture p)) (λ k own p. GuardedPagePaints (frame_of border own) again s p (picture p))

@@ -1,5 +1,5 @@
 -- Documents with a showpage of their own.
-use Rattle.std.specs.Prelude.{Option, Some, Ok, ℤ, codes, if◌then◌else◌}
+use Rattle.std.specs.Prelude.{Option, Some, Ok, codes, if◌then◌else◌}
 use Rattle.std.proofs.lemmas.Bool.{eqb-true}
 use Rattle.std.proofs.Common.{◌≡◌, ℕ, zero, suc, ◌≤◌, refl, ap, ◌∙◌, sym, subst, Bool, true, false, eq-eqb, ◌&&◌, ◌==◌, List, [], ◌∷◌, ◌++◌, length, arith}
 use Rattle.rules.specs.Parts.{NestedUnit, preamble, bytes_of}
@@ -11,6 +11,7 @@ use Rattle.dsc.specs.Units.{units_of}
 use Rattle.guard.specs.Guard.{guarded}
 use Rattle.guard.proofs.TheGuard.{guard_stays}
 use Rattle.rules.specs.Papers.{Paper}
+use Rattle.rules.specs.Output.{Border}
 use Rattle.pictures.specs.Objects.{Token, Name, Object}
 use Rattle.pictures.specs.Dictionaries.{Entry, meaning, entry_of, has, read_only}
 use Rattle.pictures.specs.Operators.{holder}
@@ -184,7 +185,7 @@ own_sheets_are_printed d s xs rest h e b k =
 
 -- Documents.
 
-pub own_is_shown : (sheet : Option Paper) (border : Option ℤ) (dress : Dress) (all : List MadeSheet) (text : List ℕ) (us : List NestedUnit) (picture : ℕ → List Painting) (d : ℕ) (s : State)
+pub own_is_shown : (sheet : Option Paper) (border : Option Border) (dress : Dress) (all : List MadeSheet) (text : List ℕ) (us : List NestedUnit) (picture : ℕ → List Painting) (d : ℕ) (s : State)
     → IsQuiet dress → document_of text ≡ Ok us → length (guarded sheet text) ≤ most_input_bytes → preamble_comments_apart (units_of (guarded sheet text)) ≡ true
     → PreambleRuns (HasItsOwn d) (bytes_of (preamble (units_of (guarded sheet text)))) s → FirstHas 1 all → OnSheetsFrom (PaintsFrom border us picture (asking d s)) 0 all
     → Runs false (started (tokens (made_output border dress all (units_of (guarded sheet text))))) (shown_at (asking d s) border (units_of (guarded sheet text)) picture all)

@@ -9,7 +9,7 @@ use Rattle.pictures.specs.Dictionaries.{Entry, meaning, entry_of}
 use Rattle.pictures.specs.Operators.{holder, is_old, all_old, all_are_old}
 use Rattle.pictures.specs.Machine.{State, Graphics, Painting, Kept, Runs, chain_of}
 use Rattle.pictures.specs.Placing.{Place, graphics_at, painting_at, picture_at}
-use Rattle.pictures.specs.Sheets.{among, Numbers, Shown, AllOf, in_userdict, closing_tokens, sheet_tokens, LeavesAsItWas, page_picture, sheet_picture, place_in, border_in}
+use Rattle.pictures.specs.Sheets.{among, BorderNumbers, Numbers, Shown, AllOf, in_userdict, closing_tokens, sheet_tokens, LeavesAsItWas, page_picture, sheet_picture, place_in, border_in}
 use Rattle.pictures.proofs.Runs.{free_are_runs, runs_join}
 use Rattle.pictures.proofs.Sheets.{Stays, all_stay, all_of, pages_of, pages_run, sheets_run, fresh, still}
 use Rattle.pictures.proofs.Tests.{by_test, first, second}
@@ -28,9 +28,9 @@ use Rattle.guarded_pictures.proofs.PutThere.{means_other, has_other, held_other,
 
 -- The picture.
 
-border_at : (p : Place) (g : Graphics) (n : Numbers) (border : Option (List ℕ)) → map (painting_at p) (border_in g n border) ≡ border_in (graphics_at p g) n border
+border_at : (p : Place) (g : Graphics) (n : Numbers) (border : Option BorderNumbers) → map (painting_at p) (border_in g n border) ≡ border_in (graphics_at p g) n border
 border_at p g n None = refl
-border_at p g n (Some width) = refl
+border_at p g n (Some b) = refl
 
 page_at : (p : Place) (g : Graphics) (x : Shown) → picture_at p (page_picture g x) ≡ page_picture (graphics_at p g) x
 page_at p g x =

@@ -1,5 +1,5 @@
 -- What a machine prints of two runs of impose, one on what the other wrote.
-use Rattle.std.specs.Prelude.{Option, Ok, nat_lt, slice_index_or, flat_map, ℤ}
+use Rattle.std.specs.Prelude.{Option, Ok, nat_lt, slice_index_or, flat_map}
 use Rattle.std.specs.List.{enumerate_from}
 use Rattle.std.proofs.Common.{◌≡◌, ℕ, zero, suc, ◌<◌, ◌≤◌, refl, ap, ◌∙◌, sym, subst, true, false, List, [], ◌∷◌, ◌++◌, map, append-nil, length, arith}
 use Rattle.std.proofs.lemmas.Bool.{ltb-true, ltb-false}
@@ -11,7 +11,7 @@ use Rattle.rules.specs.Signatures.{sheets_in}
 use Rattle.rules.specs.Parts.{NestedUnit, pages, preamble, page_run, bytes_of}
 use Rattle.rules.specs.Run.{document_of, most_input_bytes, most_pages}
 use Rattle.rules.specs.Filters.{prepared}
-use Rattle.rules.specs.Output.{Frame, body_text, output}
+use Rattle.rules.specs.Output.{Border, Frame, body_text, output}
 use Rattle.made_sheets.specs.Made.{MadeSlot, Blank, Placed, MadeSheet}
 use Rattle.made_sheets.specs.Dress.{Dress, undressed}
 use Rattle.made_sheets.specs.MadeOutput.{made_sheet_text, made_output}
@@ -58,13 +58,13 @@ on_sheet P k (sheet ∷ all) zero h = anyhow P k 0 sheet.slots h.0
 on_sheet P k (sheet ∷ all) (suc p) h = on_sheet P (pages_past k sheet.slots) all p h.1
 
 -- what is kept of a page within
-abbrev Within : Option ℤ → List NestedUnit → (ℕ → List Painting) → Frame → State → ℕ → Paper → ℕ → Type 0
+abbrev Within : Option Border → List NestedUnit → (ℕ → List Painting) → Frame → State → ℕ → Paper → ℕ → Type 0
 Within border us picture outer s k own p =
     IsComplete (body_of_page us p)
     × ((item : Item)
     → PaintsSheltered (page_round [] s (numbers_of outer item) ∷ []) (page_begun [] s (numbers_of outer item)) (outline_of (frame_of border own)) (tokens (body_of_page us p)) (picture p))
 
-body_paints : (border : Option ℤ) (us : List NestedUnit) (picture : ℕ → List Painting) (outer : Frame) (s : State) (k : ℕ) (own : Paper) (p : ℕ)
+body_paints : (border : Option Border) (us : List NestedUnit) (picture : ℕ → List Painting) (outer : Frame) (s : State) (k : ℕ) (own : Paper) (p : ℕ)
     → PagePaintsWithin (frame_of border own) us outer s p (picture p) → Within border us picture outer s k own p
 body_paints border us picture outer s k own p (complete, apart, h) =
     let alike = kept_runs_alike (page_of us p) apart complete in (
@@ -72,7 +72,7 @@ body_paints border us picture outer s k own p (complete, apart, h) =
       λ item. subst (λ ts. PaintsSheltered (page_round [] s (numbers_of outer item) ∷ []) (page_begun [] s (numbers_of outer item)) (outline_of (frame_of border own)) ts (picture p)) (sym alike.0) (h item),
     )
 
-slots_within : (border : Option ℤ) (us : List NestedUnit) (outer : Frame) (picture : ℕ → List Painting) (s : State) (at : Item) (k : ℕ) (slots : List MadeSlot)
+slots_within : (border : Option Border) (us : List NestedUnit) (outer : Frame) (picture : ℕ → List Painting) (s : State) (at : Item) (k : ℕ) (slots : List MadeSlot)
     → OnSlotsFrom (Within border us picture outer s) k slots
     → AllSheltered (page_round [] s (numbers_of outer at) ∷ []) (page_begun [] s (numbers_of outer at)) (flat_map (shown_slot border us picture) slots)
 slots_within border us outer picture s at k [] h = tt
@@ -80,14 +80,14 @@ slots_within border us outer picture s at k (Blank ∷ slots) h = slots_within b
 slots_within border us outer picture s at k (Placed p item own ∷ slots) h = (h.0.1 at, slots_within border us outer picture s at (suc k) slots h.1)
 
 -- the text of a page of the second document is that of a sheet of the first run
-made_sheet_of : (border : Option ℤ) (dress : Dress) (texts : List (List ℕ)) (all : List MadeSheet) (p : ℕ) → p < length all
+made_sheet_of : (border : Option Border) (dress : Dress) (texts : List (List ℕ)) (all : List MadeSheet) (p : ℕ) → p < length all
     → slice_index_or (made_texts border dress texts all) p [] ≡ made_sheet_text border dress texts p (sheet_at all p)
 made_sheet_of border dress texts all p less =
     get_or-map (λ (k, sheet). made_sheet_text border dress texts k sheet) (enumerate_from 0 all) p (0, empty_sheet) [] (subst (λ n. p < n) (sym (length-enumerate_from 0 all)) less)
     ∙ ap (λ (k, sheet). made_sheet_text border dress texts k sheet) (get_or-enumerate_from 0 all p (0, empty_sheet) less)
     ∙ ap (λ k. made_sheet_text border dress texts k (sheet_at all p)) (omega arith)
 
-made_texts_counted : (border : Option ℤ) (dress : Dress) (texts : List (List ℕ)) (all : List MadeSheet) → length (made_texts border dress texts all) ≡ length all
+made_texts_counted : (border : Option Border) (dress : Dress) (texts : List (List ℕ)) (all : List MadeSheet) → length (made_texts border dress texts all) ≡ length all
 made_texts_counted border dress texts all = length-map (enumerate_from 0 all) (λ (k, sheet). made_sheet_text border dress texts k sheet) ∙ length-enumerate_from 0 all
 
 -- a text that is read to its end has these tokens
@@ -102,7 +102,7 @@ empty_places s n t =
     page_places [] s (record { placed = record { numbers = n; body = [] }; picture = [] }) t.takes
     (record { end = sheltered [] s (outline_tokens n) []; run = (zero, refl); leaves = sheet_leaves [] s n [] s.painted s.sheets t; picture_is = refl })
 
-sheet_again : (border : Option ℤ) (dress : Dress) (us : List NestedUnit) (outer : Frame) (picture : ℕ → List Painting) (s : State) (all : List MadeSheet) (again : List NestedUnit) (k p : ℕ)
+sheet_again : (border : Option Border) (dress : Dress) (us : List NestedUnit) (outer : Frame) (picture : ℕ → List Painting) (s : State) (all : List MadeSheet) (again : List NestedUnit) (k p : ℕ)
     → IsQuiet dress → TakesSheets [] s → OnSlotsFrom (Within border us picture outer s) 0 (sheet_at all p).slots → pages again ≡ made_texts border dress (pages us) all
     → page_comments_apart (page_of again p) ≡ true → p < length all
     → BodyPlaces (Runs false) (still s) outer again k p (made_run_picture border us picture s all p)
@@ -119,7 +119,7 @@ sheet_again border dress us outer picture s all again k p q t here same apart le
           (sheet_places [] s (numbers_of outer item) xs t (slots_within border us outer picture s item 0 sheet.slots here)),
     )
 
-no_sheet : (border : Option ℤ) (dress : Dress) (us : List NestedUnit) (outer : Frame) (picture : ℕ → List Painting) (s : State) (all : List MadeSheet) (again : List NestedUnit) (k p : ℕ)
+no_sheet : (border : Option Border) (dress : Dress) (us : List NestedUnit) (outer : Frame) (picture : ℕ → List Painting) (s : State) (all : List MadeSheet) (again : List NestedUnit) (k p : ℕ)
     → TakesSheets [] s → pages again ≡ made_texts border dress (pages us) all → length all ≤ p → BodyPlaces (Runs false) (still s) outer again k p (made_run_picture border us picture s all p)
 no_sheet border dress us outer picture s all again k p t same past =
     let text : page_of again p ≡ [] = ap (λ ps. slice_index_or ps p []) same ∙ get_or_past (made_texts border dress (pages us) all) p [] (subst (λ n. n ≤ p) (sym (made_texts_counted border dress (pages us) all)) past) in
@@ -128,7 +128,7 @@ no_sheet border dress us outer picture s all again k p t same past =
     × ((item : Item) → Stays (Runs false) s (record { placed = record { numbers = numbers_of outer item; body = tokens (body_text (prepared page)) }; picture = sheet_picture (beginning s) (shown_sheet border us picture here) [] })) in
     subst (λ page. at page (sheet_at all p)) (sym text) (subst (λ here. at [] here) (sym none) (refl, λ item. empty_places s (numbers_of outer item) t))
 
-each_again : (border : Option ℤ) (dress : Dress) (us : List NestedUnit) (outer : Frame) (picture : ℕ → List Painting) (s : State) (all : List MadeSheet) (again : List NestedUnit) (k p : ℕ)
+each_again : (border : Option Border) (dress : Dress) (us : List NestedUnit) (outer : Frame) (picture : ℕ → List Painting) (s : State) (all : List MadeSheet) (again : List NestedUnit) (k p : ℕ)
     → IsQuiet dress → TakesSheets [] s → OnSlots (λ own n. PagePaintsWithin (frame_of border own) us outer s n (picture n)) (sheet_at all p).slots → pages again ≡ made_texts border dress (pages us) all
     → page_comments_apart (page_of again p) ≡ true → BodyPlaces (Runs false) (still s) outer again k p (made_run_picture border us picture s all p)
 each_again border dress us outer picture s all again k p q t h same apart = by_test (nat_lt p (length all))
@@ -152,7 +152,7 @@ both_sheets P Q k (sheet ∷ all) h j = (both_slots P Q k sheet.slots h.0 j.0, b
 abbrev Apart : List NestedUnit → Paper → ℕ → Type 0
 Apart again own p = page_comments_apart (page_of again p) ≡ true
 
-again_is_shown : (border outer_border : Option ℤ) (dress outer_dress : Dress) (all outer_all : List MadeSheet) (text : List ℕ) (us again : List NestedUnit) (picture : ℕ → List Painting) (s : State)
+again_is_shown : (border outer_border : Option Border) (dress outer_dress : Dress) (all outer_all : List MadeSheet) (text : List ℕ) (us again : List NestedUnit) (picture : ℕ → List Painting) (s : State)
     → IsQuiet dress → IsQuiet outer_dress → document_of text ≡ Ok again → pages again ≡ made_texts border dress (pages us) all
     → preamble_comments_apart again ≡ true → PreambleRuns IsGuarded (bytes_of (preamble again)) s → TakesSheets [] s
     → OnSheets (Apart again) outer_all → OnSheets (SheetPaintsWithin border all us picture outer_border s) outer_all
@@ -165,12 +165,12 @@ again_is_shown border outer_border dress outer_dress all outer_all text us again
     0 outer_all (both_sheets (Apart again) Paints 0 outer_all kept h))
 
 -- what a run wrote, with the guard put in, is a document with its sheets as pages
-abbrev Facts : Option Paper → Option ℤ → Dress → List MadeSheet → List NestedUnit → List ℕ → Type 0
+abbrev Facts : Option Paper → Option Border → Dress → List MadeSheet → List NestedUnit → List ℕ → Type 0
 Facts sheet border dress all us out =
     length (guarded sheet out) ≤ most_input_bytes
     → (document_of (guarded sheet out) ≡ Ok (units_of (guarded sheet out))) × (pages (units_of (guarded sheet out)) ≡ made_texts border dress (pages us) all)
 
-facts : (sheet : Option Paper) (border : Option ℤ) (dress : Dress) (all : List MadeSheet) (text : List ℕ) (us : List NestedUnit) → IsTameDress dress → document_of text ≡ Ok us → depth_behind (page_run us) ≡ 0
+facts : (sheet : Option Paper) (border : Option Border) (dress : Dress) (all : List MadeSheet) (text : List ℕ) (us : List NestedUnit) → IsTameDress dress → document_of text ≡ Ok us → depth_behind (page_run us) ≡ 0
     → 0 < length all → length all ≤ most_pages → length (made_output border dress all us) ≤ most_input_bytes → Facts sheet border dress all us (made_output border dress all us)
 facts sheet border dress all text us tame d shut some few long longer =
     let out : List ℕ = made_output border dress all us in

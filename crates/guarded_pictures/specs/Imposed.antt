@@ -1,8 +1,9 @@
 -- What impose makes of a guarded document on sheets that are reported as one paper, by whatever layout.
-use Rattle.std.specs.Prelude.{◌≡◌, ℕ, ◌≤◌, List, [], ◌∷◌, true, false, length, map, Option, Ok, ℤ}
+use Rattle.std.specs.Prelude.{◌≡◌, ℕ, ◌≤◌, List, [], ◌∷◌, true, false, length, map, Option, Ok}
 use Rattle.rules.specs.Papers.{Paper}
 use Rattle.rules.specs.Parts.{NestedUnit, preamble, bytes_of}
 use Rattle.rules.specs.Run.{document_of, most_input_bytes}
+use Rattle.rules.specs.Output.{Border}
 use Rattle.made_sheets.specs.Made.{MadeSheet}
 use Rattle.made_sheets.specs.MadeOutput.{made_output}
 use Rattle.dsc.specs.Units.{units_of}
@@ -38,7 +39,7 @@ TellingIsQuiet = (all : List MadeSheet) → AreToldAsOne all → IsQuiet (tellin
 -- document's own pages are shown, each on its own paper, under the premises of a specification's sheets: a law
 abbrev pub MadeDocumentIsShown : Type 0
 MadeDocumentIsShown =
-    (sheet : Option Paper) (border : Option ℤ) (all : List MadeSheet) (text : List ℕ) (us : List NestedUnit)
+    (sheet : Option Paper) (border : Option Border) (all : List MadeSheet) (text : List ℕ) (us : List NestedUnit)
     (picture : ℕ → List Painting) (s : State)
     → AreToldAsOne all → document_of text ≡ Ok us → length (guarded sheet text) ≤ most_input_bytes
     → preamble_comments_apart (units_of (guarded sheet text)) ≡ true
@@ -49,7 +50,7 @@ MadeDocumentIsShown =
 -- the same of a document with a showpage of its own, if the first sheet has a page: a law
 abbrev pub OwnMadeDocumentIsShown : Type 0
 OwnMadeDocumentIsShown =
-    (sheet : Option Paper) (border : Option ℤ) (all : List MadeSheet) (text : List ℕ) (us : List NestedUnit)
+    (sheet : Option Paper) (border : Option Border) (all : List MadeSheet) (text : List ℕ) (us : List NestedUnit)
     (picture : ℕ → List Painting) (d : ℕ) (s : State)
     → AreToldAsOne all → document_of text ≡ Ok us → length (guarded sheet text) ≤ most_input_bytes
     → preamble_comments_apart (units_of (guarded sheet text)) ≡ true
@@ -61,7 +62,7 @@ OwnMadeDocumentIsShown =
 -- and of one that leaves userdict's showpage empty: a law
 abbrev pub SilencedMadeDocumentIsShown : Type 0
 SilencedMadeDocumentIsShown =
-    (sheet : Option Paper) (border : Option ℤ) (all : List MadeSheet) (text : List ℕ) (us : List NestedUnit)
+    (sheet : Option Paper) (border : Option Border) (all : List MadeSheet) (text : List ℕ) (us : List NestedUnit)
     (picture : ℕ → List Painting) (s : State)
     → AreToldAsOne all → document_of text ≡ Ok us → length (guarded sheet text) ≤ most_input_bytes
     → preamble_comments_apart (units_of (guarded sheet text)) ≡ true

@@ -1,6 +1,6 @@
 -- The sheets of a guarded document: each page is what it is by itself, placed.
 use Rattle.std.specs.Prelude.{◌≡◌, ℕ, ◌+◌, ◌^◌, ◌<◌, ◌≤◌, List, [], ◌∷◌, ◌++◌, map, Bool, true, false, not, ◌&&◌, ◌==◌}
-use Rattle.std.specs.Prelude.{suc, ℤ, Option, Some, Ok, codes, length}
+use Rattle.std.specs.Prelude.{suc, Option, Some, Ok, codes, length}
 use Rattle.rules.specs.Specification.{Spec}
 use Rattle.rules.specs.Numbers.{points_text}
 use Rattle.rules.specs.Parts.{NestedUnit, preamble, bytes_of}
@@ -9,7 +9,7 @@ use Rattle.rules.specs.Run.{document_of, most_input_bytes}
 use Rattle.rules.specs.Papers.{Paper}
 use Rattle.dsc.specs.Units.{units_of}
 use Rattle.guard.specs.Guard.{guarded}
-use Rattle.rules.specs.Output.{Frame}
+use Rattle.rules.specs.Output.{Border, Frame}
 use Rattle.made_sheets.specs.Made.{MadeSheet}
 use Rattle.pictures.specs.Objects.{Token, Truth, Procedure, Dictionary, Matrix}
 use Rattle.pictures.specs.Dictionaries.{Entry, userdict, system, meaning, entry_of}
@@ -253,11 +253,11 @@ abbrev pub AllSheetsShelteredFrom : (ℕ → State) → ℕ → List (List Shown
 AllSheetsShelteredFrom at k [] = Unit {0}
 AllSheetsShelteredFrom at k (xs ∷ more) = AllShelteredFrom at k xs × AllSheetsShelteredFrom at (past k xs) more
 
-abbrev pub PaintsFrom : Option ℤ → List NestedUnit → (ℕ → List Painting) → (ℕ → State) → ℕ → Paper → ℕ → Type 0
+abbrev pub PaintsFrom : Option Border → List NestedUnit → (ℕ → List Painting) → (ℕ → State) → ℕ → Paper → ℕ → Type 0
 PaintsFrom border us picture at k own p = GuardedPagePaints (frame_of border own) us (at (suc k)) p (picture p)
 
 -- the state after the sheets of a document, with the trailer to run
-abbrev pub shown_at : (ℕ → State) → Option ℤ → List NestedUnit → (ℕ → List Painting) → List MadeSheet → State
+abbrev pub shown_at : (ℕ → State) → Option Border → List NestedUnit → (ℕ → List Painting) → List MadeSheet → State
 shown_at at border us picture all = record (at (pages_past_all 0 all)) {
   left = tokens (trailer_text us);
   painted = [];

@@ -1,8 +1,8 @@
 -- Two runs, by whatever layouts or by specifications, one run on what the other wrote.
-use Rattle.std.specs.Prelude.{◌≡◌, ℕ, ◌<◌, ◌≤◌, List, [], length, true, Option, Ok, ℤ, pos, slice_index_or}
+use Rattle.std.specs.Prelude.{◌≡◌, ℕ, ◌<◌, ◌≤◌, List, [], length, true, Option, Ok, pos, slice_index_or}
 use Rattle.rules.specs.Papers.{Paper}
 use Rattle.rules.specs.Specification.{Spec}
-use Rattle.rules.specs.Output.{Frame, output}
+use Rattle.rules.specs.Output.{Border, Frame, output}
 use Rattle.rules.specs.Parts.{NestedUnit, preamble, page_run, bytes_of}
 use Rattle.rules.specs.Run.{document_of, most_input_bytes, most_pages}
 use Rattle.made_sheets.specs.Made.{MadeSheet}
@@ -22,7 +22,7 @@ use Rattle.guarded_pictures.specs.Pages.{IsGuarded}
 use Rattle.guarded_pictures.specs.SheetsOfSheets.{TakesSheets, PagePaintsWithin}
 
 -- the units of what a run wrote, with the guard put in
-abbrev pub written_again : Option Paper → Option ℤ → Dress → List MadeSheet → List NestedUnit → List NestedUnit
+abbrev pub written_again : Option Paper → Option Border → Dress → List MadeSheet → List NestedUnit → List NestedUnit
 written_again sheet border dress all us = units_of (guarded sheet (made_output border dress all us))
 
 -- sheet p; a number that no sheet has means one with nothing on it
@@ -33,12 +33,12 @@ abbrev pub sheet_at : List MadeSheet → ℕ → MadeSheet
 sheet_at all p = slice_index_or all p empty_sheet
 
 -- its own picture
-abbrev pub made_run_picture : Option ℤ → List NestedUnit → (ℕ → List Painting) → State → List MadeSheet → ℕ → List Painting
+abbrev pub made_run_picture : Option Border → List NestedUnit → (ℕ → List Painting) → State → List MadeSheet → ℕ → List Painting
 made_run_picture border us picture s all p = sheet_picture (beginning s) (shown_sheet border us picture (sheet_at all p)) []
 
 -- each page on a sheet of the first run paints its picture by itself within whatever place of a page with this paper
 abbrev pub SheetPaintsWithin :
-    Option ℤ → List MadeSheet → List NestedUnit → (ℕ → List Painting) → Option ℤ → State → Paper → ℕ → Type 0
+    Option Border → List MadeSheet → List NestedUnit → (ℕ → List Painting) → Option Border → State → Paper → ℕ → Type 0
 SheetPaintsWithin border all us picture outer_border s paper q =
     OnSlots (λ own p. PagePaintsWithin (frame_of border own) us (frame_of outer_border paper) s p (picture p))
     (sheet_at all q).slots
@@ -49,7 +49,7 @@ SheetPaintsWithin border all us picture outer_border s paper q =
 -- picture by itself there. A law
 abbrev pub TwoMadeRunsAreShown : Type 0
 TwoMadeRunsAreShown =
-    (sheet : Option Paper) (border outer_border : Option ℤ) (dress outer_dress : Dress) (all outer_all : List MadeSheet)
+    (sheet : Option Paper) (border outer_border : Option Border) (dress outer_dress : Dress) (all outer_all : List MadeSheet)
     (text : List ℕ) (us : List NestedUnit) (picture : ℕ → List Painting) (s : State)
     → IsQuiet dress → IsTameDress dress → IsQuiet outer_dress
     → document_of text ≡ Ok us → depth_behind (page_run us) ≡ 0

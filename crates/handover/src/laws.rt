@@ -4,7 +4,7 @@ ghost use Rattle.handover.specs.Laws.{OwnMovesAreKept, MovesStandInOneHistory, S
 ghost use Rattle.handover.specs.Laws.{RoomIsUsedUp};
 ghost use Rattle.handover.specs.Rule.{PassesStandTogether};
 
-use crate::rule::{OneHistory, View};
+use crate::rule::{HandoverHistory, PassKnowledge};
 use crossbeam_queue::protocol::Protocol;
 
 /// Sheets are taken in the order in which they were put; none is lost or duplicated.
@@ -54,5 +54,5 @@ pub fn room_is_used_up()
 /// content is what the queue holds. No move is that of two passes. That content, with the puts that they may still
 /// make by right, is at most the queue's capacity, which is the one that each pass with a share knows.
 pub fn passes_stand_together()
-    ensures { PassesStandTogether ⟦<OneHistory as Protocol<u32, View>>⟧.holds }
+    ensures { PassesStandTogether ⟦<HandoverHistory as Protocol<u32, PassKnowledge>>⟧.holds }
 {}

@@ -2,7 +2,7 @@
 ghost use Rattle.std.specs.Prelude.{◌≡◌};
 ghost use Rattle.handover.specs.Passes.{IsPass, puts_in};
 
-use crate::rule::View;
+use crate::rule::PassKnowledge;
 use std::fmt;
 use std::marker::Model;
 
@@ -13,7 +13,7 @@ pub(crate) const WHOLE_SHARE: u64 = 4_294_967_296;
 /// the caller's own puts and takes in it. Neither is stored: a pass is its share and its room.
 #[derive(Drop)]
 pub struct Pass {
-    pub(crate) token: crossbeam_queue::Pass<u32, View>,
+    pub(crate) token: crossbeam_queue::Pass<u32, PassKnowledge>,
     pub(crate) share: u64,
     /// How many puts it may make that won't be refused. None if puts aren't made by right.
     pub(crate) room: Option<u32>,

@@ -10,8 +10,8 @@ ghost use Rattle.handover.specs.Steps.{opened};
 
 use crate::pass::{Pass, WHOLE_SHARE};
 use crate::room::{both_rooms, may_put, room_after_put, room_given, room_kept};
-use crate::rule::{OneHistory, View};
-use crate::steps::{Both, HistoryCut, Opens, Picks, Puts, Takes};
+use crate::rule::{HandoverHistory, PassKnowledge};
+use crate::steps::{HistoryCut, JoinPasses, Opens, Picks, Puts, Takes};
 use crossbeam_queue::RuledArrayQueue;
 use std::alloc::{AllocError, Global};
 use std::marker::{Brand, Model};
@@ -23,7 +23,7 @@ use thiserror::Error;
 #[error("the queue has no room for sheet {0}")]
 pub struct Full(pub u32);
 
-type Line = RuledArrayQueue<u32, View, OneHistory>;
+type Line = RuledArrayQueue<u32, PassKnowledge, HandoverHistory>;
 
 /// The sheets that are ready, oldest first: a bounded queue for many threads, without a lock.
 ///
@@ -189,8 +189,8 @@ impl Ready {
             share: more,
             room: more_room,
         } = two;
-        self.line.absorb::<Both>(&mut token, other);
-        self.line.learn_as::<Both>(&mut token);
+        self.line.absorb::<JoinPasses>(&mut token, other);
+        self.line.learn_as::<JoinPasses>(&mut token);
         Pass {
             token,
             share: share + more,
@@ -200,7 +200,7 @@ impl Ready {
 }
 
 /// The pass with which a queue was made learns the queue's capacity, and gets its room.
-fn open<N: Picks>(line: &Line, token: &mut crossbeam_queue::Pass<u32, View>)
+fn open<N: Picks>(line: &Line, token: &mut crossbeam_queue::Pass<u32, PassKnowledge>)
     requires token { Rattle.crossbeam_queue.specs.Passes.IsPassOf line.now token.old × (view token.old ≡ opening) }
     requires number { (N.number ≤ u32.MAX) × (puts_in N.room ≤ N.number) }
     ensures { Rattle.crossbeam_queue.specs.Passes.IsPassOf line.now token.new

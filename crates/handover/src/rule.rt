@@ -4,11 +4,11 @@ use std::marker::Model;
 
 /// What a pass knows: a history that its caller has seen, the caller's own moves in it, and how many puts it may
 /// make by right. No value of this type is ever made.
-pub struct View {
+pub struct PassKnowledge {
     nothing: (),
 }
 
-impl Model for View {
+impl Model for PassKnowledge {
     ghost use Rattle.handover.specs.Rule.{Sight, spent};
 
     ghost Value = { Sight };
@@ -18,9 +18,9 @@ impl Model for View {
 
 /// Between any two steps there is one history. The queue holds its content, and every pass has seen a beginning of
 /// it. The queue has room for its content and for all puts that may be made by right.
-pub struct OneHistory;
+pub struct HandoverHistory;
 
-impl Protocol<u32, View> for OneHistory {
+impl Protocol<u32, PassKnowledge> for HandoverHistory {
     ghost use Rattle.handover.specs.Rule.{Kept, opening};
 
     ghost holds = { Kept };

@@ -1,19 +1,19 @@
 //! What each step reveals, and how passes are split and joined.
-use crate::rule::View;
+use crate::rule::PassKnowledge;
 use crossbeam_queue::protocol::{Join, Lesson, Outcome, Split};
 use std::marker::{Brand, PhantomData};
 
 /// A put: the sheet was put, or the queue was full.
 pub(crate) struct Puts;
 
-impl Outcome<u32, View> for Puts {
+impl Outcome<u32, PassKnowledge> for Puts {
     ghost use Rattle.handover.specs.Queue.{Put};
     ghost use Rattle.handover.specs.Steps.{Adds};
 
     ghost then = { λ v x w. Adds v (Put x) w };
 }
 
-impl Lesson<u32, View> for Puts {
+impl Lesson<u32, PassKnowledge> for Puts {
     ghost use Rattle.handover.specs.Steps.{Sees};
 
     ghost fact = { Sees };
@@ -22,14 +22,14 @@ impl Lesson<u32, View> for Puts {
 /// A take: a sheet was taken, or the queue was empty.
 pub(crate) struct Takes;
 
-impl Outcome<u32, View> for Takes {
+impl Outcome<u32, PassKnowledge> for Takes {
     ghost use Rattle.handover.specs.Queue.{Take};
     ghost use Rattle.handover.specs.Steps.{Adds};
 
     ghost then = { λ v x w. Adds v (Take x) w };
 }
 
-impl Lesson<u32, View> for Takes {
+impl Lesson<u32, PassKnowledge> for Takes {
     ghost use Rattle.handover.specs.Steps.{Sees};
 
     ghost fact = { Sees };
@@ -57,7 +57,7 @@ pub(crate) struct HistoryCut<N: Picks> {
     of: PhantomData<N>,
 }
 
-impl<N: Picks> Split<View> for HistoryCut<N> {
+impl<N: Picks> Split<PassKnowledge> for HistoryCut<N> {
     ghost use Rattle.handover.specs.Passes.{puts_in};
     ghost use Rattle.handover.specs.Steps.{keeps_of, gets_of};
 
@@ -67,9 +67,9 @@ impl<N: Picks> Split<View> for HistoryCut<N> {
 }
 
 /// A join, and the look after it, from which the pass learns what the rule says about it.
-pub(crate) struct Both;
+pub(crate) struct JoinPasses;
 
-impl Join<View> for Both {
+impl Join<PassKnowledge> for JoinPasses {
     ghost use Rattle.handover.specs.Rule.{spent};
     ghost use Rattle.handover.specs.Steps.{both_of};
 
@@ -78,7 +78,7 @@ impl Join<View> for Both {
     ghost spent = { spent };
 }
 
-impl Lesson<u32, View> for Both {
+impl Lesson<u32, PassKnowledge> for JoinPasses {
     ghost use Rattle.handover.specs.Steps.{Learns};
 
     ghost fact = { Learns };
@@ -89,7 +89,7 @@ pub(crate) struct Opens<N: Picks> {
     of: PhantomData<N>,
 }
 
-impl<N: Picks> Split<View> for Opens<N> {
+impl<N: Picks> Split<PassKnowledge> for Opens<N> {
     ghost use Rattle.handover.specs.Steps.{opened, spent_of};
 
     ghost left = { λ v. opened N.number N.room };

@@ -1,7 +1,7 @@
 //! The program: it reads a document and writes its pages on sheets, as its command line says.
 #![tactic(auto)]
 
-use impose_cli::{CommandFault, Ended, Fault, fault_status, impose, text_said};
+use impose_cli::{Ended, ImposeFault, RequestFault, fault_status, impose, text_said};
 use std::alloc::Global;
 use std::env;
 use std::env::Env;
@@ -12,7 +12,7 @@ use world::{Host, World, tell};
 fn main(rt: HostRuntime) -> ExitCode {
     let words = match words(&rt) {
         Ok(words) => words,
-        Err(fault) => return stop(&rt, Fault::Command(fault)),
+        Err(fault) => return stop(&rt, ImposeFault::Command(fault)),
     };
     let world = Host::new(&rt, rt.stdin(), rt.stdout());
     let paper_size = paper_size(&rt);
@@ -20,11 +20,13 @@ fn main(rt: HostRuntime) -> ExitCode {
     let ended = impose(&rt, rt.alloc(), words.as_slice(), paper_size, world);
     let printed = match &ended.outcome {
         // Help and the version go to standard output.
-        Err(Fault::Command(CommandFault::Words(asked))) if !asked.use_stderr() => asked.print(&rt),
+        Err(ImposeFault::Command(RequestFault::Words(asked))) if !asked.use_stderr() => asked.print(
+            &rt,
+        ),
         _ => Ok(()),
     };
     if let Err(cause) = printed {
-        let fault = Fault::Write {
+        let fault = ImposeFault::Write {
             written: 0,
             cause: Some(cause),
         };
@@ -42,11 +44,11 @@ fn said<W: World>(alloc: Global, ended: Ended<W>, words: &[String]) -> (String, 
 }
 
 /// The words, of which the first is the program's name.
-fn words(rt: &(impl Env + AllocGlobal)) -> Result<Vec<String>, CommandFault> {
+fn words(rt: &(impl Env + AllocGlobal)) -> Result<Vec<String>, RequestFault> {
     match env::args(rt) {
         Ok(args) => Ok(args.collect(rt.alloc())?),
-        Err(error) if error.kind() == ErrorKind::OutOfMemory => Err(CommandFault::NoMemory),
-        Err(_) => Err(CommandFault::NoText),
+        Err(error) if error.kind() == ErrorKind::OutOfMemory => Err(RequestFault::NoMemory),
+        Err(_) => Err(RequestFault::NoText),
     }
 }
 
@@ -59,7 +61,7 @@ fn paper_size(rt: &(impl Env + AllocGlobal)) -> String {
 }
 
 /// Ends with a fault before the words are read, or after the help.
-fn stop(rt: &HostRuntime, fault: Fault) -> ExitCode {
+fn stop(rt: &HostRuntime, fault: ImposeFault) -> ExitCode {
     let status = fault_status(&fault);
     let text = text_said(rt.alloc(), &Err(fault), None, &[]);
     ExitCode::from(tell(&mut rt.stderr(), text.as_str().as_bytes(), status))

@@ -15,13 +15,13 @@ use Rattle.papers.proofs.Tame.{telling_is_tame}
 use Rattle.made_sheets.specs.Dress.{Dress}
 use Rattle.dressing.specs.Drawn.{marked}
 use Rattle.dressing.proofs.Tame.{marks_are_tame}
-use Rattle.row_runs.specs.BySpec.{output_by_spec}
-use Rattle.row_runs.specs.Runs.{output_on, strokes_on}
+use Rattle.row_runs.specs.BySpec.{border_by_spec, output_by_spec}
+use Rattle.row_runs.specs.Runs.{border_on, output_on, strokes_on}
 use Rattle.impose_cli.specs.Tasks.{FinishesSpec, frame_used, sheet_paper_found, taken_text}
 use Rattle.impose_cli.specs.RowTasks.{FinishesRow, text_for}
 use Rattle.impose_cli.specs.SpecRows.{FinishesSpecRow}
 use Rattle.impose_cli.specs.Laws.{IsDocumentAgain, IsMadeDocument, WroteDocument, sheets_named}
-use Rattle.impose_words.specs.declared.request.Request.{Request}
+use Rattle.impose_words.specs.declared.request.ImposeRequest.{ImposeRequest}
 use Rattle.impose_said.specs.declared.finished.Finished.{Finished}
 
 -- bytes behind the same ones are the same
@@ -30,7 +30,7 @@ behind old one other e = sym (drop-append_seam old one) ∙ ap (drop (length old
 
 -- ---- by a specification
 
-spec_again : (r : Request) (input old text : List ℕ) (done : Finished) (h : FinishesSpec r input (Some old) (Some (old ++ text)) done)
+spec_again : (r : ImposeRequest) (input old text : List ℕ) (done : Finished) (h : FinishesSpec r input (Some old) (Some (old ++ text)) done)
     → length (output (frame_used r done) None h.spec h.units) ≤ most_input_bytes
     → IsDocumentAgain (frame_used r done) (sheets_named h) h.units (output (frame_used r done) None h.spec h.units)
 spec_again r input old text done h l =
@@ -55,17 +55,17 @@ few_sheets pages all e =
     let first = passes (nat_lt most_pages pages) MadeTooManyPages _ all e in
     ltb-false _ _ (passes (nat_lt most_sheets (length all)) MadeTooManySheets _ all first.1).0
 
-abbrev dress_on : {r : Request} {input : List ℕ} {old new : Option (List ℕ)} {done : Finished} → FinishesRow r input old new done → Dress
+abbrev dress_on : {r : ImposeRequest} {input : List ℕ} {old new : Option (List ℕ)} {done : Finished} → FinishesRow r input old new done → Dress
 dress_on h = marked (strokes_on h.job) (telling h.imposes.made)
 
-row_again : (r : Request) (input old text : List ℕ) (done : Finished) (h : FinishesRow r input (Some old) (Some (old ++ text)) done)
+row_again : (r : ImposeRequest) (input old text : List ℕ) (done : Finished) (h : FinishesRow r input (Some old) (Some (old ++ text)) done)
     → length (output_on h.job h.imposes.made) ≤ most_input_bytes → 0 < length h.imposes.made
-    → IsMadeDocument h.job.border (dress_on h) h.imposes.made h.job.document.now (output_on h.job h.imposes.made)
+    → IsMadeDocument (border_on h.job) (dress_on h) h.imposes.made h.job.document.now (output_on h.job h.imposes.made)
 row_again r input old text done h l some =
     let taken = text_for r h.job.papers.now done.page_paper input in
     let made = h.imposes.made in
     let us = h.job.document.now in
-    let i = made_is_document h.job.border (dress_on h) made taken us (marks_are_tame (strokes_on h.job) (telling made) (telling_is_tame made)) h.is_job.document some (few_sheets _ made h.imposes.planned.planned) l in
+    let i = made_is_document (border_on h.job) (dress_on h) made taken us (marks_are_tame (strokes_on h.job) (telling made) (telling_is_tame made)) h.is_job.document some (few_sheets _ made h.imposes.planned.planned) l in
     record {
       accepted = i.0;
       again = i.1;
@@ -75,17 +75,17 @@ row_again r input old text done h l some =
 
 -- ---- by a specification on a row
 
-abbrev bare_dress_on : {r : Request} {input : List ℕ} {old new : Option (List ℕ)} {done : Finished} → FinishesSpecRow r input old new done → Dress
+abbrev bare_dress_on : {r : ImposeRequest} {input : List ℕ} {old new : Option (List ℕ)} {done : Finished} → FinishesSpecRow r input old new done → Dress
 bare_dress_on h = marked [] (telling h.imposes.made)
 
-spec_row_again : (r : Request) (input old text : List ℕ) (done : Finished) (h : FinishesSpecRow r input (Some old) (Some (old ++ text)) done)
+spec_row_again : (r : ImposeRequest) (input old text : List ℕ) (done : Finished) (h : FinishesSpecRow r input (Some old) (Some (old ++ text)) done)
     → length (output_by_spec h.job h.imposes.made) ≤ most_input_bytes → 0 < length h.imposes.made
-    → IsMadeDocument h.job.border (bare_dress_on h) h.imposes.made h.job.document.now (output_by_spec h.job h.imposes.made)
+    → IsMadeDocument (border_by_spec h.job) (bare_dress_on h) h.imposes.made h.job.document.now (output_by_spec h.job h.imposes.made)
 spec_row_again r input old text done h l some =
     let taken = taken_text r.is_guarded h.job.sheet input in
     let made = h.imposes.made in
     let us = h.job.document.now in
-    let i = made_is_document h.job.border (bare_dress_on h) made taken us (marks_are_tame [] (telling made) (telling_is_tame made)) h.document some (few_sheets _ made h.imposes.planned.planned) l in
+    let i = made_is_document (border_by_spec h.job) (bare_dress_on h) made taken us (marks_are_tame [] (telling made) (telling_is_tame made)) h.document some (few_sheets _ made h.imposes.planned.planned) l in
     record {
       accepted = i.0;
       again = i.1;
@@ -100,9 +100,9 @@ wrote_document r input old text done (inl h) l =
     (spec_again r input old text done h (subst (λ t. length t ≤ most_input_bytes) (sym e) l))
 wrote_document r input old text done (inr (inl h)) l =
     λ some. let e = sym (behind old text _ h.imposes.written) in
-    subst (IsMadeDocument h.job.border (dress_on h) h.imposes.made h.job.document.now) e
+    subst (IsMadeDocument (border_on h.job) (dress_on h) h.imposes.made h.job.document.now) e
     (row_again r input old text done h (subst (λ t. length t ≤ most_input_bytes) (sym e) l) some)
 wrote_document r input old text done (inr (inr h)) l =
     λ some. let e = sym (behind old text _ h.imposes.written) in
-    subst (IsMadeDocument h.job.border (bare_dress_on h) h.imposes.made h.job.document.now) e
+    subst (IsMadeDocument (border_by_spec h.job) (bare_dress_on h) h.imposes.made h.job.document.now) e
     (spec_row_again r input old text done h (subst (λ t. length t ≤ most_input_bytes) (sym e) l) some)

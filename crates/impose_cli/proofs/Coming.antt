@@ -1,5 +1,5 @@
 -- What comes of what is to be written.
-use Rattle.std.proofs.Common.{◌≡◌, ◌⊎◌, ℕ, ◌≤◌, ℤ, List, [], Bool, true, false, Option, Some, Result, Ok, Err, arith, inl, inr, length, refl, subst, sym, take}
+use Rattle.std.proofs.Common.{◌≡◌, ◌⊎◌, ℕ, ◌≤◌, List, [], Bool, true, false, Option, Some, Result, Ok, Err, arith, inl, inr, length, refl, subst, sym, take}
 use Rattle.std.specs.Prelude.{MatchResult}
 use Rattle.std.specs.Io.KnownBytes.{Appends, Keeps}
 use Rattle.std.proofs.KnownBytes.{Appends-kept}
@@ -9,6 +9,7 @@ use Rattle.world.proofs.Counting.{counted_front, uncounted_kept}
 use Rattle.sheet_text.specs.Jobs.{JobView, output_of}
 use Rattle.rules.specs.Sheets.{layout}
 use Rattle.rules.specs.Parts.{NestedUnit}
+use Rattle.rules.specs.Output.{Border}
 use Rattle.made_sheets.specs.Made.{MadeSheet}
 use Rattle.made_sheets.specs.MadePlans.{made_plan_of}
 use Rattle.dressing.specs.declared.strokes.Stroke.{Stroke}
@@ -24,14 +25,14 @@ use Rattle.imposer.specs.declared.outcome.RunError.TheVariants as run
 use Rattle.impose_cli.specs.Abouts.{finished_by, reported_by}
 use Rattle.impose_cli.specs.Endings.{AfterWrite, Comes, HasFirst, HasFront, IsNotCreated, IsSaidOf, TellsCount, WritesJob}
 use Rattle.impose_cli.specs.declared.runs.About.{About}
-use Rattle.impose_said.specs.declared.fault.Fault.{Fault}
-use Rattle.impose_said.specs.declared.fault.Fault.TheVariants as fault
+use Rattle.impose_said.specs.declared.fault.ImposeFault.{ImposeFault}
+use Rattle.impose_said.specs.declared.fault.ImposeFault.TheVariants as fault
 use Rattle.impose_said.specs.declared.finished.Done.{Done}
 use Rattle.impose_said.specs.declared.finished.Done.TheVariants as done
 
 -- ---- after a failed write, or without memory
 
-pub after_as : (f : Fault) (P Q P' Q' : ℕ → Type 0) → ((n : ℕ) → P n → P' n) → ((n : ℕ) → Q n → Q' n) → AfterWrite f P Q → AfterWrite f P' Q'
+pub after_as : (f : ImposeFault) (P Q P' Q' : ℕ → Type 0) → ((n : ℕ) → P n → P' n) → ((n : ℕ) → Q n → Q' n) → AfterWrite f P Q → AfterWrite f P' Q'
 after_as (fault.Write n cause) P Q P' Q' failed spent h = failed n h
 after_as (fault.Run (run.NoMemory n)) P Q P' Q' failed spent h = spent n h
 after_as (fault.Command c) P Q P' Q' failed spent h = absurd h
@@ -58,7 +59,7 @@ after_as (fault.Run (run.Document e)) P Q P' Q' failed spent h = absurd h
 after_as (fault.Run (run.Plan e)) P Q P' Q' failed spent h = absurd h
 after_as (fault.Run (run.Write n)) P Q P' Q' failed spent h = absurd h
 
-pub after_so : (f : Fault) (P Q : ℕ → Type 0) (A : Type 0) → ((n : ℕ) → P n → A) → ((n : ℕ) → Q n → A) → AfterWrite f P Q → A
+pub after_so : (f : ImposeFault) (P Q : ℕ → Type 0) (A : Type 0) → ((n : ℕ) → P n → A) → ((n : ℕ) → Q n → A) → AfterWrite f P Q → A
 after_so (fault.Write n cause) P Q A failed spent h = failed n h
 after_so (fault.Run (run.NoMemory n)) P Q A failed spent h = spent n h
 after_so (fault.Command c) P Q A failed spent h = absurd h
@@ -88,14 +89,14 @@ after_so (fault.Run (run.Write n)) P Q A failed spent h = absurd h
 -- ---- what comes of it
 
 -- it is refused
-pub comes_refused : {T : Type 0} (R : Fault → Type 0) (W : (old new : Option (List ℕ)) → T → Type 0) (name : Option (List ℕ)) (tells : Bool) (f : Fault) (outcome : Result T Fault) (has_output : Bool) (written : Option (List ℕ))
+pub comes_refused : {T : Type 0} (R : ImposeFault → Type 0) (W : (old new : Option (List ℕ)) → T → Type 0) (name : Option (List ℕ)) (tells : Bool) (f : ImposeFault) (outcome : Result T ImposeFault) (has_output : Bool) (written : Option (List ℕ))
     → outcome ≡ Err f → has_output ≡ false → R f → Comes R W name tells outcome has_output written
 comes_refused R W name tells f outcome has_output written is none why =
     subst (λ o. Comes R W name tells o has_output written) (sym is) (inl (why, none))
 
 -- the same of other words for it
-pub comes_as : {T : Type 0} (R R' : Fault → Type 0) (W W' : (old new : Option (List ℕ)) → T → Type 0) (name : Option (List ℕ)) (tells : Bool) (outcome : Result T Fault) (has_output : Bool) (written : Option (List ℕ))
-    → ((f : Fault) → R f → R' f) → ((old new : Option (List ℕ)) (x : T) → W old new x → W' old new x)
+pub comes_as : {T : Type 0} (R R' : ImposeFault → Type 0) (W W' : (old new : Option (List ℕ)) → T → Type 0) (name : Option (List ℕ)) (tells : Bool) (outcome : Result T ImposeFault) (has_output : Bool) (written : Option (List ℕ))
+    → ((f : ImposeFault) → R f → R' f) → ((old new : Option (List ℕ)) (x : T) → W old new x → W' old new x)
     → Comes R W name tells outcome has_output written → Comes R' W' name tells outcome has_output written
 comes_as R R' W W' name tells (Ok x) has_output written refused wrote h = wrote _ _ x h
 comes_as R R' W W' name tells (Err f) has_output written refused wrote h = elim h [
@@ -104,9 +105,9 @@ comes_as R R' W W' name tells (Err f) has_output written refused wrote h = elim 
 ]
 
 -- and of what is reported
-pub comes_reported : (R R' : Fault → Type 0) (W : (old new : Option (List ℕ)) → Report → Type 0) (W' : (old new : Option (List ℕ)) → Done → Type 0) (about : About) (name : Option (List ℕ)) (tells : Bool)
-    (outcome : Result Report Fault) (has_output : Bool) (written : Option (List ℕ))
-    → ((f : Fault) → R f → R' f) → ((old new : Option (List ℕ)) (report : Report) → W old new report → W' old new (done.Imposed (finished_by about report)))
+pub comes_reported : (R R' : ImposeFault → Type 0) (W : (old new : Option (List ℕ)) → Report → Type 0) (W' : (old new : Option (List ℕ)) → Done → Type 0) (about : About) (name : Option (List ℕ)) (tells : Bool)
+    (outcome : Result Report ImposeFault) (has_output : Bool) (written : Option (List ℕ))
+    → ((f : ImposeFault) → R f → R' f) → ((old new : Option (List ℕ)) (report : Report) → W old new report → W' old new (done.Imposed (finished_by about report)))
     → Comes R W name tells outcome has_output written → Comes R' W' name tells (reported_by about outcome) has_output written
 comes_reported R R' W W' about name tells (Ok report) has_output written refused wrote h = wrote _ _ report h
 comes_reported R R' W W' about name tells (Err f) has_output written refused wrote h = elim h [
@@ -114,16 +115,16 @@ comes_reported R R' W W' about name tells (Err f) has_output written refused wro
   | inr some ↦ inr (some.0, done.Imposed (finished_by about some.1), wrote _ _ some.1 some.2, not_created f has_output written some.0 some.3)
 ]
   where
-    not_created : (f : Fault) (has_output : Bool) (written : Option (List ℕ)) (text : List ℕ) → IsNotCreated {T = Report} (Err f) has_output ⊎ HasFront (told_if tells name []) written text f
+    not_created : (f : ImposeFault) (has_output : Bool) (written : Option (List ℕ)) (text : List ℕ) → IsNotCreated {T = Report} (Err f) has_output ⊎ HasFront (told_if tells name []) written text f
         → IsNotCreated {T = Done} (Err f) has_output ⊎ HasFront (told_if tells name []) written text f
     not_created f has_output written text h = h
 
 -- ---- made sheets
 
-abbrev pub RefusesThese : (pages : ℕ) → List MadeSheet → Fault → Type 0
+abbrev pub RefusesThese : (pages : ℕ) → List MadeSheet → ImposeFault → Type 0
 RefusesThese pages made f = (error : AskedError) × (f ≡ of_asked pages error) × RefusesSheets pages made error
 
-abbrev pub WritesThese : (pages : ℕ) → (border : Option ℤ) → List Stroke → List MadeSheet → List NestedUnit → (old new : Option (List ℕ)) → Report → Type 0
+abbrev pub WritesThese : (pages : ℕ) → (border : Option Border) → List Stroke → List MadeSheet → List NestedUnit → (old new : Option (List ℕ)) → Report → Type 0
 WritesThese pages border strokes made us old new report = (made_plan_of pages made ≡ Ok made) × Appends old new (told_output border strokes made us) × ReportsOn border strokes made us report
 
 -- ---- the sheets of a job
@@ -141,17 +142,17 @@ report_of j = record {
 whole : (j : JobView) → WritesJob j (Some []) (Some (output_of j)) (report_of j)
 whole j = (refl, record { page_count = refl; sheet_count = refl; born_blank = refl; swept_within = omega arith; byte_count = refl })
 
-abbrev Left : JobView → (name : Option (List ℕ)) → (tells : Bool) → Result Report Fault → (has_output : Bool) → (written : Option (List ℕ)) → Type 0
+abbrev Left : JobView → (name : Option (List ℕ)) → (tells : Bool) → Result Report ImposeFault → (has_output : Bool) → (written : Option (List ℕ)) → Type 0
 Left j name tells outcome has_output written = Comes (λ f. ⊥) (WritesJob j) name tells outcome has_output written
 
 -- no output could be created for them
-pub job_uncreated : (j : JobView) (name : Option (List ℕ)) (tells : Bool) (outcome : Result Report Fault) (has_output : Bool) (written : Option (List ℕ))
+pub job_uncreated : (j : JobView) (name : Option (List ℕ)) (tells : Bool) (outcome : Result Report ImposeFault) (has_output : Bool) (written : Option (List ℕ))
     → IsNotCreated outcome has_output → Left j name tells outcome has_output written
 job_uncreated j name tells (Ok report) has_output written none = absurd none
 job_uncreated j name tells (Err f) has_output written none = inr (output_of j, report_of j, whole j, inl none)
 
 -- they were written
-pub job_written : (j : JobView) (name : Option (List ℕ)) (tells : Bool) (n : ℕ) (report : Report) (outcome : Result Report Fault) (output out : Option (List ℕ)) (has_output : Bool) (start all : Option (List ℕ))
+pub job_written : (j : JobView) (name : Option (List ℕ)) (tells : Bool) (n : ℕ) (report : Report) (outcome : Result Report ImposeFault) (output out : Option (List ℕ)) (has_output : Bool) (start all : Option (List ℕ))
     → outcome ≡ Ok report → output ≡ out → start ≡ told_if tells name [] → Appends start all (output_of j) × ReportsOf j report → Keeps all (counted n out)
     → Left j name tells outcome has_output output
 job_written j name tells n report outcome output out has_output start all is same began wrote kept =
@@ -167,12 +168,12 @@ front_of name false n k text all out wrote front = tt
 front_of name true n k text all out wrote front =
     counted_front name n k text all out wrote front
 
-has_front : (n : ℕ) (text : List ℕ) (start out : Option (List ℕ)) (f : Fault) → TellsCount {T = Report} n (Err f) → HasFirst start out text n → HasFront start out text f
+has_front : (n : ℕ) (text : List ℕ) (start out : Option (List ℕ)) (f : ImposeFault) → TellsCount {T = Report} n (Err f) → HasFirst start out text n → HasFront start out text f
 has_front n text start out f is h =
     after_as f (λ m. m ≡ n) (λ m. m ≡ n) (HasFirst start out text) (HasFirst start out text) (λ m e. subst (λ k. HasFirst start out text k) (sym e) h) (λ m e. subst (λ k. HasFirst start out text k) (sym e) h) is
 
 -- a part of them was
-job_broken : (j : JobView) (name : Option (List ℕ)) (tells : Bool) (n k : ℕ) (outcome : Result Report Fault) (output out : Option (List ℕ)) (has_output : Bool) (start all : Option (List ℕ))
+job_broken : (j : JobView) (name : Option (List ℕ)) (tells : Bool) (n k : ℕ) (outcome : Result Report ImposeFault) (output out : Option (List ℕ)) (has_output : Bool) (start all : Option (List ℕ))
     → TellsCount n outcome → output ≡ out → start ≡ told_if tells name [] → Appends start all (take k (output_of j)) → IsFrontOf (counted n out) all
     → Left j name tells outcome has_output output
 job_broken j name tells n k (Ok report) output out has_output start all tells_it same began wrote front = absurd tells_it
@@ -187,7 +188,7 @@ job_broken j name tells n k (Err f) output out has_output start all tells_it sam
     )
 
 -- all of them were handed on, but not all were written out
-pub job_unwritten : (j : JobView) (name : Option (List ℕ)) (tells : Bool) (n : ℕ) (outcome : Result Report Fault) (output out : Option (List ℕ)) (has_output : Bool) (start all : Option (List ℕ))
+pub job_unwritten : (j : JobView) (name : Option (List ℕ)) (tells : Bool) (n : ℕ) (outcome : Result Report ImposeFault) (output out : Option (List ℕ)) (has_output : Bool) (start all : Option (List ℕ))
     → TellsCount n outcome → output ≡ out → start ≡ told_if tells name [] → Appends start all (output_of j) → IsFrontOf (counted n out) all
     → Left j name tells outcome has_output output
 job_unwritten j name tells n outcome output out has_output start all tells_it same began wrote front =
@@ -195,7 +196,7 @@ job_unwritten j name tells n outcome output out has_output start all tells_it sa
     (subst (λ t. Appends start all t) (sym (take-length (output_of j))) wrote) front
 
 -- the run broke off
-pub job_broken_off : (j : JobView) (name : Option (List ℕ)) (tells : Bool) (n : ℕ) (error : RunError) (outcome : Result Report Fault) (output out : Option (List ℕ)) (has_output : Bool) (start all : Option (List ℕ))
+pub job_broken_off : (j : JobView) (name : Option (List ℕ)) (tells : Bool) (n : ℕ) (error : RunError) (outcome : Result Report ImposeFault) (output out : Option (List ℕ)) (has_output : Bool) (start all : Option (List ℕ))
     → TellsCount n outcome → output ≡ out → start ≡ told_if tells name []
     → AfterError error ⊥ (λ k. (k ≤ length (output_of j)) × Appends start all (take k (output_of j))) (λ k. (k ≤ length (output_of j)) × Appends start all (take k (output_of j)))
     → IsFrontOf (counted n out) all → Left j name tells outcome has_output output
@@ -208,7 +209,7 @@ job_broken_off j name tells n (run.NoMemory k) outcome output out has_output sta
 job_broken_off j name tells n (run.Write k) outcome output out has_output start all tells_it same began wrote front =
     job_broken j name tells n k outcome output out has_output start all tells_it same began wrote.1 front
 
-said_as : (error : RunError) (n : ℕ) (f : Fault) → IsSaidOf error n f → TellsCount {T = Report} n (Err f)
+said_as : (error : RunError) (n : ℕ) (f : ImposeFault) → IsSaidOf error n f → TellsCount {T = Report} n (Err f)
 said_as (run.NoMemory k) n f h = after_as f (λ m. ⊥) (λ m. m ≡ n) (λ m. m ≡ n) (λ m. m ≡ n) (λ m e. absurd e) (λ m e. e) h
 said_as run.Options n f h = after_as f (λ m. m ≡ n) (λ m. ⊥) (λ m. m ≡ n) (λ m. m ≡ n) (λ m e. e) (λ m e. absurd e) h
 said_as (run.Spec e) n f h = after_as f (λ m. m ≡ n) (λ m. ⊥) (λ m. m ≡ n) (λ m. m ≡ n) (λ m e. e) (λ m e. absurd e) h
@@ -216,6 +217,6 @@ said_as (run.Document e) n f h = after_as f (λ m. m ≡ n) (λ m. ⊥) (λ m. m
 said_as (run.Plan e) n f h = after_as f (λ m. m ≡ n) (λ m. ⊥) (λ m. m ≡ n) (λ m. m ≡ n) (λ m e. e) (λ m e. absurd e) h
 said_as (run.Write k) n f h = after_as f (λ m. m ≡ n) (λ m. ⊥) (λ m. m ≡ n) (λ m. m ≡ n) (λ m e. e) (λ m e. absurd e) h
 
-pub said_count : (error : RunError) (n : ℕ) (outcome : Result Report Fault) → MatchResult outcome (λ report. ⊥) (IsSaidOf error n) → TellsCount n outcome
+pub said_count : (error : RunError) (n : ℕ) (outcome : Result Report ImposeFault) → MatchResult outcome (λ report. ⊥) (IsSaidOf error n) → TellsCount n outcome
 said_count error n (Ok report) h = absurd h
 said_count error n (Err f) h = said_as error n f h

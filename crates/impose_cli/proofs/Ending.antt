@@ -7,7 +7,7 @@ use Rattle.rules.specs.Admissible.{Takes, most_slots}
 use Rattle.rules.specs.Parts.{pages}
 use Rattle.rules.specs.Run.{document_of, plan_in}
 use Rattle.rules.specs.Signatures.{sheets_in}
-use Rattle.rules.specs.Output.{output}
+use Rattle.rules.specs.Output.{framed, output}
 use Rattle.rules.specs.Specification.{Spec}
 use Rattle.rules.specs.Parts.{NestedUnit}
 use Rattle.rules.specs.Sheets.{Plan}
@@ -22,8 +22,8 @@ use Rattle.imposer.specs.Outcomes.{of_plan}
 use Rattle.imposer.specs.Runs.{Accepted, Reports, frame_of, request}
 use Rattle.imposer.specs.Workers.{AreOptions, AreWorkers}
 use Rattle.imposer.specs.declared.outcome.RunError.{RunError}
-use Rattle.impose_said.specs.declared.fault.Fault.{Fault}
-use Rattle.impose_said.specs.declared.fault.Fault.TheVariants as fault
+use Rattle.impose_said.specs.declared.fault.ImposeFault.{ImposeFault}
+use Rattle.impose_said.specs.declared.fault.ImposeFault.TheVariants as fault
 use Rattle.impose_said.specs.declared.finished.Done.{Done}
 use Rattle.impose_cli.specs.Abouts.{reported_by}
 use Rattle.impose_cli.specs.Endings.{Comes, IsImposed, RefusesImposing, RefusesSpecRun, RefusesTaskRun, Runs, WritesJob, WritesTask}
@@ -36,7 +36,7 @@ use Rattle.impose_cli.specs.Tasks.{FinishesSpec, IsPlaced, IsSpec, IsTask, asked
 use Rattle.impose_words.specs.declared.request.Spacing.{Spacing}
 use Rattle.impose_words.specs.declared.request.Layout.{Layout}
 use Rattle.impose_words.specs.declared.request.Layout.TheVariants as layout
-use Rattle.impose_words.specs.declared.request.Request.{Request}
+use Rattle.impose_words.specs.declared.request.ImposeRequest.{ImposeRequest}
 use Rattle.impose_cli.specs.declared.task.Task.{Task}
 
 -- a specification that is named is what is run, without signatures
@@ -52,7 +52,7 @@ placed_as_named (layout.Notes n) s named page_paper sheet_paper pages text sides
 placed_as_named (layout.Poster columns rows) s named page_paper sheet_paper pages text sides is h = absurd is
 placed_as_named (layout.Spec specs) s named page_paper sheet_paper pages text sides is h = (h.0 ∙ sym is, h.1)
 
-pub finishes : (r : Request) (input : List ℕ) (task : Task) (told : Option ℕ) (old new : Option (List ℕ)) (report : Report) → ((text : List ℕ) × IsSpec r.layout text) → IsTask r input task → told ≡ told_pages input
+pub finishes : (r : ImposeRequest) (input : List ℕ) (task : Task) (told : Option ℕ) (old new : Option (List ℕ)) (report : Report) → ((text : List ℕ) × IsSpec r.layout text) → IsTask r input task → told ≡ told_pages input
     → Accepted (asked_by task) (λ spec us. Appends old new (output (frame_of task.options) task.options.sides spec us) × Reports (frame_of task.options) task.options.sides spec us report)
     → FinishesSpec r input old new (record { report = report; page_paper = task.options.paper; origin = task.origin; cut = None; reach = task.counted.reach; behind = task.counted.behind; told = told })
 finishes r input task told old new report named is tells h =
@@ -76,16 +76,16 @@ finishes r input task told old new report named is tells h =
       behind = is.behind;
       told = tells;
       plan = subst (λ s. plan_in s spec n ≡ Ok (sheets_in s spec n)) p.1 accepted.plan;
-      written = subst (λ s. Appends old new (output (record { paper = task.options.paper; border = r.border }) s spec units)) p.1
-          (subst (λ b. Appends old new (output (record { paper = task.options.paper; border = b }) task.options.sides spec units)) is.border h.3.0);
-      report = subst (λ s. Reports (record { paper = task.options.paper; border = r.border }) s spec units report) p.1
-          (subst (λ b. Reports (record { paper = task.options.paper; border = b }) task.options.sides spec units report) is.border h.3.1);
+      written = subst (λ s. Appends old new (output (framed task.options.paper r.border) s spec units)) p.1
+          (subst (λ b. Appends old new (output (framed task.options.paper b) task.options.sides spec units)) is.border h.3.0);
+      report = subst (λ s. Reports (framed task.options.paper r.border) s spec units report) p.1
+          (subst (λ b. Reports (framed task.options.paper b) task.options.sides spec units report) is.border h.3.1);
     }
 
 -- ---- what comes of a request
 
 -- a request whose layout is a specification is refused as one by it
-by_spec : (l : Layout) (text : List ℕ) (r : Request) (input : List ℕ) (f : Fault) → IsSpec l text → RefusesSpecRun r input f → RefusesImposing l r input f
+by_spec : (l : Layout) (text : List ℕ) (r : ImposeRequest) (input : List ℕ) (f : ImposeFault) → IsSpec l text → RefusesSpecRun r input f → RefusesImposing l r input f
 by_spec (layout.Spec specs) text r input f is h = h
 by_spec (layout.NUp cells) text r input f is h = absurd is
 by_spec (layout.Cards cells) text r input f is h = absurd is
@@ -97,7 +97,7 @@ by_spec layout.Selection text r input f is h = absurd is
 by_spec (layout.SpecRow specs signing) text r input f is h = absurd is
 
 -- there is no task
-pub spec_stops : (r : Request) (input : List ℕ) (tells : Bool) (f : Fault) (outcome : Result Done Fault) (has_output : Bool) (written : Option (List ℕ)) → ((text : List ℕ) × IsSpec r.layout text) → outcome ≡ Err f → has_output ≡ false
+pub spec_stops : (r : ImposeRequest) (input : List ℕ) (tells : Bool) (f : ImposeFault) (outcome : Result Done ImposeFault) (has_output : Bool) (written : Option (List ℕ)) → ((text : List ℕ) × IsSpec r.layout text) → outcome ≡ Err f → has_output ≡ false
     → RefusesTask r input f → Runs r input tells outcome has_output written
 spec_stops r input tells f outcome has_output written named is none why =
     comes_refused (RefusesImposing r.layout r input) (IsImposed r input) _ tells f outcome has_output written is none (by_spec r.layout named.0 r input f named.1 (inl why))
@@ -106,7 +106,7 @@ abbrev pub about_spec : Task → (told : Option ℕ) → About
 about_spec t told = record { page_paper = t.options.paper; origin = t.origin; cut = None; reach = t.counted.reach; behind = t.counted.behind; told = told }
 
 -- what comes of its run comes of the request
-pub spec_runs : (r : Request) (input : List ℕ) (t : Task) (told : Option ℕ) (tells : Bool) (outcome : Result Done Fault) (left : Result Report Fault) (has_output : Bool) (name written : Option (List ℕ))
+pub spec_runs : (r : ImposeRequest) (input : List ℕ) (t : Task) (told : Option ℕ) (tells : Bool) (outcome : Result Done ImposeFault) (left : Result Report ImposeFault) (has_output : Bool) (name written : Option (List ℕ))
     → ((text : List ℕ) × IsSpec r.layout text) → IsTask r input t → told ≡ told_pages input → outcome ≡ reported_by (about_spec t told) left → name ≡ option_map string_bytes r.outfile
     → Comes (RefusesTaskRun t) (WritesTask t) name tells left has_output written → Runs r input tells outcome has_output written
 spec_runs r input t told tells outcome left has_output name written text is tells_it reports named h =
@@ -117,21 +117,21 @@ spec_runs r input t told tells outcome left has_output name written text is tell
     (subst (λ n. Comes (RefusesTaskRun t) (WritesTask t) n tells left has_output written) named h))
 
 -- a task of a request that names a specification has no signatures, and so many workers
-pub sides_of : (r : Request) (input : List ℕ) (t : Task) → ((text : List ℕ) × IsSpec r.layout text) → IsTask r input t → t.options.sides ≡ None
+pub sides_of : (r : ImposeRequest) (input : List ℕ) (t : Task) → ((text : List ℕ) × IsSpec r.layout text) → IsTask r input t → t.options.sides ≡ None
 sides_of r input t text is = (placed_as_named r.layout r.spacing text.0 _ _ _ _ _ text.1 is.placed).1
 
-pub workers_of : (r : Request) (input : List ℕ) (t : Task) → IsTask r input t → AreWorkers t.options.workers
+pub workers_of : (r : ImposeRequest) (input : List ℕ) (t : Task) → IsTask r input t → AreWorkers t.options.workers
 workers_of r input t is = subst AreWorkers (sym is.workers) (record { a_preparer = omega arith; few_preparers = omega arith; an_imposer = omega arith; few_imposers = omega arith })
 
 -- its plan is refused
-pub plan_refused : (t : Task) (spec : Spec) (us : List NestedUnit) (n : ℕ) (e : PlanError) (f : Fault) (error : RunError) → f ≡ fault.Run error → error ≡ of_plan e → t.options.sides ≡ None
+pub plan_refused : (t : Task) (spec : Spec) (us : List NestedUnit) (n : ℕ) (e : PlanError) (f : ImposeFault) (error : RunError) → f ≡ fault.Run error → error ≡ of_plan e → t.options.sides ≡ None
     → AreOptions t.options → Takes most_slots (string_bytes t.spec) spec → document_of t.text.items ≡ Ok us → n ≡ length (pages us) → Refuses spec n e → RefusesTaskRun t f
 plan_refused t spec us n e f error is named sides options takes document count why =
     let said = refused_plan (asked_by t) e spec us n options takes document count (subst (λ s. RefusesIn s spec n e) (sym sides) why) in
     (of_plan e, is ∙ ap fault.Run named, said.0, said.1)
 
 -- what comes of its sheets comes of the task
-pub job_comes : (t : Task) (spec : Spec) (us : List NestedUnit) (plan : Plan) (n : ℕ) (job : JobView) (name : Option (List ℕ)) (tells : Bool) (outcome : Result Report Fault) (has_output : Bool) (written : Option (List ℕ))
+pub job_comes : (t : Task) (spec : Spec) (us : List NestedUnit) (plan : Plan) (n : ℕ) (job : JobView) (name : Option (List ℕ)) (tells : Bool) (outcome : Result Report ImposeFault) (has_output : Bool) (written : Option (List ℕ))
     → t.options.sides ≡ None → AreOptions t.options → Takes most_slots (string_bytes t.spec) spec → document_of t.text.items ≡ Ok us → n ≡ length (pages us)
     → plan ≡ planned spec n → plan_in None spec n ≡ Ok (sheets_in None spec n) → job ≡ of_frame plan us (frame_of t.options)
     → Comes (λ f. ⊥) (WritesJob job) name tells outcome has_output written → Comes (RefusesTaskRun t) (WritesTask t) name tells outcome has_output written

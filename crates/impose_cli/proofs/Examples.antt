@@ -8,7 +8,7 @@ use Rattle.dsc.specs.declared.errors.DscError.TheVariants.{NoMemory, NoPages, No
 use Rattle.imposer.specs.declared.outcome.RunError.TheVariants as run
 use Rattle.papers.specs.declared.media.Comment.TheVariants.{DocumentMedia}
 use Rattle.impose_said.specs.declared.finished.PaperOrigin.TheVariants.{Named, ByComment, AtHome}
-use Rattle.impose_said.specs.declared.fault.Fault.TheVariants as fault
+use Rattle.impose_said.specs.declared.fault.ImposeFault.TheVariants as fault
 use Rattle.impose_said.specs.declared.fault.Packing.TheVariants.{Gzip, Bzip2, Xz, Zip}
 use Rattle.impose_cli.specs.ToldPages.{told_pages}
 use Rattle.impose_cli.specs.Tasks.{own_or_home, page_paper_found, sheet_paper_found, taken_text}

@@ -3,13 +3,13 @@ use Rattle.std.proofs.Common.{inr, subst, sym, List, ℕ}
 use Rattle.impose_cli.specs.Endings.{RefusesRow, RefusesRowTaskRun}
 use Rattle.impose_cli.specs.Looks.{TellsRow, TellsTask}
 use Rattle.impose_cli.specs.RowTasks.{ArePapersOf, IsRowTask}
-use Rattle.impose_said.specs.declared.fault.Fault.{Fault}
-use Rattle.impose_cli.specs.declared.look.Look.{Look}
-use Rattle.impose_words.specs.declared.request.Request.{Request}
+use Rattle.impose_said.specs.declared.fault.ImposeFault.{ImposeFault}
+use Rattle.impose_cli.specs.declared.look.Overview.{Overview}
+use Rattle.impose_words.specs.declared.request.ImposeRequest.{ImposeRequest}
 use Rattle.impose_cli.specs.declared.row_task.RowTask.{RowTask}
 use Rattle.impose_cli.proofs.Rows.{is_row_job}
 
-pub tells_row : (r : Request) (input : List ℕ) (t : RowTask) (look : Look) (text : List ℕ) → IsRowTask r input t → TellsTask r t look text → TellsRow r input look text
+pub tells_row : (r : ImposeRequest) (input : List ℕ) (t : RowTask) (look : Overview) (text : List ℕ) → IsRowTask r input t → TellsTask r t look text → TellsRow r input look text
 tells_row r input t look text is h = record {
   page_paper = (t.page_paper, t.origin);
   found = is.page_paper;
@@ -20,5 +20,5 @@ tells_row r input t look text is h = record {
   told = h.2;
 }
 
-pub refuses_row : (r : Request) (input : List ℕ) (t : RowTask) (f : Fault) → IsRowTask r input t → RefusesRowTaskRun r t f → RefusesRow r input f
+pub refuses_row : (r : ImposeRequest) (input : List ℕ) (t : RowTask) (f : ImposeFault) → IsRowTask r input t → RefusesRowTaskRun r t f → RefusesRow r input f
 refuses_row r input t f is h = inr (record { task = t; is_task = is; refused = h })

@@ -12,8 +12,8 @@ use Rattle.impose_cli.specs.Refusals.{RefusesLayout}
 use Rattle.impose_words.specs.Spacings.{binding_in}
 use Rattle.impose_words.specs.declared.request.Layout.TheVariants as layout
 use Rattle.impose_words.specs.declared.request.Spacing.{Spacing}
-use Rattle.impose_said.specs.declared.fault.Fault.{Fault}
-use Rattle.impose_said.specs.declared.fault.Fault.TheVariants as fault
+use Rattle.impose_said.specs.declared.fault.ImposeFault.{ImposeFault}
+use Rattle.impose_said.specs.declared.fault.ImposeFault.TheVariants as fault
 
 unless : (found : Option ArrangementError) (e : ArrangementError) → (e ≡ NoMemory → ⊥) → IsFault found e → found ≡ Some e
 unless found e other h = elim h [ inl bad ↦ absurd (other bad) | inr is ↦ is ]
@@ -38,12 +38,12 @@ refuses_layout found ScaleTooLarge h = inr (ScaleTooLarge, refl, unless found Sc
 refuses_layout found CreepOverFold h = inr (CreepOverFold, refl, unless found CreepOverFold (λ bad. cc) h)
 
 -- the fault is that of the reason
-pub refuses_laid : (found : Option ArrangementError) (f : Fault) → (f ≡ without_memory) ⊎ ((why : ArrangementError) × (f ≡ fault.Layout why) × (found ≡ Some why)) → (f ≡ without_memory) ⊎ (option_map fault.Layout found ≡ Some f)
+pub refuses_laid : (found : Option ArrangementError) (f : ImposeFault) → (f ≡ without_memory) ⊎ ((why : ArrangementError) × (f ≡ fault.Layout why) × (found ≡ Some why)) → (f ≡ without_memory) ⊎ (option_map fault.Layout found ≡ Some f)
 refuses_laid found f (inl h) = inl h
 refuses_laid found f (inr (e, told, why)) = inr (ap (option_map fault.Layout) why ∙ ap Some (sym told))
 
 -- of a booklet whose leaves don't creep it is why they can't be bound
-pub refuses_booklet : (signing : Signing) (long_edge : Bool) (s : Spacing) (page sheet : Paper) (b : Binding) (f : Fault) → s.creep ≡ pos 0 → b ≡ binding_in s long_edge
+pub refuses_booklet : (signing : Signing) (long_edge : Bool) (s : Spacing) (page sheet : Paper) (b : Binding) (f : ImposeFault) → s.creep ≡ pos 0 → b ≡ binding_in s long_edge
     → (f ≡ without_memory) ⊎ ((e : ArrangementError) × (f ≡ fault.Layout e) × (why_not_bound page sheet b ≡ Some e))
     → (f ≡ without_memory) ⊎ RefusesLayout (layout.Booklet signing long_edge) s page sheet f
 refuses_booklet signing long_edge s page sheet b f none is (inl h) = inl h

@@ -16,27 +16,27 @@ use Rattle.impose_words.specs.Words.{Entered, MakesBy, Reads}
 use Rattle.impose_cli.specs.Refusals.{HasOnePaper}
 use Rattle.impose_cli.specs.Unread.{MayBeRead, RefusesRequest}
 use Rattle.impose_cli.specs.Tasks.{IsTask}
-use Rattle.impose_said.specs.declared.fault.Fault.{Fault}
+use Rattle.impose_said.specs.declared.fault.ImposeFault.{ImposeFault}
 use Rattle.impose_said.specs.declared.finished.Done.{Done}
 use Rattle.impose_said.specs.declared.finished.Done.TheVariants as done
-use Rattle.impose_cli.specs.declared.look.Look.{Look}
+use Rattle.impose_cli.specs.declared.look.Overview.{Overview}
 use Rattle.impose_words.specs.declared.request.Layout.{Layout}
 use Rattle.impose_words.specs.declared.request.Layout.TheVariants as layout
 use Rattle.impose_words.specs.declared.request.Product.{Product}
 use Rattle.impose_words.specs.declared.request.Product.TheVariants as product
-use Rattle.impose_words.specs.declared.request.Request.{Request}
+use Rattle.impose_words.specs.declared.request.ImposeRequest.{ImposeRequest}
 use Rattle.impose_cli.specs.declared.task.Task.{Task}
 
 -- nothing was created: the request is refused unread, or the input can't be read
-pub stopped_before : (r : Request) (gives : Gives) (tells : Bool) (f : Fault) (outcome : Result Done Fault)
+pub stopped_before : (r : ImposeRequest) (gives : Gives) (tells : Bool) (f : ImposeFault) (outcome : Result Done ImposeFault)
     (has_output : Bool) (written : Option (List ℕ)) → outcome ≡ Err f → has_output ≡ false
     → RefusesRequest r f ⊎ (MayBeRead r × IsReading f)
     → CarriesOut r gives tells outcome has_output written
 stopped_before r gives tells f outcome has_output written told none why = inl (f, told, none, why)
 
 -- the input was read, and what is asked for was made of it
-pub took : (r : Request) (gives : Gives) (tells : Bool) (input : List ℕ) (name : Option (List ℕ))
-    (outcome : Result Done Fault) (has_output : Bool) (written : Option (List ℕ))
+pub took : (r : ImposeRequest) (gives : Gives) (tells : Bool) (input : List ℕ) (name : Option (List ℕ))
+    (outcome : Result Done ImposeFault) (has_output : Bool) (written : Option (List ℕ))
     → name ≡ option_map string_bytes r.infile → IsFirst most_bytes (gives name) input
     → MayBeRead r → Makes r.product r input tells outcome has_output written
     → CarriesOut r gives tells outcome has_output written
@@ -49,19 +49,19 @@ pub wrote_text : (name : Option (List ℕ)) (text : List ℕ) (what : Done) (tel
 wrote_text name text what tells start written began wrote = (refl, subst (λ s. Appends s written text) began wrote)
 
 -- a first part of it was
-pub wrote_part : (name : Option (List ℕ)) (text : List ℕ) (what : Done) (tells : Bool) (start written : Option (List ℕ)) (f : Fault)
+pub wrote_part : (name : Option (List ℕ)) (text : List ℕ) (what : Done) (tells : Bool) (start written : Option (List ℕ)) (f : ImposeFault)
     → start ≡ told_if tells name [] → BreaksAt start written text f → Writes name text what tells (Err f) true written
 wrote_part name text what tells start written f began broke = inr (subst (λ s. BreaksAt s written text f) began broke)
 
 -- no output could be created
-pub uncreated : (name : Option (List ℕ)) (text : List ℕ) (what : Done) (tells : Bool) (f : Fault) (outcome : Result Done Fault)
+pub uncreated : (name : Option (List ℕ)) (text : List ℕ) (what : Done) (tells : Bool) (f : ImposeFault) (outcome : Result Done ImposeFault)
     (has_output : Bool) (written : Option (List ℕ)) → outcome ≡ Err f → IsUncreated f has_output
     → Writes name text what tells outcome has_output written
 uncreated name text what tells f outcome has_output written told none =
     subst (λ o. Writes name text what tells o has_output written) (sym told) (inl none)
 
 -- the specification was printed to standard output
-pub printed : (r : Request) (input : List ℕ) (tells : Bool) (task : Task) (lines : List ℕ) (outcome : Result Done Fault)
+pub printed : (r : ImposeRequest) (input : List ℕ) (tells : Bool) (task : Task) (lines : List ℕ) (outcome : Result Done ImposeFault)
     (has_output : Bool) (written : Option (List ℕ)) → IsTask r input task → HasOnePaper r input task.options.paper
     → Writes None lines done.Printed tells outcome has_output written → Prints r input tells outcome has_output written
 printed r input tells task lines (Ok what) has_output written is_task one h =
@@ -69,8 +69,8 @@ printed r input tells task lines (Ok what) has_output written is_task one h =
 printed r input tells task lines (Err f) has_output written is_task one h = inr (task, lines, is_task, one, h)
 
 -- the plan or the picture was written to the output of that name
-pub shown : (l : Look) (name : Option (List ℕ)) (r : Request) (input : List ℕ) (tells : Bool) (text : List ℕ)
-    (outcome : Result Done Fault) (has_output : Bool) (written : Option (List ℕ)) → TellsRow r input l text
+pub shown : (l : Overview) (name : Option (List ℕ)) (r : ImposeRequest) (input : List ℕ) (tells : Bool) (text : List ℕ)
+    (outcome : Result Done ImposeFault) (has_output : Bool) (written : Option (List ℕ)) → TellsRow r input l text
     → Writes name text done.Shown tells outcome has_output written → Shows l name r input tells outcome has_output written
 shown l name r input tells text (Ok what) has_output written told h =
     subst (λ d. Shows l name r input tells (Ok d) has_output written) (sym h.0) (text, told, h.1)
@@ -96,25 +96,25 @@ made_by false found product.Plan l lays h = let e = h.planned in cc
 made_by true found (product.Picture file) l lays h = lays refl
 made_by false found (product.Picture file) l lays h = let e = h.pictured in cc
 
-may_be_made : (name : Text) (found : List Row) (r : Request) → Reads name found r → MayBeMade r.product r.layout
+may_be_made : (name : Text) (found : List Row) (r : ImposeRequest) → Reads name found r → MayBeMade r.product r.layout
 may_be_made name found r h = made_by (lays_rows r.layout) found r.product r.layout (lays r.layout) h.product
 
-pub may_be_made_at_home : (words : List Text) (r given : Request) (home : Paper) → given ≡ record r { home_paper = home } → Entered words (λ name found. Reads name found r)
+pub may_be_made_at_home : (words : List Text) (r given : ImposeRequest) (home : Paper) → given ≡ record r { home_paper = home } → Entered words (λ name found. Reads name found r)
     → MayBeMade given.product given.layout
-may_be_made_at_home words r given home e h = subst (λ (q : Request). MayBeMade q.product q.layout) (sym e) (may_be_made h.0 h.1 r h.3)
+may_be_made_at_home words r given home e h = subst (λ (q : ImposeRequest). MayBeMade q.product q.layout) (sym e) (may_be_made h.0 h.1 r h.3)
 
 -- ---- an output that exists
 
-uncreated_none : (f : Fault) (has_output : Bool) → IsUncreated f has_output → has_output ≡ false
+uncreated_none : (f : ImposeFault) (has_output : Bool) → IsUncreated f has_output → has_output ≡ false
 uncreated_none f has_output h = after_so f (λ n. (n ≡ 0) × (has_output ≡ false)) (λ n. ⊥) (has_output ≡ false) (λ n e. e.1) (λ n e. absurd e) h
 
-text_created : (name : Option (List ℕ)) (text : List ℕ) (tells : Bool) (f : Fault) (has_output : Bool) (written : Option (List ℕ)) → FailsToWrite name text tells f has_output written → IsCreatedFor (Err f) has_output
+text_created : (name : Option (List ℕ)) (text : List ℕ) (tells : Bool) (f : ImposeFault) (has_output : Bool) (written : Option (List ℕ)) → FailsToWrite name text tells f has_output written → IsCreatedFor (Err f) has_output
 text_created name text tells f has_output written h = elim h [
   | inl absent ↦ inl (uncreated_none f has_output absent)
   | inr broke ↦ inr (after_as f (λ n. (n < length text) × Appends (told_if tells name []) written (take n text)) (λ n. ⊥) (λ n. ⊤) (λ n. ⊤) (λ n e. tt) (λ n e. tt) broke)
 ]
 
-run_created : (r : Request) (input : List ℕ) (tells : Bool) (f : Fault) (has_output : Bool) (written : Option (List ℕ)) → Runs r input tells (Err f) has_output written → IsCreatedFor (Err f) has_output
+run_created : (r : ImposeRequest) (input : List ℕ) (tells : Bool) (f : ImposeFault) (has_output : Bool) (written : Option (List ℕ)) → Runs r input tells (Err f) has_output written → IsCreatedFor (Err f) has_output
 run_created r input tells f has_output written h = elim h [
   | inl stopped ↦ inl stopped.1
   | inr some ↦ elim some.3 [
@@ -127,7 +127,7 @@ run_created r input tells f has_output written h = elim h [
   ]
 ]
 
-made_created : (p : Product) (r : Request) (input : List ℕ) (tells : Bool) (f : Fault) (has_output : Bool) (written : Option (List ℕ)) → Makes p r input tells (Err f) has_output written → IsCreatedFor (Err f) has_output
+made_created : (p : Product) (r : ImposeRequest) (input : List ℕ) (tells : Bool) (f : ImposeFault) (has_output : Bool) (written : Option (List ℕ)) → Makes p r input tells (Err f) has_output written → IsCreatedFor (Err f) has_output
 made_created product.Sheets r input tells f has_output written h = run_created r input tells f has_output written h
 made_created product.Specification r input tells f has_output written h = elim h [
   | inl stopped ↦ inl stopped.1
@@ -142,7 +142,7 @@ made_created (product.Picture file) r input tells f has_output written h = elim 
   | inr some ↦ text_created (option_map string_bytes file) some.0 tells f has_output written some.2
 ]
 
-pub created_for : (r : Request) (gives : Gives) (tells : Bool) (outcome : Result Done Fault) (has_output : Bool) (written : Option (List ℕ)) → CarriesOut r gives tells outcome has_output written → IsCreatedFor outcome has_output
+pub created_for : (r : ImposeRequest) (gives : Gives) (tells : Bool) (outcome : Result Done ImposeFault) (has_output : Bool) (written : Option (List ℕ)) → CarriesOut r gives tells outcome has_output written → IsCreatedFor outcome has_output
 created_for r gives tells (Ok what) has_output written h = tt
 created_for r gives tells (Err f) has_output written h = elim h [
   | inl stopped ↦ inl stopped.2

@@ -15,7 +15,7 @@ use Rattle.rules.specs.Run.{document_of}
 use Rattle.rows.specs.Sewing.{signing_of}
 use Rattle.imposer.specs.declared.outcome.Report.{Report}
 use Rattle.row_runs.specs.declared.run.RowJob.{RowJob}
-use Rattle.row_runs.specs.Runs.{Imposes, page_count, strokes_on}
+use Rattle.row_runs.specs.Runs.{Imposes, border_on, page_count, strokes_on}
 use Rattle.row_runs.specs.Sheets.{AreAsked}
 use Rattle.row_runs.specs.SheetsRuns.{ReportsOn, told_output}
 use Rattle.row_runs.specs.Standing.{StandAsLaid}
@@ -34,19 +34,19 @@ use Rattle.dsc.specs.PagesBehind.{pages_behind}
 use Rattle.impose_said.specs.declared.finished.PaperOrigin.{PaperOrigin}
 use Rattle.impose_cli.specs.ToldPages.{told_pages}
 use Rattle.impose_cli.specs.Tasks.{HasBehind, HasPages}
-use Rattle.impose_said.specs.declared.fault.Fault.TheVariants as fault
+use Rattle.impose_said.specs.declared.fault.ImposeFault.TheVariants as fault
 use Rattle.impose_cli.specs.Refusals.{RefusesDocument, RefusesLaying, RefusesRowTask, RefusesSides}
 use Rattle.impose_cli.specs.Reaches.{HasReach, HasReachOver, reach_in, reach_over}
 use Rattle.papers.specs.declared.reach.Reach.{Reach}
 use Rattle.impose_cli.specs.RowTasks.{ArePapersOf, cut_in, papers_in, row_paper, sheet_paper_in, text_for, FinishesRow, ImposesTask, IsJobOf, IsRowJob, IsRowPaper, IsRowTask, LaysRows}
-use Rattle.impose_said.specs.declared.fault.Fault.{Fault}
+use Rattle.impose_said.specs.declared.fault.ImposeFault.{ImposeFault}
 use Rattle.impose_words.specs.declared.request.Layout.{Layout}
 use Rattle.impose_words.specs.declared.request.Layout.TheVariants as layout
-use Rattle.impose_words.specs.declared.request.Request.{Request}
+use Rattle.impose_words.specs.declared.request.ImposeRequest.{ImposeRequest}
 use Rattle.impose_cli.specs.declared.row_task.RowTask.{RowTask}
 use Rattle.impose_said.specs.declared.finished.Done.{Done}
 
-pub is_row_job : (r : Request) (input : List ℕ) (t : RowTask) (job : RowJob) → IsRowTask r input t → IsJobOf r t job → IsRowJob r input t.page_paper job
+pub is_row_job : (r : ImposeRequest) (input : List ℕ) (t : RowTask) (job : RowJob) → IsRowTask r input t → IsJobOf r t job → IsRowJob r input t.page_paper job
 is_row_job r input t job is of = record {
   document = ap (λ ps. document_of (text_for r ps t.page_paper input)) of.papers ∙ ap document_of (sym is.text) ∙ of.document;
   choice = of.choice;
@@ -55,6 +55,7 @@ is_row_job r input t job is of = record {
   possible = is.possible;
   same_scale = of.same_scale;
   border = of.border;
+  inset = of.inset;
   marks = of.marks;
 }
 
@@ -62,20 +63,20 @@ is_row_job r input t job is of = record {
 whole : (input : List ℕ) (us : List NestedUnit) → document_of input ≡ Ok us → bytes_of us ≡ input
 whole input us e = let read = accepted_cut input us e in ap bytes_of (sym read.1) ∙ sym (text_whole input read.0)
 
-pub are_papers : (r : Request) (input : List ℕ) (us : List NestedUnit) (papers : List Paper) (cut : Option Cut) → document_of input ≡ Ok us
+pub are_papers : (r : ImposeRequest) (input : List ℕ) (us : List NestedUnit) (papers : List Paper) (cut : Option Cut) → document_of input ≡ Ok us
     → papers ≡ papers_in r (bytes_of us) us → cut ≡ cut_in r (bytes_of us) us → ArePapersOf r input papers cut
 are_papers r input us papers cut read own cuts = let same = whole input us read in
     record { units = us; document = read; own = own ∙ ap (λ t. papers_in r t us) same; cut_pages = cuts ∙ ap (λ t. cut_in r t us) same }
 
-pub is_row_paper : (r : Request) (input : List ℕ) (us : List NestedUnit) (found : Paper × PaperOrigin) → document_of input ≡ Ok us
+pub is_row_paper : (r : ImposeRequest) (input : List ℕ) (us : List NestedUnit) (found : Paper × PaperOrigin) → document_of input ≡ Ok us
     → found ≡ row_paper r (bytes_of us) us → IsRowPaper r input found
 is_row_paper r input us found read e = (us, read, e ∙ ap (λ t. row_paper r t us) (whole input us read))
 
-pub has_reach : (r : Request) (input : List ℕ) (us : List NestedUnit) (placed : List Paper) (reach : Option Reach) → document_of input ≡ Ok us
+pub has_reach : (r : ImposeRequest) (input : List ℕ) (us : List NestedUnit) (placed : List Paper) (reach : Option Reach) → document_of input ≡ Ok us
     → reach ≡ reach_in true r placed (bytes_of us) us → HasReach r input placed reach
 has_reach r input us placed reach read e = (us, read, e ∙ ap (λ t. reach_in true r placed t us) (whole input us read))
 
-pub has_reach_over : (r : Request) (input : List ℕ) (us : List NestedUnit) (paper : Paper) (reach : Option Reach) → document_of input ≡ Ok us
+pub has_reach_over : (r : ImposeRequest) (input : List ℕ) (us : List NestedUnit) (paper : Paper) (reach : Option Reach) → document_of input ≡ Ok us
     → reach ≡ reach_over r paper (bytes_of us) us → HasReachOver r input paper reach
 has_reach_over r input us paper reach read e = (us, read, e ∙ ap (λ t. reach_over r paper t us) (whole input us read))
 
@@ -91,29 +92,29 @@ pub papers_len : (named : Option Paper) (names : List ℕ → Option Paper) (hom
 papers_len (Some paper) names home text us = length-map (pages us) (λ page. paper)
 papers_len None names home text us = length-map (pages us) (own_paper names home (header text) (trailer_lines us))
 
-pub as_many : (r : Request) (us : List NestedUnit) (first : Paper) (own papers : List Paper) (n : ℕ) → n ≡ length (pages us)
+pub as_many : (r : ImposeRequest) (us : List NestedUnit) (first : Paper) (own papers : List Paper) (n : ℕ) → n ≡ length (pages us)
     → own ≡ own_papers r.page_paper paper_named r.home_paper (bytes_of us) us → papers ≡ as_one first own → n ≡ length papers
 as_many r us first own papers n count is one = count
     ∙ sym (ap length one ∙ length-map own (paper_among (kinds (first ∷ own))) ∙ ap length is ∙ papers_len r.page_paper paper_named r.home_paper (bytes_of us) us)
 
 -- why there is no task for a document that is accepted, with sheets and cells for this paper
-abbrev pub RefusesAccepted : Request → (page_paper : Paper) → Fault → Type 0
+abbrev pub RefusesAccepted : ImposeRequest → (page_paper : Paper) → ImposeFault → Type 0
 RefusesAccepted r page_paper f =
     RefusesLaying r.layout r.spacing page_paper (sheet_paper_in r.layout r.sheet_paper page_paper) f
     ⊎ (RefusesSides r.layout f
     ⊎ (((f ≡ fault.Run run.Options) × (is_border r.border ≡ false)) ⊎ (f ≡ without_memory)))
 
-pub refused_after : (r : Request) (input : List ℕ) (found : Paper × PaperOrigin) (f : Fault) → IsRowPaper r input found → RefusesAccepted r found.0 f
+pub refused_after : (r : ImposeRequest) (input : List ℕ) (found : Paper × PaperOrigin) (f : ImposeFault) → IsRowPaper r input found → RefusesAccepted r found.0 f
     → RefusesRowTask r input f
 refused_after r input found f is why = inr (found, is, why)
 
-pub refused_found : (r : Request) (input : List ℕ) (f : Fault) → RefusesDocument input f ⊎ ((n : ℕ) × HasPages input n × (f ≡ without_memory)) → RefusesRowTask r input f
+pub refused_found : (r : ImposeRequest) (input : List ℕ) (f : ImposeFault) → RefusesDocument input f ⊎ ((n : ℕ) × HasPages input n × (f ≡ without_memory)) → RefusesRowTask r input f
 refused_found r input f h = elim h [
   | inl refused ↦ inl refused
   | inr spent ↦ let us = spent.1.0 in refused_after r input (row_paper r input us) f (us, spent.1.1, refl) (inr (inr (inr spent.2)))
 ]
 
-pub finishes_row : (r : Request) (input : List ℕ) (t : RowTask) (told : Option ℕ) (old new : Option (List ℕ)) (report : Report) → IsRowTask r input t → told ≡ told_pages input → ImposesTask r t old new report
+pub finishes_row : (r : ImposeRequest) (input : List ℕ) (t : RowTask) (told : Option ℕ) (old new : Option (List ℕ)) (report : Report) → IsRowTask r input t → told ≡ told_pages input → ImposesTask r t old new report
     → FinishesRow r input old new (record { report = report; page_paper = t.page_paper; origin = t.origin; cut = t.cut; reach = t.reach; behind = t.behind; told = told })
 finishes_row r input t told old new report is tells h = record {
   page_paper = is.page_paper;
@@ -127,7 +128,7 @@ finishes_row r input t told old new report is tells h = record {
 }
 
 -- a request whose layout lays rows is refused as one on its row
-on_row : (l : Layout) (r : Request) (input : List ℕ) (f : Fault) → LaysRows l → RefusesRow r input f → RefusesImposing l r input f
+on_row : (l : Layout) (r : ImposeRequest) (input : List ℕ) (f : ImposeFault) → LaysRows l → RefusesRow r input f → RefusesImposing l r input f
 on_row (layout.NUp cells) r input f rows h = h
 on_row (layout.Cards cells) r input f rows h = h
 on_row (layout.Stack cells duplex) r input f rows h = h
@@ -139,7 +140,7 @@ on_row (layout.Spec specs) r input f rows h = absurd rows
 on_row (layout.SpecRow specs signing) r input f rows h = absurd rows
 
 -- there is no task
-pub row_stops : (r : Request) (input : List ℕ) (tells : Bool) (f : Fault) (outcome : Result Done Fault) (has_output : Bool) (written : Option (List ℕ)) → LaysRows r.layout → outcome ≡ Err f → has_output ≡ false
+pub row_stops : (r : ImposeRequest) (input : List ℕ) (tells : Bool) (f : ImposeFault) (outcome : Result Done ImposeFault) (has_output : Bool) (written : Option (List ℕ)) → LaysRows r.layout → outcome ≡ Err f → has_output ≡ false
     → RefusesRowTask r input f → Runs r input tells outcome has_output written
 row_stops r input tells f outcome has_output written rows is none why =
     comes_refused (RefusesImposing r.layout r input) (IsImposed r input) _ tells f outcome has_output written is none (on_row r.layout r input f rows (inl why))
@@ -149,7 +150,7 @@ abbrev pub about_row : RowTask → (told : Option ℕ) → About
 about_row t told = record { page_paper = t.page_paper; origin = t.origin; cut = t.cut; reach = t.reach; behind = t.behind; told = told }
 
 -- what comes of its run comes of the request
-pub row_runs : (r : Request) (input : List ℕ) (t : RowTask) (told : Option ℕ) (tells : Bool) (outcome : Result Done Fault) (left : Result Report Fault) (has_output : Bool) (written : Option (List ℕ))
+pub row_runs : (r : ImposeRequest) (input : List ℕ) (t : RowTask) (told : Option ℕ) (tells : Bool) (outcome : Result Done ImposeFault) (left : Result Report ImposeFault) (has_output : Bool) (written : Option (List ℕ))
     → LaysRows r.layout → IsRowTask r input t → told ≡ told_pages input → outcome ≡ reported_by (about_row t told) left
     → Comes (RefusesRowTaskRun r t) (ImposesTask r t) (option_map string_bytes r.outfile) tells left has_output written → Runs r input tells outcome has_output written
 row_runs r input t told tells outcome left has_output written rows is tells_it reports h =
@@ -159,22 +160,22 @@ row_runs r input t told tells outcome left has_output written rows is tells_it r
     (λ old new report done. inr (inl (finishes_row r input t told old new report is tells_it done))) h)
 
 -- what comes of its sheets, if these are asked for, comes of a job
-pub made_comes : (job : RowJob) (made : List MadeSheet) (strokes : List Stroke) (name : Option (List ℕ)) (tells : Bool) (outcome : Result Report Fault) (has_output : Bool) (written : Option (List ℕ))
+pub made_comes : (job : RowJob) (made : List MadeSheet) (strokes : List Stroke) (name : Option (List ℕ)) (tells : Bool) (outcome : Result Report ImposeFault) (has_output : Bool) (written : Option (List ℕ))
     → AreAsked (page_count job) job.papers.now job.asked made → StandAsLaid job.asked.laying made → strokes ≡ strokes_on job
-    → Comes (RefusesThese (page_count job) made) (WritesThese (page_count job) job.border strokes made job.document.now) name tells outcome has_output written
+    → Comes (RefusesThese (page_count job) made) (WritesThese (page_count job) (border_on job) strokes made job.document.now) name tells outcome has_output written
     → Comes (RefusesRowJob job) (Imposes job) name tells outcome has_output written
 made_comes job made strokes name tells outcome has_output written asked stand marked h =
-    comes_as (RefusesThese (page_count job) made) (RefusesRowJob job) (WritesThese (page_count job) job.border strokes made job.document.now) (Imposes job) name tells outcome has_output written
+    comes_as (RefusesThese (page_count job) made) (RefusesRowJob job) (WritesThese (page_count job) (border_on job) strokes made job.document.now) (Imposes job) name tells outcome has_output written
     (λ f why. (why.0, why.1, sheets_refused job made why.0 asked why.2))
     (λ old new report done. record {
       made = made;
       planned = record { asked = asked; stand = stand; planned = done.0 };
-      written = subst (λ s. Appends old new (told_output job.border s made job.document.now)) marked done.1;
-      report = subst (λ s. ReportsOn job.border s made job.document.now report) marked done.2;
+      written = subst (λ s. Appends old new (told_output (border_on job) s made job.document.now)) marked done.1;
+      report = subst (λ s. ReportsOn (border_on job) s made job.document.now report) marked done.2;
     }) h
 
 -- what comes of its job comes of a task
-pub task_comes : (r : Request) (t : RowTask) (job : RowJob) (name other : Option (List ℕ)) (tells : Bool) (outcome : Result Report Fault) (has_output : Bool) (written : Option (List ℕ))
+pub task_comes : (r : ImposeRequest) (t : RowTask) (job : RowJob) (name other : Option (List ℕ)) (tells : Bool) (outcome : Result Report ImposeFault) (has_output : Bool) (written : Option (List ℕ))
     → Comes (RefusesRowJob job) (Imposes job) name tells outcome has_output written → name ≡ other → IsJobOf r t job → Comes (RefusesRowTaskRun r t) (ImposesTask r t) other tells outcome has_output written
 task_comes r t job name other tells outcome has_output written h named is =
     subst (λ n. Comes (RefusesRowTaskRun r t) (ImposesTask r t) n tells outcome has_output written) named

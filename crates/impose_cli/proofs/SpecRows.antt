@@ -5,7 +5,7 @@ use Rattle.made_sheets.specs.Made.{MadeSheet}
 use Rattle.rules.specs.Admissible.{Takes, most_slots}
 use Rattle.rules.specs.Run.{document_of}
 use Rattle.imposer.specs.declared.outcome.Report.{Report}
-use Rattle.row_runs.specs.BySpec.{AreBySpec, ImposesBySpec, pages_of}
+use Rattle.row_runs.specs.BySpec.{AreBySpec, ImposesBySpec, border_by_spec, pages_of}
 use Rattle.row_runs.specs.declared.by_spec.SpecJob.{SpecJob}
 use Rattle.row_runs.proofs.Refused.{spec_refused}
 use Rattle.impose_cli.specs.Abouts.{reported_by}
@@ -14,15 +14,15 @@ use Rattle.impose_cli.specs.SpecRows.{FinishesSpecRow, ImposesSpecTask, IsSpecJo
 use Rattle.impose_cli.specs.declared.runs.About.{About}
 use Rattle.impose_cli.specs.ToldPages.{told_pages}
 use Rattle.impose_cli.specs.Tasks.{taken_text}
-use Rattle.impose_said.specs.declared.fault.Fault.{Fault}
+use Rattle.impose_said.specs.declared.fault.ImposeFault.{ImposeFault}
 use Rattle.impose_words.specs.declared.request.Layout.{Layout}
 use Rattle.impose_words.specs.declared.request.Layout.TheVariants as layout
-use Rattle.impose_words.specs.declared.request.Request.{Request}
+use Rattle.impose_words.specs.declared.request.ImposeRequest.{ImposeRequest}
 use Rattle.impose_cli.specs.declared.spec_row.SpecRowTask.{SpecRowTask}
 use Rattle.impose_said.specs.declared.finished.Done.{Done}
 use Rattle.impose_cli.proofs.Coming.{RefusesThese, WritesThese, comes_as, comes_refused, comes_reported}
 
-pub finishes_spec_row : (r : Request) (input : List ℕ) (t : SpecRowTask) (told : Option ℕ) (old new : Option (List ℕ)) (report : Report) → IsSpecRowTask r input t → told ≡ told_pages input → ImposesSpecTask r t old new report
+pub finishes_spec_row : (r : ImposeRequest) (input : List ℕ) (t : SpecRowTask) (told : Option ℕ) (old new : Option (List ℕ)) (report : Report) → IsSpecRowTask r input t → told ≡ told_pages input → ImposesSpecTask r t old new report
     → FinishesSpecRow r input old new (record { report = report; page_paper = t.page_paper; origin = t.origin; cut = None; reach = t.counted.reach; behind = t.counted.behind; told = told })
 finishes_spec_row r input t told old new report is tells h =
     let of = h.1 in
@@ -45,7 +45,7 @@ finishes_spec_row r input t told old new report is tells h =
     }
 
 -- a request whose layout is a specification on a row is refused as one by it
-on_spec_row : (l : Layout) (r : Request) (input : List ℕ) (f : Fault) → LaysSpecRow l → RefusesSpecRowRun r input f → RefusesImposing l r input f
+on_spec_row : (l : Layout) (r : ImposeRequest) (input : List ℕ) (f : ImposeFault) → LaysSpecRow l → RefusesSpecRowRun r input f → RefusesImposing l r input f
 on_spec_row (layout.SpecRow specs signing) r input f rows h = h
 on_spec_row (layout.NUp cells) r input f rows h = absurd rows
 on_spec_row (layout.Cards cells) r input f rows h = absurd rows
@@ -57,7 +57,7 @@ on_spec_row layout.Selection r input f rows h = absurd rows
 on_spec_row (layout.Spec specs) r input f rows h = absurd rows
 
 -- there is no task
-pub spec_row_stops : (r : Request) (input : List ℕ) (tells : Bool) (f : Fault) (outcome : Result Done Fault) (has_output : Bool) (written : Option (List ℕ)) → LaysSpecRow r.layout → outcome ≡ Err f → has_output ≡ false
+pub spec_row_stops : (r : ImposeRequest) (input : List ℕ) (tells : Bool) (f : ImposeFault) (outcome : Result Done ImposeFault) (has_output : Bool) (written : Option (List ℕ)) → LaysSpecRow r.layout → outcome ≡ Err f → has_output ≡ false
     → RefusesSpecRowTask r input f → Runs r input tells outcome has_output written
 spec_row_stops r input tells f outcome has_output written rows is none why =
     comes_refused (RefusesImposing r.layout r input) (IsImposed r input) _ tells f outcome has_output written is none (on_spec_row r.layout r input f rows (inl why))
@@ -67,7 +67,7 @@ abbrev pub about_spec_row : SpecRowTask → (told : Option ℕ) → About
 about_spec_row t told = record { page_paper = t.page_paper; origin = t.origin; cut = None; reach = t.counted.reach; behind = t.counted.behind; told = told }
 
 -- what comes of its run comes of the request
-pub spec_row_runs : (r : Request) (input : List ℕ) (t : SpecRowTask) (told : Option ℕ) (tells : Bool) (outcome : Result Done Fault) (left : Result Report Fault) (has_output : Bool) (written : Option (List ℕ))
+pub spec_row_runs : (r : ImposeRequest) (input : List ℕ) (t : SpecRowTask) (told : Option ℕ) (tells : Bool) (outcome : Result Done ImposeFault) (left : Result Report ImposeFault) (has_output : Bool) (written : Option (List ℕ))
     → LaysSpecRow r.layout → IsSpecRowTask r input t → told ≡ told_pages input → outcome ≡ reported_by (about_spec_row t told) left
     → Comes (RefusesSpecTaskRun r t) (ImposesSpecTask r t) (option_map string_bytes r.outfile) tells left has_output written → Runs r input tells outcome has_output written
 spec_row_runs r input t told tells outcome left has_output written rows is tells_it reports h =
@@ -77,16 +77,16 @@ spec_row_runs r input t told tells outcome left has_output written rows is tells
     (λ old new report done. inr (inr (finishes_spec_row r input t told old new report is tells_it done))) h)
 
 -- what comes of its sheets comes of a job
-pub spec_made_comes : (job : SpecJob) (made : List MadeSheet) (name : Option (List ℕ)) (tells : Bool) (outcome : Result Report Fault) (has_output : Bool) (written : Option (List ℕ)) → AreBySpec job made
-    → Comes (RefusesThese (pages_of job) made) (WritesThese (pages_of job) job.border [] made job.document.now) name tells outcome has_output written
+pub spec_made_comes : (job : SpecJob) (made : List MadeSheet) (name : Option (List ℕ)) (tells : Bool) (outcome : Result Report ImposeFault) (has_output : Bool) (written : Option (List ℕ)) → AreBySpec job made
+    → Comes (RefusesThese (pages_of job) made) (WritesThese (pages_of job) (border_by_spec job) [] made job.document.now) name tells outcome has_output written
     → Comes (RefusesSpecRowJob job) (ImposesBySpec job) name tells outcome has_output written
 spec_made_comes job made name tells outcome has_output written are h =
-    comes_as (RefusesThese (pages_of job) made) (RefusesSpecRowJob job) (WritesThese (pages_of job) job.border [] made job.document.now) (ImposesBySpec job) name tells outcome has_output written
+    comes_as (RefusesThese (pages_of job) made) (RefusesSpecRowJob job) (WritesThese (pages_of job) (border_by_spec job) [] made job.document.now) (ImposesBySpec job) name tells outcome has_output written
     (λ f why. (why.0, why.1, spec_refused job made why.0 are why.2))
     (λ old new report done. record { made = made; planned = record { sheets = are; planned = done.0 }; written = done.1; report = done.2 }) h
 
 -- what comes of its job comes of a task
-pub spec_task_comes : (r : Request) (t : SpecRowTask) (job : SpecJob) (name other : Option (List ℕ)) (tells : Bool) (outcome : Result Report Fault) (has_output : Bool) (written : Option (List ℕ))
+pub spec_task_comes : (r : ImposeRequest) (t : SpecRowTask) (job : SpecJob) (name other : Option (List ℕ)) (tells : Bool) (outcome : Result Report ImposeFault) (has_output : Bool) (written : Option (List ℕ))
     → Comes (RefusesSpecRowJob job) (ImposesBySpec job) name tells outcome has_output written → name ≡ other → IsSpecJobOf r t job → Comes (RefusesSpecTaskRun r t) (ImposesSpecTask r t) other tells outcome has_output written
 spec_task_comes r t job name other tells outcome has_output written h named is =
     subst (λ n. Comes (RefusesSpecTaskRun r t) (ImposesSpecTask r t) n tells outcome has_output written) named

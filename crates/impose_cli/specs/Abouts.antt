@@ -1,7 +1,7 @@
 -- What is reported of a run that wrote its sheets.
 use Rattle.std.specs.Prelude.{Result, Ok, Err}
 use Rattle.imposer.specs.declared.outcome.Report.{Report}
-use Rattle.impose_said.specs.declared.fault.Fault.{Fault}
+use Rattle.impose_said.specs.declared.fault.ImposeFault.{ImposeFault}
 use Rattle.impose_said.specs.declared.finished.Done.{Done}
 use Rattle.impose_said.specs.declared.finished.Done.TheVariants as done
 use Rattle.impose_said.specs.declared.finished.Finished.{Finished}
@@ -19,6 +19,6 @@ finished_by about report = record {
   told = about.told;
 }
 
-abbrev pub reported_by : About → Result Report Fault → Result Done Fault
+abbrev pub reported_by : About → Result Report ImposeFault → Result Done ImposeFault
 reported_by about (Ok report) = Ok (done.Imposed (finished_by about report))
 reported_by about (Err f) = Err f

@@ -27,9 +27,9 @@ use Rattle.impose_cli.specs.declared.row_task.RowTask.{RowTask}
 use Rattle.impose_cli.specs.declared.task.Task.{Task}
 use Rattle.impose_words.specs.declared.request.Layout.{Layout}
 use Rattle.impose_words.specs.declared.request.Layout.TheVariants as layout
-use Rattle.impose_words.specs.declared.request.Request.{Request}
-use Rattle.impose_said.specs.declared.fault.Fault.{Fault}
-use Rattle.impose_said.specs.declared.fault.Fault.TheVariants as fault
+use Rattle.impose_words.specs.declared.request.ImposeRequest.{ImposeRequest}
+use Rattle.impose_said.specs.declared.fault.ImposeFault.{ImposeFault}
+use Rattle.impose_said.specs.declared.fault.ImposeFault.TheVariants as fault
 use Rattle.impose_said.specs.declared.finished.Done.{Done}
 use Rattle.impose_said.specs.declared.finished.Done.TheVariants as done
 use Rattle.impose_said.specs.declared.finished.Finished.{Finished}
@@ -37,17 +37,17 @@ use Rattle.impose_said.specs.declared.finished.Finished.{Finished}
 -- ---- what is written
 
 -- what holds of the number of bytes that a fault says were written: after a failed write, and if memory ran out
-abbrev pub AfterWrite : Fault → (failed spent : ℕ → Type 0) → Type 0
+abbrev pub AfterWrite : ImposeFault → (failed spent : ℕ → Type 0) → Type 0
 AfterWrite (fault.Write n cause) failed spent = failed n
 AfterWrite (fault.Run (run.NoMemory n)) failed spent = spent n
 AfterWrite other failed spent = ⊥
 
 -- no output could be created
-abbrev pub IsUncreated : Fault → (has_output : Bool) → Type 0
+abbrev pub IsUncreated : ImposeFault → (has_output : Bool) → Type 0
 IsUncreated f has_output = AfterWrite f (λ n. (n ≡ 0) × (has_output ≡ false)) (λ n. ⊥)
 
 -- nor was there memory for its buffer
-abbrev pub IsNotCreated : {T : Type 0} → Result T Fault → (has_output : Bool) → Type 0
+abbrev pub IsNotCreated : {T : Type 0} → Result T ImposeFault → (has_output : Bool) → Type 0
 IsNotCreated (Ok x) has_output = ⊥
 IsNotCreated (Err f) has_output = ((f ≡ without_memory) × (has_output ≡ false)) ⊎ IsUncreated f has_output
 
@@ -56,24 +56,24 @@ abbrev pub HasFirst : (old new : Option (List ℕ)) → (text : List ℕ) → (n
 HasFirst old new text n = IfSome old (λ start. (n ≤ length text) × (new ≡ Some (start ++ take n text)))
 
 -- memory ran out, or a write failed: it has as many as the fault says
-abbrev pub HasFront : (old new : Option (List ℕ)) → (text : List ℕ) → Fault → Type 0
+abbrev pub HasFront : (old new : Option (List ℕ)) → (text : List ℕ) → ImposeFault → Type 0
 HasFront old new text f = AfterWrite f (HasFirst old new text) (HasFirst old new text)
 
 -- the fault says that memory ran out or a write failed after so many bytes
-abbrev pub TellsCount : {T : Type 0} → (n : ℕ) → Result T Fault → Type 0
+abbrev pub TellsCount : {T : Type 0} → (n : ℕ) → Result T ImposeFault → Type 0
 TellsCount n (Ok x) = ⊥
 TellsCount n (Err f) = AfterWrite f (λ m. m ≡ n) (λ m. m ≡ n)
 
 -- what is said of an error of a run, after so many bytes: that memory ran out, or that a write failed
-abbrev pub IsSaidOf : RunError → (n : ℕ) → Fault → Type 0
+abbrev pub IsSaidOf : RunError → (n : ℕ) → ImposeFault → Type 0
 IsSaidOf (run.NoMemory k) n f = AfterWrite f (λ m. ⊥) (λ m. m ≡ n)
 IsSaidOf other n f = AfterWrite f (λ m. m ≡ n) (λ m. ⊥)
 
 -- What comes of what is to be written to the output of this name. It was written whole; or it is refused, and there is no
 -- output; or a whole output would have this text, and none could be created, or one has its front. `Refuses` says why it is
 -- refused, and `Wrote` what a whole output was before and is now.
-abbrev pub Comes : {T : Type 0} → (Refuses : Fault → Type 0) → (Wrote : (old new : Option (List ℕ)) → T → Type 0)
-    → (name : Option (List ℕ)) → (tells : Bool) → Result T Fault → (has_output : Bool) → (written : Option (List ℕ)) → Type 0
+abbrev pub Comes : {T : Type 0} → (Refuses : ImposeFault → Type 0) → (Wrote : (old new : Option (List ℕ)) → T → Type 0)
+    → (name : Option (List ℕ)) → (tells : Bool) → Result T ImposeFault → (has_output : Bool) → (written : Option (List ℕ)) → Type 0
 Comes {T} Refuses Wrote name tells (Ok what) has_output written = Wrote (told_if tells name []) written what
 Comes {T} Refuses Wrote name tells (Err f) has_output written =
     (Refuses f × (has_output ≡ false))
@@ -85,7 +85,7 @@ Comes {T} Refuses Wrote name tells (Err f) has_output written =
 abbrev pub WritesJob : JobView → (old new : Option (List ℕ)) → Report → Type 0
 WritesJob j old new report = Appends old new (output_of j) × ReportsOf j report
 
-abbrev pub RefusesPlan : SheetJob → Fault → Type 0
+abbrev pub RefusesPlan : SheetJob → ImposeFault → Type 0
 RefusesPlan j f = let n = length (pages j.document.now) in
     (error : AskedError) × (f ≡ of_asked n error) × RefusesSheets n j.sheets.now error
 
@@ -96,7 +96,7 @@ WritesSheets j old new report = (made_plan_of (length (pages j.document.now)) j.
 -- ---- by a specification
 
 -- the fault names the first check of a run of the task that fails
-abbrev pub RefusesTaskRun : Task → Fault → Type 0
+abbrev pub RefusesTaskRun : Task → ImposeFault → Type 0
 RefusesTaskRun t f = (error : RunError) × (f ≡ fault.Run error) × IsRefusal (asked_by t) error × IsUnwritten error
 
 -- exactly the output of the task's specification was appended, and the report has its numbers
@@ -105,53 +105,53 @@ WritesTask t old new report = Accepted (asked_by t) (λ spec us.
     Appends old new (output (frame_of t.options) t.options.sides spec us)
     × Reports (frame_of t.options) t.options.sides spec us report)
 
-pub record RefusesInTask (r : Request) (input : List ℕ) (f : Fault) : Type 0 where
+pub record RefusesInTask (r : ImposeRequest) (input : List ℕ) (f : ImposeFault) : Type 0 where
   pub task : Task
   pub is_task : IsTask r input task
   pub refused : RefusesTaskRun task f
 
 -- there is no task, or its run is refused
-abbrev pub RefusesSpecRun : Request → (input : List ℕ) → Fault → Type 0
+abbrev pub RefusesSpecRun : ImposeRequest → (input : List ℕ) → ImposeFault → Type 0
 RefusesSpecRun r input f = RefusesTask r input f ⊎ RefusesInTask r input f
 
 -- ---- on the row of a layout
 
 -- the fault names the first check of a job that fails
-abbrev pub RefusesRowJob : RowJob → Fault → Type 0
+abbrev pub RefusesRowJob : RowJob → ImposeFault → Type 0
 RefusesRowJob job f = (error : AskedError) × (f ≡ of_asked (page_count job) error) × RefusesRun job error
 
 -- the text of a task is refused, or its job
-abbrev pub RefusesRowTaskRun : Request → RowTask → Fault → Type 0
+abbrev pub RefusesRowTaskRun : ImposeRequest → RowTask → ImposeFault → Type 0
 RefusesRowTaskRun r t f = RefusesText t.text.items f ⊎ ((job : RowJob) × IsJobOf r t job × RefusesRowJob job f)
 
-pub record RefusesInRow (r : Request) (input : List ℕ) (f : Fault) : Type 0 where
+pub record RefusesInRow (r : ImposeRequest) (input : List ℕ) (f : ImposeFault) : Type 0 where
   pub task : RowTask
   pub is_task : IsRowTask r input task
   pub refused : RefusesRowTaskRun r task f
 
 -- there is no task, or its run is refused
-abbrev pub RefusesRow : Request → (input : List ℕ) → Fault → Type 0
+abbrev pub RefusesRow : ImposeRequest → (input : List ℕ) → ImposeFault → Type 0
 RefusesRow r input f = RefusesRowTask r input f ⊎ RefusesInRow r input f
 
 -- ---- all of them
 
 -- the request was carried out, by its specification, on its row, or by its specification on its row
-abbrev pub Finishes : Request → (input : List ℕ) → (old new : Option (List ℕ)) → Finished → Type 0
+abbrev pub Finishes : ImposeRequest → (input : List ℕ) → (old new : Option (List ℕ)) → Finished → Type 0
 Finishes r input old new done =
     FinishesSpec r input old new done ⊎ (FinishesRow r input old new done ⊎ FinishesSpecRow r input old new done)
 
-abbrev pub IsImposed : Request → (input : List ℕ) → (old new : Option (List ℕ)) → Done → Type 0
+abbrev pub IsImposed : ImposeRequest → (input : List ℕ) → (old new : Option (List ℕ)) → Done → Type 0
 IsImposed r input old new (done.Imposed finished) = Finishes r input old new finished
 IsImposed r input old new other = ⊥
 
 -- its first fault: by its specification, by that on its row, or on the row of another layout
-abbrev pub RefusesImposing : Layout → Request → (input : List ℕ) → Fault → Type 0
+abbrev pub RefusesImposing : Layout → ImposeRequest → (input : List ℕ) → ImposeFault → Type 0
 RefusesImposing (layout.Spec specs) r input f = RefusesSpecRun r input f
 RefusesImposing (layout.SpecRow specs signing) r input f = RefusesSpecRowRun r input f
 RefusesImposing other r input f = RefusesRow r input f
 
 -- what comes of a request to impose this input
-abbrev pub Runs : Request → (input : List ℕ) → (tells : Bool) → Result Done Fault → (has_output : Bool)
+abbrev pub Runs : ImposeRequest → (input : List ℕ) → (tells : Bool) → Result Done ImposeFault → (has_output : Bool)
     → (written : Option (List ℕ)) → Type 0
 Runs r input tells outcome has_output written =
     Comes (RefusesImposing r.layout r input) (IsImposed r input) (option_map string_bytes r.outfile) tells outcome has_output written

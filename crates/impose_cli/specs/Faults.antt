@@ -11,16 +11,16 @@ use Rattle.imposer.specs.Outcomes.{of_document as of_read}
 use Rattle.impose_said.specs.Faults.{without_memory}
 use Rattle.impose_said.specs.declared.fault.Packing.{Packing}
 use Rattle.impose_said.specs.declared.fault.Packing.TheVariants as packing
-use Rattle.impose_said.specs.declared.fault.Fault.{Fault}
-use Rattle.impose_said.specs.declared.fault.Fault.TheVariants as fault
+use Rattle.impose_said.specs.declared.fault.ImposeFault.{ImposeFault}
+use Rattle.impose_said.specs.declared.fault.ImposeFault.TheVariants as fault
 
 -- of a row of pages of a document that has so many
-abbrev pub of_row : (pages : ℕ) → RowError → Fault
+abbrev pub of_row : (pages : ℕ) → RowError → ImposeFault
 of_row pages (row.NotInDocument place) = fault.NoSuchPage place pages
 of_row pages other = fault.Row other
 
 -- of a run on a row of pages of a document that has so many (RULES, 16, steps 11 to 14)
-abbrev pub of_asked : (pages : ℕ) → AskedError → Fault
+abbrev pub of_asked : (pages : ℕ) → AskedError → ImposeFault
 of_asked pages (asked.Row e) = of_row pages e
 of_asked pages (asked.Arrangement e) = fault.Layout e
 of_asked pages (asked.Poster e) = fault.Poster e
@@ -51,24 +51,24 @@ is_utf_16 input = starts_with nat_eq input (255 ∷ 254 ∷ []) || starts_with n
 abbrev pub is_job : (input : List ℕ) → Bool
 is_job input = starts_with nat_eq input (27 ∷ codes "%-12345X")
 
-abbrev pub or_packed : Option Packing → Fault → Fault
+abbrev pub or_packed : Option Packing → ImposeFault → ImposeFault
 or_packed None other = other
 or_packed (Some how) other = fault.Compressed how
 
 -- of an input that is no PostScript: one that is a job for a printer, an EPS with a preview, or a text in UTF-16 is called so
-abbrev pub of_unpacked : (input : List ℕ) → Fault
+abbrev pub of_unpacked : (input : List ℕ) → ImposeFault
 of_unpacked input = if is_job input then fault.JobLanguage
     else (if is_dos_eps input then fault.DosEps
     else (if is_utf_16 input then fault.Utf16 else fault.Run (of_read NotPostScript)))
 
 -- and so is one that is empty, a PDF, or compressed
-abbrev pub of_other_input : (input : List ℕ) → Fault
+abbrev pub of_other_input : (input : List ℕ) → ImposeFault
 of_other_input input = if length input == 0 then fault.NoInput
     else (if is_pdf input then fault.Pdf
     else or_packed (packing_of input) (of_unpacked input))
 
 -- of an input that is refused for this reason (RULES, 16, step 7)
-abbrev pub of_document : DscError → (input : List ℕ) → Fault
+abbrev pub of_document : DscError → (input : List ℕ) → ImposeFault
 of_document NotPostScript input = of_other_input input
 of_document TooLong input = fault.TooLong
 of_document other input = fault.Run (of_read other)

@@ -1,9 +1,9 @@
 -- What holds of what impose wrote.
 use Rattle.std.proofs.Common.{inl, inr}
-use Rattle.std.specs.Prelude.{◌≡◌, ℕ, ℤ, ◌<◌, ◌≤◌, List, [], ◌++◌, length, Option, Some, Ok}
+use Rattle.std.specs.Prelude.{◌≡◌, ℕ, ◌<◌, ◌≤◌, List, [], ◌++◌, length, Option, Some, Ok}
 use Rattle.rules.specs.Parts.{NestedUnit, page_run, pages, trailer}
 use Rattle.rules.specs.Sheets.{Slot, sheets}
-use Rattle.rules.specs.Output.{Frame}
+use Rattle.rules.specs.Output.{Border, Frame}
 use Rattle.rules.specs.Run.{document_of, most_input_bytes}
 use Rattle.dsc.specs.Units.{units_of}
 use Rattle.made_sheets.specs.Made.{MadeSheet}
@@ -12,10 +12,11 @@ use Rattle.imposed_again.specs.Again.{IsAgain, depth_behind, sheet_texts}
 use Rattle.imposed_again.specs.MadeAgain.{IsMadeAgain, made_texts}
 use Rattle.papers.specs.Told.{telling}
 use Rattle.dressing.specs.Drawn.{marked}
-use Rattle.row_runs.specs.Runs.{strokes_on}
+use Rattle.row_runs.specs.Runs.{border_on, strokes_on}
+use Rattle.row_runs.specs.BySpec.{border_by_spec}
 use Rattle.impose_cli.specs.Tasks.{FinishesSpec, frame_used}
 use Rattle.impose_cli.specs.Endings.{Finishes}
-use Rattle.impose_words.specs.declared.request.Request.{Request}
+use Rattle.impose_words.specs.declared.request.ImposeRequest.{ImposeRequest}
 use Rattle.impose_said.specs.declared.finished.Finished.{Finished}
 
 -- The text, written of a document with these sheets, is a document again: it is accepted, and its preamble and trailer
@@ -29,7 +30,7 @@ pub record IsDocumentAgain (frame : Frame) (all : List (List Slot)) (us : List N
   pub with_trailer : 0 < length (trailer us) → pages (units_of text) ≡ sheet_texts frame (pages us) all
 
 -- the same of a text that was written with made sheets, and with these lines besides
-pub record IsMadeDocument (border : Option ℤ) (dress : Dress) (all : List MadeSheet) (us : List NestedUnit) (text : List ℕ)
+pub record IsMadeDocument (border : Option Border) (dress : Dress) (all : List MadeSheet) (us : List NestedUnit) (text : List ℕ)
     : Type 0 where
   pub accepted : document_of text ≡ Ok (units_of text)
   pub again : IsMadeAgain border dress all us (units_of text)
@@ -37,25 +38,25 @@ pub record IsMadeDocument (border : Option ℤ) (dress : Dress) (all : List Made
   pub with_trailer : 0 < length (trailer us) → pages (units_of text) ≡ made_texts border dress (pages us) all
 
 -- the sheets that a specification names for the pages of the document
-abbrev pub sheets_named : {r : Request} {input : List ℕ} {old new : Option (List ℕ)} {done : Finished}
+abbrev pub sheets_named : {r : ImposeRequest} {input : List ℕ} {old new : Option (List ℕ)} {done : Finished}
     → FinishesSpec r input old new done → List (List Slot)
 sheets_named h = sheets h.spec (length (pages h.units))
 
 -- the text is a document again, with the sheets that were made
-abbrev pub IsAgainFor : {r : Request} {input : List ℕ} {old new : Option (List ℕ)} {done : Finished}
+abbrev pub IsAgainFor : {r : ImposeRequest} {input : List ℕ} {old new : Option (List ℕ)} {done : Finished}
     → Finishes r input old new done → (text : List ℕ) → Type 0
 IsAgainFor {r} {input} {old} {new} {done} (inl h) text =
     IsDocumentAgain (frame_used r done) (sheets_named h) h.units text
 IsAgainFor (inr (inl h)) text =
     0 < length h.imposes.made
-    → IsMadeDocument h.job.border (marked (strokes_on h.job) (telling h.imposes.made)) h.imposes.made h.job.document.now text
+    → IsMadeDocument (border_on h.job) (marked (strokes_on h.job) (telling h.imposes.made)) h.imposes.made h.job.document.now text
 IsAgainFor (inr (inr h)) text =
     0 < length h.imposes.made
-    → IsMadeDocument h.job.border (marked [] (telling h.imposes.made)) h.imposes.made h.job.document.now text
+    → IsMadeDocument (border_by_spec h.job) (marked [] (telling h.imposes.made)) h.imposes.made h.job.document.now text
 
 -- what was appended for a request that was carried out is a document again, if it has no more than 2^30 bytes
 abbrev pub WroteDocument : Type 0
 WroteDocument =
-    (r : Request) (input old text : List ℕ) (done : Finished)
+    (r : ImposeRequest) (input old text : List ℕ) (done : Finished)
     → (h : Finishes r input (Some old) (Some (old ++ text)) done) → length text ≤ most_input_bytes
     → IsAgainFor h text

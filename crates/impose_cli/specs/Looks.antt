@@ -5,12 +5,12 @@ use Rattle.papers.specs.declared.cuts.Cut.{Cut}
 use Rattle.row_runs.specs.Looks.{TellsPicture, TellsPlan}
 use Rattle.row_runs.specs.declared.run.RowJob.{RowJob}
 use Rattle.impose_cli.specs.RowTasks.{ArePapersOf, IsJobOf, IsRowJob, IsRowPaper, LaysRows}
-use Rattle.impose_cli.specs.declared.look.Look.{Look}
-use Rattle.impose_cli.specs.declared.look.Look.TheVariants.{Plan, Picture}
+use Rattle.impose_cli.specs.declared.look.Overview.{Overview}
+use Rattle.impose_cli.specs.declared.look.Overview.TheVariants.{Plan, Picture}
 use Rattle.impose_words.specs.declared.request.Layout.{Layout}
 use Rattle.impose_words.specs.declared.request.Product.{Product}
 use Rattle.impose_words.specs.declared.request.Product.TheVariants as product
-use Rattle.impose_words.specs.declared.request.Request.{Request}
+use Rattle.impose_words.specs.declared.request.ImposeRequest.{ImposeRequest}
 use Rattle.impose_cli.specs.declared.row_task.RowTask.{RowTask}
 use Rattle.impose_said.specs.declared.finished.PaperOrigin.{PaperOrigin}
 
@@ -26,15 +26,15 @@ abbrev pub most_told : ℕ
 most_told = 40
 
 -- the text reports on the sheets that the run of this job would impose
-abbrev pub Tells : Look → RowJob → (text : List ℕ) → Type 0
+abbrev pub Tells : Overview → RowJob → (text : List ℕ) → Type 0
 Tells Plan job text = TellsPlan job most_told text
 Tells Picture job text = TellsPicture job most_told text
 
-abbrev pub TellsTask : Request → RowTask → Look → (text : List ℕ) → Type 0
+abbrev pub TellsTask : ImposeRequest → RowTask → Overview → (text : List ℕ) → Type 0
 TellsTask r t look text = (job : RowJob) × IsJobOf r t job × Tells look job text
 
 -- the text reports on the sheets on which the layout of the request lays its row of this document
-pub record TellsRow (r : Request) (input : List ℕ) (look : Look) (text : List ℕ) : Type 0 where
+pub record TellsRow (r : ImposeRequest) (input : List ℕ) (look : Overview) (text : List ℕ) : Type 0 where
   pub page_paper : Paper × PaperOrigin
   pub found : IsRowPaper r input page_paper
   pub cut : Option Cut

@@ -16,19 +16,19 @@ use Rattle.impose_cli.specs.Tasks.{IsTask}
 use Rattle.impose_cli.specs.Unread.{MayBeRead, RefusesRequest}
 use Rattle.impose_words.specs.Faults.{Refuses}
 use Rattle.impose_words.specs.Words.{Entered, Reads}
-use Rattle.impose_said.specs.declared.fault.Fault.{Fault}
-use Rattle.impose_said.specs.declared.fault.Fault.TheVariants as fault
+use Rattle.impose_said.specs.declared.fault.ImposeFault.{ImposeFault}
+use Rattle.impose_said.specs.declared.fault.ImposeFault.TheVariants as fault
 use Rattle.impose_said.specs.declared.finished.Done.{Done}
 use Rattle.impose_said.specs.declared.finished.Done.TheVariants as done
-use Rattle.impose_cli.specs.declared.look.Look.{Look}
-use Rattle.impose_cli.specs.declared.look.Look.TheVariants as look
+use Rattle.impose_cli.specs.declared.look.Overview.{Overview}
+use Rattle.impose_cli.specs.declared.look.Overview.TheVariants as look
 use Rattle.impose_words.specs.declared.request.Product.{Product}
 use Rattle.impose_words.specs.declared.request.Product.TheVariants as product
-use Rattle.impose_words.specs.declared.request.Request.{Request}
+use Rattle.impose_words.specs.declared.request.ImposeRequest.{ImposeRequest}
 use Rattle.impose_cli.specs.declared.task.Task.{Task}
 
 -- the exit status: 0 if something was done
-abbrev pub status_of : Result Done Fault → ℕ
+abbrev pub status_of : Result Done ImposeFault → ℕ
 status_of (Ok what) = 0
 status_of (Err f) = fault_status f
 
@@ -54,7 +54,7 @@ IsHome variable gives home =
 -- ---- faults
 
 -- the input couldn't be opened or read
-abbrev pub IsReading : Fault → Type 0
+abbrev pub IsReading : ImposeFault → Type 0
 IsReading (fault.Read cause) = ⊤
 IsReading (fault.Run e) = fault.Run e ≡ without_memory
 IsReading other = ⊥
@@ -62,18 +62,18 @@ IsReading other = ⊥
 -- ---- texts
 
 -- a write failed, and the fault says after how many bytes of the text: these were written
-abbrev pub BreaksAt : (old new : Option (List ℕ)) → (text : List ℕ) → Fault → Type 0
+abbrev pub BreaksAt : (old new : Option (List ℕ)) → (text : List ℕ) → ImposeFault → Type 0
 BreaksAt old new text f = AfterWrite f (λ n. (n < length text) × Appends old new (take n text)) (λ n. ⊥)
 
 -- a text wasn't written whole to the output of this name
-abbrev pub FailsToWrite : (name : Option (List ℕ)) → (text : List ℕ) → (tells : Bool) → Fault → (has_output : Bool)
+abbrev pub FailsToWrite : (name : Option (List ℕ)) → (text : List ℕ) → (tells : Bool) → ImposeFault → (has_output : Bool)
     → (written : Option (List ℕ)) → Type 0
 FailsToWrite name text tells f has_output written =
     IsUncreated f has_output ⊎ BreaksAt (told_if tells name []) written text f
 
 -- What comes of a text that is written to the output of this name: the output tells its name and exactly the text; or a
 -- write failed.
-abbrev pub Writes : (name : Option (List ℕ)) → (text : List ℕ) → Done → (tells : Bool) → Result Done Fault
+abbrev pub Writes : (name : Option (List ℕ)) → (text : List ℕ) → Done → (tells : Bool) → Result Done ImposeFault
     → (has_output : Bool) → (written : Option (List ℕ)) → Type 0
 Writes name text what tells (Ok said) has_output written = (said ≡ what) × Appends (told_if tells name []) written text
 Writes name text what tells (Err f) has_output written = FailsToWrite name text tells f has_output written
@@ -81,7 +81,7 @@ Writes name text what tells (Err f) has_output written = FailsToWrite name text 
 -- What comes of a request to print the specification for this input: there is a task, of one paper for all pages if it lays
 -- a row, and standard output has what was printed of it; or there is none, or no memory, and nothing was created; or there is
 -- such a task, and a write failed.
-abbrev pub Prints : Request → (input : List ℕ) → (tells : Bool) → Result Done Fault → (has_output : Bool)
+abbrev pub Prints : ImposeRequest → (input : List ℕ) → (tells : Bool) → Result Done ImposeFault → (has_output : Bool)
     → (written : Option (List ℕ)) → Type 0
 Prints r input tells (Ok (done.Imposed finished)) has_output written = ⊥
 Prints r input tells (Ok done.Printed) has_output written =
@@ -96,7 +96,7 @@ Prints r input tells (Err f) has_output written =
 -- What comes of a request to show the sheets for this input: the output of this name has exactly the text that reports on the
 -- sheets that would be imposed; or the request is refused as its run would be, and nothing was created; or there is such a
 -- text, and a write failed.
-abbrev pub Shows : Look → (name : Option (List ℕ)) → Request → (input : List ℕ) → (tells : Bool) → Result Done Fault
+abbrev pub Shows : Overview → (name : Option (List ℕ)) → ImposeRequest → (input : List ℕ) → (tells : Bool) → Result Done ImposeFault
     → (has_output : Bool) → (written : Option (List ℕ)) → Type 0
 Shows l name r input tells (Ok (done.Imposed finished)) has_output written = ⊥
 Shows l name r input tells (Ok done.Printed) has_output written = ⊥
@@ -110,7 +110,7 @@ Shows l name r input tells (Err f) has_output written =
 
 -- this is made of what the input gives: the sheets in OUTFILE, a specification or a plan on standard output, or a picture in
 -- its own file
-abbrev pub Makes : Product → Request → (input : List ℕ) → (tells : Bool) → Result Done Fault → (has_output : Bool)
+abbrev pub Makes : Product → ImposeRequest → (input : List ℕ) → (tells : Bool) → Result Done ImposeFault → (has_output : Bool)
     → (written : Option (List ℕ)) → Type 0
 Makes product.Sheets r input tells outcome has_output written = Runs r input tells outcome has_output written
 Makes product.Specification r input tells outcome has_output written = Prints r input tells outcome has_output written
@@ -121,23 +121,23 @@ Makes (product.Picture file) r input tells outcome has_output written =
 
 -- What comes of a request: it is refused before its input is read; or it isn't, and its input can't be read, and nothing was
 -- created; or the input was read, and what is asked for is made of it (RULES, 16)
-abbrev pub CarriesOut : Request → Gives → (tells : Bool) → Result Done Fault → (has_output : Bool)
+abbrev pub CarriesOut : ImposeRequest → Gives → (tells : Bool) → Result Done ImposeFault → (has_output : Bool)
     → (written : Option (List ℕ)) → Type 0
 CarriesOut r gives tells outcome has_output written =
-    ((f : Fault) × (outcome ≡ Err f) × (has_output ≡ false) × (RefusesRequest r f ⊎ (MayBeRead r × IsReading f)))
+    ((f : ImposeFault) × (outcome ≡ Err f) × (has_output ≡ false) × (RefusesRequest r f ⊎ (MayBeRead r × IsReading f)))
     ⊎ ((input : List ℕ) × IsFirst most_bytes (gives (option_map string_bytes r.infile)) input × MayBeRead r
     × Makes r.product r input tells outcome has_output written)
 
 -- an output that exists is that of a request that was carried out, or for which a write failed or memory ran out: what is
 -- refused has none
-abbrev pub IsCreatedFor : Result Done Fault → (has_output : Bool) → Type 0
+abbrev pub IsCreatedFor : Result Done ImposeFault → (has_output : Bool) → Type 0
 IsCreatedFor (Ok what) has_output = ⊤
 IsCreatedFor (Err f) has_output = (has_output ≡ false) ⊎ AfterWrite f (λ n. ⊤) (λ n. ⊤)
 
 -- How the program ends: the words are refused, and nothing was created; or they make a request, with the paper at home,
 -- and this comes of it.
-abbrev pub EndsProgram : (words : List Text) → (variable : List ℕ) → Gives → (tells : Bool) → Option Request
-    → Result Done Fault → (has_output : Bool) → (written : Option (List ℕ)) → Type 0
+abbrev pub EndsProgram : (words : List Text) → (variable : List ℕ) → Gives → (tells : Bool) → Option ImposeRequest
+    → Result Done ImposeFault → (has_output : Bool) → (written : Option (List ℕ)) → Type 0
 EndsProgram words variable gives tells None (Ok what) has_output written = ⊥
 EndsProgram words variable gives tells None (Err (fault.Command f)) has_output written =
     Refuses words f × (has_output ≡ false)

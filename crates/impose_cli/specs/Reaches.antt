@@ -11,7 +11,7 @@ use Rattle.papers.specs.Reach.{page_boxes, reach_of}
 use Rattle.papers.specs.declared.boxes.Edges.{Edges}
 use Rattle.papers.specs.declared.reach.Reach.{Reach}
 use Rattle.impose_words.specs.Choices.{choice_in}
-use Rattle.impose_words.specs.declared.request.Request.{Request}
+use Rattle.impose_words.specs.declared.request.ImposeRequest.{ImposeRequest}
 
 -- an entry of a row is this page
 abbrev pub is_page : Option ℕ → (page : ℕ) → Bool
@@ -29,22 +29,22 @@ reach_on apart (Ok row) placed own boxes = reach_of (record { taken = takes row;
 reach_on apart (Err fault) placed own boxes = None
 
 -- what pages have of their own: one that names no paper has the one that is named for all, else the document's
-abbrev pub told_own : Request → (input : List ℕ) → List NestedUnit → List Paper
+abbrev pub told_own : ImposeRequest → (input : List ℕ) → List NestedUnit → List Paper
 told_own r input us = own_papers None paper_named (unwrap_or r.page_paper r.home_paper) input us
 
 -- RULES, 17
-abbrev pub reach_in : (cut_apart : Bool) → Request → (placed : List Paper) → (input : List ℕ) → List NestedUnit → Option Reach
+abbrev pub reach_in : (cut_apart : Bool) → ImposeRequest → (placed : List Paper) → (input : List ℕ) → List NestedUnit → Option Reach
 reach_in apart r placed input us =
     reach_on apart (imposed_row (length (pages us)) (choice_in r.choice) None) placed (told_own r input us) (page_boxes input us)
 
 -- the document is accepted, and these of its pages reach beyond the papers by which they are placed
-abbrev pub HasReach : Request → (input : List ℕ) → (placed : List Paper) → Option Reach → Type 0
+abbrev pub HasReach : ImposeRequest → (input : List ℕ) → (placed : List Paper) → Option Reach → Type 0
 HasReach r input placed reach =
     (us : List NestedUnit) × (document_of input ≡ Ok us) × (reach ≡ reach_in true r placed input us)
 
 -- the same of pages that are all placed by one paper, where none is reported apart
-abbrev pub reach_over : Request → Paper → (input : List ℕ) → List NestedUnit → Option Reach
+abbrev pub reach_over : ImposeRequest → Paper → (input : List ℕ) → List NestedUnit → Option Reach
 reach_over r paper input us = reach_in false r (map (λ page. paper) (pages us)) input us
 
-abbrev pub HasReachOver : Request → (input : List ℕ) → Paper → Option Reach → Type 0
+abbrev pub HasReachOver : ImposeRequest → (input : List ℕ) → Paper → Option Reach → Type 0
 HasReachOver r input paper reach = (us : List NestedUnit) × (document_of input ≡ Ok us) × (reach ≡ reach_over r paper input us)

@@ -35,11 +35,11 @@ use Rattle.impose_cli.specs.ToldPages.{told_pages}
 use Rattle.impose_cli.specs.Reaches.{HasReach, takes}
 use Rattle.impose_cli.specs.Tasks.{HasBehind, page_paper_found, sheet_paper_found, taken_text}
 use Rattle.impose_said.specs.Said.{is_same}
-use Rattle.impose_said.specs.declared.fault.Fault.{Fault}
-use Rattle.impose_said.specs.declared.fault.Fault.TheVariants as fault
+use Rattle.impose_said.specs.declared.fault.ImposeFault.{ImposeFault}
+use Rattle.impose_said.specs.declared.fault.ImposeFault.TheVariants as fault
 use Rattle.impose_words.specs.declared.request.Layout.{Layout}
 use Rattle.impose_words.specs.declared.request.Layout.TheVariants as layout
-use Rattle.impose_words.specs.declared.request.Request.{Request}
+use Rattle.impose_words.specs.declared.request.ImposeRequest.{ImposeRequest}
 use Rattle.impose_said.specs.declared.finished.Finished.{Finished}
 use Rattle.impose_said.specs.declared.finished.PaperOrigin.{PaperOrigin}
 use Rattle.impose_said.specs.declared.finished.PaperOrigin.TheVariants.{FirstPage}
@@ -96,7 +96,7 @@ laying_in (layout.Spec specs) s page_paper sheet_paper = None
 laying_in (layout.SpecRow specs signing) s page_paper sheet_paper = None
 
 -- the fault that says why it can't (RULES, 16, step 9)
-abbrev pub why_not_laid : Layout → Spacing → (page_paper sheet_paper : Paper) → Option Fault
+abbrev pub why_not_laid : Layout → Spacing → (page_paper sheet_paper : Paper) → Option ImposeFault
 why_not_laid (layout.NUp cells) s page_paper sheet_paper =
     option_map fault.Layout (why_not_arranged page_paper sheet_paper (arrangement_in s cells))
 why_not_laid (layout.Cards cells) s page_paper sheet_paper =
@@ -126,16 +126,16 @@ guarded_in other first sheet_paper = sheet_paper
 
 -- the paper for which the guard sets the page size: that of the sheets, and of a selection that of its first sheet, since
 -- sheets of several papers set their own (RULES, 15)
-abbrev pub guarded_paper : Request → (papers : List Paper) → (page_paper : Paper) → Paper
+abbrev pub guarded_paper : ImposeRequest → (papers : List Paper) → (page_paper : Paper) → Paper
 guarded_paper r papers page_paper = let sheet_paper = sheet_paper_in r.layout r.sheet_paper page_paper in
     guarded_in r.layout (first_paper (imposed_row (length papers) (choice_in r.choice) None) papers sheet_paper) sheet_paper
 
 -- the document, with the guard in it if it is asked for
-abbrev pub text_for : Request → (papers : List Paper) → (page_paper : Paper) → (input : List ℕ) → List ℕ
+abbrev pub text_for : ImposeRequest → (papers : List Paper) → (page_paper : Paper) → (input : List ℕ) → List ℕ
 text_for r papers page_paper input = taken_text r.is_guarded (guarded_paper r papers page_paper) input
 
 -- the papers of the document's pages: the one that is named, and else each page's own
-abbrev pub own_in : Request → (input : List ℕ) → List NestedUnit → List Paper
+abbrev pub own_in : ImposeRequest → (input : List ℕ) → List NestedUnit → List Paper
 own_in r input us = own_papers r.page_paper paper_named r.home_paper input us
 
 -- what is taken for the document's paper, if it is that of no page: the first page's
@@ -148,14 +148,14 @@ paper_for found own = or_first found (first_instead_of found.0 own)
 
 -- the paper for which sheets and cells are made, and where it was found: the document's, if a page has it or one that
 -- counts as the same, and else the first page's own (RULES, 12.5)
-abbrev pub row_paper : Request → (input : List ℕ) → List NestedUnit → Paper × PaperOrigin
+abbrev pub row_paper : ImposeRequest → (input : List ℕ) → List NestedUnit → Paper × PaperOrigin
 row_paper r input us = paper_for (page_paper_found r.page_paper r.home_paper input) (own_in r input us)
 
-abbrev pub IsRowPaper : Request → (input : List ℕ) → Paper × PaperOrigin → Type 0
+abbrev pub IsRowPaper : ImposeRequest → (input : List ℕ) → Paper × PaperOrigin → Type 0
 IsRowPaper r input found = (us : List NestedUnit) × (document_of input ≡ Ok us) × (found ≡ row_paper r input us)
 
 -- the papers by which the pages are placed: with those that count as one taken as one (RULES, 12.4)
-abbrev pub papers_in : Request → (input : List ℕ) → List NestedUnit → List Paper
+abbrev pub papers_in : ImposeRequest → (input : List ℕ) → List NestedUnit → List Paper
 papers_in r input us = as_one (row_paper r input us).0 (own_in r input us)
 
 -- a specification is made for the layout
@@ -166,11 +166,11 @@ has_specification other = false
 
 -- all pages have this paper, and sheets and cells are made for it: then a specification says what the row is
 -- (RULES, 16, step 8)
-abbrev pub is_of_one_paper : Request → (input : List ℕ) → List NestedUnit → Paper → Bool
+abbrev pub is_of_one_paper : ImposeRequest → (input : List ℕ) → List NestedUnit → Paper → Bool
 is_of_one_paper r input us paper = is_same (row_paper r input us).0 paper && list_all (is_same paper) (papers_in r input us)
 
 -- the document is accepted, and this says whether all of its pages have that paper
-abbrev pub TellsOnePaper : Request → (input : List ℕ) → Paper → Bool → Type 0
+abbrev pub TellsOnePaper : ImposeRequest → (input : List ℕ) → Paper → Bool → Type 0
 TellsOnePaper r input paper is = (us : List NestedUnit) × (document_of input ≡ Ok us) × (is ≡ is_of_one_paper r input us paper)
 
 -- papers of pages from this number on, with another one for each page that the row doesn't take
@@ -189,11 +189,11 @@ cut_by_named None row input us = None
 cut_by_named (Some named) row input us = cut_on row named (own_papers None paper_named named input us)
 
 -- RULES, 17
-abbrev pub cut_in : Request → (input : List ℕ) → List NestedUnit → Option Cut
+abbrev pub cut_in : ImposeRequest → (input : List ℕ) → List NestedUnit → Option Cut
 cut_in r input us = cut_by_named r.page_paper (imposed_row (length (pages us)) (choice_in r.choice) None) input us
 
 -- the document is accepted, and its pages have these papers, of which the named one cuts these
-pub record ArePapersOf (r : Request) (input : List ℕ) (papers : List Paper) (cut : Option Cut) : Type 0 where
+pub record ArePapersOf (r : ImposeRequest) (input : List ℕ) (papers : List Paper) (cut : Option Cut) : Type 0 where
   pub units : List NestedUnit
   pub document : document_of input ≡ Ok units
   pub own : papers ≡ papers_in r input units
@@ -206,7 +206,7 @@ LaysRows (layout.SpecRow specs signing) = ⊥
 LaysRows other = ⊤
 
 -- the task is what the request asks for with this document
-pub record IsRowTask (r : Request) (input : List ℕ) (t : RowTask) : Type 0 where
+pub record IsRowTask (r : ImposeRequest) (input : List ℕ) (t : RowTask) : Type 0 where
   pub papers : ArePapersOf r input t.papers.items t.cut
   pub reach : HasReach r input t.papers.items t.reach
   pub page_paper : IsRowPaper r input (t.page_paper, t.origin)
@@ -220,7 +220,7 @@ pub record IsRowTask (r : Request) (input : List ℕ) (t : RowTask) : Type 0 whe
   pub border : is_border r.border ≡ true
 
 -- the job is the run of such a task
-pub record IsJobOf (r : Request) (t : RowTask) (job : RowJob) : Type 0 where
+pub record IsJobOf (r : ImposeRequest) (t : RowTask) (job : RowJob) : Type 0 where
   pub document : document_of t.text.items ≡ Ok job.document.now
   pub papers : job.papers.now ≡ t.papers.items
   pub choice : choice_of job.asked.choice ≡ choice_in r.choice
@@ -228,14 +228,15 @@ pub record IsJobOf (r : Request) (t : RowTask) (job : RowJob) : Type 0 where
   pub laying : job.asked.laying ≡ t.laying
   pub same_scale : job.asked.same_scale ≡ r.spacing.same_scale
   pub border : job.border ≡ r.border
+  pub inset : job.inset ≡ r.spacing.trim
   pub marks : job.marks ≡ r.marks
 
-abbrev pub ImposesTask : Request → RowTask → (old new : Option (List ℕ)) → Report → Type 0
+abbrev pub ImposesTask : ImposeRequest → RowTask → (old new : Option (List ℕ)) → Report → Type 0
 ImposesTask r t old new report = (job : RowJob) × IsJobOf r t job × Imposes job old new report
 
 -- the job is what the request asks for with this document, laid out for pages of this paper; and for none of its lengths,
 -- its cells and these papers the layout had to be refused
-pub record IsRowJob (r : Request) (input : List ℕ) (page_paper : Paper) (job : RowJob) : Type 0 where
+pub record IsRowJob (r : ImposeRequest) (input : List ℕ) (page_paper : Paper) (job : RowJob) : Type 0 where
   pub document : document_of (text_for r job.papers.now page_paper input) ≡ Ok job.document.now
   pub choice : choice_of job.asked.choice ≡ choice_in r.choice
   pub signing : option_map signing_of job.asked.signing ≡ signing_in r.layout
@@ -243,11 +244,12 @@ pub record IsRowJob (r : Request) (input : List ℕ) (page_paper : Paper) (job :
   pub possible : why_not_laid r.layout r.spacing page_paper (sheet_paper_in r.layout r.sheet_paper page_paper) ≡ None
   pub same_scale : job.asked.same_scale ≡ r.spacing.same_scale
   pub border : job.border ≡ r.border
+  pub inset : job.inset ≡ r.spacing.trim
   pub marks : job.marks ≡ r.marks
 
 -- The request was carried out for this document: exactly the output was appended of the sheets on which its layout lays
 -- its row, with the lines by which they report their papers and the marks that it asks for.
-pub record FinishesRow (r : Request) (input : List ℕ) (old new : Option (List ℕ)) (done : Finished) : Type 0 where
+pub record FinishesRow (r : ImposeRequest) (input : List ℕ) (old new : Option (List ℕ)) (done : Finished) : Type 0 where
   pub page_paper : IsRowPaper r input (done.page_paper, done.origin)
   pub behind : HasBehind input done.behind
   pub told : done.told ≡ told_pages input

@@ -19,11 +19,11 @@ use Rattle.impose_cli.specs.Tasks.{HasBehind, HasPages, page_paper_found, sheet_
 use Rattle.impose_cli.specs.ToldPages.{told_pages}
 use Rattle.impose_cli.specs.Reaches.{HasReachOver}
 use Rattle.impose_cli.specs.Unread.{RefusesSpecification}
-use Rattle.impose_said.specs.declared.fault.Fault.{Fault}
-use Rattle.impose_said.specs.declared.fault.Fault.TheVariants as fault
+use Rattle.impose_said.specs.declared.fault.ImposeFault.{ImposeFault}
+use Rattle.impose_said.specs.declared.fault.ImposeFault.TheVariants as fault
 use Rattle.impose_words.specs.declared.request.Layout.{Layout}
 use Rattle.impose_words.specs.declared.request.Layout.TheVariants as layout
-use Rattle.impose_words.specs.declared.request.Request.{Request}
+use Rattle.impose_words.specs.declared.request.ImposeRequest.{ImposeRequest}
 use Rattle.impose_cli.specs.declared.spec_row.SpecRowTask.{SpecRowTask}
 use Rattle.impose_said.specs.declared.finished.Finished.{Finished}
 
@@ -38,7 +38,7 @@ LaysSpecRow (layout.SpecRow specs signing) = ⊤
 LaysSpecRow other = ⊥
 
 -- the task is what the request asks for with this document
-pub record IsSpecRowTask (r : Request) (input : List ℕ) (t : SpecRowTask) : Type 0 where
+pub record IsSpecRowTask (r : ImposeRequest) (input : List ℕ) (t : SpecRowTask) : Type 0 where
   pub page_count : ℕ
   pub document : HasPages input page_count
   pub behind : HasBehind input t.counted.behind
@@ -53,7 +53,7 @@ pub record IsSpecRowTask (r : Request) (input : List ℕ) (t : SpecRowTask) : Ty
   pub border : is_border r.border ≡ true
 
 -- the job is the run of such a task
-pub record IsSpecJobOf (r : Request) (t : SpecRowTask) (job : SpecJob) : Type 0 where
+pub record IsSpecJobOf (r : ImposeRequest) (t : SpecRowTask) (job : SpecJob) : Type 0 where
   pub document : document_of t.text.items ≡ Ok job.document.now
   pub spec : job.spec.now ≡ t.spec
   pub choice : choice_of job.choice ≡ choice_in r.choice
@@ -62,12 +62,12 @@ pub record IsSpecJobOf (r : Request) (t : SpecRowTask) (job : SpecJob) : Type 0 
   pub page_paper : job.page ≡ t.page_paper
   pub border : job.border ≡ r.border
 
-abbrev pub ImposesSpecTask : Request → SpecRowTask → (old new : Option (List ℕ)) → Report → Type 0
+abbrev pub ImposesSpecTask : ImposeRequest → SpecRowTask → (old new : Option (List ℕ)) → Report → Type 0
 ImposesSpecTask r t old new report = (job : SpecJob) × IsSpecJobOf r t job × ImposesBySpec job old new report
 
 -- The request was carried out for this document: exactly the output was appended of the sheets that its specification names
 -- on its row, with the lines by which they report their papers.
-pub record FinishesSpecRow (r : Request) (input : List ℕ) (old new : Option (List ℕ)) (done : Finished) : Type 0 where
+pub record FinishesSpecRow (r : ImposeRequest) (input : List ℕ) (old new : Option (List ℕ)) (done : Finished) : Type 0 where
   pub page_paper : (done.page_paper, done.origin) ≡ page_paper_found r.page_paper r.home_paper input
   pub behind : HasBehind input done.behind
   pub told : done.told ≡ told_pages input
@@ -87,14 +87,14 @@ pub record FinishesSpecRow (r : Request) (input : List ℕ) (old new : Option (L
 -- ---- refusals
 
 -- the specification is refused, or a signature of so many sides
-abbrev pub RefusesSpecRow : Layout → Fault → Type 0
+abbrev pub RefusesSpecRow : Layout → ImposeFault → Type 0
 RefusesSpecRow (layout.SpecRow specs signing) f = RefusesSpecification (string_bytes specs) f
     ⊎ ((f ≡ fault.Run run.Options) × (IfSome signing MayBeSewn → ⊥))
 RefusesSpecRow other f = ⊥
 
 -- why there is no task: the document is refused; or it isn't, and the specification is, or the signature, or a border as
 -- wide as nothing, or memory ran out
-abbrev pub RefusesSpecRowTask : Request → (input : List ℕ) → Fault → Type 0
+abbrev pub RefusesSpecRowTask : ImposeRequest → (input : List ℕ) → ImposeFault → Type 0
 RefusesSpecRowTask r input f =
     RefusesDocument input f
     ⊎ ((n : ℕ) × HasPages input n
@@ -102,18 +102,18 @@ RefusesSpecRowTask r input f =
     ⊎ (((f ≡ fault.Run run.Options) × (is_border r.border ≡ false)) ⊎ (f ≡ without_memory))))
 
 -- the fault names the first check of a job that fails
-abbrev pub RefusesSpecRowJob : SpecJob → Fault → Type 0
+abbrev pub RefusesSpecRowJob : SpecJob → ImposeFault → Type 0
 RefusesSpecRowJob job f = (error : AskedError) × (f ≡ of_asked (pages_of job) error) × RefusesBySpec job error
 
 -- the text of a task is refused, or its job
-abbrev pub RefusesSpecTaskRun : Request → SpecRowTask → Fault → Type 0
+abbrev pub RefusesSpecTaskRun : ImposeRequest → SpecRowTask → ImposeFault → Type 0
 RefusesSpecTaskRun r t f = RefusesText t.text.items f ⊎ ((job : SpecJob) × IsSpecJobOf r t job × RefusesSpecRowJob job f)
 
-pub record RefusesInSpecRow (r : Request) (input : List ℕ) (f : Fault) : Type 0 where
+pub record RefusesInSpecRow (r : ImposeRequest) (input : List ℕ) (f : ImposeFault) : Type 0 where
   pub task : SpecRowTask
   pub is_task : IsSpecRowTask r input task
   pub refused : RefusesSpecTaskRun r task f
 
 -- there is no task, or its run is refused
-abbrev pub RefusesSpecRowRun : Request → (input : List ℕ) → Fault → Type 0
+abbrev pub RefusesSpecRowRun : ImposeRequest → (input : List ℕ) → ImposeFault → Type 0
 RefusesSpecRowRun r input f = RefusesSpecRowTask r input f ⊎ RefusesInSpecRow r input f

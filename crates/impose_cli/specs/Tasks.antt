@@ -16,7 +16,7 @@ use Rattle.guard.specs.Guard.{guarded}
 use Rattle.layouts.specs.Grids.{arranged, bound}
 use Rattle.layouts.specs.Laws.{IsArranged, IsBound}
 use Rattle.std.specs.Io.KnownBytes.{Appends}
-use Rattle.rules.specs.Output.{Frame, output}
+use Rattle.rules.specs.Output.{Frame, framed, output}
 use Rattle.imposer.specs.Runs.{Reports}
 use Rattle.imposer.specs.Runs as runs
 use Rattle.papers.specs.Media.{document_paper}
@@ -28,7 +28,7 @@ use Rattle.impose_words.specs.Spacings.{arrangement_in, binding_in}
 use Rattle.impose_words.specs.declared.request.Spacing.{Spacing}
 use Rattle.impose_words.specs.declared.request.Layout.{Layout}
 use Rattle.impose_words.specs.declared.request.Layout.TheVariants as layout
-use Rattle.impose_words.specs.declared.request.Request.{Request}
+use Rattle.impose_words.specs.declared.request.ImposeRequest.{ImposeRequest}
 use Rattle.impose_cli.specs.declared.task.Task.{Task}
 use Rattle.impose_said.specs.declared.finished.Finished.{Finished}
 
@@ -83,7 +83,7 @@ IsPlaced (layout.Poster columns rows) s page_paper sheet_paper pages text sides 
 IsPlaced layout.Selection s page_paper sheet_paper pages text sides = ⊥
 
 -- the task is what the request asks for with this document
-pub record IsTask (request : Request) (input : List ℕ) (task : Task) : Type 0 where
+pub record IsTask (request : ImposeRequest) (input : List ℕ) (task : Task) : Type 0 where
   pub page_count : ℕ
   pub document : HasPages input page_count
   pub behind : HasBehind input task.counted.behind
@@ -98,7 +98,7 @@ pub record IsTask (request : Request) (input : List ℕ) (task : Task) : Type 0 
   pub workers : task.options.workers ≡ record { preparers = 2; imposers = 2 }
 
 -- what a task asks of a run
-abbrev pub asked_by : Task → runs.Request
+abbrev pub asked_by : Task → runs.ImposeRequest
 asked_by t = runs.request t.options (string_bytes t.spec) t.text.items
 
 -- ---- what comes of a request
@@ -109,12 +109,12 @@ IsSpec (layout.Spec specs) text = text ≡ string_bytes specs
 IsSpec other text = ⊥
 
 -- how the pages were placed: by their paper, and with the border that is asked for
-abbrev pub frame_used : Request → Finished → Frame
-frame_used r done = record { paper = done.page_paper; border = r.border }
+abbrev pub frame_used : ImposeRequest → Finished → Frame
+frame_used r done = framed done.page_paper r.border
 
 -- The request was carried out for this document by a specification: exactly the output was appended that the rules define
 -- for it and the document, with the guard in it if it is asked for.
-pub record FinishesSpec (r : Request) (input : List ℕ) (old new : Option (List ℕ)) (done : Finished) : Type 0 where
+pub record FinishesSpec (r : ImposeRequest) (input : List ℕ) (old new : Option (List ℕ)) (done : Finished) : Type 0 where
   pub page_count : ℕ
   pub document : HasPages input page_count
   pub page_paper : (done.page_paper, done.origin) ≡ page_paper_found r.page_paper r.home_paper input

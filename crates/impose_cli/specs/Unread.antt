@@ -17,19 +17,19 @@ use Rattle.impose_words.specs.declared.request.Layout.TheVariants as layout
 use Rattle.impose_words.specs.declared.request.PageChoice.{PageChoice}
 use Rattle.impose_words.specs.declared.request.Product.{Product}
 use Rattle.impose_words.specs.declared.request.Product.TheVariants as product
-use Rattle.impose_words.specs.declared.request.Request.{Request}
+use Rattle.impose_words.specs.declared.request.ImposeRequest.{ImposeRequest}
 use Rattle.layouts.specs.Grids.{count_of}
 use Rattle.impose_said.specs.declared.fault.IdleOption.{IdleOption}
 use Rattle.impose_said.specs.declared.fault.IdleOption.TheVariants.{Sheet, CutMarks}
-use Rattle.impose_said.specs.declared.fault.Fault.{Fault}
-use Rattle.impose_said.specs.declared.fault.Fault.TheVariants as fault
+use Rattle.impose_said.specs.declared.fault.ImposeFault.{ImposeFault}
+use Rattle.impose_said.specs.declared.fault.ImposeFault.TheVariants as fault
 
 -- the text is that of a specification
 abbrev pub IsSpecification : (text : List ℕ) → Type 0
 IsSpecification text = (spec : Spec) × Takes most_slots text spec
 
 -- the fault is the text's first, or out of memory
-abbrev pub RefusesSpecification : (text : List ℕ) → Fault → Type 0
+abbrev pub RefusesSpecification : (text : List ℕ) → ImposeFault → Type 0
 RefusesSpecification text f = (e : SpecError) × (f ≡ fault.Run (of_spec e)) × IsRefusal text e
 
 -- the text of a specification is one; and if the paper of the pages is named, the layout lays them on such sheets
@@ -41,7 +41,7 @@ IsPossible other s (Some page_paper) sheet_paper =
     why_not_laid other s page_paper (sheet_paper_in other sheet_paper page_paper) ≡ None
 
 -- a fault says that this isn't so; or it is out of memory
-abbrev pub RefusesUnread : Layout → Spacing → (page_paper sheet_paper : Option Paper) → Fault → Type 0
+abbrev pub RefusesUnread : Layout → Spacing → (page_paper sheet_paper : Option Paper) → ImposeFault → Type 0
 RefusesUnread (layout.Spec specs) s page_paper sheet_paper f = RefusesSpecification (string_bytes specs) f
 RefusesUnread (layout.SpecRow specs signing) s page_paper sheet_paper f = RefusesSpecification (string_bytes specs) f
 RefusesUnread other s None sheet_paper f = ⊥
@@ -53,7 +53,7 @@ abbrev pub AreRanges : PageChoice → Type 0
 AreRanges c = IfSome c.ranges (λ text. (pages at : ℕ) → row_of_text pages (string_bytes text) ≢ Err (NotARange at))
 
 -- a fault says that they are: what begins at this byte is no range in any document
-abbrev pub RefusesRanges : PageChoice → Fault → Type 0
+abbrev pub RefusesRanges : PageChoice → ImposeFault → Type 0
 RefusesRanges c f = (text : List ℕ) × (at : ℕ) × (option_map string_bytes c.ranges ≡ Some text)
     × (f ≡ fault.Row (row.NotARange at)) × ((pages : ℕ) → row_of_text pages text ≡ Err (NotARange at))
 
@@ -78,7 +78,7 @@ has_margin s = int_lt (pos 0) s.margin && int_le s.gap (s.margin +ℤ s.margin)
 
 -- the first such option: a paper for sheets that keep their own, and marks outside of pages that have no room for them
 -- (RULES, 16, step 4)
-abbrev pub idle_option : Request → Option IdleOption
+abbrev pub idle_option : ImposeRequest → Option IdleOption
 idle_option r = if keeps_papers r.layout && is_some r.sheet_paper then Some Sheet
     else (if r.marks.cut && (is_cut_outside r.layout && not (has_margin r.spacing)) then Some CutMarks else None)
 
@@ -95,19 +95,19 @@ is_drawn_over (product.Picture file) infile = is_one_file (option_map string_byt
 is_drawn_over other infile = false
 
 -- why the options of a request are refused, if they are
-abbrev pub option_fault : Request → Option Fault
+abbrev pub option_fault : ImposeRequest → Option ImposeFault
 option_fault r = if is_drawn_over r.product (option_map string_bytes r.infile) then Some fault.OverInput
     else option_map fault.Idle (idle_option r)
 
 -- the request is none that can be refused unread
-pub record MayBeRead (r : Request) : Type 0 where
+pub record MayBeRead (r : ImposeRequest) : Type 0 where
   pub options : option_fault r ≡ None
   pub layout : IsPossible r.layout r.spacing r.page_paper r.sheet_paper
   pub ranges : AreRanges r.choice
 
 -- its options are refused; or they aren't, and its layout is; or it isn't, and its ranges are
 -- (RULES, 16, steps 4 and 5)
-abbrev pub RefusesRequest : Request → Fault → Type 0
+abbrev pub RefusesRequest : ImposeRequest → ImposeFault → Type 0
 RefusesRequest r f = (option_fault r ≡ Some f)
     ⊎ ((option_fault r ≡ None) × (RefusesUnread r.layout r.spacing r.page_paper r.sheet_paper f
     ⊎ (IsPossible r.layout r.spacing r.page_paper r.sheet_paper × RefusesRanges r.choice f)))

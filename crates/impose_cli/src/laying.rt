@@ -11,7 +11,7 @@ ghost use Rattle.impose_words.specs.Spacings.{arrangement_in};
 ghost use Rattle.impose_cli.specs.RowTasks.{laying_in, sheet_paper_in, signing_in, why_not_laid};
 ghost use Rattle.impose_words.specs.declared.request.Layout.TheVariants as layout;
 
-use impose_said::Fault;
+use impose_said::ImposeFault;
 use impose_words::{Layout, Spacing};
 use imposer::RunError;
 use layouts::{ArrangementError, Cells, Papers, Setting};
@@ -39,7 +39,7 @@ pub(crate) fn laying_for(
     layout: &Layout,
     spacing: &Spacing,
     papers: &Papers,
-) -> Result<Option<Laying>, Fault>
+) -> Result<Option<Laying>, ImposeFault>
     ensures laying { IfOk result (λ laying.
         laying ≡ laying_in layout.now spacing.now papers.now.page papers.now.sheet) }
     ensures may_be { IfOk result (λ laying. IfSome laying MayBeLaid) }
@@ -62,7 +62,11 @@ pub(crate) fn laying_for(
     }
 }
 
-fn nup_laying(cells: Cells, spacing: &Spacing, papers: &Papers) -> Result<Option<Laying>, Fault>
+fn nup_laying(
+    cells: Cells,
+    spacing: &Spacing,
+    papers: &Papers,
+) -> Result<Option<Laying>, ImposeFault>
     ensures laying { IfOk result (λ laying.
         laying ≡ laying_in (layout.NUp cells) spacing.now papers.now.page papers.now.sheet) }
     ensures may_be { IfOk result (λ laying. IfSome laying MayBeLaid) }
@@ -75,7 +79,11 @@ fn nup_laying(cells: Cells, spacing: &Spacing, papers: &Papers) -> Result<Option
     }
 }
 
-fn cards_laying(cells: Cells, spacing: &Spacing, papers: &Papers) -> Result<Option<Laying>, Fault>
+fn cards_laying(
+    cells: Cells,
+    spacing: &Spacing,
+    papers: &Papers,
+) -> Result<Option<Laying>, ImposeFault>
     ensures laying { IfOk result (λ laying.
         laying ≡ laying_in (layout.Cards cells) spacing.now papers.now.page papers.now.sheet) }
     ensures may_be { IfOk result (λ laying. IfSome laying MayBeLaid) }
@@ -93,7 +101,7 @@ fn stack_laying(
     duplex: bool,
     spacing: &Spacing,
     papers: &Papers,
-) -> Result<Option<Laying>, Fault>
+) -> Result<Option<Laying>, ImposeFault>
     ensures laying { IfOk result (λ laying.
         laying ≡ laying_in (layout.Stack cells duplex) spacing.now papers.now.page papers.now.sheet) }
     ensures may_be { IfOk result (λ laying. IfSome laying MayBeLaid) }
@@ -113,7 +121,11 @@ fn stack_laying(
 }
 
 /// These cells, with what is kept free, and how many a sheet has.
-fn cells_for(cells: Cells, spacing: &Spacing, papers: &Papers) -> Result<(Setting, u32), Fault>
+fn cells_for(
+    cells: Cells,
+    spacing: &Spacing,
+    papers: &Papers,
+) -> Result<(Setting, u32), ImposeFault>
     ensures made { IfOk result (λ x.
         x.0 ≡ setting_of papers.now.page papers.now.sheet (arrangement_in spacing.now cells)) }
     ensures counted { IfOk result (λ x. x.1 ≡ count_of cells) }
@@ -126,7 +138,7 @@ fn cells_for(cells: Cells, spacing: &Spacing, papers: &Papers) -> Result<(Settin
 {
     match Setting::of(papers, &spacing.arrangement(cells)) {
         Ok(setting) => Ok((setting, cells.count() as u32)),
-        Err(error) => Err(Fault::Layout(error)),
+        Err(error) => Err(ImposeFault::Layout(error)),
     }
 }
 
@@ -135,7 +147,7 @@ fn booklet_laying(
     long_edge: bool,
     spacing: &Spacing,
     papers: &Papers,
-) -> Result<Option<Laying>, Fault>
+) -> Result<Option<Laying>, ImposeFault>
     ensures laying { IfOk result (λ laying.
         laying ≡ laying_in (layout.Booklet signing long_edge) spacing.now papers.now.page papers.now.sheet) }
     ensures may_be { IfOk result (λ laying. IfSome laying MayBeLaid) }
@@ -145,7 +157,7 @@ fn booklet_laying(
         (RefusesLaying (layout.Booklet signing long_edge) spacing.now papers.now.page papers.now.sheet) }
 {
     if !is_length(spacing.creep) {
-        return Err(Fault::Layout(ArrangementError::LengthOutOfRange));
+        return Err(ImposeFault::Layout(ArrangementError::LengthOutOfRange));
     }
     let creep = rounded_down(spacing.creep);
     match Setting::of_binding(papers, &spacing.binding(long_edge)) {
@@ -154,11 +166,15 @@ fn booklet_laying(
             turned_backs: long_edge,
             creep,
         })),
-        Err(error) => Err(Fault::Layout(error)),
+        Err(error) => Err(ImposeFault::Layout(error)),
     }
 }
 
-fn notes_laying(pages: u32, spacing: &Spacing, papers: &Papers) -> Result<Option<Laying>, Fault>
+fn notes_laying(
+    pages: u32,
+    spacing: &Spacing,
+    papers: &Papers,
+) -> Result<Option<Laying>, ImposeFault>
     ensures laying { IfOk result (λ laying.
         laying ≡ laying_in (layout.Notes pages) spacing.now papers.now.page papers.now.sheet) }
     ensures may_be { IfOk result (λ laying. IfSome laying MayBeLaid) }
@@ -170,7 +186,7 @@ fn notes_laying(pages: u32, spacing: &Spacing, papers: &Papers) -> Result<Option
             setting,
             cells: pages,
         })),
-        Err(error) => Err(Fault::Layout(error)),
+        Err(error) => Err(ImposeFault::Layout(error)),
     }
 }
 
@@ -179,7 +195,7 @@ fn poster_laying(
     rows: u32,
     spacing: &Spacing,
     papers: &Papers,
-) -> Result<Option<Laying>, Fault>
+) -> Result<Option<Laying>, ImposeFault>
     ensures laying { IfOk result (λ laying.
         laying ≡ laying_in (layout.Poster columns rows) spacing.now papers.now.page papers.now.sheet) }
     ensures may_be { IfOk result (λ laying. IfSome laying MayBeLaid) }
@@ -189,7 +205,7 @@ fn poster_laying(
         (RefusesLaying (layout.Poster columns rows) spacing.now papers.now.page papers.now.sheet) }
 {
     if !(is_length(spacing.margin) && is_length(spacing.overlap)) {
-        return Err(Fault::Layout(ArrangementError::LengthOutOfRange));
+        return Err(ImposeFault::Layout(ArrangementError::LengthOutOfRange));
     }
     let poster = Poster {
         sheet: papers.sheet,
@@ -200,7 +216,7 @@ fn poster_laying(
     };
     match check_poster(&poster, &papers.page) {
         Ok(()) => Ok(Some(Laying::Poster { poster })),
-        Err(error) => Err(Fault::Poster(error)),
+        Err(error) => Err(ImposeFault::Poster(error)),
     }
 }
 
@@ -229,7 +245,7 @@ fn rounded_up(length: Grains) -> u64
 }
 
 /// How a layout is sewn, if it is.
-pub(crate) fn signing_for(layout: &Layout) -> Result<Option<Signing>, Fault>
+pub(crate) fn signing_for(layout: &Layout) -> Result<Option<Signing>, ImposeFault>
     ensures signing { IfOk result (λ signing. option_map signing_of signing ≡ signing_in layout.now) }
     ensures may_be { IfOk result (λ signing. IfSome signing MayBeSewn) }
     ensures refused { IfErr result (RefusesSides layout.now) }
@@ -239,7 +255,7 @@ pub(crate) fn signing_for(layout: &Layout) -> Result<Option<Signing>, Fault>
             if may_be_sewn(*signing) {
                 Ok(Some(*signing))
             } else {
-                Err(Fault::Run(RunError::Options))
+                Err(ImposeFault::Run(RunError::Options))
             }
         }
         _ => Ok(None),

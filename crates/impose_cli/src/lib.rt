@@ -19,15 +19,15 @@ mod told_pages;
 mod unread;
 
 pub use impose_said::{
-    Done, Fault, Finished, IdleOption, Packing, PaperOrigin, behind_text, command_text, cut_text,
-    fault_status, fault_text, note_text, report_text, text_said, told_text, words_text,
+    Done, Finished, IdleOption, ImposeFault, Packing, PaperOrigin, behind_text, command_text,
+    cut_text, fault_status, fault_text, note_text, report_text, text_said, told_text, words_text,
 };
 pub use impose_words::{
-    CommandFault, GridCommand, Layout, Opt, PageChoice, Product, ProductOption, Request, Spacing,
-    cells_named, exact_cells, noted_cells, number_alone, read_command, run_named, signing_named,
-    size_named, turned_named,
+    GridCommand, ImposeRequest, Layout, Opt, PageChoice, Product, ProductOption, RequestFault,
+    Spacing, cells_named, exact_cells, noted_cells, number_alone, read_command, run_named,
+    signing_named, size_named, turned_named,
 };
-pub use look::{Look, look_text};
+pub use look::{Overview, look_text};
 pub use printed::printed_task;
 pub use program::{Ended, impose};
 pub use roomy_text::RoomyText;

@@ -10,8 +10,8 @@ ghost use Rattle.impose_cli.specs.RowTasks.{LaysRows};
 use crate::roomy_text::RoomyText;
 use crate::row_task::{RowTask, asked_fault_of, row_task};
 use dsc::Document;
-use impose_said::Fault;
-use impose_words::Request;
+use impose_said::ImposeFault;
+use impose_words::ImposeRequest;
 use imposer::RunError;
 use row_runs::{Asked, AskedError, RowJob, row_plan, row_preview};
 use std::alloc::Global;
@@ -21,7 +21,7 @@ const MOST_TOLD: u32 = 40;
 
 /// What is reported of sheets in place of imposing them.
 #[derive(Clone, Copy, Debug, PartialEq, Eq)]
-pub enum Look {
+pub enum Overview {
     /// Line by line which page is where.
     Plan,
     /// A picture of the sheets, as an SVG.
@@ -32,10 +32,10 @@ pub enum Look {
 /// the request would refuse is refused as it does.
 pub fn look_text(
     alloc: Global,
-    request: &Request,
+    request: &ImposeRequest,
     input: RoomyText,
-    look: Look,
-) -> Result<Vec<u8>, Fault>
+    look: Overview,
+) -> Result<Vec<u8>, ImposeFault>
     requires rows { LaysRows request.now.layout }
     ensures told { IfOk result (λ text. TellsRow request.now input.items look text.items) }
     ensures refused { IfErr result (RefusesRow request.now input.items) }
@@ -51,7 +51,12 @@ pub fn look_text(
 }
 
 /// The plan or the picture of a task.
-fn task_text(alloc: Global, request: &Request, task: &RowTask, look: Look) -> Result<Vec<u8>, Fault>
+fn task_text(
+    alloc: Global,
+    request: &ImposeRequest,
+    task: &RowTask,
+    look: Overview,
+) -> Result<Vec<u8>, ImposeFault>
     requires laid { MayBeLaid task.now.laying }
     requires sewn { IfSome task.now.signing MayBeSewn }
     ensures told { IfOk result (λ text. TellsTask request.now task.now look text.items) }
@@ -59,7 +64,7 @@ fn task_text(alloc: Global, request: &Request, task: &RowTask, look: Look) -> Re
 {
     let document = match Document::read(alloc, task.text.as_slice()) {
         Ok(document) => document,
-        Err(error) => return Err(Fault::Run(RunError::from(error))),
+        Err(error) => return Err(ImposeFault::Run(RunError::from(error))),
     };
     let pages = document.pages();
     let job = RowJob {
@@ -72,6 +77,7 @@ fn task_text(alloc: Global, request: &Request, task: &RowTask, look: Look) -> Re
             same_scale: request.spacing.same_scale,
         },
         border: request.border,
+        inset: request.spacing.trim,
         marks: request.marks,
     };
     match job_text(alloc, &job, look) {
@@ -81,13 +87,13 @@ fn task_text(alloc: Global, request: &Request, task: &RowTask, look: Look) -> Re
 }
 
 /// The plan or the picture of a job.
-fn job_text(alloc: Global, job: &RowJob<'_, '_>, look: Look) -> Result<Vec<u8>, AskedError>
+fn job_text(alloc: Global, job: &RowJob<'_, '_>, look: Overview) -> Result<Vec<u8>, AskedError>
     requires asked { MayBeAsked job.now.asked }
     ensures told { IfOk result (λ text. Tells look job.now text.items) }
     ensures refused { IfErr result (RefusesRun job.now) }
 {
     match look {
-        Look::Plan => row_plan(alloc, job, MOST_TOLD),
-        Look::Picture => row_preview(alloc, job, MOST_TOLD),
+        Overview::Plan => row_plan(alloc, job, MOST_TOLD),
+        Overview::Picture => row_preview(alloc, job, MOST_TOLD),
     }
 }

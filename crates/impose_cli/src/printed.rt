@@ -1,13 +1,17 @@
 //! The specification of a task as it is printed, with the line of pstops that does the same.
 use crate::task::Task;
-use impose_words::Request;
+use impose_words::ImposeRequest;
 use imposer::Options;
 use lengths::{Grains, Number, print_number};
 use std::alloc::{AllocError, Global};
 
 /// The specification on a line, on a second one the command line of pstops that imposes by it with these options, and
-/// if the guard is asked for a comment after them, as pstops doesn't put it in.
-pub fn printed_task(alloc: Global, request: &Request, task: &Task) -> Result<Vec<u8>, AllocError> {
+/// comments on what pstops doesn't do: it draws a border along the page's edges, whatever is trimmed, and puts no guard in.
+pub fn printed_task(
+    alloc: Global,
+    request: &ImposeRequest,
+    task: &Task,
+) -> Result<Vec<u8>, AllocError> {
     let mut out = Vec::new(alloc);
     append_spec(task.spec.as_str(), &mut out)?;
     out.extend_from_slice(b"\npstops")?;
@@ -20,11 +24,17 @@ pub fn printed_task(alloc: Global, request: &Request, task: &Task) -> Result<Vec
     out.push(b'\'')?;
     append_files(request, &mut out)?;
     out.push(b'\n')?;
+    if task.options.border.is_some() && request.spacing.trim.get() != 0 {
+        out.extend_from_slice(TRIM_COMMENT)?;
+    }
     if request.is_guarded {
         out.extend_from_slice(GUARD_COMMENT)?;
     }
     Ok(out)
 }
+
+const TRIM_COMMENT: &[u8] =
+    b"# impose draws the border round what is left of a trimmed page, pstops round the page\n";
 
 const GUARD_COMMENT: &[u8] =
     b"# impose also puts its guard into the document, which pstops doesn't\n";
@@ -52,7 +62,7 @@ fn append_options(options: &Options, out: &mut Vec<u8>) -> Result<(), AllocError
     }
 }
 
-fn append_files(request: &Request, out: &mut Vec<u8>) -> Result<(), AllocError> {
+fn append_files(request: &ImposeRequest, out: &mut Vec<u8>) -> Result<(), AllocError> {
     match (&request.infile, &request.outfile) {
         (None, None) => Ok(()),
         (Some(infile), None) => append_file(infile.as_str(), out),

@@ -7,19 +7,19 @@ ghost use Rattle.impose_cli.specs.Looks.{MayBeMade};
 ghost use Rattle.impose_cli.specs.Programs.{BreaksAt, CarriesOut, EndsProgram, IsCreatedFor, IsHome, IsReading, Makes};
 ghost use Rattle.impose_cli.specs.Programs.{Prints, Shows, Writes, most_home_bytes, status_of};
 ghost use Rattle.impose_cli.specs.RowTasks.{LaysRows};
-ghost use Rattle.impose_said.specs.declared.fault.Fault.TheVariants as faults;
+ghost use Rattle.impose_said.specs.declared.fault.ImposeFault.TheVariants as faults;
 
 use crate::keeping_reader::KeepingReader;
 use crate::left::{Left, closed, stopped};
-use crate::look::{Look, look_text};
+use crate::look::{Overview, look_text};
 use crate::printed::printed_task;
 use crate::roomy_text::RoomyText;
 use crate::runs::run_request;
 use crate::task::task_for;
 use crate::unread::check_request;
 use command_words::name_of;
-use impose_said::{Done, Fault, fault_status};
-use impose_words::{Product, Request, read_command};
+use impose_said::{Done, ImposeFault, fault_status};
+use impose_words::{ImposeRequest, Product, read_command};
 use lengths::Paper;
 use papers::home_paper;
 use std::alloc::Global;
@@ -33,9 +33,9 @@ use world::{ReadFault, ReadSource, World, read_input, read_input_behind};
 #[derive(Drop)]
 pub struct Ended<W: World> {
     /// What the words ask for, if they ask for something.
-    pub request: Option<Request>,
+    pub request: Option<ImposeRequest>,
     /// What was done, or why nothing, or not all.
-    pub outcome: Result<Done, Fault>,
+    pub outcome: Result<Done, ImposeFault>,
     /// What is left of the world, if no output was created in it.
     pub world: Option<W>,
     /// The output, if one was created.
@@ -86,7 +86,7 @@ pub fn impose<R: Threads + Wait + Sync, W: World>(
         }
         Err(fault) => Ended {
             request: None,
-            outcome: Err(Fault::Command(fault)),
+            outcome: Err(ImposeFault::Command(fault)),
             world: Some(world),
             output: None,
         },
@@ -94,10 +94,10 @@ pub fn impose<R: Threads + Wait + Sync, W: World>(
 }
 
 /// The request where this is the paper at home.
-fn at_home(request: Request, home: Paper) -> Request
+fn at_home(request: ImposeRequest, home: Paper) -> ImposeRequest
     ensures { result ≡ record request { home_paper = home } }
 {
-    Request {
+    ImposeRequest {
         home_paper: home,
         ..request
     }
@@ -141,7 +141,7 @@ fn read_head<I: Read + Drop>(alloc: Global, file: I) -> Result<Vec<u8>, ReadFaul
 fn carry_out<R: Threads + Wait + Sync, W: World>(
     rt: &R,
     alloc: Global,
-    request: &Request,
+    request: &ImposeRequest,
     world: W,
 ) -> Left<W, Done>
     requires { MayBeMade request.now.product request.now.layout }
@@ -162,7 +162,7 @@ fn carry_out<R: Threads + Wait + Sync, W: World>(
 fn make<R: Threads + Wait + Sync, W: World>(
     rt: &R,
     alloc: Global,
-    request: &Request,
+    request: &ImposeRequest,
     input: RoomyText,
     world: W,
 ) -> Left<W, Done>
@@ -173,30 +173,41 @@ fn make<R: Threads + Wait + Sync, W: World>(
     match &request.product {
         Product::Sheets => run_request(rt, alloc, request, input, world),
         Product::Specification => print_input(alloc, request, input, world),
-        Product::Plan => show_input(alloc, request, input, Look::Plan, None, world),
+        Product::Plan => show_input(alloc, request, input, Overview::Plan, None, world),
         Product::Picture(file) => {
-            show_input(alloc, request, input, Look::Picture, name_of(file), world)
+            show_input(
+                alloc,
+                request,
+                input,
+                Overview::Picture,
+                name_of(file),
+                world,
+            )
         }
     }
 }
 
 /// All that the file of this name, or standard input, gives.
-fn input_of<W: World>(alloc: Global, name: Option<&str>, world: &W) -> Result<RoomyText, Fault>
+fn input_of<W: World>(
+    alloc: Global,
+    name: Option<&str>,
+    world: &W,
+) -> Result<RoomyText, ImposeFault>
     ensures read { IfOk result (λ input.
         IsFirst most_bytes (W.gives world.now (option_map (λ n. n.now) name.entry)) input.items) }
     ensures refused { IfErr result IsReading }
 {
     match world.open(name) {
         Ok(input) => read_from(alloc, input),
-        Err(error) if error.kind() == ErrorKind::OutOfMemory => Err(Fault::no_memory()),
-        Err(error) => Err(Fault::Read(Some(error))),
+        Err(error) if error.kind() == ErrorKind::OutOfMemory => Err(ImposeFault::no_memory()),
+        Err(error) => Err(ImposeFault::Read(Some(error))),
     }
 }
 
 /// Room for the guard before the document: more bytes than it has, with any paper.
 const ROOM: u32 = 2_560;
 
-fn read_from<I: Read + Drop>(alloc: Global, input: I) -> Result<RoomyText, Fault>
+fn read_from<I: Read + Drop>(alloc: Global, input: I) -> Result<RoomyText, ImposeFault>
     ensures read { IfOk result (λ bytes. IsFirst most_bytes (I.remaining input) bytes.items) }
     ensures refused { IfErr result IsReading }
 {
@@ -206,15 +217,15 @@ fn read_from<I: Read + Drop>(alloc: Global, input: I) -> Result<RoomyText, Fault
     drop(source);
     match read {
         Ok(bytes) => Ok(RoomyText::behind(ROOM as usize, bytes)),
-        Err(ReadFault::NoMemory) => Err(Fault::no_memory()),
-        Err(ReadFault::Device) => Err(Fault::Read(reader.into_cause())),
+        Err(ReadFault::NoMemory) => Err(ImposeFault::no_memory()),
+        Err(ReadFault::Device) => Err(ImposeFault::Read(reader.into_cause())),
     }
 }
 
 /// Prints the specification, with the line of pstops, to standard output.
 fn print_input<W: World>(
     alloc: Global,
-    request: &Request,
+    request: &ImposeRequest,
     input: RoomyText,
     world: W,
 ) -> Left<W, Done>
@@ -227,7 +238,7 @@ fn print_input<W: World>(
     };
     let lines = match printed_task(alloc, request, &task) {
         Ok(lines) => lines,
-        Err(_) => return stopped(Fault::no_memory(), world),
+        Err(_) => return stopped(ImposeFault::no_memory(), world),
     };
     write_text(None, lines.as_slice(), Done::Printed, world)
 }
@@ -235,9 +246,9 @@ fn print_input<W: World>(
 /// Writes the plan or the picture of the sheets to the output of that name.
 fn show_input<W: World>(
     alloc: Global,
-    request: &Request,
+    request: &ImposeRequest,
     input: RoomyText,
-    look: Look,
+    look: Overview,
     name: Option<&str>,
     world: W,
 ) -> Left<W, Done>
@@ -267,7 +278,7 @@ fn write_text<W: World>(name: Option<&str>, text: &[u8], done: Done, world: W) -
 }
 
 /// Writes all of a text, or says after how many of its bytes a write failed.
-fn write_whole<O: Write>(output: &mut O, text: &[u8]) -> Result<(), Fault>
+fn write_whole<O: Write>(output: &mut O, text: &[u8]) -> Result<(), ImposeFault>
     ensures whole { OnOk result (Appends (O.contents output.old) (O.contents output.new) text.now) }
     ensures part { IfErr result (BreaksAt (O.contents output.old) (O.contents output.new) text.now) }
 {
@@ -283,10 +294,10 @@ fn write_whole<O: Write>(output: &mut O, text: &[u8]) -> Result<(), Fault>
 }
 
 /// A write failed after so many bytes.
-fn failed_at(written: usize, cause: io::Error) -> Fault
+fn failed_at(written: usize, cause: io::Error) -> ImposeFault
     ensures { result ≡ faults.Write written (Some cause) }
 {
-    Fault::Write {
+    ImposeFault::Write {
         written: written as u64,
         cause: Some(cause),
     }

@@ -5,7 +5,7 @@ ghost use Rattle.impose_cli.specs.Reaches as meaning;
 
 use crate::taken::pages_taken;
 use dsc::Document;
-use impose_words::Request;
+use impose_words::ImposeRequest;
 use lengths::Paper;
 use papers::{Edges, PlacedPages, Reach, own_papers, page_boxes, reach_beyond};
 use rows::{RowError, imposed_row};
@@ -14,7 +14,7 @@ use std::alloc::{AllocError, Global};
 /// What pages have of their own: those that name no paper have the one that is named for all, else the document's.
 fn told_own(
     alloc: Global,
-    request: &Request,
+    request: &ImposeRequest,
     document: &Document<'_>,
 ) -> Result<Vec<Paper>, AllocError>
     ensures { IfOk result (λ papers. papers.items ≡ meaning.told_own request.now (bytes_of document.now) document.now) }
@@ -27,7 +27,7 @@ fn told_own(
 /// says whether they are reported apart.
 pub(crate) fn reach_of_pages(
     alloc: Global,
-    request: &Request,
+    request: &ImposeRequest,
     document: &Document<'_>,
     papers: &[Paper],
     cut_apart: bool,
@@ -74,7 +74,7 @@ fn reach_on_row(
 /// The same, if all pages are placed by this paper, and none is reported apart.
 pub(crate) fn reach_over(
     alloc: Global,
-    request: &Request,
+    request: &ImposeRequest,
     document: &Document<'_>,
     paper: &Paper,
 ) -> Result<Option<Reach>, AllocError>

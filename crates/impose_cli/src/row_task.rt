@@ -31,8 +31,8 @@ use crate::taken::papers_taken;
 use crate::task::{of_document, paper_of_pages, text_to_impose};
 use command_words::name_of;
 use dsc::Document;
-use impose_said::{Fault, PaperOrigin};
-use impose_words::{Layout, PageChoice, Request};
+use impose_said::{ImposeFault, PaperOrigin};
+use impose_words::{ImposeRequest, Layout, PageChoice};
 use imposer::{Report, RunError};
 use lengths::{Grains, Paper};
 use papers::{Cut, Reach, as_one, cut_by, first_instead_of, own_papers};
@@ -63,7 +63,11 @@ pub struct RowTask {
 }
 
 /// The request for this document, and the fault if it is found before the run.
-pub(crate) fn row_task(alloc: Global, request: &Request, input: RoomyText) -> Result<RowTask, Fault>
+pub(crate) fn row_task(
+    alloc: Global,
+    request: &ImposeRequest,
+    input: RoomyText,
+) -> Result<RowTask, ImposeFault>
     requires rows { LaysRows request.now.layout }
     ensures is_task { IfOk result (IsRowTask request.now input.items) }
     ensures refused { IfErr result (RefusesRowTask request.now input.items) }
@@ -84,7 +88,7 @@ pub(crate) fn row_task(alloc: Global, request: &Request, input: RoomyText) -> Re
         Err(fault) => return Err(fault),
     };
     if !is_drawn(request.border) {
-        return Err(Fault::Run(RunError::Options));
+        return Err(ImposeFault::Run(RunError::Options));
     }
     let sheet = match guarded_paper(alloc, request, &found, &papers.sheet) {
         Ok(sheet) => sheet,
@@ -102,7 +106,7 @@ pub(crate) fn row_task(alloc: Global, request: &Request, input: RoomyText) -> Re
             laying,
             signing,
         }),
-        Err(_) => Err(Fault::no_memory()),
+        Err(_) => Err(ImposeFault::no_memory()),
     }
 }
 
@@ -126,7 +130,11 @@ struct FoundPapers {
 }
 
 /// The papers of the pages of this document, or why it is refused.
-fn papers_of(alloc: Global, request: &Request, input: &[u8]) -> Result<FoundPapers, Fault>
+fn papers_of(
+    alloc: Global,
+    request: &ImposeRequest,
+    input: &[u8],
+) -> Result<FoundPapers, ImposeFault>
     ensures found { IfOk result (λ found. ArePapersOf request.now input.now found.papers.items found.cut) }
     ensures paper { IfOk result (λ found. IsRowPaper request.now input.now (found.page_paper, found.origin)) }
     ensures reach { IfOk result (λ found. HasReach request.now input.now found.papers.items found.reach) }
@@ -142,17 +150,17 @@ fn papers_of(alloc: Global, request: &Request, input: &[u8]) -> Result<FoundPape
     };
     match papers_in(alloc, request, &document) {
         Ok(found) => Ok(found),
-        Err(_) => Err(Fault::no_memory()),
+        Err(_) => Err(ImposeFault::no_memory()),
     }
 }
 
 /// Whether the document's pages all have this paper, and sheets and cells are made for it.
 pub(crate) fn has_one_paper(
     alloc: Global,
-    request: &Request,
+    request: &ImposeRequest,
     input: &[u8],
     paper: &Paper,
-) -> Result<bool, Fault>
+) -> Result<bool, ImposeFault>
     ensures told { IfOk result (TellsOnePaper request.now input.now paper.now) }
     ensures refused { IfErr result (λ f. RefusesDocument input.now f ⊎ (f ≡ without_memory)) }
 {
@@ -188,7 +196,7 @@ fn is_same(one: &Paper, other: &Paper) -> bool
 
 fn papers_in(
     alloc: Global,
-    request: &Request,
+    request: &ImposeRequest,
     document: &Document<'_>,
 ) -> Result<FoundPapers, AllocError>
     ensures papers { IfOk result (λ found.
@@ -221,7 +229,7 @@ fn papers_in(
 
 /// The paper for which sheets and cells are made: that of the pages, if a page has it or one that counts as the same,
 /// and else the first page's own.
-fn paper_of_row(request: &Request, input: &[u8], own: &[Paper]) -> (Paper, PaperOrigin)
+fn paper_of_row(request: &ImposeRequest, input: &[u8], own: &[Paper]) -> (Paper, PaperOrigin)
     ensures { result ≡ paper_for (page_paper_found request.now.page_paper request.now.home_paper input.now) own.now }
 {
     let (page_paper, origin) = paper_of_pages(request, input);
@@ -234,7 +242,7 @@ fn paper_of_row(request: &Request, input: &[u8], own: &[Paper]) -> (Paper, Paper
 /// The pages that the paper cuts which is named for them, of those that are taken.
 fn cut_pages(
     alloc: Global,
-    request: &Request,
+    request: &ImposeRequest,
     document: &Document<'_>,
 ) -> Result<Option<Cut>, AllocError>
     ensures { IfOk result (λ cut. cut ≡ cut_in request.now (bytes_of document.now) document.now) }
@@ -267,10 +275,10 @@ fn cut_on_row(
 /// The paper for which the guard sets the page size: that of the sheets, and of a selection that of its first sheet.
 fn guarded_paper(
     alloc: Global,
-    request: &Request,
+    request: &ImposeRequest,
     found: &FoundPapers,
     sheet: &Paper,
-) -> Result<Paper, Fault>
+) -> Result<Paper, ImposeFault>
     requires count { found.now.pages ≡ length found.now.papers.items }
     requires few { found.now.pages ≤ most_pages }
     ensures value { IfOk result (λ paper. paper ≡ guarded_in request.now.layout (first_paper_of
@@ -289,7 +297,7 @@ fn first_paper(
     choice: &PageChoice,
     found: &FoundPapers,
     blank: &Paper,
-) -> Result<Paper, Fault>
+) -> Result<Paper, ImposeFault>
     requires count { found.now.pages ≡ length found.now.papers.items }
     requires few { found.now.pages ≤ most_pages }
     ensures value { IfOk result (λ paper. paper ≡ first_paper_of
@@ -298,7 +306,7 @@ fn first_paper(
 {
     match imposed_row(alloc, found.pages, &choice.as_choice(), None) {
         Ok(row) => Ok(paper_of_first(row.as_slice(), found.papers.as_slice(), blank)),
-        Err(RowError::NoMemory) => Err(Fault::no_memory()),
+        Err(RowError::NoMemory) => Err(ImposeFault::no_memory()),
         // There is no such row, which the run will say.
         Err(_) => Ok(*blank),
     }
@@ -331,7 +339,7 @@ pub(crate) fn is_drawn(border: Option<Grains>) -> bool
 pub(crate) fn impose_task<R: Threads + Wait + Sync, W: World>(
     rt: &R,
     alloc: Global,
-    request: &Request,
+    request: &ImposeRequest,
     task: &RowTask,
     world: W,
 ) -> Left<W, Report>
@@ -344,7 +352,7 @@ pub(crate) fn impose_task<R: Threads + Wait + Sync, W: World>(
 {
     let document = match Document::read(alloc, task.text.as_slice()) {
         Ok(document) => document,
-        Err(error) => return stopped(Fault::Run(RunError::from(error)), world),
+        Err(error) => return stopped(ImposeFault::Run(RunError::from(error)), world),
     };
     let job = RowJob {
         document: &document,
@@ -356,29 +364,30 @@ pub(crate) fn impose_task<R: Threads + Wait + Sync, W: World>(
             same_scale: request.spacing.same_scale,
         },
         border: request.border,
+        inset: request.spacing.trim,
         marks: request.marks,
     };
     impose_job(rt, alloc, &job, name_of(&request.outfile), world)
 }
 
 /// What an error of the run is for a document with so many pages.
-pub(crate) fn asked_fault_of(error: AskedError, pages: u32) -> Fault
+pub(crate) fn asked_fault_of(error: AskedError, pages: u32) -> ImposeFault
     ensures { result ≡ asked_fault pages error }
 {
     match error {
         AskedError::Row(error) => row_fault_of(error, pages),
-        AskedError::Arrangement(error) => Fault::Layout(error),
-        AskedError::Poster(error) => Fault::Poster(error),
-        AskedError::Sheets(error) => Fault::Sheets(error),
-        AskedError::NoMemory => Fault::no_memory(),
+        AskedError::Arrangement(error) => ImposeFault::Layout(error),
+        AskedError::Poster(error) => ImposeFault::Poster(error),
+        AskedError::Sheets(error) => ImposeFault::Sheets(error),
+        AskedError::NoMemory => ImposeFault::no_memory(),
     }
 }
 
-fn row_fault_of(error: RowError, pages: u32) -> Fault
+fn row_fault_of(error: RowError, pages: u32) -> ImposeFault
     ensures { result ≡ row_fault pages error }
 {
     match error {
-        RowError::NotInDocument(place) => Fault::NoSuchPage { place, pages },
-        error => Fault::Row(error),
+        RowError::NotInDocument(place) => ImposeFault::NoSuchPage { place, pages },
+        error => ImposeFault::Row(error),
     }
 }

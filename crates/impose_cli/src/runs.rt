@@ -16,7 +16,7 @@ ghost use Rattle.impose_cli.specs.SpecRows.{LaysSpecRow, RefusesSpecRowJob};
 ghost use Rattle.impose_cli.specs.Endings.{Comes, IsNotCreated, RefusesPlan, RefusesRowJob, RefusesTaskRun, Runs};
 ghost use Rattle.impose_cli.specs.Endings.{IsSaidOf, WritesJob, WritesSheets, WritesTask};
 ghost use Rattle.impose_cli.specs.Abouts.{reported_by};
-ghost use Rattle.impose_said.specs.declared.fault.Fault.TheVariants as faults;
+ghost use Rattle.impose_said.specs.declared.fault.ImposeFault.TheVariants as faults;
 
 use crate::left::{Left, closed, stopped};
 use crate::roomy_text::RoomyText;
@@ -26,10 +26,10 @@ use crate::task::{Task, WORKERS, task_for};
 use crate::told_pages::told_pages;
 use command_words::name_of;
 use dsc::Document;
-use impose_said::{Done, Fault, Finished, PaperOrigin};
-use impose_words::{Layout, Request};
+use impose_said::{Done, Finished, ImposeFault, PaperOrigin};
+use impose_words::{ImposeRequest, Layout};
 use imposer::{Job, Open, Options, Report, RunError, run_plan};
-use lengths::Paper;
+use lengths::{Grains, Paper};
 use pagespec::{Spec, read_spec};
 use papers::{Cut, Reach};
 use row_runs::{PlannedSheets, RowJob, SheetJob, SpecJob};
@@ -45,7 +45,7 @@ use world::{Created, Refused, World, abandon, created, write_out};
 pub(crate) fn run_request<R: Threads + Wait + Sync, W: World>(
     rt: &R,
     alloc: Global,
-    request: &Request,
+    request: &ImposeRequest,
     input: RoomyText,
     world: W,
 ) -> Left<W, Done>
@@ -65,7 +65,7 @@ pub(crate) fn run_request<R: Threads + Wait + Sync, W: World>(
 fn run_row<R: Threads + Wait + Sync, W: World>(
     rt: &R,
     alloc: Global,
-    request: &Request,
+    request: &ImposeRequest,
     input: RoomyText,
     world: W,
 ) -> Left<W, Done>
@@ -111,6 +111,7 @@ pub(crate) fn impose_job<R: Threads + Wait + Sync, W: World>(
         document: job.document,
         sheets: &row.sheets,
         border: job.border,
+        inset: job.inset,
         strokes: row.strokes.as_slice(),
     };
     write_sheets(rt, alloc, &made, name, world)
@@ -122,7 +123,7 @@ pub(crate) fn impose_job<R: Threads + Wait + Sync, W: World>(
 fn run_spec_row<R: Threads + Wait + Sync, W: World>(
     rt: &R,
     alloc: Global,
-    request: &Request,
+    request: &ImposeRequest,
     input: RoomyText,
     world: W,
 ) -> Left<W, Done>
@@ -168,6 +169,7 @@ pub(crate) fn impose_spec_job<R: Threads + Wait + Sync, W: World>(
         document: job.document,
         sheets: &sheets,
         border: job.border,
+        inset: Grains::ZERO,
         strokes: &[],
     };
     write_sheets(rt, alloc, &made, name, world)
@@ -179,7 +181,7 @@ pub(crate) fn impose_spec_job<R: Threads + Wait + Sync, W: World>(
 fn run_spec<R: Threads + Wait + Sync, W: World>(
     rt: &R,
     alloc: Global,
-    request: &Request,
+    request: &ImposeRequest,
     input: RoomyText,
     world: W,
 ) -> Left<W, Done>
@@ -220,11 +222,11 @@ fn impose_by_spec<R: Threads + Wait + Sync, W: World>(
     let text = task.text.as_slice();
     let (spec, document) = match read_task(alloc, text, task.spec.as_str(), &task.options) {
         Ok(read) => read,
-        Err(error) => return stopped(Fault::Run(error), world),
+        Err(error) => return stopped(ImposeFault::Run(error), world),
     };
     let plan = match Plan::new(alloc, &spec, document.pages()) {
         Ok(plan) => plan,
-        Err(error) => return stopped(Fault::Run(RunError::from(error)), world),
+        Err(error) => return stopped(ImposeFault::Run(RunError::from(error)), world),
     };
     let job = Job::new(&plan, &document, task.options.paper, task.options.border);
     write_job(rt, alloc, &job, name, world)
@@ -356,9 +358,9 @@ fn uncreated<W: World>(refused: Refused<W>) -> Left<W, Report>
     ensures { IsNotCreated result.outcome (is_some result.output) }
 {
     if refused.cause.kind() == ErrorKind::OutOfMemory {
-        return stopped(Fault::no_memory(), refused.world);
+        return stopped(ImposeFault::no_memory(), refused.world);
     }
-    let fault = Fault::Write {
+    let fault = ImposeFault::Write {
         written: 0,
         cause: Some(refused.cause),
     };
@@ -375,7 +377,7 @@ fn broken_off<W: World>(error: RunError, output: Created<W::Output>) -> Left<W, 
         RunError::NoMemory { .. } => {
             let written = output.written;
             closed(
-                Err(Fault::Run(RunError::NoMemory { written })),
+                Err(ImposeFault::Run(RunError::NoMemory { written })),
                 output.output,
             )
         }
@@ -387,7 +389,7 @@ fn failed_write<W: World>(output: Created<W::Output>) -> Left<W, Report>
     ensures outcome { result.outcome ≡ Err (faults.Write output.written output.cause) }
     ensures output { result.output ≡ output.output }
 {
-    let fault = Fault::Write {
+    let fault = ImposeFault::Write {
         written: output.written,
         cause: output.cause,
     };

@@ -15,8 +15,8 @@ use crate::runs::impose_spec_job;
 use crate::task::{CountedPages, pages_of, paper_of_pages, paper_of_sheets, text_to_impose};
 use command_words::name_of;
 use dsc::Document;
-use impose_said::{Fault, PaperOrigin};
-use impose_words::{Layout, Request};
+use impose_said::{ImposeFault, PaperOrigin};
+use impose_words::{ImposeRequest, Layout};
 use imposer::{Report, RunError};
 use lengths::Paper;
 use pagespec::{Spec, read_spec};
@@ -44,9 +44,9 @@ pub struct SpecRowTask {
 /// The request for this document, and the fault if it is found before the run.
 pub(crate) fn spec_row_task(
     alloc: Global,
-    request: &Request,
+    request: &ImposeRequest,
     input: RoomyText,
-) -> Result<SpecRowTask, Fault>
+) -> Result<SpecRowTask, ImposeFault>
     requires rows { LaysSpecRow request.now.layout }
     ensures is_task { IfOk result (IsSpecRowTask request.now input.items) }
     ensures refused { IfErr result (RefusesSpecRowTask request.now input.items) }
@@ -62,7 +62,7 @@ pub(crate) fn spec_row_task(
         Err(fault) => return Err(fault),
     };
     if !is_drawn(request.border) {
-        return Err(Fault::Run(RunError::Options));
+        return Err(ImposeFault::Run(RunError::Options));
     }
     let sheet_paper = *paper_of_sheets(&request.sheet_paper, &page_paper);
     match text_to_impose(request.is_guarded, &sheet_paper, input) {
@@ -75,12 +75,12 @@ pub(crate) fn spec_row_task(
             origin,
             counted,
         }),
-        Err(_) => Err(Fault::no_memory()),
+        Err(_) => Err(ImposeFault::no_memory()),
     }
 }
 
 /// The specification, and how its row is sewn, if it is.
-fn spec_and_signing(alloc: Global, layout: &Layout) -> Result<(Spec, Option<Signing>), Fault>
+fn spec_and_signing(alloc: Global, layout: &Layout) -> Result<(Spec, Option<Signing>), ImposeFault>
     requires rows { LaysSpecRow layout.now }
     ensures named { IfOk result (λ x. (text : List ℕ) × IsSpecRow layout.now text x.1 × Takes most_slots text x.0) }
     ensures may_be { IfOk result (λ x. IfSome x.1 MayBeSewn) }
@@ -92,10 +92,10 @@ fn spec_and_signing(alloc: Global, layout: &Layout) -> Result<(Spec, Option<Sign
     };
     let spec = match read_spec(alloc, specs) {
         Ok(spec) => spec,
-        Err(error) => return Err(Fault::Run(RunError::from(error))),
+        Err(error) => return Err(ImposeFault::Run(RunError::from(error))),
     };
     match signing {
-        Some(how) if !may_be_sewn(how) => Err(Fault::Run(RunError::Options)),
+        Some(how) if !may_be_sewn(how) => Err(ImposeFault::Run(RunError::Options)),
         _ => Ok((spec, signing)),
     }
 }
@@ -104,7 +104,7 @@ fn spec_and_signing(alloc: Global, layout: &Layout) -> Result<(Spec, Option<Sign
 pub(crate) fn impose_spec_task<R: Threads + Wait + Sync, W: World>(
     rt: &R,
     alloc: Global,
-    request: &Request,
+    request: &ImposeRequest,
     task: &SpecRowTask,
     world: W,
 ) -> Left<W, Report>
@@ -116,7 +116,7 @@ pub(crate) fn impose_spec_task<R: Threads + Wait + Sync, W: World>(
 {
     let document = match Document::read(alloc, task.text.as_slice()) {
         Ok(document) => document,
-        Err(error) => return stopped(Fault::Run(RunError::from(error)), world),
+        Err(error) => return stopped(ImposeFault::Run(RunError::from(error)), world),
     };
     let job = SpecJob {
         document: &document,

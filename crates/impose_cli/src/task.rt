@@ -17,7 +17,7 @@ ghost use Rattle.impose_cli.specs.Refusals.{HasOnePaper, HasOtherPapers, Refuses
 ghost use Rattle.impose_words.specs.Choices.{is_said as says};
 ghost use Rattle.impose_cli.specs.Unread.{IsPossible, IsSpecification, RefusesSpecification, RefusesUnread};
 ghost use Rattle.impose_words.specs.declared.request.Layout.TheVariants as layout;
-ghost use Rattle.impose_said.specs.declared.fault.Fault.TheVariants as faults;
+ghost use Rattle.impose_said.specs.declared.fault.ImposeFault.TheVariants as faults;
 
 use crate::laying::{laying_for, papers_for};
 use crate::reach::reach_over;
@@ -25,8 +25,8 @@ use crate::roomy_text::RoomyText;
 use crate::row_task::has_one_paper;
 use dressing::Marks;
 use dsc::{Document, DscError};
-use impose_said::{Fault, Packing, PaperOrigin};
-use impose_words::{Layout, PageChoice, Request, Spacing};
+use impose_said::{ImposeFault, Packing, PaperOrigin};
+use impose_words::{ImposeRequest, Layout, PageChoice, Spacing};
 use imposer::{Options, RunError, Workers};
 use layouts::{Binding, Cells, Papers, arrange, bind};
 use lengths::Paper;
@@ -68,7 +68,7 @@ pub(crate) const WORKERS: Workers = Workers {
 
 /// The checks of a layout that don't ask for the document, so that a mistake is found before a byte is read: those of a
 /// specification, and if the paper of the pages is named those of pages on sheets.
-pub fn check_layout(alloc: Global, request: &Request) -> Result<(), Fault>
+pub fn check_layout(alloc: Global, request: &ImposeRequest) -> Result<(), ImposeFault>
     ensures possible { OnOk result
         (IsPossible request.now.layout request.now.spacing request.now.page_paper request.now.sheet_paper) }
     ensures refused { IfErr result
@@ -88,13 +88,13 @@ pub fn check_layout(alloc: Global, request: &Request) -> Result<(), Fault>
     }
 }
 
-fn check_spec(alloc: Global, specs: &str) -> Result<(), Fault>
+fn check_spec(alloc: Global, specs: &str) -> Result<(), ImposeFault>
     ensures possible { OnOk result (IsSpecification specs.now) }
     ensures refused { IfErr result (RefusesSpecification specs.now) }
 {
     match read_spec(alloc, specs) {
         Ok(_) => Ok(()),
-        Err(error) => Err(Fault::Run(RunError::from(error))),
+        Err(error) => Err(ImposeFault::Run(RunError::from(error))),
     }
 }
 
@@ -108,7 +108,11 @@ fn is_said(choice: &PageChoice, marks: Marks) -> bool
 /// The specification that says what a request asks for, with what a run by it takes; and the fault if there is none: a
 /// document that is refused, then pages that are chosen or marks, then pages of other papers than the specification would
 /// have, then a layout that there isn't, or that no specification says.
-pub fn task_for(alloc: Global, request: &Request, input: RoomyText) -> Result<Task, Fault>
+pub fn task_for(
+    alloc: Global,
+    request: &ImposeRequest,
+    input: RoomyText,
+) -> Result<Task, ImposeFault>
     ensures is_task { IfOk result (IsTask request.now input.items) }
     // It does what a run of the request does, in which pages are placed by their own papers.
     ensures one_paper { IfOk result (λ task. HasOnePaper request.now input.items task.options.paper) }
@@ -121,7 +125,7 @@ pub fn task_for(alloc: Global, request: &Request, input: RoomyText) -> Result<Ta
         Err(fault) => return Err(fault),
     };
     if !is_said(&request.choice, request.marks) {
-        return Err(Fault::NoSpecification);
+        return Err(ImposeFault::NoSpecification);
     }
     let sheet_paper = *paper_of_sheets(&request.sheet_paper, &page_paper);
     match check_one_paper(alloc, request, input.as_slice(), &page_paper) {
@@ -144,7 +148,7 @@ pub fn task_for(alloc: Global, request: &Request, input: RoomyText) -> Result<Ta
     };
     let text = match text_to_impose(request.is_guarded, &sheet_paper, input) {
         Ok(text) => text,
-        Err(_) => return Err(Fault::no_memory()),
+        Err(_) => return Err(ImposeFault::no_memory()),
     };
     let options = Options {
         paper: page_paper,
@@ -164,10 +168,10 @@ pub fn task_for(alloc: Global, request: &Request, input: RoomyText) -> Result<Ta
 /// A layout for which a specification is made has pages of this paper alone, as the specification has.
 fn check_one_paper(
     alloc: Global,
-    request: &Request,
+    request: &ImposeRequest,
     input: &[u8],
     paper: &Paper,
-) -> Result<(), Fault>
+) -> Result<(), ImposeFault>
     ensures one { OnOk result (HasOnePaper request.now input.now paper.now) }
     ensures refused { IfErr result (λ f. RefusesDocument input.now f
         ⊎ ((f ≡ without_memory) ⊎ ((f ≡ faults.SeveralPapers) × HasOtherPapers request.now input.now paper.now))) }
@@ -177,7 +181,7 @@ fn check_one_paper(
     }
     match has_one_paper(alloc, request, input, paper) {
         Ok(true) => Ok(()),
-        Ok(false) => Err(Fault::SeveralPapers),
+        Ok(false) => Err(ImposeFault::SeveralPapers),
         Err(fault) => Err(fault),
     }
 }
@@ -205,7 +209,7 @@ pub(crate) fn text_to_impose(
 }
 
 /// The paper of the pages: the one that is named, else the document's own, else the one at home.
-pub(crate) fn paper_of_pages(request: &Request, input: &[u8]) -> (Paper, PaperOrigin)
+pub(crate) fn paper_of_pages(request: &ImposeRequest, input: &[u8]) -> (Paper, PaperOrigin)
     ensures { result ≡ page_paper_found request.now.page_paper request.now.home_paper input.now }
 {
     match request.page_paper {
@@ -230,10 +234,10 @@ pub(crate) fn paper_of_sheets<'p>(named: &'p Option<Paper>, page_paper: &'p Pape
 /// What is counted of a document's pages, if all are placed by this paper.
 pub(crate) fn pages_of(
     alloc: Global,
-    request: &Request,
+    request: &ImposeRequest,
     input: &[u8],
     paper: &Paper,
-) -> Result<CountedPages, Fault>
+) -> Result<CountedPages, ImposeFault>
     ensures counted { IfOk result (λ c. HasPages input.now c.pages) }
     ensures behind { IfOk result (λ c. HasBehind input.now c.behind) }
     ensures reach { IfOk result (λ c. HasReachOver request.now input.now paper.now c.reach) }
@@ -252,49 +256,49 @@ pub(crate) fn pages_of(
             behind: document.pages_behind_trailer(),
             reach,
         }),
-        Err(_) => Err(Fault::no_memory()),
+        Err(_) => Err(ImposeFault::no_memory()),
     }
 }
 
 /// A document's refusal. What is empty, a PDF, compressed or a job for a printer is called so; and what is too long by
 /// itself, as a guard may make it so later.
-pub(crate) fn of_document(error: DscError, input: &[u8]) -> Fault
+pub(crate) fn of_document(error: DscError, input: &[u8]) -> ImposeFault
     ensures { result ≡ document_fault error input.now }
 {
     match error {
         DscError::NotPostScript => not_postscript(input),
-        DscError::TooLong => Fault::TooLong,
-        error => Fault::Run(RunError::from(error)),
+        DscError::TooLong => ImposeFault::TooLong,
+        error => ImposeFault::Run(RunError::from(error)),
     }
 }
 
-fn not_postscript(input: &[u8]) -> Fault
+fn not_postscript(input: &[u8]) -> ImposeFault
     ensures { result ≡ of_other_input input.now }
 {
     if input.is_empty() {
-        Fault::NoInput
+        ImposeFault::NoInput
     } else if input.starts_with(b"%PDF-") {
-        Fault::Pdf
+        ImposeFault::Pdf
     } else {
         match packing_of(input) {
-            Some(packing) => Fault::Compressed(packing),
+            Some(packing) => ImposeFault::Compressed(packing),
             None => unpacked_fault(input),
         }
     }
 }
 
 /// The same of one that is neither empty, a PDF nor compressed.
-fn unpacked_fault(input: &[u8]) -> Fault
+fn unpacked_fault(input: &[u8]) -> ImposeFault
     ensures { result ≡ of_unpacked input.now }
 {
     if input.starts_with(b"\x1b%-12345X") {
-        Fault::JobLanguage
+        ImposeFault::JobLanguage
     } else if input.starts_with(b"\xc5\xd0\xd3\xc6") {
-        Fault::DosEps
+        ImposeFault::DosEps
     } else if input.starts_with(b"\xff\xfe") || input.starts_with(b"\xfe\xff") {
-        Fault::Utf16
+        ImposeFault::Utf16
     } else {
-        Fault::Run(RunError::Document(DscError::NotPostScript))
+        ImposeFault::Run(RunError::Document(DscError::NotPostScript))
     }
 }
 
@@ -324,7 +328,7 @@ fn placing(
     spacing: &Spacing,
     papers: &Papers,
     pages: u32,
-) -> Result<PlacedItem, Fault>
+) -> Result<PlacedItem, ImposeFault>
     requires some { 0 < pages }
     requires few { pages ≤ most_pages }
     ensures placed { IfOk result (λ placed.
@@ -336,13 +340,15 @@ fn placing(
         Layout::NUp(cells) => nup_placing(alloc, *cells, spacing, papers),
         Layout::Booklet { signing, long_edge } => {
             if spacing.creep.get() != 0 {
-                return Err(Fault::NoSpecification);
+                return Err(ImposeFault::NoSpecification);
             }
             let sides = sides_of(*signing, pages);
             booklet_placing(alloc, &spacing.binding(*long_edge), papers, sides)
         }
-        Layout::Cards(_) | Layout::Stack { .. } | Layout::Selection => Err(Fault::NoSpecification),
-        Layout::Notes { .. } | Layout::Poster { .. } => Err(Fault::NoSpecification),
+        Layout::Cards(_) | Layout::Stack { .. } | Layout::Selection => Err(
+            ImposeFault::NoSpecification,
+        ),
+        Layout::Notes { .. } | Layout::Poster { .. } => Err(ImposeFault::NoSpecification),
         Layout::Spec(specs) => named_placing(alloc, specs.as_str(), None),
         Layout::SpecRow { specs, signing } => {
             named_placing(alloc, specs.as_str(), row_sides(*signing, pages))
@@ -351,14 +357,14 @@ fn placing(
 }
 
 /// The text that is named, beside these sides.
-fn named_placing(alloc: Global, specs: &str, sides: Option<u32>) -> Result<PlacedItem, Fault>
+fn named_placing(alloc: Global, specs: &str, sides: Option<u32>) -> Result<PlacedItem, ImposeFault>
     ensures text { IfOk result (λ placed. string_bytes placed.0 ≡ specs.now) }
     ensures sides { IfOk result (λ placed. placed.1 ≡ sides) }
     ensures refused { IfErr result (λ f. f ≡ without_memory) }
 {
     match String::from_str(alloc, specs) {
         Ok(text) => Ok((text, sides)),
-        Err(_) => Err(Fault::no_memory()),
+        Err(_) => Err(ImposeFault::no_memory()),
     }
 }
 
@@ -367,14 +373,14 @@ fn nup_placing(
     cells: Cells,
     spacing: &Spacing,
     papers: &Papers,
-) -> Result<PlacedItem, Fault>
+) -> Result<PlacedItem, ImposeFault>
     ensures placed { IfOk result (λ placed.
         IsPlaced (layout.NUp cells) spacing.now papers.now.page papers.now.sheet 0 (string_bytes placed.0) placed.1) }
     ensures refused { IfErr result (RefusesLayout (layout.NUp cells) spacing.now papers.now.page papers.now.sheet) }
 {
     match arrange(alloc, papers, &spacing.arrangement(cells)) {
         Ok(spec) => written(alloc, &spec, None),
-        Err(error) => Err(Fault::from(error)),
+        Err(error) => Err(ImposeFault::from(error)),
     }
 }
 
@@ -383,7 +389,7 @@ fn booklet_placing(
     binding: &Binding,
     papers: &Papers,
     sides: u32,
-) -> Result<PlacedItem, Fault>
+) -> Result<PlacedItem, ImposeFault>
     ensures placed { IfOk result (λ placed.
         (IsWritten (bound papers.now.page papers.now.sheet binding.now) (string_bytes placed.0)
         × IsBound papers.now.page papers.now.sheet binding.now (bound papers.now.page papers.now.sheet binding.now))
@@ -393,19 +399,19 @@ fn booklet_placing(
 {
     match bind(alloc, papers, binding) {
         Ok(spec) => written(alloc, &spec, Some(sides)),
-        Err(error) => Err(Fault::from(error)),
+        Err(error) => Err(ImposeFault::from(error)),
     }
 }
 
 /// The text of a specification, beside these sides.
-fn written(alloc: Global, spec: &Spec, sides: Option<u32>) -> Result<PlacedItem, Fault>
+fn written(alloc: Global, spec: &Spec, sides: Option<u32>) -> Result<PlacedItem, ImposeFault>
     ensures text { IfOk result (λ placed. IsWritten spec.now (string_bytes placed.0)) }
     ensures sides { IfOk result (λ placed. placed.1 ≡ sides) }
     ensures refused { IfErr result (λ f. f ≡ without_memory) }
 {
     match write_spec(alloc, spec) {
         Ok(text) => Ok((text, sides)),
-        Err(_) => Err(Fault::no_memory()),
+        Err(_) => Err(ImposeFault::no_memory()),
     }
 }
 

@@ -5,14 +5,14 @@ ghost use Rattle.impose_cli.specs.Unread.{AreRanges, MayBeRead, RefusesRanges, R
 
 use crate::task::check_layout;
 use command_words::name_of;
-use impose_said::{Fault, IdleOption};
-use impose_words::{Layout, PageChoice, Product, Request, Spacing};
+use impose_said::{IdleOption, ImposeFault};
+use impose_words::{ImposeRequest, Layout, PageChoice, Product, Spacing};
 use rows::{RowError, read_row};
 use std::alloc::Global;
 
 /// The checks that don't ask for the document, so that a mistake is found before a byte is read: whether a picture would go
 /// over it, then whether all options do something, then those of the layout, then whether pages are named by ranges.
-pub fn check_request(alloc: Global, request: &Request) -> Result<(), Fault>
+pub fn check_request(alloc: Global, request: &ImposeRequest) -> Result<(), ImposeFault>
     ensures possible { OnOk result (MayBeRead request.now) }
     ensures refused { IfErr result (RefusesRequest request.now) }
 {
@@ -26,14 +26,14 @@ pub fn check_request(alloc: Global, request: &Request) -> Result<(), Fault>
 }
 
 /// Why the options are refused, if they are.
-fn option_fault(request: &Request) -> Option<Fault>
+fn option_fault(request: &ImposeRequest) -> Option<ImposeFault>
     ensures { result ≡ meaning.option_fault request.now }
 {
     if is_drawn_over(&request.product, name_of(&request.infile)) {
-        return Some(Fault::OverInput);
+        return Some(ImposeFault::OverInput);
     }
     match idle_option(request) {
-        Some(option) => Some(Fault::Idle(option)),
+        Some(option) => Some(ImposeFault::Idle(option)),
         None => None,
     }
 }
@@ -60,7 +60,7 @@ fn is_one_file(one: Option<&str>, other: Option<&str>) -> bool
 
 /// The first option that would do nothing: a paper for sheets that keep their own, and marks outside of pages that have no
 /// room for them.
-fn idle_option(request: &Request) -> Option<IdleOption>
+fn idle_option(request: &ImposeRequest) -> Option<IdleOption>
     ensures { result ≡ meaning.idle_option request.now }
 {
     if keeps_papers(&request.layout) && request.sheet_paper.is_some() {
@@ -103,14 +103,14 @@ fn has_margin(spacing: &Spacing) -> bool
 }
 
 /// Whether pages are named by ranges. What is no range in a document without pages is none in any other.
-fn check_ranges(alloc: Global, choice: &PageChoice) -> Result<(), Fault>
+fn check_ranges(alloc: Global, choice: &PageChoice) -> Result<(), ImposeFault>
     ensures ranges { OnOk result (AreRanges choice.now) }
     ensures refused { IfErr result (RefusesRanges choice.now) }
 {
     match &choice.ranges {
         None => Ok(()),
         Some(ranges) => match read_row(alloc, 0, ranges.as_str().as_bytes()) {
-            Err(RowError::NotARange(at)) => Err(Fault::Row(RowError::NotARange(at))),
+            Err(RowError::NotARange(at)) => Err(ImposeFault::Row(RowError::NotARange(at))),
             _ => Ok(()),
         },
     }

@@ -4,10 +4,10 @@ use Rattle.std.specs.Prelude.{codes, None, Some}
 use Rattle.std.specs.Fmt.{digits}
 use Rattle.clap.specs.declared.error.kind.ErrorKind.TheVariants.{DisplayHelp, DisplayVersion, UnknownArgument}
 use Rattle.layouts.specs.declared.error.ArrangementError.TheVariants as layout
-use Rattle.impose_said.specs.declared.fault.Fault.TheVariants as fault
+use Rattle.impose_said.specs.declared.fault.ImposeFault.TheVariants as fault
 use Rattle.impose_said.specs.declared.fault.Packing.TheVariants.{Gzip}
 use Rattle.impose_said.specs.declared.fault.IdleOption.TheVariants.{CutMarks}
-use Rattle.impose_words.specs.declared.fault.CommandFault.TheVariants as command
+use Rattle.impose_words.specs.declared.fault.RequestFault.TheVariants as command
 use Rattle.impose_said.specs.Statuses.{words_status, command_status, layout_status, fault_status}
 use Rattle.impose_said.specs.Said.{behind_text, is_pdf_name, told_text}
 

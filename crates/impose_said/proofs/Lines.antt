@@ -6,7 +6,7 @@ use Rattle.papers.specs.declared.cuts.Cut.{Cut}
 use Rattle.papers.specs.declared.reach.Reach.{Reach}
 use Rattle.impose_said.specs.Said.{AddsLine, HasCounts, IsLineOf, IsNote, IsNoteIf, IsOfCut, IsOfReach, IsOfSheets, IsReport, MaySay, SaysRun, behind_text}
 use Rattle.impose_said.specs.Said.{is_other_paper, is_pdf_name, origin_text, others_text, told_text}
-use Rattle.impose_words.specs.declared.request.Request.{Request}
+use Rattle.impose_words.specs.declared.request.ImposeRequest.{ImposeRequest}
 use Rattle.impose_said.specs.declared.finished.Finished.{Finished}
 
 -- of a message that was made
@@ -31,7 +31,7 @@ six_in_order a b c d e f one two three four five six last e1 e2 e3 e4 e5 e6 e7 =
     (append_assoc (((a ++ b) ++ c) ++ d) e f ∙ append_assoc ((a ++ b) ++ c) d (e ++ f) ∙ append_assoc (a ++ b) c (d ++ (e ++ f)) ∙ append_assoc a b (c ++ (d ++ (e ++ f))))
 
 -- six lines, one behind another
-pub six_lines : {E : Type 0} (finished : Finished) (r : Request) (report : Result (String Global) E) (cut reach behind told note : Result (Option (String Global)) E)
+pub six_lines : {E : Type 0} (finished : Finished) (r : ImposeRequest) (report : Result (String Global) E) (cut reach behind told note : Result (Option (String Global)) E)
     (first second third fourth fifth sixth : Option (String Global)) (one two three four five six last : List ℕ)
     → r.is_quiet ≡ false
     → IfOk report (λ s. IsReport finished r (Some (string_bytes s)))
@@ -86,7 +86,7 @@ reach_told has reach page reaching placed others text is more e = rw is (
       ∙ ap (λ o. codes "page " ++ (page ++ (codes " reaches " ++ (reaching ++ (codes " on " ++ (placed ++ o)))))) more),
 )
 
-pub report_told : {E : Type 0} (made : Result (String Global) E) (finished : Finished) (r : Request) (counts size origin sheets : List ℕ)
+pub report_told : {E : Type 0} (made : Result (String Global) E) (finished : Finished) (r : ImposeRequest) (counts size origin sheets : List ℕ)
     → HasCounts finished.report counts → origin ≡ origin_text finished.origin
     → IsOfSheets (is_other_paper r.sheet_paper finished.page_paper) sheets
     → IfOk made (λ s. string_bytes s ≡ counts ++ (codes "; pages of " ++ (size ++ (codes " pt, " ++ (origin ++ sheets)))))

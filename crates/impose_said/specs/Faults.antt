@@ -2,12 +2,12 @@
 use Rattle.layouts.specs.declared.error.ArrangementError.{ArrangementError}
 use Rattle.layouts.specs.declared.error.ArrangementError.TheVariants as layout
 use Rattle.imposer.specs.Outcomes.{no_memory}
-use Rattle.impose_said.specs.declared.fault.Fault.{Fault}
-use Rattle.impose_said.specs.declared.fault.Fault.TheVariants as fault
+use Rattle.impose_said.specs.declared.fault.ImposeFault.{ImposeFault}
+use Rattle.impose_said.specs.declared.fault.ImposeFault.TheVariants as fault
 
-abbrev pub without_memory : Fault
+abbrev pub without_memory : ImposeFault
 without_memory = fault.Run no_memory
 
-abbrev pub of_layout : ArrangementError → Fault
+abbrev pub of_layout : ArrangementError → ImposeFault
 of_layout layout.NoMemory = without_memory
 of_layout other = fault.Layout other

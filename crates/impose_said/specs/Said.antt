@@ -16,12 +16,12 @@ use Rattle.papers.specs.declared.cuts.Cut.{Cut}
 use Rattle.papers.specs.declared.reach.Reach.{Reach}
 use Rattle.imposer.specs.declared.outcome.Report.{Report}
 use Rattle.impose_said.specs.Statuses.{words_status}
-use Rattle.impose_words.specs.declared.fault.CommandFault.TheVariants as command
-use Rattle.impose_said.specs.declared.fault.Fault.{Fault}
-use Rattle.impose_said.specs.declared.fault.Fault.TheVariants as fault
+use Rattle.impose_words.specs.declared.fault.RequestFault.TheVariants as command
+use Rattle.impose_said.specs.declared.fault.ImposeFault.{ImposeFault}
+use Rattle.impose_said.specs.declared.fault.ImposeFault.TheVariants as fault
 use Rattle.impose_said.specs.declared.finished.Done.{Done}
 use Rattle.impose_said.specs.declared.finished.Done.TheVariants as done
-use Rattle.impose_words.specs.declared.request.Request.{Request}
+use Rattle.impose_words.specs.declared.request.ImposeRequest.{ImposeRequest}
 use Rattle.impose_said.specs.declared.finished.Finished.{Finished}
 use Rattle.impose_said.specs.declared.finished.PaperOrigin.{PaperOrigin}
 use Rattle.impose_said.specs.declared.finished.PaperOrigin.TheVariants as origin
@@ -57,7 +57,7 @@ IsOfSheets false text = text ≡ []
 IsOfSheets true text = (size : List ℕ) × (text ≡ codes "; sheets of " ++ (size ++ codes " pt"))
 
 -- the report: the counts, the size of the pages' paper with where it was found, and that of the sheets if it is another one
-abbrev pub IsReport : Finished → Request → (message : Option (List ℕ)) → Type 0
+abbrev pub IsReport : Finished → ImposeRequest → (message : Option (List ℕ)) → Type 0
 IsReport finished r message = (counts size sheets : List ℕ) × HasCounts finished.report counts
     × IsOfSheets (is_other_paper r.sheet_paper finished.page_paper) sheets
     × (message ≡ Some (counts ++ (codes "; pages of " ++ (size ++ (codes " pt, " ++ (origin_text finished.origin ++ sheets))))))
@@ -136,7 +136,7 @@ AddsLine message before after = (text : List ℕ) × IsLineOf message text × (a
 
 -- Of a finished run six lines are said, in this order: the report, then that pages are cut, that pages reach beyond their
 -- papers, that pages follow the trailer, that not as many were found as the document says, and that the output is no PDF.
-pub record SaysLines (finished : Finished) (r : Request) (text : List ℕ) : Type 0 where
+pub record SaysLines (finished : Finished) (r : ImposeRequest) (text : List ℕ) : Type 0 where
   pub report : List ℕ
   pub cut : List ℕ
   pub reach : List ℕ
@@ -152,11 +152,11 @@ pub record SaysLines (finished : Finished) (r : Request) (text : List ℕ) : Typ
   pub in_order : text ≡ report ++ (cut ++ (reach ++ (behind ++ (told ++ note))))
 
 -- a quiet request says nothing
-abbrev pub SaysUnless : (quiet : Bool) → Finished → Request → (text : List ℕ) → Type 0
+abbrev pub SaysUnless : (quiet : Bool) → Finished → ImposeRequest → (text : List ℕ) → Type 0
 SaysUnless true finished r text = text ≡ []
 SaysUnless false finished r text = SaysLines finished r text
 
-abbrev pub SaysRun : Finished → Request → (text : List ℕ) → Type 0
+abbrev pub SaysRun : Finished → ImposeRequest → (text : List ℕ) → Type 0
 SaysRun finished r text = SaysUnless r.is_quiet finished r text
 
 -- of words that ask for help or for the version nothing is said
@@ -168,7 +168,7 @@ abbrev pub is_pipe : ErrorKind → Bool
 is_pipe BrokenPipe = true
 is_pipe _ = false
 
-abbrev pub is_broken_pipe : Fault → Bool
+abbrev pub is_broken_pipe : ImposeFault → Bool
 is_broken_pipe (fault.Write written (Some cause)) = is_pipe (error_kind cause)
 is_broken_pipe other = false
 
@@ -178,12 +178,12 @@ SaysOneUnless true text = text ≡ []
 SaysOneUnless false text = MaySay (λ message. ⊤) text
 
 -- What is said of a fault is one message; nothing, if whoever reads the output has closed it.
-abbrev pub SaysFault : Fault → (text : List ℕ) → Type 0
+abbrev pub SaysFault : ImposeFault → (text : List ℕ) → Type 0
 SaysFault (fault.Command (command.Words error)) text = SaysWords error text
 SaysFault other text = SaysOneUnless (is_broken_pipe other) text
 
 -- what is said of how the program ended; of what was made in place of sheets nothing is
-abbrev pub Says : Result Done Fault → Option Request → (text : List ℕ) → Type 0
+abbrev pub Says : Result Done ImposeFault → Option ImposeRequest → (text : List ℕ) → Type 0
 Says (Ok (done.Imposed finished)) (Some r) text = SaysRun finished r text
 Says (Ok (done.Imposed finished)) None text = text ≡ []
 Says (Ok done.Printed) r text = text ≡ []

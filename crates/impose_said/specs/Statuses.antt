@@ -13,17 +13,17 @@ use Rattle.rows.specs.declared.error.RowError.TheVariants as row
 use Rattle.sheet_plan.specs.declared.error.MadeError.{MadeError}
 use Rattle.sheet_plan.specs.declared.error.MadeError.TheVariants as made
 use Rattle.imposer.specs.Statuses.{run_status}
-use Rattle.impose_words.specs.declared.fault.CommandFault.{CommandFault}
-use Rattle.impose_words.specs.declared.fault.CommandFault.TheVariants as command
-use Rattle.impose_said.specs.declared.fault.Fault.{Fault}
-use Rattle.impose_said.specs.declared.fault.Fault.TheVariants as fault
+use Rattle.impose_words.specs.declared.fault.RequestFault.{RequestFault}
+use Rattle.impose_words.specs.declared.fault.RequestFault.TheVariants as command
+use Rattle.impose_said.specs.declared.fault.ImposeFault.{ImposeFault}
+use Rattle.impose_said.specs.declared.fault.ImposeFault.TheVariants as fault
 
 abbrev pub words_status : ErrorKind → ℕ
 words_status DisplayHelp = 0
 words_status DisplayVersion = 0
 words_status other = 2
 
-abbrev pub command_status : CommandFault → ℕ
+abbrev pub command_status : RequestFault → ℕ
 command_status command.NoMemory = 3
 command_status (command.Words error) = words_status (kind_of error)
 command_status other = 2
@@ -45,7 +45,7 @@ sheets_status made.NoMemory = 3
 sheets_status other = 1
 
 -- RULES, 16
-abbrev pub fault_status : Fault → ℕ
+abbrev pub fault_status : ImposeFault → ℕ
 fault_status (fault.Command f) = command_status f
 fault_status (fault.Layout e) = layout_status e
 fault_status (fault.Poster e) = poster_status e

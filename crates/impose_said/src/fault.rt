@@ -1,5 +1,5 @@
 //! Why nothing, or not all, was imposed.
-use impose_words::CommandFault;
+use impose_words::RequestFault;
 use imposer::RunError;
 use layouts::ArrangementError;
 use row_sheets::PosterError;
@@ -28,9 +28,9 @@ pub enum IdleOption {
 
 /// Why nothing, or not all, was imposed.
 #[derive(Debug, Drop)]
-pub enum Fault {
+pub enum ImposeFault {
     /// The command line is refused.
-    Command(CommandFault),
+    Command(RequestFault),
     /// There is no such layout.
     Layout(ArrangementError),
     /// There is no such poster.
@@ -77,39 +77,39 @@ pub enum Fault {
     },
 }
 
-impl Fault {
+impl ImposeFault {
     ghost use Rattle.std.specs.Prelude.{◌≡◌};
     ghost use Rattle.impose_said.specs.Faults.{without_memory};
 
     /// Memory was refused before anything was written.
-    pub fn no_memory() -> Fault
+    pub fn no_memory() -> ImposeFault
         ensures { result ≡ without_memory }
     {
-        Fault::Run(RunError::NoMemory { written: 0 })
+        ImposeFault::Run(RunError::NoMemory { written: 0 })
     }
 }
 
-impl From<AllocError> for Fault {
+impl From<AllocError> for ImposeFault {
     ghost use Rattle.std.specs.Prelude.{◌≡◌};
     ghost use Rattle.impose_said.specs.Faults.{without_memory};
 
     ghost from_gives = { λ _ fault. fault ≡ without_memory };
 
-    fn from(_error: AllocError) -> Fault {
-        Fault::no_memory()
+    fn from(_error: AllocError) -> ImposeFault {
+        ImposeFault::no_memory()
     }
 }
 
-impl From<ArrangementError> for Fault {
+impl From<ArrangementError> for ImposeFault {
     ghost use Rattle.std.specs.Prelude.{◌≡◌};
     ghost use Rattle.impose_said.specs.Faults.{of_layout};
 
     ghost from_gives = { λ error fault. fault ≡ of_layout error };
 
-    fn from(error: ArrangementError) -> Fault {
+    fn from(error: ArrangementError) -> ImposeFault {
         match error {
-            ArrangementError::NoMemory => Fault::no_memory(),
-            error => Fault::Layout(error),
+            ArrangementError::NoMemory => ImposeFault::no_memory(),
+            error => ImposeFault::Layout(error),
         }
     }
 }

@@ -10,7 +10,7 @@ mod reports;
 mod said;
 mod shown;
 
-pub use fault::{Fault, IdleOption, Packing};
+pub use fault::{IdleOption, ImposeFault, Packing};
 pub use finished::{Done, Finished, PaperOrigin};
 pub use messages::{command_text, fault_status, fault_text};
 pub use mistakes::words_text;

@@ -3,14 +3,14 @@ ghost use Rattle.std.specs.Prelude.{◌≡◌};
 ghost use Rattle.impose_said.specs.Statuses.{fault_status as status_of_fault, words_status as status_of_words};
 
 use crate::caret::{caret_below, group_place, item_place, large_place, range_place};
-use crate::fault::{Fault, IdleOption, Packing};
+use crate::fault::{IdleOption, ImposeFault, Packing};
 use crate::mistakes::looks_like_file;
 use crate::shown::shown_word;
 use clap::error::ErrorKind;
 use command_words::name_of;
 use dsc::DscError;
 use impose_words::{
-    CommandFault, GridCommand, Layout, Opt, PageChoice, Product, ProductOption, Request,
+    GridCommand, ImposeRequest, Layout, Opt, PageChoice, Product, ProductOption, RequestFault,
     lacks_unit, number_in,
 };
 use imposer::{RunError, run_status};
@@ -27,22 +27,29 @@ use std::io;
 /// The exit status of a fault: 1 if the specification, the layout, the document or the plan is refused, 2 if the
 /// command line or an option is, 3 if memory, reading or writing failed, and 0 after a call for help or for the
 /// version.
-pub fn fault_status(fault: &Fault) -> u8
+pub fn fault_status(fault: &ImposeFault) -> u8
     ensures { result ≡ status_of_fault fault.now }
 {
     match fault {
-        Fault::Command(CommandFault::NoMemory) => 3,
-        Fault::Command(CommandFault::Words(error)) => words_status(error.kind()),
-        Fault::Command(_) => 2,
-        Fault::Layout(ArrangementError::NoMemory) | Fault::Poster(PosterError::NoMemory) => 3,
-        Fault::Row(RowError::NoMemory) | Fault::Sheets(MadeError::NoMemory) => 3,
-        Fault::Layout(_) | Fault::Poster(_) | Fault::Row(_) | Fault::Sheets(_) => 1,
-        Fault::NoSuchPage { .. } | Fault::NoSpecification | Fault::NoInput => 1,
-        Fault::SeveralPapers | Fault::Pdf | Fault::Compressed(_) | Fault::JobLanguage => 1,
-        Fault::DosEps | Fault::Utf16 | Fault::TooLong => 1,
-        Fault::Idle(_) | Fault::OverInput => 2,
-        Fault::Read(_) | Fault::Write { .. } => 3,
-        Fault::Run(error) => run_status(error),
+        ImposeFault::Command(RequestFault::NoMemory) => 3,
+        ImposeFault::Command(RequestFault::Words(error)) => words_status(error.kind()),
+        ImposeFault::Command(_) => 2,
+        ImposeFault::Layout(ArrangementError::NoMemory)
+        | ImposeFault::Poster(PosterError::NoMemory) => 3,
+        ImposeFault::Row(RowError::NoMemory) | ImposeFault::Sheets(MadeError::NoMemory) => 3,
+        ImposeFault::Layout(_)
+        | ImposeFault::Poster(_)
+        | ImposeFault::Row(_)
+        | ImposeFault::Sheets(_) => 1,
+        ImposeFault::NoSuchPage { .. } | ImposeFault::NoSpecification | ImposeFault::NoInput => 1,
+        ImposeFault::SeveralPapers
+        | ImposeFault::Pdf
+        | ImposeFault::Compressed(_)
+        | ImposeFault::JobLanguage => 1,
+        ImposeFault::DosEps | ImposeFault::Utf16 | ImposeFault::TooLong => 1,
+        ImposeFault::Idle(_) | ImposeFault::OverInput => 2,
+        ImposeFault::Read(_) | ImposeFault::Write { .. } => 3,
+        ImposeFault::Run(error) => run_status(error),
     }
 }
 
@@ -58,42 +65,45 @@ fn words_status(kind: ErrorKind) -> u8
 /// What is said of a fault, without a line end after it. The request is there once the command line is taken.
 pub fn fault_text(
     alloc: Global,
-    fault: &Fault,
-    request: Option<&Request>,
+    fault: &ImposeFault,
+    request: Option<&ImposeRequest>,
 ) -> Result<String, AllocError> {
     match fault {
-        Fault::Command(fault) => command_text(alloc, fault),
-        Fault::Layout(error) => String::from_str(alloc, layout_text(error, request)),
-        Fault::Poster(error) => String::from_str(alloc, poster_message(error)),
-        Fault::Row(error) => row_text(alloc, error, request),
-        Fault::Sheets(error) => String::from_str(alloc, sheets_message(error)),
-        Fault::NoSpecification => String::from_str(alloc, NO_SPECIFICATION),
-        Fault::SeveralPapers => String::from_str(alloc, SEVERAL_PAPERS),
-        Fault::NoSuchPage { place, pages } => {
+        ImposeFault::Command(fault) => command_text(alloc, fault),
+        ImposeFault::Layout(error) => String::from_str(alloc, layout_text(error, request)),
+        ImposeFault::Poster(error) => String::from_str(alloc, poster_message(error)),
+        ImposeFault::Row(error) => row_text(alloc, error, request),
+        ImposeFault::Sheets(error) => String::from_str(alloc, sheets_message(error)),
+        ImposeFault::NoSpecification => String::from_str(alloc, NO_SPECIFICATION),
+        ImposeFault::SeveralPapers => String::from_str(alloc, SEVERAL_PAPERS),
+        ImposeFault::NoSuchPage { place, pages } => {
             let message = format!(in alloc;
                 "page ranges: the document has pages 1 to {pages} only"
             )?;
             shown(alloc, message, ranges_of(request), *place)
         }
-        Fault::Read(cause) => {
+        ImposeFault::Read(cause) => {
             let name = input_name(alloc, request)?;
             let name = name.as_str();
             with_cause(alloc, format!(in alloc; "cannot read {name}")?, cause)
         }
-        Fault::Run(error) => run_text(alloc, error, request),
-        Fault::NoInput | Fault::Pdf | Fault::Compressed(_) | Fault::JobLanguage => {
-            unread_text(alloc, fault, request)
-        }
-        Fault::DosEps | Fault::Utf16 | Fault::TooLong => unread_text(alloc, fault, request),
-        Fault::Idle(option) => String::from_str(alloc, idle_message(*option)),
-        Fault::OverInput => {
+        ImposeFault::Run(error) => run_text(alloc, error, request),
+        ImposeFault::NoInput
+        | ImposeFault::Pdf
+        | ImposeFault::Compressed(_)
+        | ImposeFault::JobLanguage => { unread_text(alloc, fault, request) }
+        ImposeFault::DosEps | ImposeFault::Utf16 | ImposeFault::TooLong => unread_text(
+            alloc, fault, request,
+        ),
+        ImposeFault::Idle(option) => String::from_str(alloc, idle_message(*option)),
+        ImposeFault::OverInput => {
             let name = input_name(alloc, request)?;
             let name = name.as_str();
             format!(in alloc;
                 "--preview would write over {name}, which is read: name another file, as sheets.svg, or - for standard output"
             )
         }
-        Fault::Write { written, cause } => {
+        ImposeFault::Write { written, cause } => {
             let text = written_text(alloc, *written, request)?;
             with_cause(alloc, text, cause)
         }
@@ -124,30 +134,30 @@ fn idle_message(option: IdleOption) -> &'static str {
 /// What is said of an input that isn't read as a document.
 fn unread_text(
     alloc: Global,
-    fault: &Fault,
-    request: Option<&Request>,
+    fault: &ImposeFault,
+    request: Option<&ImposeRequest>,
 ) -> Result<String, AllocError> {
     let name = input_name(alloc, request)?;
     let name = name.as_str();
     match fault {
-        Fault::NoInput => format!(in alloc;
+        ImposeFault::NoInput => format!(in alloc;
             "{name} is empty; name a file with a PostScript document, or pipe one in"
         ),
-        Fault::Pdf => format!(in alloc;
+        ImposeFault::Pdf => format!(in alloc;
             "{name} is a PDF, not PostScript; use: pdftops in.pdf - | impose .. -"
         ),
-        Fault::Compressed(packing) => {
+        ImposeFault::Compressed(packing) => {
             let unpacked = unpacked_by(*packing);
             format!(in alloc; "{name} is compressed, not PostScript; use: {unpacked} | impose .. -")
         }
-        Fault::DosEps => format!(in alloc;
+        ImposeFault::DosEps => format!(in alloc;
             "{name} is an EPS with a preview before it, as DOS had them; use: ps2ps in.eps - | impose .. -"
         ),
-        Fault::Utf16 => format!(in alloc;
+        ImposeFault::Utf16 => format!(in alloc;
             "{name} is a text of two bytes a letter (UTF-16), not PostScript; use: iconv -f UTF-16 -t ISO-8859-1 in.ps | \
             impose .. -"
         ),
-        Fault::JobLanguage => format!(in alloc;
+        ImposeFault::JobLanguage => format!(in alloc;
             "{name} begins with a printer's job language, not with %!; cut that off: \
             sed -n '/^%!/,$p' in.ps | impose .. -"
         ),
@@ -165,10 +175,10 @@ fn unpacked_by(packing: Packing) -> &'static str {
     }
 }
 
-fn input_name(alloc: Global, request: Option<&Request>) -> Result<String, AllocError> {
+fn input_name(alloc: Global, request: Option<&ImposeRequest>) -> Result<String, AllocError> {
     match request {
         Some(
-            Request {
+            ImposeRequest {
                 infile: Some(name),
                 ..
             },
@@ -178,7 +188,7 @@ fn input_name(alloc: Global, request: Option<&Request>) -> Result<String, AllocE
 }
 
 /// What is written to.
-fn output_name(alloc: Global, request: Option<&Request>) -> Result<String, AllocError> {
+fn output_name(alloc: Global, request: Option<&ImposeRequest>) -> Result<String, AllocError> {
     match written_file(request) {
         Some(name) => file_name(alloc, name),
         None => String::from_str(alloc, "standard output"),
@@ -186,7 +196,7 @@ fn output_name(alloc: Global, request: Option<&Request>) -> Result<String, Alloc
 }
 
 /// The file that is written, if it isn't standard output.
-fn written_file(request: Option<&Request>) -> Option<&str> {
+fn written_file(request: Option<&ImposeRequest>) -> Option<&str> {
     let request = request?;
     let file = match &request.product {
         Product::Sheets => &request.outfile,
@@ -212,7 +222,7 @@ fn file_name(alloc: Global, name: &str) -> Result<String, AllocError> {
 fn written_text(
     alloc: Global,
     written: u64,
-    request: Option<&Request>,
+    request: Option<&ImposeRequest>,
 ) -> Result<String, AllocError> {
     let name = output_name(alloc, request)?;
     let name = name.as_str();
@@ -236,27 +246,27 @@ fn with_cause(
 }
 
 /// What is said of a command line that is refused; nothing of words that the command doesn't take, which `words_text` has.
-pub fn command_text(alloc: Global, fault: &CommandFault) -> Result<String, AllocError> {
+pub fn command_text(alloc: Global, fault: &RequestFault) -> Result<String, AllocError> {
     match fault {
-        CommandFault::Words(_) => Ok(String::new(alloc)),
-        CommandFault::NoText => String::from_str(
+        RequestFault::Words(_) => Ok(String::new(alloc)),
+        RequestFault::NoText => String::from_str(
             alloc,
             "the command line is no UTF-8 text: rename the file",
         ),
-        CommandFault::Lacking => String::from_str(alloc, "bad command line: see impose --help"),
-        CommandFault::BadValue(option, text) => value_text(alloc, *option, text.as_str()),
-        CommandFault::OddAndEven => {
+        RequestFault::Lacking => String::from_str(alloc, "bad command line: see impose --help"),
+        RequestFault::BadValue(option, text) => value_text(alloc, *option, text.as_str()),
+        RequestFault::OddAndEven => {
             String::from_str(
                 alloc,
                 "--odd and --even leave no page together: give one of them",
             )
         }
-        CommandFault::TwoProducts(one, other) => {
+        RequestFault::TwoProducts(one, other) => {
             let one = product_option(*one);
             let other = product_option(*other);
             format!(in alloc; "{one} and {other} ask for two things: give one of them")
         }
-        CommandFault::NoMemory => String::from_str(alloc, "out of memory"),
+        RequestFault::NoMemory => String::from_str(alloc, "out of memory"),
     }
 }
 
@@ -453,10 +463,10 @@ fn shown(alloc: Global, message: String, text: &str, place: usize) -> Result<Str
     format!(in alloc; "{message}{caret}")
 }
 
-fn ranges_of(request: Option<&Request>) -> &str {
+fn ranges_of(request: Option<&ImposeRequest>) -> &str {
     match request {
         Some(
-            Request {
+            ImposeRequest {
                 choice: PageChoice {
                     ranges: Some(ranges),
                     ..
@@ -468,7 +478,7 @@ fn ranges_of(request: Option<&Request>) -> &str {
     }
 }
 
-fn is_selection(request: Option<&Request>) -> bool {
+fn is_selection(request: Option<&ImposeRequest>) -> bool {
     match request {
         Some(request) => matches!(request.layout, Layout::Selection),
         None => false,
@@ -479,7 +489,7 @@ fn is_selection(request: Option<&Request>) -> bool {
 fn row_text(
     alloc: Global,
     error: &RowError,
-    request: Option<&Request>,
+    request: Option<&ImposeRequest>,
 ) -> Result<String, AllocError> {
     let message = match error {
         RowError::NotARange(_) if is_selection(request) && looks_like_file(ranges_of(request)) =>
@@ -518,7 +528,7 @@ fn row_message(error: &RowError) -> &'static str {
 }
 
 /// What is said of pages that can't be laid out so: of a scale that is asked for something else than of one that is found.
-fn layout_text(error: &ArrangementError, request: Option<&Request>) -> &'static str {
+fn layout_text(error: &ArrangementError, request: Option<&ImposeRequest>) -> &'static str {
     match error {
         ArrangementError::ScaleOutOfRange if is_scaled(request) => {
             "the scale is 0 or below, or too large: give one as --scale 0.7"
@@ -530,7 +540,7 @@ fn layout_text(error: &ArrangementError, request: Option<&Request>) -> &'static 
 
 /// Why a booklet's sheet would fold along its longer edge. A sheet that isn't named is the pages', and if these aren't named
 /// either the document names them.
-fn fold_message(request: Option<&Request>) -> &'static str {
+fn fold_message(request: Option<&ImposeRequest>) -> &'static str {
     match named_sheet(request) {
         None => {
             "the sheet is wider than high, or upright pages side by side would be larger on it, and it would fold along its \
@@ -548,7 +558,7 @@ fn fold_message(request: Option<&Request>) -> &'static str {
 }
 
 /// The paper of the sheets, if the words name it.
-fn named_sheet(request: Option<&Request>) -> Option<Paper> {
+fn named_sheet(request: Option<&ImposeRequest>) -> Option<Paper> {
     let request = request?;
     match request.sheet_paper {
         Some(sheet) => Some(sheet),
@@ -556,7 +566,7 @@ fn named_sheet(request: Option<&Request>) -> Option<Paper> {
     }
 }
 
-fn is_scaled(request: Option<&Request>) -> bool {
+fn is_scaled(request: Option<&ImposeRequest>) -> bool {
     match request {
         Some(request) => request.spacing.scale.is_some(),
         None => false,
@@ -635,7 +645,7 @@ fn ranges_place(error: &RowError, ranges: &str) -> Option<usize> {
 fn run_text(
     alloc: Global,
     error: &RunError,
-    request: Option<&Request>,
+    request: Option<&ImposeRequest>,
 ) -> Result<String, AllocError> {
     match error {
         RunError::Options => String::from_str(alloc, "bad options"),
@@ -656,16 +666,16 @@ fn run_text(
 /// How many sheets a specification has at most.
 const MOST_GROUPS: u32 = 10_000;
 
-fn spec_of(request: Option<&Request>) -> &str {
+fn spec_of(request: Option<&ImposeRequest>) -> &str {
     match request {
         Some(
-            Request {
+            ImposeRequest {
                 layout: Layout::SpecRow { specs, .. },
                 ..
             },
         ) => specs.as_str(),
         Some(
-            Request {
+            ImposeRequest {
                 layout: Layout::Spec(spec),
                 ..
             },

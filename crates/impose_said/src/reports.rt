@@ -8,14 +8,18 @@ ghost use Rattle.impose_said.specs.Said.{is_pdf_name as names_pdf, origin_text a
 
 use crate::finished::{Finished, PaperOrigin};
 use crate::shown::shown_word;
-use impose_words::{Layout, Request};
+use impose_words::{ImposeRequest, Layout};
 use imposer::Report;
 use lengths::{Grains, Paper, print_points};
 use papers::{Comment, Cut, Edges};
 use std::alloc::{AllocError, Global};
 
 /// What is said of a finished run.
-pub fn report_text(alloc: Global, done: &Finished, request: &Request) -> Result<String, AllocError>
+pub fn report_text(
+    alloc: Global,
+    done: &Finished,
+    request: &ImposeRequest,
+) -> Result<String, AllocError>
     ensures { IfOk result (λ text. IsReport done.now request.now (Some (string_bytes text))) }
 {
     let counts = counts_text(alloc, &done.report, request)?;
@@ -61,7 +65,11 @@ fn is_same(one: &Paper, other: &Paper) -> bool
 }
 
 /// How many pages, blanks, sheets and leaves there are, and how many bytes.
-fn counts_text(alloc: Global, report: &Report, request: &Request) -> Result<String, AllocError>
+fn counts_text(
+    alloc: Global,
+    report: &Report,
+    request: &ImposeRequest,
+) -> Result<String, AllocError>
     ensures { IfOk result (λ text. HasCounts report.now (string_bytes text)) }
 {
     let pages = report.pages;
@@ -78,7 +86,7 @@ fn counts_text(alloc: Global, report: &Report, request: &Request) -> Result<Stri
 }
 
 /// How many places of the sheets have no page, where all sheets have equally many and each page has one.
-fn blanks_of(request: &Request, report: &Report) -> u64 {
+fn blanks_of(request: &ImposeRequest, report: &Report) -> u64 {
     let places = match request.layout {
         Layout::NUp(cells) if request.choice.is_whole() => cells.count(),
         Layout::Notes { pages } if request.choice.is_whole() => u64::from(pages),
@@ -249,7 +257,7 @@ fn cut_pages_text(alloc: Global, cut: &Cut) -> Result<String, AllocError> {
 }
 
 /// What else is said of a finished run, if there is something: that a file named as a PDF isn't one.
-pub fn note_text(alloc: Global, request: &Request) -> Result<Option<String>, AllocError>
+pub fn note_text(alloc: Global, request: &ImposeRequest) -> Result<Option<String>, AllocError>
     ensures { IfOk result (λ text. IsNote (option_map string_bytes request.now.outfile) (option_map string_bytes text)) }
 {
     match &request.outfile {

@@ -2,13 +2,13 @@
 ghost use Rattle.std.specs.Prelude.{◌≡◌, IfOk, option_map, string_bytes};
 ghost use Rattle.impose_said.specs.Said.{AddsLine, Says, SaysFault, SaysRun, SaysWords, is_broken_pipe};
 
-use crate::fault::Fault;
+use crate::fault::ImposeFault;
 use crate::finished::{Done, Finished};
 use crate::messages::fault_text;
 use crate::mistakes::words_text;
 use crate::reports::{behind_text, cut_text, note_text, reach_text, report_text, told_text};
 use clap::Error as WordsError;
-use impose_words::{CommandFault, Request};
+use impose_words::{ImposeRequest, RequestFault};
 use std::alloc::Global;
 use std::io::ErrorKind;
 
@@ -19,8 +19,8 @@ use std::io::ErrorKind;
 /// What is done is done: a line for which there is no memory isn't said, and the others are.
 pub fn text_said(
     alloc: Global,
-    outcome: &Result<Done, Fault>,
-    request: Option<&Request>,
+    outcome: &Result<Done, ImposeFault>,
+    request: Option<&ImposeRequest>,
     words: &[String],
 ) -> String
     ensures { Says outcome.now (option_map (λ r. r.now) request.entry) (string_bytes result) }
@@ -36,7 +36,7 @@ pub fn text_said(
 }
 
 /// What is said of a finished run.
-fn text_of_run(alloc: Global, done: &Finished, request: &Request) -> String
+fn text_of_run(alloc: Global, done: &Finished, request: &ImposeRequest) -> String
     ensures { SaysRun done.now request.now (string_bytes result) }
 {
     let mut said = String::new(alloc);
@@ -55,13 +55,13 @@ fn text_of_run(alloc: Global, done: &Finished, request: &Request) -> String
 /// What is said of a fault.
 fn text_of_fault(
     alloc: Global,
-    fault: &Fault,
-    request: Option<&Request>,
+    fault: &ImposeFault,
+    request: Option<&ImposeRequest>,
     words: &[String],
 ) -> String
     ensures { SaysFault fault.now (string_bytes result) }
 {
-    if let Fault::Command(CommandFault::Words(error)) = fault {
+    if let ImposeFault::Command(RequestFault::Words(error)) = fault {
         return text_of_words(alloc, error, words);
     }
     let mut said = String::new(alloc);
@@ -83,11 +83,11 @@ fn text_of_words(alloc: Global, error: &WordsError, words: &[String]) -> String
 }
 
 /// Whoever reads the output has closed it, and so has enough of it.
-fn is_broken_pipe(fault: &Fault) -> bool
+fn is_broken_pipe(fault: &ImposeFault) -> bool
     ensures { result ≡ is_broken_pipe fault.now }
 {
     match fault {
-        Fault::Write {
+        ImposeFault::Write {
             cause: Some(cause),
             ..
         } => matches!(cause.kind(), ErrorKind::BrokenPipe),

@@ -13,14 +13,14 @@ use Rattle.impose_words.specs.Words.{length_found, marks_found, order_by, order_
 use Rattle.impose_words.specs.declared.request.Layout.{Layout}
 use Rattle.impose_words.specs.declared.request.Layout.TheVariants as layout
 use Rattle.impose_words.specs.declared.request.PageChoice.{PageChoice}
-use Rattle.impose_words.specs.declared.request.Request.{Request}
+use Rattle.impose_words.specs.declared.request.ImposeRequest.{ImposeRequest}
 use Rattle.impose_words.specs.declared.request.Spacing.{Spacing}
 use Rattle.dressing.specs.declared.strokes.Marks.{Marks}
 use Rattle.layouts.specs.declared.arrangement.Order.{Order}
 use Rattle.layouts.specs.declared.arrangement.Run.{Run}
 use Rattle.layouts.specs.declared.arrangement.Turned.{Turned}
-use Rattle.impose_words.specs.declared.fault.CommandFault.{CommandFault}
-use Rattle.impose_words.specs.declared.fault.CommandFault.TheVariants as fault
+use Rattle.impose_words.specs.declared.fault.RequestFault.{RequestFault}
+use Rattle.impose_words.specs.declared.fault.RequestFault.TheVariants as fault
 use Rattle.impose_words.specs.declared.fault.Opt.TheVariants as opt
 
 some_same : {X : Type 0} (a b : X) → Some a ≡ Some b → a ≡ b
@@ -54,7 +54,7 @@ unmet m e =
     of_none (λ b. (out-SubCommand (box_value b)).name.now) (λ b. rows_of (found_of (out-SubCommand (box_value b)).matches))
     (out-ArgMatches m).subcommand e
 
-pub refuses_parse : (words : List Text) (f : CommandFault) → ParseRefuses words f → Refuses words f
+pub refuses_parse : (words : List Text) (f : RequestFault) → ParseRefuses words f → Refuses words f
 refuses_parse words (fault.Words error) h = h
 refuses_parse words fault.NoMemory h = tt
 refuses_parse words fault.NoText h = h
@@ -64,11 +64,11 @@ refuses_parse words (fault.BadValue option text) h = absurd h
 refuses_parse words (fault.TwoProducts one other) h = absurd h
 
 -- a fault that says nothing of what was found is none of its refusals
-unsaid : (name : Text) (found : List Row) (f : CommandFault) → ((wrong : Option Wrong) → Says found f wrong → ⊥) → RefusesFound name found f → ⊥
+unsaid : (name : Text) (found : List Row) (f : RequestFault) → ((wrong : Option Wrong) → Says found f wrong → ⊥) → RefusesFound name found f → ⊥
 unsaid name found f never (inl h) = never _ h
 unsaid name found f never (inr h) = never _ h.3
 
-pub refuses_words : (words : List Text) (name : Text) (found : List Row) (f : CommandFault) → Enters words name found → RefusesFound name found f → Refuses words f
+pub refuses_words : (words : List Text) (name : Text) (found : List Row) (f : RequestFault) → Enters words name found → RefusesFound name found f → Refuses words f
 refuses_words words name found (fault.Words error) e h = absurd (unsaid name found (fault.Words error) (λ wrong never. never) h)
 refuses_words words name found fault.NoText e h = unsaid name found fault.NoText (λ wrong never. never) h
 refuses_words words name found fault.NoMemory e h = tt
@@ -92,7 +92,7 @@ next is h = rw is h
 pub at_once : {a : Option Wrong} (b : Option Wrong) {wrong : Wrong} → a ≡ Some wrong → first a b ≡ Some wrong
 at_once b is = rw is refl
 
-pub says_first : (found : List Row) (f : CommandFault) (a b : Option Wrong) → Says found f a → Says found f (first a b)
+pub says_first : (found : List Row) (f : RequestFault) (a b : Option Wrong) → Says found f a → Says found f (first a b)
 says_first found (fault.BadValue option text) a b h = (at_once b h.0, h.1)
 says_first found fault.Lacking a b h = at_once b h
 says_first found fault.OddAndEven a b h = at_once b h
@@ -101,7 +101,7 @@ says_first found fault.NoMemory a b h = tt
 says_first found (fault.Words error) a b h = h
 says_first found fault.NoText a b h = h
 
-pub says_next : (found : List Row) (f : CommandFault) (a b : Option Wrong) → a ≡ None → Says found f b → Says found f (first a b)
+pub says_next : (found : List Row) (f : RequestFault) (a b : Option Wrong) → a ≡ None → Says found f b → Says found f (first a b)
 says_next found f a b is h = subst (λ o. Says found f (first o b)) (sym is) h
 
 -- ---- nothing is wrong with what was read
@@ -154,7 +154,7 @@ outfile_right found outfile e is = rw (e, is) refl
 -- ---- the paper at home
 
 -- it is no matter of the words
-reads_at_home : (name : Text) (found : List Row) (r : Request) (home : Paper) → Reads name found r → Reads name found (record r { home_paper = home })
+reads_at_home : (name : Text) (found : List Row) (r : ImposeRequest) (home : Paper) → Reads name found r → Reads name found (record r { home_paper = home })
 reads_at_home name found r home h = record {
   layout = h.layout;
   spacing = h.spacing;
@@ -171,7 +171,7 @@ reads_at_home name found r home h = record {
   no_option = h.no_option;
 }
 
-pub entered_at_home : (words : List Text) (r given : Request) (home : Paper) → given ≡ record r { home_paper = home } → Entered words (λ name found. Reads name found r)
+pub entered_at_home : (words : List Text) (r given : ImposeRequest) (home : Paper) → given ≡ record r { home_paper = home } → Entered words (λ name found. Reads name found r)
     → Entered words (λ name found. Reads name found given)
 entered_at_home words r given home e h =
     subst (λ q. Entered words (λ name found. Reads name found q)) (sym e) (h.0, h.1, h.2, reads_at_home h.0 h.1 r home h.3)

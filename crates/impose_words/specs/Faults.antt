@@ -10,8 +10,8 @@ use Rattle.impose_words.specs.Spacings.{keeps_room}
 use Rattle.impose_words.specs.Words.{AsksFor, Entered, asked, border_found, cells_found, file_asked, given, is_outfile, length_found}
 use Rattle.impose_words.specs.Words.{part_found, picture_found, ranges_id, row_asked, run_found, scale_found, signing_found, size_found}
 use Rattle.impose_words.specs.Words.{turned_found, two_found}
-use Rattle.impose_words.specs.declared.fault.CommandFault.{CommandFault}
-use Rattle.impose_words.specs.declared.fault.CommandFault.TheVariants as fault
+use Rattle.impose_words.specs.declared.fault.RequestFault.{RequestFault}
+use Rattle.impose_words.specs.declared.fault.RequestFault.TheVariants as fault
 use Rattle.impose_words.specs.declared.fault.GridCommand.{GridCommand}
 use Rattle.impose_words.specs.declared.fault.GridCommand.TheVariants as grid
 use Rattle.impose_words.specs.declared.fault.Opt.{Opt}
@@ -138,7 +138,7 @@ abbrev pub text_given : Opt → (found : List Row) → Text
 text_given option found = unwrap_or (given option found) []
 
 -- this is wrong with what was found, as the fault says, unless it is that memory is short
-abbrev pub Says : (found : List Row) → CommandFault → Option Wrong → Type 0
+abbrev pub Says : (found : List Row) → RequestFault → Option Wrong → Type 0
 Says found (fault.BadValue option text) wrong = (wrong ≡ Some (NoValue option)) × (text_given option found ≡ string_bytes text)
 Says found fault.Lacking wrong = wrong ≡ Some Missing
 Says found fault.OddAndEven wrong = wrong ≡ Some OddEven
@@ -149,12 +149,12 @@ Says found fault.NoText wrong = ⊥
 
 -- a refusal of what was found: of the papers, the border or what asks for a layout; or of what comes after the layout that they ask
 -- for
-abbrev pub RefusesFound : (name : Text) → (found : List Row) → CommandFault → Type 0
+abbrev pub RefusesFound : (name : Text) → (found : List Row) → RequestFault → Type 0
 RefusesFound name found f = Says found f (first (wrong_sizes found) (wrong_layout name found))
     ⊎ ((layout : Layout) × AsksFor name found layout × (wrong_sizes found ≡ None) × Says found f (wrong_for layout found))
 
 -- what a refusal says of the words: clap's own faults are those of the words, or a call for help or for the version
-abbrev pub Refuses : (words : List Text) → CommandFault → Type 0
+abbrev pub Refuses : (words : List Text) → RequestFault → Type 0
 Refuses words (fault.Words error) = IsAmong (kind_of error) (fault_of impose words)
 Refuses words fault.NoText = ⊥
 Refuses words fault.NoMemory = ⊤
@@ -166,7 +166,7 @@ Refuses words (fault.TwoProducts one other) =
     Entered words (λ name found. RefusesFound name found (fault.TwoProducts one other))
 
 -- what a refusal says of the words before what was found is looked at
-abbrev pub ParseRefuses : (words : List Text) → CommandFault → Type 0
+abbrev pub ParseRefuses : (words : List Text) → RequestFault → Type 0
 ParseRefuses words (fault.Words error) = IsAmong (kind_of error) (fault_of impose words)
 ParseRefuses words fault.NoMemory = ⊤
 ParseRefuses words other = ⊥

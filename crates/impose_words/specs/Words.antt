@@ -27,7 +27,7 @@ use Rattle.impose_words.specs.Signatures.{signing_named}
 use Rattle.impose_words.specs.Sizes.{border_with_unit, length_with_unit, number_alone, size_named}
 use Rattle.impose_words.specs.declared.request.Layout.{Layout}
 use Rattle.impose_words.specs.declared.request.Layout.TheVariants as layout
-use Rattle.impose_words.specs.declared.request.Request.{Request}
+use Rattle.impose_words.specs.declared.request.ImposeRequest.{ImposeRequest}
 use Rattle.impose_words.specs.declared.request.Product.{Product}
 use Rattle.impose_words.specs.Products.{is_picture_file, is_plan, is_specification, lays_rows, picture_in}
 use Rattle.impose_words.specs.Spacings.{keeps_room, nothing_kept}
@@ -245,7 +245,7 @@ pub record ReadsSizes (found : List Row) (page_paper sheet_paper : Option Paper)
   pub border_is : border_found found ≡ Some border
 
 -- the request is what was found (RULES, 11 to 15)
-pub record Reads (name : Text) (found : List Row) (r : Request) : Type 0 where
+pub record Reads (name : Text) (found : List Row) (r : ImposeRequest) : Type 0 where
   pub layout : AsksFor name found r.layout
   pub spacing : SpacesBy (keeps_room r.layout) found r.spacing
   pub choice : ChoosesBy (ranges_id r.layout) found r.choice

@@ -18,8 +18,8 @@ use crate::arranging::{
     NO_MARKS, booklet_marks_named, cells_named, cut_marks_named, exact_cells, noted_cells,
     run_named, turned_named,
 };
-use crate::fault::{CommandFault, GridCommand, Opt, ProductOption};
-use crate::request::{Layout, PageChoice, Product, Request, Spacing};
+use crate::fault::{GridCommand, Opt, ProductOption, RequestFault};
+use crate::request::{ImposeRequest, Layout, PageChoice, Product, Spacing};
 use crate::signature::signing_named;
 use crate::sizes::{border_with_unit, length_with_unit, number_alone, size_named};
 use clap::ArgMatches;
@@ -41,7 +41,7 @@ use std::alloc::Global;
 /// `--scale`; marks that sheets of the layout don't have; odd and even entries together; an OUTFILE that begins with a minus sign; two of
 /// `--print-spec`, `--plan` and `--preview`; a picture whose file isn't named as an SVG is.
 #[tactic(auto, using(crate::proofs::Commands::impose_is_simple))]
-pub fn read_command(alloc: Global, words: &[String]) -> Result<Request, CommandFault>
+pub fn read_command(alloc: Global, words: &[String]) -> Result<ImposeRequest, RequestFault>
     // The command takes the words, and the request is what it finds among them.
     ensures read { IfOk result (λ request.
         Entered (map string_bytes words.now) (λ name found. Reads name found request)) }
@@ -56,12 +56,12 @@ pub fn read_command(alloc: Global, words: &[String]) -> Result<Request, CommandF
     };
     match matches.subcommand() {
         Some((name, found)) => request_of(alloc, name, found),
-        None => Err(CommandFault::Lacking),
+        None => Err(RequestFault::Lacking),
     }
 }
 
 /// What the command finds among the words.
-fn parse<'a>(alloc: Global, words: &'a [String]) -> Result<ArgMatches<'a>, CommandFault>
+fn parse<'a>(alloc: Global, words: &'a [String]) -> Result<ArgMatches<'a>, RequestFault>
     ensures taken { IfOk result (λ _. fault_of impose (map string_bytes words.entry.now) ≡ []) }
     ensures found { IfOk result (λ m. subcommand_rows_of m ≡ subcommand_of impose (map string_bytes words.entry.now)) }
     ensures refused { IfErr result (ParseRefuses (map string_bytes words.entry.now)) }
@@ -71,16 +71,20 @@ fn parse<'a>(alloc: Global, words: &'a [String]) -> Result<ArgMatches<'a>, Comma
         Ok(matches) => Ok(matches),
         Err(error) => {
             if error.kind() == ErrorKind::OutOfMemory {
-                Err(CommandFault::NoMemory)
+                Err(RequestFault::NoMemory)
             } else {
-                Err(CommandFault::Words(error))
+                Err(RequestFault::Words(error))
             }
         }
     }
 }
 
 /// The request that the subcommand with this name and its matches make.
-fn request_of(alloc: Global, name: &str, found: &ArgMatches<'_>) -> Result<Request, CommandFault>
+fn request_of(
+    alloc: Global,
+    name: &str,
+    found: &ArgMatches<'_>,
+) -> Result<ImposeRequest, RequestFault>
     ensures read { IfOk result (Reads name.now (rows_of (found_of found.now))) }
     ensures refused { IfErr result (RefusesFound name.now (rows_of (found_of found.now))) }
 {
@@ -100,7 +104,7 @@ fn request_for(
     sizes: Sizes,
     layout: Layout,
     found: &ArgMatches<'_>,
-) -> Result<Request, CommandFault>
+) -> Result<ImposeRequest, RequestFault>
     requires sizes { ReadsSizes (rows_of (found_of found.now)) sizes.page_paper sizes.sheet_paper sizes.border }
     ensures read { (name : Text) → AsksFor name (rows_of (found_of found.now)) layout
         → IfOk result (Reads name (rows_of (found_of found.now))) }
@@ -127,7 +131,7 @@ fn request_for(
         Ok(product) => product,
         Err(fault) => return Err(fault),
     };
-    Ok(Request {
+    Ok(ImposeRequest {
         layout,
         spacing,
         choice,
@@ -195,20 +199,20 @@ fn border_of(found: &ArgMatches<'_>) -> Option<Option<Grains>>
 }
 
 /// The fault of a value that is none.
-fn bad_value(alloc: Global, found: &ArgMatches<'_>, option: Opt) -> CommandFault
+fn bad_value(alloc: Global, found: &ArgMatches<'_>, option: Opt) -> RequestFault
     ensures { (wrong : Option Wrong) → wrong ≡ Some (NoValue option) → Says (rows_of (found_of found.now)) result wrong }
 {
     match text_of(found, option.id()) {
-        None => CommandFault::BadValue(option, String::new(alloc)),
+        None => RequestFault::BadValue(option, String::new(alloc)),
         Some(text) => match String::from_str(alloc, text) {
-            Ok(text) => CommandFault::BadValue(option, text),
-            Err(_) => CommandFault::NoMemory,
+            Ok(text) => RequestFault::BadValue(option, text),
+            Err(_) => RequestFault::NoMemory,
         },
     }
 }
 
 /// The layout of the subcommand with this name.
-fn layout_of(alloc: Global, name: &str, found: &ArgMatches<'_>) -> Result<Layout, CommandFault>
+fn layout_of(alloc: Global, name: &str, found: &ArgMatches<'_>) -> Result<Layout, RequestFault>
     ensures read { IfOk result (AsksFor name.now (rows_of (found_of found.now))) }
     ensures refused { IfErr result (λ f. Says (rows_of (found_of found.now)) f (wrong_layout name.now (rows_of (found_of found.now)))) }
 {
@@ -229,7 +233,7 @@ fn layout_of(alloc: Global, name: &str, found: &ArgMatches<'_>) -> Result<Layout
     } else if name == "spec" {
         spec_of(alloc, found)
     } else {
-        Err(CommandFault::Lacking)
+        Err(RequestFault::Lacking)
     }
 }
 
@@ -238,12 +242,12 @@ fn grid_of(
     alloc: Global,
     command: GridCommand,
     found: &ArgMatches<'_>,
-) -> Result<Layout, CommandFault>
+) -> Result<Layout, RequestFault>
     ensures read { IfOk result (AsksFor (command_name command) (rows_of (found_of found.now))) }
     ensures refused { IfErr result (λ f. Says (rows_of (found_of found.now)) f (wrong_cells command (rows_of (found_of found.now)))) }
 {
     let Some(text) = text_of(found, "count") else {
-        return Err(CommandFault::Lacking);
+        return Err(RequestFault::Lacking);
     };
     let Some(cells) = cells_in(command, text) else {
         return Err(bad_value(alloc, found, Opt::Count(command)));
@@ -274,7 +278,7 @@ fn cells_in(command: GridCommand, text: &str) -> Option<Cells>
     }
 }
 
-fn booklet_of(alloc: Global, found: &ArgMatches<'_>) -> Result<Layout, CommandFault>
+fn booklet_of(alloc: Global, found: &ArgMatches<'_>) -> Result<Layout, RequestFault>
     ensures read { IfOk result (AsksFor (codes "booklet") (rows_of (found_of found.now))) }
     ensures refused { IfErr result (λ f.
         Says (rows_of (found_of found.now)) f (wrong_among (opt.Signature ∷ []) (rows_of (found_of found.now)))) }
@@ -298,24 +302,24 @@ fn signing_of(found: &ArgMatches<'_>) -> Option<Option<Signing>>
     }
 }
 
-fn selection_of(found: &ArgMatches<'_>) -> Result<Layout, CommandFault>
+fn selection_of(found: &ArgMatches<'_>) -> Result<Layout, RequestFault>
     ensures read { IfOk result (AsksFor (codes "select") (rows_of (found_of found.now))) }
     ensures refused { IfErr result (λ f.
         Says (rows_of (found_of found.now)) f (wrong_layout (codes "select") (rows_of (found_of found.now)))) }
 {
     match text_of(found, "ranges") {
         Some(_) => Ok(Layout::Selection),
-        None => Err(CommandFault::Lacking),
+        None => Err(RequestFault::Lacking),
     }
 }
 
-fn spec_of(alloc: Global, found: &ArgMatches<'_>) -> Result<Layout, CommandFault>
+fn spec_of(alloc: Global, found: &ArgMatches<'_>) -> Result<Layout, RequestFault>
     ensures read { IfOk result (AsksFor (codes "spec") (rows_of (found_of found.now))) }
     ensures refused { IfErr result (λ f. Says (rows_of (found_of found.now)) f (wrong_specs (rows_of (found_of found.now)))) }
 {
     let specs = match text_of(found, "specs") {
         Some(specs) => String::from_str(alloc, specs)?,
-        None => return Err(CommandFault::Lacking),
+        None => return Err(RequestFault::Lacking),
     };
     if !asks_for_row(found) {
         return Ok(Layout::Spec(specs));
@@ -463,7 +467,7 @@ fn choice_of(
     alloc: Global,
     layout: &Layout,
     found: &ArgMatches<'_>,
-) -> Result<PageChoice, CommandFault>
+) -> Result<PageChoice, RequestFault>
     ensures read { IfOk result (ChoosesBy (ranges_id layout.now) (rows_of (found_of found.now))) }
     ensures refused { IfErr result (λ f.
         Says (rows_of (found_of found.now)) f (wrong_choice (ranges_id layout.now) (rows_of (found_of found.now)))) }
@@ -476,7 +480,7 @@ fn choice_of(
 }
 
 /// The pages that the ranges of this argument name.
-fn choice_by(alloc: Global, id: &str, found: &ArgMatches<'_>) -> Result<PageChoice, CommandFault>
+fn choice_by(alloc: Global, id: &str, found: &ArgMatches<'_>) -> Result<PageChoice, RequestFault>
     ensures read { IfOk result (ChoosesBy (Some id.now) (rows_of (found_of found.now))) }
     ensures refused { IfErr result (λ f.
         Says (rows_of (found_of found.now)) f (wrong_choice (Some id.now) (rows_of (found_of found.now)))) }
@@ -487,7 +491,7 @@ fn choice_by(alloc: Global, id: &str, found: &ArgMatches<'_>) -> Result<PageChoi
             part,
             backwards: is_set(found, "reverse"),
         }),
-        None => Err(CommandFault::OddAndEven),
+        None => Err(RequestFault::OddAndEven),
     }
 }
 
@@ -503,7 +507,7 @@ fn part_of(odd: bool, even: bool) -> Option<Part>
 }
 
 /// The file that is written. A name that begins with a minus sign is most likely an option that came too late.
-fn outfile_of(alloc: Global, found: &ArgMatches<'_>) -> Result<Option<String>, CommandFault>
+fn outfile_of(alloc: Global, found: &ArgMatches<'_>) -> Result<Option<String>, RequestFault>
     ensures asked { IfOk result (λ outfile.
         file_asked (given opt.Outfile (rows_of (found_of found.now))) ≡ option_map string_bytes outfile) }
     ensures no_option { IfOk result (λ outfile. is_outfile (option_map string_bytes outfile) ≡ true) }
@@ -525,7 +529,7 @@ fn product_of(
     alloc: Global,
     layout: &Layout,
     found: &ArgMatches<'_>,
-) -> Result<Product, CommandFault>
+) -> Result<Product, RequestFault>
     ensures read { IfOk result (MakesBy (lays_rows layout.now) (rows_of (found_of found.now))) }
     ensures refused { IfErr result (λ f.
         Says (rows_of (found_of found.now)) f (wrong_product (lays_rows layout.now) (rows_of (found_of found.now)))) }
@@ -538,15 +542,15 @@ fn product_of(
         (_, false, None) => Ok(specification_if(printed)),
         (false, true, None) => Ok(Product::Plan),
         (false, false, Some(name)) => picture_of(alloc, name, found),
-        (true, true, _) => Err(CommandFault::TwoProducts(
+        (true, true, _) => Err(RequestFault::TwoProducts(
             ProductOption::PrintSpec,
             ProductOption::Plan,
         )),
-        (true, false, Some(_)) => Err(CommandFault::TwoProducts(
+        (true, false, Some(_)) => Err(RequestFault::TwoProducts(
             ProductOption::PrintSpec,
             ProductOption::Preview,
         )),
-        (false, true, Some(_)) => Err(CommandFault::TwoProducts(
+        (false, true, Some(_)) => Err(RequestFault::TwoProducts(
             ProductOption::Plan,
             ProductOption::Preview,
         )),
@@ -567,7 +571,7 @@ fn specification_if(printed: bool) -> Product
 }
 
 /// The picture in the file of that name after `--preview`, which is named as an SVG is.
-fn picture_of(alloc: Global, name: &str, found: &ArgMatches<'_>) -> Result<Product, CommandFault>
+fn picture_of(alloc: Global, name: &str, found: &ArgMatches<'_>) -> Result<Product, RequestFault>
     requires { given opt.Preview (rows_of (found_of found.now)) ≡ Some name.now }
     ensures picture { IfOk result (NamesPicture name.now) }
     ensures refused { IfErr result (λ f.

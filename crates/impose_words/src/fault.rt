@@ -76,7 +76,7 @@ pub enum ProductOption {
 
 /// Why a command line is refused.
 #[derive(Debug, Drop)]
-pub enum CommandFault {
+pub enum RequestFault {
     /// The command doesn't take the words, or they ask for its help or its version.
     Words(WordsError),
     /// The words are no text.
@@ -93,13 +93,13 @@ pub enum CommandFault {
     NoMemory,
 }
 
-impl From<AllocError> for CommandFault {
+impl From<AllocError> for RequestFault {
     ghost use Rattle.std.specs.Prelude.{◌≡◌};
-    ghost use Rattle.impose_words.specs.declared.fault.CommandFault.TheVariants.{NoMemory};
+    ghost use Rattle.impose_words.specs.declared.fault.RequestFault.TheVariants.{NoMemory};
 
     ghost from_gives = { λ _ fault. fault ≡ NoMemory };
 
-    fn from(_error: AllocError) -> CommandFault {
-        CommandFault::NoMemory
+    fn from(_error: AllocError) -> RequestFault {
+        RequestFault::NoMemory
     }
 }

@@ -11,7 +11,7 @@ mod sizes;
 
 pub use arranging::{cells_named, exact_cells, noted_cells, run_named, turned_named};
 pub use command::read_command;
-pub use fault::{CommandFault, GridCommand, Opt, ProductOption};
-pub use request::{Layout, PageChoice, Product, Request, Spacing};
+pub use fault::{GridCommand, Opt, ProductOption, RequestFault};
+pub use request::{ImposeRequest, Layout, PageChoice, Product, Spacing};
 pub use signature::{number_in, signing_named};
 pub use sizes::{border_with_unit, lacks_unit, length_with_unit, number_alone, size_named};

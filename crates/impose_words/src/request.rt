@@ -225,7 +225,7 @@ pub enum Product {
 
 /// What a command line asks for.
 #[derive(Debug, Drop)]
-pub struct Request {
+pub struct ImposeRequest {
     pub layout: Layout,
     /// What is kept free, order and scale; for a selection or a specification nothing is asked for.
     pub spacing: Spacing,

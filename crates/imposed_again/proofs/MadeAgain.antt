@@ -1,5 +1,5 @@
 -- The output of made sheets is a document again.
-use Rattle.std.specs.Prelude.{Option, Some, None, Ok, ℤ, codes, map, flat_map, if◌then◌else◌}
+use Rattle.std.specs.Prelude.{Option, Some, None, Ok, codes, map, flat_map, if◌then◌else◌}
 use Rattle.std.specs.List.{starts_with, enumerate_from}
 use Rattle.std.proofs.Common.{nat_eq, ◌==◌, ◌&&◌, Bool, true, false, append_assoc, ◌≡◌, ℕ, ◌+◌, ◌<◌, ◌≤◌, List, [], ◌∷◌, ◌++◌, length, refl, ap, arith, length-append, sym, ◌∙◌, subst}
 use Rattle.std.proofs.lemmas.List.{append-nil}
@@ -8,6 +8,7 @@ use Rattle.rules.specs.Filters.{ended, kept, kept_after, drops_in_header, traile
 use Rattle.rules.specs.Parts.{NestedUnit, bytes_of, begins_page, begins_trailer, depth_after, nested, nested_from, page_run, pages, split_pages}
 use Rattle.rules.specs.Run.{document_of}
 use Rattle.rules.specs.Units.{TextUnit, AreUnits, cut, first_unit}
+use Rattle.rules.specs.Output.{Border}
 use Rattle.dsc.proofs.Reading.{accepted_cut, accepted_opening}
 use Rattle.dsc.specs.Units.{or_none, units_of}
 use Rattle.seams.proofs.Accepted.{accept, some_pages}
@@ -67,7 +68,7 @@ dressed_made n lines u us tame r s h p =
     subst (λ t. Made begins_page 0 (ended t)) (sym (dressed_text n lines u us h)) (make begins_page (u ∷ line_unit c ∷ more) 0 page_blind row passing)
 
 -- ---- all of it
-record Done (border : Option ℤ) (dress : Dress) (all : List MadeSheet) (us : List NestedUnit) : Type 0 where
+record Done (border : Option Border) (dress : Dress) (all : List MadeSheet) (us : List NestedUnit) : Type 0 where
   units : List TextUnit
   are : AreUnits (made_output border dress all us) units
   again : IsMadeAgain border dress all us (nested units)
@@ -76,7 +77,7 @@ record Done (border : Option ℤ) (dress : Dress) (all : List MadeSheet) (us : L
   starts : starts_with nat_eq (made_output border dress all us) (codes "%!") ≡ true
 
 -- from the preamble's units
-done_by : (border : Option ℤ) (dress : Dress) (all : List MadeSheet) → IsTameDress dress → (us : List TextUnit) (p : Parts us) (pre : List TextUnit) → p.pre ≡ pre → starts_with nat_eq (joined us) (codes "%!") ≡ true → AreUnits (joined us) us
+done_by : (border : Option Border) (dress : Dress) (all : List MadeSheet) → IsTameDress dress → (us : List TextUnit) (p : Parts us) (pre : List TextUnit) → p.pre ≡ pre → starts_with nat_eq (joined us) (codes "%!") ≡ true → AreUnits (joined us) us
     → 0 < length all → Done border dress all (nested us)
 done_by border dress all tame us p [] e s m l = absurd (some_preamble us p.run p.rest (p.whole ∙ ap (λ ws. ws ++ (p.run ++ p.rest)) e) p.some p.starts s m)
 done_by border dress all tame us p (u ∷ pre) e s m l =
@@ -131,7 +132,7 @@ done_by border dress all tame us p (u ∷ pre) e s m l =
           ∙ opened (first.rest ++ ks) (flat_map (λ t. t) ts ++ trailer_text ns);
     }
 
-done : (border : Option ℤ) (dress : Dress) (all : List MadeSheet) → IsTameDress dress → (text : List ℕ) (us : List TextUnit)
+done : (border : Option Border) (dress : Dress) (all : List MadeSheet) → IsTameDress dress → (text : List ℕ) (us : List TextUnit)
     → document_of text ≡ Ok (nested us) → cut text ≡ Ok us → 0 < length all → Done border dress all (nested us)
 done border dress all tame text us d c many =
     let m : AreUnits text us = are_units text us c in
@@ -140,13 +141,13 @@ done border dress all tame text us d c many =
     done_by border dress all tame us p p.pre refl
     (ap (λ t. starts_with nat_eq t (codes "%!")) whole ∙ accepted_opening text (nested us) d) (subst (λ t. AreUnits t us) (sym whole) m) many
 
-abbrev Says : (border : Option ℤ) → Dress → List MadeSheet → List NestedUnit → Type 0
+abbrev Says : (border : Option Border) → Dress → List MadeSheet → List NestedUnit → Type 0
 Says border dress all us =
     (document_of (made_output border dress all us) ≡ Ok (units_of (made_output border dress all us)))
     × IsMadeAgain border dress all us (units_of (made_output border dress all us))
     × (depth_behind (page_run us) ≡ 0 → pages (units_of (made_output border dress all us)) ≡ made_texts border dress (pages us) all)
 
-again_of : (border : Option ℤ) (dress : Dress) (all : List MadeSheet) → IsTameDress dress → (text : List ℕ) (us : List TextUnit)
+again_of : (border : Option Border) (dress : Dress) (all : List MadeSheet) → IsTameDress dress → (text : List ℕ) (us : List TextUnit)
     → document_of text ≡ Ok (nested us) → cut text ≡ Ok us → 0 < length all → length all ≤ 1_000_000
     → length (made_output border dress all (nested us)) ≤ 1_073_741_824 → Says border dress all (nested us)
 again_of border dress all tame text us d c many few l =

@@ -1,11 +1,11 @@
 -- What is on a made sheet, and which lines begin no part.
-use Rattle.std.specs.Prelude.{flat_map, codes, ℤ, Option, slice_index_or, map, if◌then◌else◌, None, Ok}
+use Rattle.std.specs.Prelude.{flat_map, codes, Option, slice_index_or, map, if◌then◌else◌, None, Ok}
 use Rattle.std.proofs.Common.{arith, ◌≡◌, ℕ, ◌+◌, ◌&&◌, List, [], ◌∷◌, ◌++◌, append_assoc, length-append, false, refl, sym, ap, subst, ◌∙◌}
 use Rattle.std.proofs.lemmas.List.{append-nil}
 use Rattle.dsc.proofs.Cases.{and_false}
 use Rattle.rules.specs.Bytes.{line}
 use Rattle.rules.specs.Filters.{prepared}
-use Rattle.rules.specs.Output.{Frame, opening_text, closing_text, body_text}
+use Rattle.rules.specs.Output.{Border, Frame, opening_text, closing_text, body_text}
 use Rattle.rules.specs.Parts.{depth_after, begins_page, is_outermost_line}
 use Rattle.rules.specs.Units.{TextUnit, first_unit}
 use Rattle.seams.specs.Seams.{joined, line_unit, passes}
@@ -25,14 +25,14 @@ lines_piece : (c : Type 0) (lines : List (List ℕ)) → AreTame lines → Piece
 lines_piece c [] h = nothing c
 lines_piece c (l ∷ lines) h = append c (line l) (lines_text lines) (tame_line c l h.0) (lines_piece c lines h.1)
 
-made_slot_piece : (c : Type 0) (border : Option ℤ) (pages : List (List ℕ)) (slot : MadeSlot) → AllBodies c pages → Piece c (made_slot_text border pages slot)
+made_slot_piece : (c : Type 0) (border : Option Border) (pages : List (List ℕ)) (slot : MadeSlot) → AllBodies c pages → Piece c (made_slot_text border pages slot)
 made_slot_piece c border pages Blank h = nothing c
 made_slot_piece c border pages (Placed p item paper) h =
     let body : List ℕ = body_text (prepared (slice_index_or pages p [])) in
     let frame : Frame = record { paper = paper; border = border } in
     subst (Piece c) (sym (append_assoc (opening_text frame item) body closing_text)) (append c (opening_text frame item) (body ++ closing_text) (opening c frame item) (closed c body (h p)))
 
-made_slots_piece : (c : Type 0) (border : Option ℤ) (pages : List (List ℕ)) (slots : List MadeSlot) → AllBodies c pages → Piece c (flat_map (made_slot_text border pages) slots)
+made_slots_piece : (c : Type 0) (border : Option Border) (pages : List (List ℕ)) (slots : List MadeSlot) → AllBodies c pages → Piece c (flat_map (made_slot_text border pages) slots)
 made_slots_piece c border pages [] h = nothing c
 made_slots_piece c border pages (s ∷ slots) h = append c (made_slot_text border pages s) (flat_map (made_slot_text border pages) slots) (made_slot_piece c border pages s h) (made_slots_piece c border pages slots h)
 
@@ -42,7 +42,7 @@ regroup a b d e f =
     ∙ ap (λ t. t ++ f) (sym (append_assoc a (b ++ d) e) ∙ ap (λ t. t ++ e) (sym (append_assoc a b d)))
 
 -- a made sheet is a page of its own
-made_sheet : (k : Type 0) (border : Option ℤ) (dress : Dress) (pages : List (List ℕ)) (s : ℕ) (it : MadeSheet)
+made_sheet : (k : Type 0) (border : Option Border) (dress : Dress) (pages : List (List ℕ)) (s : ℕ) (it : MadeSheet)
     → AreTame (dress.start s it.paper) → AreTame (dress.finish s it.paper) → AllBodies k pages
     → Sheet k (made_sheet_text border dress pages s it)
 made_sheet k border dress pages s it before behind h =
@@ -67,7 +67,7 @@ made_sheet k border dress pages s it before behind h =
       starts = λ r. refl;
     }
 
-pub each_made : (c : Type 0) (border : Option ℤ) (dress : Dress) (texts : List (List ℕ)) → IsTameDress dress → AllBodies c texts
+pub each_made : (c : Type 0) (border : Option Border) (dress : Dress) (texts : List (List ℕ)) → IsTameDress dress → AllBodies c texts
     → (xs : List (ℕ × MadeSheet)) → EachSheet c (map (λ (s, sheet). made_sheet_text border dress texts s sheet) xs)
 each_made c border dress texts tame h [] = tt
 each_made c border dress texts tame h (x ∷ xs) =

@@ -1,5 +1,5 @@
 -- Texts on a sheet.
-use Rattle.std.specs.Prelude.{ℤ, ◌-◌, slice_index_or, Option, Some, None, codes, decimal, flat_map, not, if◌then◌else◌}
+use Rattle.std.specs.Prelude.{ℤ, pos, ◌-ℤ◌, ◌-◌, slice_index_or, Option, Some, None, codes, decimal, flat_map, not, if◌then◌else◌}
 use Rattle.std.specs.List.{starts_with, list_any}
 use Rattle.std.specs.Str.{bytes_eq}
 use Rattle.std.proofs.Common.{nat_eq, ◌==◌, ◌||◌, ◌&&◌, Bool, true, false, append_assoc, ◌≡◌, ℕ, ◌+◌, ◌<◌, ◌≤◌, List, [], ◌∷◌, ◌++◌, length, refl, ap, arith, sym, ◌∙◌, subst}
@@ -13,7 +13,7 @@ use Rattle.rules.specs.Specification.{Item}
 use Rattle.rules.specs.Sheets.{Slot}
 use Rattle.rules.specs.Placement.{Matrix, matrix_of, matrix_text, spaced}
 use Rattle.rules.specs.Numbers.{points_text, scale_text}
-use Rattle.rules.specs.Output.{Frame, edge_text, border_text, opening_text, closing_text, body_text, slot_text, sheet_text}
+use Rattle.rules.specs.Output.{Border, Frame, point_text, path_text, edge_text, border_text, opening_text, closing_text, body_text, slot_text, sheet_text}
 use Rattle.std.proofs.lemmas.Bool.{eqb-true}
 use Rattle.dsc.proofs.Cases.{and_false, by_test}
 use Rattle.seams.specs.Seams.{passes, no_ends, line_unit, lf, ends}
@@ -69,20 +69,25 @@ tame_line k c h =
 
 -- The lines around a placed page.
 
-edge : (p : Paper) → Whole (edge_text p)
-edge p =
-    plain (codes "newpath 0 0 moveto ") refl then length_of p.width then plain (codes " 0 lineto ") refl then length_of p.width then plain (codes " ") refl then length_of p.height
-    then plain (codes " lineto 0 ") refl then length_of p.height then plain (codes " lineto closepath") refl
+point : (x y : ℤ) → Whole (point_text x y)
+point x y = length_of x then plain (codes " ") refl then length_of y
+
+path : (low right top : ℤ) → Whole (path_text low right top)
+path low right top =
+    plain (codes "newpath ") refl then point low low then plain (codes " moveto ") refl then point right low then plain (codes " lineto ") refl then point right top
+    then plain (codes " lineto ") refl then point low top then plain (codes " lineto closepath") refl
 
 edge_tame : (p : Paper) → IsTame (edge_text p ++ codes " clip newpath")
-edge_tame p = record { whole = (edge p then plain (codes " clip newpath") refl).is; no_data = refl; no_document = refl; no_end = refl; no_page = refl; no_trailer = refl }
+edge_tame p = record { whole = (path (pos 0) p.width p.height then plain (codes " clip newpath") refl).is; no_data = refl; no_document = refl; no_end = refl; no_page = refl; no_trailer = refl }
 
-border : (k : Type 0) (p : Paper) (b : Option ℤ) → Piece k (border_text p b)
+border : (k : Type 0) (p : Paper) (b : Option Border) → Piece k (border_text p b)
 border k p None = nothing k
-border k p (Some w) =
-    tame_line k (codes "gsave " ++ points_text w ++ codes " setlinewidth " ++ edge_text p ++ codes " stroke grestore")
+border k p (Some b) =
+    let right : ℤ = p.width -ℤ b.inset in
+    let top : ℤ = p.height -ℤ b.inset in
+    tame_line k (codes "gsave " ++ points_text b.width ++ codes " setlinewidth " ++ path_text b.inset right top ++ codes " stroke grestore")
     (record {
-      whole = (plain (codes "gsave ") refl then length_of w then plain (codes " setlinewidth ") refl then edge p then plain (codes " stroke grestore") refl).is;
+      whole = (plain (codes "gsave ") refl then length_of b.width then plain (codes " setlinewidth ") refl then path b.inset right top then plain (codes " stroke grestore") refl).is;
       no_data = refl;
       no_document = refl;
       no_end = refl;

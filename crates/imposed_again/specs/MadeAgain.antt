@@ -1,11 +1,12 @@
 -- The output of made sheets, read again as a document.
-use Rattle.std.specs.Prelude.{◌≡◌, ℕ, ◌<◌, ◌≤◌, true, false, List, [], ◌∷◌, length, map, codes, Option, Ok, ℤ}
+use Rattle.std.specs.Prelude.{◌≡◌, ℕ, ◌<◌, ◌≤◌, true, false, List, [], ◌∷◌, length, map, codes, Option, Ok}
 use Rattle.std.specs.List.{enumerate_from}
 use Rattle.rules.specs.Papers.{Paper}
 use Rattle.rules.specs.Units.{begins_block, has_key, is_comment}
 use Rattle.rules.specs.Parts.{NestedUnit, preamble, page_run, pages, trailer, bytes_of}
 use Rattle.rules.specs.Filters.{trailer_text}
 use Rattle.rules.specs.Run.{document_of, most_input_bytes, most_pages}
+use Rattle.rules.specs.Output.{Border}
 use Rattle.dsc.specs.Units.{units_of}
 use Rattle.seams.specs.Seams.{no_ends}
 use Rattle.made_sheets.specs.Made.{MadeSheet}
@@ -33,7 +34,7 @@ pub record IsTameDress (dress : Dress) : Type 0 where
   pub finish : (s : ℕ) (paper : Paper) → AreTame (dress.finish s paper)
 
 -- the texts of made sheets, in order, for a document with these pages
-abbrev pub made_texts : (border : Option ℤ) → Dress → List (List ℕ) → List MadeSheet → List (List ℕ)
+abbrev pub made_texts : (border : Option Border) → Dress → List (List ℕ) → List MadeSheet → List (List ℕ)
 made_texts border dress texts all =
     map (λ (s, sheet). made_sheet_text border dress texts s sheet) (enumerate_from 0 all)
 
@@ -41,7 +42,7 @@ made_texts border dress texts all =
 -- written. There are as many pages as sheets exactly if each sheet but the last leaves no embedded document open;
 -- then the pages are the texts of the sheets. If the document's last page leaves none open, nor does the last page
 -- of the output.
-pub record IsMadeAgain (border : Option ℤ) (dress : Dress) (all : List MadeSheet) (us again : List NestedUnit) : Type 0 where
+pub record IsMadeAgain (border : Option Border) (dress : Dress) (all : List MadeSheet) (us again : List NestedUnit) : Type 0 where
   pub before : bytes_of (preamble again) ≡ dressed_preamble (length all) dress.header us
   pub sheets_are : AreShut (made_texts border dress (pages us) all) → pages again ≡ made_texts border dress (pages us) all
   pub only_if : length (pages again) ≡ length all → AreShut (made_texts border dress (pages us) all)
@@ -53,7 +54,7 @@ pub record IsMadeAgain (border : Option ℤ) (dress : Dress) (all : List MadeShe
 -- document's last page leaves no embedded document open, its pages are the sheets
 abbrev pub MadeIsDocument : Type 0
 MadeIsDocument =
-    (border : Option ℤ) (dress : Dress) (all : List MadeSheet) (text : List ℕ) (us : List NestedUnit)
+    (border : Option Border) (dress : Dress) (all : List MadeSheet) (text : List ℕ) (us : List NestedUnit)
     → IsTameDress dress → document_of text ≡ Ok us → 0 < length all → length all ≤ most_pages
     → length (made_output border dress all us) ≤ most_input_bytes
     → (document_of (made_output border dress all us) ≡ Ok (units_of (made_output border dress all us)))

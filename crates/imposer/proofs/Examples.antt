@@ -40,6 +40,6 @@ seventeen_imposers : AreWorkers (record { preparers = 1; imposers = 17 }) → �
 seventeen_imposers are = omega (arith, are.few_imposers)
 
 -- paper and border are those of the options
-framed : frame_of (record { paper = points 595 842; border = Some (pos 100_000); sides = None; workers = record { preparers = 1; imposers = 1 } })
-    ≡ record { paper = points 595 842; border = Some (pos 100_000) }
-framed = refl
+frame_is : frame_of (record { paper = points 595 842; border = Some (pos 100_000); sides = None; workers = record { preparers = 1; imposers = 1 } })
+    ≡ record { paper = points 595 842; border = Some (record { width = pos 100_000; inset = pos 0 }) }
+frame_is = refl

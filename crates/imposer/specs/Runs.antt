@@ -7,7 +7,7 @@ use Rattle.rules.specs.Admissible.{Takes, Refuses, most_slots, most_spec_bytes}
 use Rattle.rules.specs.Sheets.{layout}
 use Rattle.rules.specs.Signatures.{sheets_in}
 use Rattle.rules.specs.Parts.{NestedUnit, pages}
-use Rattle.rules.specs.Output.{Frame, output}
+use Rattle.rules.specs.Output.{Frame, framed, output}
 use Rattle.rules.specs.Run.{document_of, plan_in}
 use Rattle.dsc.specs.Faults as dsc
 use Rattle.imposer.specs.Workers.{AreOptions}
@@ -24,7 +24,7 @@ use Rattle.imposer.specs.declared.runs.Given.{Given}
 
 -- how pages are placed
 abbrev pub frame_of : Options → Frame
-frame_of options = record { paper = options.paper; border = options.border }
+frame_of options = framed options.paper options.border
 
 -- what a run was asked
 pub record Request : Type 0 where

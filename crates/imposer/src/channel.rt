@@ -10,20 +10,20 @@ use sheet_writer::FinishedSheets;
 use std::marker::{Brand, PhantomData};
 
 /// Ghost parameter, chosen in the proof of each call; no code: the text that each sheet of the run's job has.
-pub(crate) trait Texts {
+pub(crate) trait SheetTexts {
     ghost text: { ℕ → List ℕ };
 }
 
-impl Texts for Brand {
+impl SheetTexts for Brand {
     ghost text = { λ s. [] };
 }
 
 /// The channel's rule: each sheet of a message has the text that is its own.
-pub(crate) struct SheetRule<T: Texts> {
+pub(crate) struct SheetRule<T: SheetTexts> {
     of: PhantomData<T>,
 }
 
-impl<'r, T: Texts> Protocol<FinishedSheets<'r>, ()> for SheetRule<T> {
+impl<'r, T: SheetTexts> Protocol<FinishedSheets<'r>, ()> for SheetRule<T> {
     ghost use Rattle.sheet_writer.specs.Writing.{HaveTexts};
 
     ghost holds = { λ items views. All (λ m. HaveTexts T.text m) items };
@@ -31,17 +31,17 @@ impl<'r, T: Texts> Protocol<FinishedSheets<'r>, ()> for SheetRule<T> {
     ghost first = { tt };
 }
 
-impl<'r, T: Texts> Outcome<FinishedSheets<'r>, ()> for SheetRule<T> {
+impl<'r, T: SheetTexts> Outcome<FinishedSheets<'r>, ()> for SheetRule<T> {
     ghost use Rattle.sheet_writer.specs.Writing.{HaveTexts};
 
     ghost then = { λ v m w. HaveTexts T.text m };
 }
 
-impl<'r, T: Texts> Lesson<FinishedSheets<'r>, ()> for SheetRule<T> {
+impl<'r, T: SheetTexts> Lesson<FinishedSheets<'r>, ()> for SheetRule<T> {
     ghost fact = { λ v items. ⊤ };
 }
 
-impl<T: Texts> Split<()> for SheetRule<T> {
+impl<T: SheetTexts> Split<()> for SheetRule<T> {
     ghost left = { λ v. v };
 
     ghost right = { λ v. v };
@@ -49,7 +49,7 @@ impl<T: Texts> Split<()> for SheetRule<T> {
 
 /// The job of a run, whose sheets have the texts that the rule speaks of.
 #[derive(Drop)]
-pub(crate) struct RuledJob<'s, 'r, 'd, T: Texts> {
+pub(crate) struct RuledJob<'s, 'r, 'd, T: SheetTexts> {
     pub(crate) job: &'s Job<'r, 'd>,
     pub(crate) of: PhantomData<T>,
     ghost texts: { (s : ℕ) → T.text s ≡ text_of job.now s },
@@ -64,7 +64,7 @@ pub(crate) type SheetReceiver<'r, T> = RuledReceiver<FinishedSheets<'r>, (), She
 
 /// The two ends of the channel, and places for sheets that were written.
 #[derive(Drop)]
-pub(crate) struct Channel<'r, T: Texts> {
+pub(crate) struct Channel<'r, T: SheetTexts> {
     pub(crate) sender: SheetSender<'r, T>,
     pub(crate) receiver: SheetReceiver<'r, T>,
     /// Sheets that were written, whose memory is used again.

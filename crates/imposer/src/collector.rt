@@ -6,7 +6,7 @@ ghost use Rattle.crossbeam_channel.specs.Ends.{receives_on};
 ghost use Rattle.made_sheets.specs.MadeOutput.{dressed_preamble};
 ghost use Rattle.sheet_writer.specs.Writing.{Stands, GoesOn, AreEarly};
 
-use crate::channel::{SheetRule, Texts, Ticket};
+use crate::channel::{SheetRule, SheetTexts, Ticket};
 use crate::gate::{Gate, Look};
 use crate::shared::RunInput;
 use crate::spent::Written;
@@ -27,7 +27,7 @@ pub(crate) struct CollectorState<'a, 'r, S> {
     pub(crate) progress: Progress,
 }
 
-impl<'s, 'r, 't, 'd, 'a, T: Texts, G: Gate, S: Sink> Collector<CollectorState<'a, 'r, S>>
+impl<'s, 'r, 't, 'd, 'a, T: SheetTexts, G: Gate, S: Sink> Collector<CollectorState<'a, 'r, S>>
     for RunInput<'s, 'r, 't, 'd, T, G> {
     ghost reference = { λ input state. state.sink.ghost_name };
 
@@ -50,7 +50,7 @@ impl<'s, 'r, 't, 'd, 'a, T: Texts, G: Gate, S: Sink> Collector<CollectorState<'a
 }
 
 /// Takes finished sheets until all imposers have ended, or nothing more is to be written.
-fn take_all<'r, R: Wait, T: Texts, G: Gate, S: Sink>(
+fn take_all<'r, R: Wait, T: SheetTexts, G: Gate, S: Sink>(
     rt: &R,
     input: &RunInput<'_, 'r, '_, '_, T, G>,
     state: &mut CollectorState<'_, 'r, S>,
@@ -74,7 +74,7 @@ fn take_all<'r, R: Wait, T: Texts, G: Gate, S: Sink>(
 
 /// Takes sheets if some were finished, and sleeps a little if none was. False if nothing is to come, or nothing more
 /// is to be written.
-fn take_turn<'r, R: Wait, T: Texts, G: Gate, S: Sink>(
+fn take_turn<'r, R: Wait, T: SheetTexts, G: Gate, S: Sink>(
     rt: &R,
     input: &RunInput<'_, 'r, '_, '_, T, G>,
     idling: &mut Idling,
@@ -108,7 +108,7 @@ fn take_turn<'r, R: Wait, T: Texts, G: Gate, S: Sink>(
 }
 
 /// Takes a batch of finished sheets, and writes those whose turn it is now. False if none was there.
-fn take_one<'r, R: Wait, T: Texts, G: Gate, S: Sink>(
+fn take_one<'r, R: Wait, T: SheetTexts, G: Gate, S: Sink>(
     rt: &R,
     input: &RunInput<'_, 'r, '_, '_, T, G>,
     state: &mut CollectorState<'_, 'r, S>,

@@ -25,7 +25,7 @@ ghost use Rattle.imposer.specs.Rooms.{HasRoomForAll};
 ghost use Rattle.imposer.specs.Gathering.{IsFreshSeat, IsFreshPass, ReportsOf, WrotePartOf, AreWhole, Leaves, TokensComeBack};
 ghost use Rattle.imposer.specs.Gathering.{Answers, Concludes, HandsBack, GivesUp};
 
-use crate::channel::{Channel, RuledJob, Texts, Ticket};
+use crate::channel::{Channel, RuledJob, SheetTexts, Ticket};
 use crate::collector::CollectorState;
 use crate::gate::Gate;
 use crate::options::Workers;
@@ -39,7 +39,7 @@ use crate::window::{Window, bytes_of_pages};
 use gather_table::{GatherTable, Seat};
 use handover::{Overflow, Pass, Ready, Shelf};
 use sheet_text::Job;
-use sheet_writer::{Halt, Progress, Rest, Sink, write_rest};
+use sheet_writer::{Halt, Progress, RunEnd, Sink, write_rest};
 use std::alloc::Global;
 use std::marker::{Brand, PhantomData};
 use std::sync::Wait;
@@ -189,7 +189,14 @@ pub(crate) fn gather_run<'d, R: Threads + Wait + Sync, G: Gate + Sync, S: Sink>(
 }
 
 /// `gather`, with the texts of the channel's rule chosen.
-fn gather_as<'r, 'd, T: Texts + Send + Sync, R: Threads + Wait + Sync, G: Gate + Sync, S: Sink>(
+fn gather_as<
+    'r,
+    'd,
+    T: SheetTexts + Send + Sync,
+    R: Threads + Wait + Sync,
+    G: Gate + Sync,
+    S: Sink,
+>(
     rt: &R,
     shared: &Shared<'_, 'r, '_, 'd, G>,
     tokens: Tokens,
@@ -253,7 +260,14 @@ fn supplies_of<'r, 'd>(
 /// `gather`, once the sheets without pages are on the queue: the workers work with these supplies, the collector writes
 /// at this desk what they finish, and when all have ended the run is answered. The collector's state is taken apart, so that
 /// what became of the sink is known.
-fn gather_at<'r, 'd, T: Texts + Send + Sync, R: Threads + Wait + Sync, G: Gate + Sync, S: Sink>(
+fn gather_at<
+    'r,
+    'd,
+    T: SheetTexts + Send + Sync,
+    R: Threads + Wait + Sync,
+    G: Gate + Sync,
+    S: Sink,
+>(
     rt: &R,
     shared: &Shared<'_, 'r, '_, 'd, G>,
     channel: &Channel<'r, T>,
@@ -422,7 +436,7 @@ fn conclude<'d, S: Sink>(
 }
 
 /// The numbers of a job whose whole output was written.
-fn report_on(job: &Job<'_, '_>, rest: Rest) -> Report
+fn report_on(job: &Job<'_, '_>, rest: RunEnd) -> Report
     requires swept { rest.swept ≤ length job.now.plan.sheets }
     ensures numbers { rest.progress.written ≡ length (output_of job.now) → ReportsOf job.now result }
     ensures swept { result.swept ≡ rest.swept }

@@ -4,7 +4,7 @@ ghost use Rattle.crossbeam_channel.specs.Claims.{IsSeatAt};
 ghost use Rattle.crossbeam_channel.specs.Ends.{sends_on, receives_on};
 ghost use Rattle.imposer.specs.Desks.{IsDeskOf};
 
-use crate::channel::{Channel, SheetRule, Texts, Ticket};
+use crate::channel::{Channel, SheetRule, SheetTexts, Ticket};
 use crossbeam_channel::bounded_with;
 use crossbeam_queue::ArrayQueue;
 use sheet_text::Job;
@@ -23,13 +23,13 @@ pub(crate) struct Desk<'r> {
 
 /// The collector's desk, and the channel of finished sheets with a ticket for the imposers.
 #[derive(Drop)]
-pub(crate) struct Setup<'r, T: Texts> {
+pub(crate) struct Setup<'r, T: SheetTexts> {
     pub(crate) desk: Desk<'r>,
     pub(crate) channel: Channel<'r, T>,
     pub(crate) sending: Ticket<'r>,
 }
 
-impl<'r, T: Texts> Setup<'r, T> {
+impl<'r, T: SheetTexts> Setup<'r, T> {
     /// Places, channel and the queue of written sheets have room for all sheets of a window of this many, so that no
     /// imposer waits.
     pub(crate) fn new(alloc: Global, job: &Job<'_, '_>, window: u32) -> Result<Self, AllocError>
@@ -57,7 +57,7 @@ impl<'r, T: Texts> Setup<'r, T> {
 }
 
 /// A channel for so many messages, with a ticket for sending and one for receiving.
-fn channel_of<'r, T: Texts>(
+fn channel_of<'r, T: SheetTexts>(
     alloc: Global,
     room: usize,
 ) -> Result<(Channel<'r, T>, Ticket<'r>, Ticket<'r>), AllocError>

@@ -3,7 +3,7 @@ ghost use Rattle.std.specs.Prelude.{◌≡◌, IsTrue};
 ghost use Rattle.rules.specs.Sheets.{layout};
 ghost use Rattle.handover.specs.Shelves.{IsShelfOf};
 
-use crate::channel::{Channel, RuledJob, Texts};
+use crate::channel::{Channel, RuledJob, SheetTexts};
 use crate::turns::Turns;
 use crate::window::Window;
 use gather_table::GatherTable;
@@ -56,7 +56,7 @@ pub(crate) struct Shared<'s, 'r, 't, 'd, G> {
 
 /// What the threads of a run need, the caller's among them: what all share, and the channel of finished sheets.
 #[derive(Drop)]
-pub(crate) struct RunInput<'s, 'r, 't, 'd, T: Texts, G> {
+pub(crate) struct RunInput<'s, 'r, 't, 'd, T: SheetTexts, G> {
     pub(crate) shared: &'s Shared<'s, 'r, 't, 'd, G>,
     pub(crate) channel: &'s Channel<'r, T>,
     /// The same job, with the texts of the channel's rule.

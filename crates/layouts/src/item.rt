@@ -21,7 +21,7 @@ use pagespec::{Item, Measure, Turn};
 
 /// Pages of one paper and one scale, in 10^-9, in the cells of a grid.
 #[derive(Drop)]
-pub struct Layout {
+pub struct GridLayout {
     pub page: Paper,
     pub room: Room,
     pub grid: Grid,
@@ -109,7 +109,7 @@ fn place_of(order: &Order, grid: Grid, k: u32) -> (u32, u32)
     }
 }
 
-impl Layout {
+impl GridLayout {
     /// How far along its row the page in this column begins.
     fn along_row(&self, column: u32) -> u128
         ensures { result ≡ kept_of self.now.room self.now.room.edge + column * step_across self.now.room self.now.grid

@@ -17,7 +17,7 @@ use super::arranging::{
 use super::best::grid_of;
 use super::error::ArrangementError;
 use super::grid::Grid;
-use super::item::{Layout, number, slack, whole_page};
+use super::item::{GridLayout, number, slack, whole_page};
 use super::room::Room;
 use super::scale::{cells, counted, scale_in};
 use lengths::{Number, Paper};
@@ -161,7 +161,7 @@ impl Setting {
             Ok(scale) => scale,
             Err(error) => return Err(error),
         };
-        let layout = Layout {
+        let layout = GridLayout {
             page: *page_paper,
             room: self.room,
             grid: self.grid,
@@ -189,7 +189,7 @@ impl Setting {
             Ok(scale) => scale,
             Err(error) => return Err(error),
         };
-        let layout = Layout {
+        let layout = GridLayout {
             page: *page_paper,
             room: self.room,
             grid: self.grid,

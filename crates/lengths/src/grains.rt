@@ -22,6 +22,9 @@ impl Model for Grains {
 }
 
 impl Grains {
+    /// No length.
+    pub const ZERO: Grains = Grains { count: 0 };
+
     /// The length of this many grains, if that is in range.
     pub fn new(count: i128) -> Option<Grains>
         ensures fits { IsSome result ↔ FitsGrains count }

@@ -18,7 +18,7 @@ pub use length::length_named;
 pub use named::{a4, paper_by_name};
 pub use number::Number;
 pub use paper::Paper;
-pub use print::{print_number, print_points, print_scale};
+pub use print::{print_grains, print_number, print_points, print_scale};
 pub use read::{NumberError, read_digits, read_number};
 pub use std::alloc::AllocError as NoMemory;
 pub use unit::{Unit, unit_by_name};

@@ -19,7 +19,19 @@ pub fn print_points(grains: Grains, out: &mut Vec<u8>) -> Result<(), AllocError>
     ensures full { OnErr result (vec_capacity out.old < vec_len out.old + length (points_text grains)) }
     ensures capacity { vec_capacity out.old ≤ vec_capacity out.new }
 {
-    append_decimal(rounded(grains.get(), 1_270_000) as i64, 5, out)
+    print_grains(grains.get(), out)
+}
+
+/// Appends so many grains in points, rounded likewise: a length, or what is between two. If memory is refused, nothing is
+/// appended.
+pub fn print_grains(grains: i128, out: &mut Vec<u8>) -> Result<(), AllocError>
+    requires { nat_abs grains ≤ 2 * 10 ^ 23 }
+    ensures appended { OnOk result (out.new.items ≡ out.old.items ++ points_text grains) }
+    ensures unchanged { OnErr result (out.new.items ≡ out.old.items) }
+    ensures full { OnErr result (vec_capacity out.old < vec_len out.old + length (points_text grains)) }
+    ensures capacity { vec_capacity out.old ≤ vec_capacity out.new }
+{
+    append_decimal(rounded(grains, 1_270_000) as i64, 5, out)
 }
 
 /// Appends a number in full. If memory is refused, nothing is appended.

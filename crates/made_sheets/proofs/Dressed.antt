@@ -1,9 +1,10 @@
 -- Made sheets that carry the lines of their dress are written like sheets with their dress.
 use Rattle.std.proofs.Common.{suc, ◌≡◌, ℕ, ◌+◌, List, [], ◌∷◌, ◌++◌, length, map, refl, ap, ◌∙◌}
-use Rattle.std.specs.Prelude.{flat_map, Option, ℤ}
+use Rattle.std.specs.Prelude.{flat_map, Option}
 use Rattle.std.specs.List.{enumerate_from}
 use Rattle.rules.specs.Parts.{pages}
 use Rattle.rules.specs.Filters.{trailer_text}
+use Rattle.rules.specs.Output.{Border}
 use Rattle.made_sheets.specs.Dress.{Dress}
 use Rattle.made_sheets.specs.Dressed.{DressedIsMade, DressedSheet, dressed_in, dressed_sheet_text}
 use Rattle.made_sheets.specs.Made.{MadeSheet}
@@ -16,7 +17,7 @@ as_many : (dress : Dress) (k : ℕ) (all : List MadeSheet) → length (dressed_f
 as_many dress k [] = refl
 as_many dress k (sheet ∷ all) = ap suc (as_many dress (k + 1) all)
 
-texts_same : (border : Option ℤ) (dress : Dress) (texts : List (List ℕ)) (k : ℕ) (all : List MadeSheet)
+texts_same : (border : Option Border) (dress : Dress) (texts : List (List ℕ)) (k : ℕ) (all : List MadeSheet)
     → flat_map (λ (s, sheet). dressed_sheet_text border texts s sheet) (enumerate_from k (dressed_from dress k all))
     ≡ flat_map (λ (s, sheet). made_sheet_text border dress texts s sheet) (enumerate_from k all)
 texts_same border dress texts k [] = refl

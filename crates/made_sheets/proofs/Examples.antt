@@ -6,12 +6,13 @@ use Rattle.rules.specs.Papers.{Pt, Paper, points}
 use Rattle.rules.specs.Specification.{Item, Upright, Left, Turn}
 use Rattle.rules.specs.Units.{◌>>=◌}
 use Rattle.rules.specs.Run.{document_of, DocumentFault}
+use Rattle.rules.specs.Output.{Border, border_within}
 use Rattle.made_sheets.specs.Made.{MadeSlot, Blank, Placed, MadeSheet}
 use Rattle.made_sheets.specs.Dress.{Dress, undressed}
 use Rattle.made_sheets.specs.MadeOutput.{made_output}
 use Rattle.made_sheets.specs.MadePlans.{MadeNoSuchPage, MadeSlotsOutOfRange, made_layout, made_plan_of}
 
-abbrev made_in : Option ℤ → Dress → List MadeSheet → List ℕ → Result (List ℕ) DocumentFault
+abbrev made_in : Option Border → Dress → List MadeSheet → List ℕ → Result (List ℕ) DocumentFault
 made_in border dress all text = document_of text >>= λ us. Ok (made_output border dress all us)
 
 -- moved by this many points to the right
@@ -26,7 +27,8 @@ two_papers : made_in None undressed (on (points 842 595) (Placed 0 (stands Uprig
 unfolding digits
 two_papers = refl
 
--- a dress: the sheets' paper in the header, the paper's name at the start of each sheet, and a mark at its end
+-- a dress: the sheets' paper in the header, the paper's name at the start of each sheet, and a mark at its end; and a border
+-- ten points within the page's edges
 abbrev marked : Dress
 marked = record {
   header = codes "%%BoundingBox: 0 0 842 595" ∷ codes "%%DocumentMedia: Plain 842 595 0 () ()" ∷ [];
@@ -34,7 +36,7 @@ marked = record {
   finish = λ s paper. (codes "newpath 421 0 moveto 421 " ++ decimal (s + 10) ++ codes " lineto stroke") ∷ [];
 }
 
-two_marked_sheets : made_in (Some (pos 127_000_000_000)) marked (on (points 842 595) (Placed 1 (stands Upright (pos 0)) (points 420 595) ∷ []) ∷ on (points 842 595) (Blank ∷ []) ∷ []) (codes "%!PS\n%%BoundingBox: 0 0 420 595\n%%EndComments\n%%Page: 1 1\na\n%%Page: 2 2\nb\n%%EOF\n") ≡ Ok (codes "%!PS\n%%Pages: 2\n%%BoundingBox: 0 0 842 595\n%%DocumentMedia: Plain 842 595 0 () ()\n%%EndComments\n%%Page: 1 1\n%%PageMedia: Plain\nuserdict /ImposeSave save put\nuserdict /showpage {} put\n[1 0 0 1 0 0] concat\nnewpath 0 0 moveto 420 0 lineto 420 595 lineto 0 595 lineto closepath clip newpath\ngsave 1 setlinewidth newpath 0 0 moveto 420 0 lineto 420 595 lineto 0 595 lineto closepath stroke grestore\nb\nImposeSave restore\nnewpath 421 0 moveto 421 10 lineto stroke\nshowpage\n%%Page: 2 2\n%%PageMedia: Plain\nnewpath 421 0 moveto 421 11 lineto stroke\nshowpage\n%%EOF\n")
+two_marked_sheets : made_in (border_within (pos 1_270_000_000_000) (Some (pos 127_000_000_000))) marked (on (points 842 595) (Placed 1 (stands Upright (pos 0)) (points 420 595) ∷ []) ∷ on (points 842 595) (Blank ∷ []) ∷ []) (codes "%!PS\n%%BoundingBox: 0 0 420 595\n%%EndComments\n%%Page: 1 1\na\n%%Page: 2 2\nb\n%%EOF\n") ≡ Ok (codes "%!PS\n%%Pages: 2\n%%BoundingBox: 0 0 842 595\n%%DocumentMedia: Plain 842 595 0 () ()\n%%EndComments\n%%Page: 1 1\n%%PageMedia: Plain\nuserdict /ImposeSave save put\nuserdict /showpage {} put\n[1 0 0 1 0 0] concat\nnewpath 0 0 moveto 420 0 lineto 420 595 lineto 0 595 lineto closepath clip newpath\ngsave 1 setlinewidth newpath 10 10 moveto 410 10 lineto 410 585 lineto 10 585 lineto closepath stroke grestore\nb\nImposeSave restore\nnewpath 421 0 moveto 421 10 lineto stroke\nshowpage\n%%Page: 2 2\n%%PageMedia: Plain\nnewpath 421 0 moveto 421 11 lineto stroke\nshowpage\n%%EOF\n")
 unfolding digits
 two_marked_sheets = refl
 

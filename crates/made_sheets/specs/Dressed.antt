@@ -1,9 +1,10 @@
 -- Made sheets together with the lines of their dress, as lists alone: this is what a program keeps.
-use Rattle.std.specs.Prelude.{◌≡◌, ℕ, ◌+◌, ◌++◌, List, length, map, flat_map, codes, decimal, Option, ℤ}
+use Rattle.std.specs.Prelude.{◌≡◌, ℕ, ◌+◌, ◌++◌, List, length, map, flat_map, codes, decimal, Option}
 use Rattle.std.specs.List.{enumerate_from}
 use Rattle.rules.specs.Bytes.{line}
 use Rattle.rules.specs.Parts.{NestedUnit, pages}
 use Rattle.rules.specs.Filters.{trailer_text}
+use Rattle.rules.specs.Output.{Border}
 use Rattle.made_sheets.specs.Made.{MadeSheet, MadeSlot}
 use Rattle.made_sheets.specs.Dress.{Dress, lines_text}
 use Rattle.made_sheets.specs.MadeOutput.{dressed_preamble, made_output, made_slot_text}
@@ -20,7 +21,7 @@ dressed_in dress s sheet = record { start = dress.start s sheet.paper; slots = s
 abbrev pub dressed_sheets : Dress → List MadeSheet → List DressedSheet
 dressed_sheets dress all = map (λ (s, sheet). dressed_in dress s sheet) (enumerate_from 0 all)
 
-abbrev pub dressed_sheet_text : (border : Option ℤ) → List (List ℕ) → (s : ℕ) → DressedSheet → List ℕ
+abbrev pub dressed_sheet_text : (border : Option Border) → List (List ℕ) → (s : ℕ) → DressedSheet → List ℕ
 dressed_sheet_text border pages s sheet =
     line (codes "%%Page: " ++ decimal (s + 1) ++ codes " " ++ decimal (s + 1))
     ++ lines_text sheet.start
@@ -29,7 +30,7 @@ dressed_sheet_text border pages s sheet =
     ++ line (codes "showpage")
 
 -- the output of sheets with their lines, and of lines in the header
-abbrev pub dressed_output : (border : Option ℤ) → (header : List (List ℕ)) → List DressedSheet → List NestedUnit → List ℕ
+abbrev pub dressed_output : (border : Option Border) → (header : List (List ℕ)) → List DressedSheet → List NestedUnit → List ℕ
 dressed_output border header all us =
     dressed_preamble (length all) header us
     ++ flat_map (λ (s, sheet). dressed_sheet_text border (pages us) s sheet) (enumerate_from 0 all)
@@ -37,5 +38,5 @@ dressed_output border header all us =
 
 -- a law: it is the output of the made sheets with their dress
 abbrev pub DressedIsMade : Type 0
-DressedIsMade = (border : Option ℤ) (dress : Dress) (all : List MadeSheet) (us : List NestedUnit)
+DressedIsMade = (border : Option Border) (dress : Dress) (all : List MadeSheet) (us : List NestedUnit)
     → dressed_output border dress.header (dressed_sheets dress all) us ≡ made_output border dress all us

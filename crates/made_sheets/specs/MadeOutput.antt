@@ -1,6 +1,6 @@
 -- What is written of made sheets. By a law, with no dress and one paper for all, it is the output of a
 -- specification.
-use Rattle.std.specs.Prelude.{◌≡◌, ℕ, ◌+◌, ◌++◌, List, [], ◌∷◌, length, flat_map, codes, decimal, Option, ℤ}
+use Rattle.std.specs.Prelude.{◌≡◌, ℕ, ◌+◌, ◌++◌, List, [], ◌∷◌, length, flat_map, codes, decimal, Option}
 use Rattle.std.specs.Prelude.{slice_index_or}
 use Rattle.std.specs.List.{enumerate_from}
 use Rattle.rules.specs.Bytes.{line}
@@ -8,12 +8,12 @@ use Rattle.rules.specs.Specification.{Spec}
 use Rattle.rules.specs.Signatures.{sheets_in}
 use Rattle.rules.specs.Parts.{NestedUnit, pages, preamble, bytes_of}
 use Rattle.rules.specs.Filters.{kept, drops_in_header, ended, prepared, trailer_text}
-use Rattle.rules.specs.Output.{Frame, opening_text, closing_text, body_text, output}
+use Rattle.rules.specs.Output.{Border, Frame, opening_text, closing_text, body_text, output}
 use Rattle.made_sheets.specs.Made.{MadeSlot, Blank, Placed, MadeSheet, made_of}
 use Rattle.made_sheets.specs.Dress.{Dress, undressed, lines_text}
 
 -- a slot, of a document with these pages; for a blank nothing is written
-abbrev pub made_slot_text : (border : Option ℤ) → List (List ℕ) → MadeSlot → List ℕ
+abbrev pub made_slot_text : (border : Option Border) → List (List ℕ) → MadeSlot → List ℕ
 made_slot_text border pages Blank = []
 made_slot_text border pages (Placed p item paper) =
     opening_text (record { paper = paper; border = border }) item
@@ -21,7 +21,7 @@ made_slot_text border pages (Placed p item paper) =
 
 -- sheet s: its page line, the dress's lines at its start, its placed pages, the dress's lines at its end, its showpage
 -- (RULES, 15)
-abbrev pub made_sheet_text : (border : Option ℤ) → Dress → List (List ℕ) → (s : ℕ) → MadeSheet → List ℕ
+abbrev pub made_sheet_text : (border : Option Border) → Dress → List (List ℕ) → (s : ℕ) → MadeSheet → List ℕ
 made_sheet_text border dress pages s sheet =
     line (codes "%%Page: " ++ decimal (s + 1) ++ codes " " ++ decimal (s + 1))
     ++ lines_text (dress.start s sheet.paper)
@@ -39,7 +39,7 @@ abbrev pub dressed_preamble : (sheets : ℕ) → List (List ℕ) → List Nested
 dressed_preamble sheets lines us = ended (with_lines sheets lines (kept drops_in_header (preamble us)))
 
 -- the preamble with the number of sheets, the sheets in order, the trailer
-abbrev pub made_output : (border : Option ℤ) → Dress → List MadeSheet → List NestedUnit → List ℕ
+abbrev pub made_output : (border : Option Border) → Dress → List MadeSheet → List NestedUnit → List ℕ
 made_output border dress all us =
     dressed_preamble (length all) dress.header us
     ++ flat_map (λ (s, sheet). made_sheet_text border dress (pages us) s sheet) (enumerate_from 0 all)

@@ -1,9 +1,10 @@
 -- What a machine with further operators prints of what is made of a guarded document.
-use Rattle.std.specs.Prelude.{Option, Ok, slice_index_or, ℤ}
+use Rattle.std.specs.Prelude.{Option, Ok, slice_index_or}
 use Rattle.std.proofs.Common.{◌≡◌, ℕ, ap, sym, subst, true, false, List, [], length}
 use Rattle.rules.specs.Parts.{NestedUnit, pages, preamble, bytes_of}
 use Rattle.rules.specs.Signatures.{sheets_in}
 use Rattle.rules.specs.Run.{document_of}
+use Rattle.rules.specs.Output.{Border}
 use Rattle.made_sheets.specs.Made.{MadeSheet, made_of}
 use Rattle.made_sheets.specs.Dress.{Dress, undressed}
 use Rattle.dsc.specs.Units.{units_of}
@@ -33,7 +34,7 @@ use Rattle.open_guarded_pictures.specs.Imposed.{OpenMadeDocumentIsShown}
 use Rattle.open_guarded_pictures.proofs.Sheets.{body_places}
 
 -- an accepted document in whose preamble the guard has run
-made_is_shown : (x z : Further) (w : Work) (border : Option ℤ) (dress : Dress) (all : List MadeSheet) (text : List ℕ) (us : List NestedUnit) (picture : ℕ → List Painting) (s : State)
+made_is_shown : (x z : Further) (w : Work) (border : Option Border) (dress : Dress) (all : List MadeSheet) (text : List ℕ) (us : List NestedUnit) (picture : ℕ → List Painting) (s : State)
     → IsPlacelessThere x → RunsPreambles x z → IsQuiet dress → document_of text ≡ Ok us → preamble_comments_apart us ≡ true → OpenPreambleRuns z w IsGuarded (bytes_of (preamble us)) s
     → OnSheets (λ own p. OpenGuardedPagePaints x (frame_of border own) us s p (picture p)) all → OpenMadeIsPrinted z w border dress all us picture s
 made_is_shown x z w border dress all text us picture s blind runs q d apart (complete, run, left, painted, printed, guarded) h =
@@ -48,7 +49,7 @@ open_guarded_sheets_show_the_pages x z w frame sides spec text us picture s blin
     (made_is_shown x z w frame.border undressed (all_sheets frame sides spec us) text us picture s blind runs undressed_is_quiet d apart run h)
 
 -- the pages are those of the document without the guard
-again : (x : Further) (border : Option ℤ) (us units : List NestedUnit) (picture : ℕ → List Painting) (s : State) (all : List MadeSheet) → pages units ≡ pages us
+again : (x : Further) (border : Option Border) (us units : List NestedUnit) (picture : ℕ → List Painting) (s : State) (all : List MadeSheet) → pages units ≡ pages us
     → OnSheets (λ own p. OpenGuardedPagePaints x (frame_of border own) us s p (picture p)) all → OnSheets (λ own p. OpenGuardedPagePaints x (frame_of border own) units s p (picture p)) all
 again x border us units picture s all same h =
     subst (λ ps. OnSheets (λ own p. IsComplete (slice_index_or ps p []) × (page_comments_apart (slice_index_or ps p []) ≡ true)

@@ -1,8 +1,9 @@
 -- What impose makes of a guarded document on sheets that are reported as one paper, in a machine with further operators.
-use Rattle.std.specs.Prelude.{◌≡◌, ℕ, ◌≤◌, List, true, length, Option, Ok, ℤ}
+use Rattle.std.specs.Prelude.{◌≡◌, ℕ, ◌≤◌, List, true, length, Option, Ok}
 use Rattle.rules.specs.Papers.{Paper}
 use Rattle.rules.specs.Parts.{NestedUnit, preamble, bytes_of}
 use Rattle.rules.specs.Run.{document_of, most_input_bytes}
+use Rattle.rules.specs.Output.{Border}
 use Rattle.made_sheets.specs.Made.{MadeSheet}
 use Rattle.dsc.specs.Units.{units_of}
 use Rattle.guard.specs.Guard.{guarded}
@@ -23,7 +24,7 @@ use Rattle.open_guarded_pictures.specs.Pages.{OpenGuardedPagePaints}
 -- with any further operators that are placeless there, and any for the preamble: a law
 abbrev pub OpenMadeDocumentIsShown : Type 0
 OpenMadeDocumentIsShown =
-    (x z : Further) (w : Work) (sheet : Option Paper) (border : Option ℤ) (all : List MadeSheet) (text : List ℕ)
+    (x z : Further) (w : Work) (sheet : Option Paper) (border : Option Border) (all : List MadeSheet) (text : List ℕ)
     (us : List NestedUnit) (picture : ℕ → List Painting) (s : State)
     → IsPlacelessThere x → RunsPreambles x z → AreToldAsOne all → document_of text ≡ Ok us → length (guarded sheet text) ≤ most_input_bytes
     → preamble_comments_apart (units_of (guarded sheet text)) ≡ true

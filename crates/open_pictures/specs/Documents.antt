@@ -1,10 +1,10 @@
 -- Documents in a machine with further operators.
-use Rattle.std.specs.Prelude.{◌≡◌, ℕ, List, [], ◌∷◌, Option, false, true, Ok, ℤ}
+use Rattle.std.specs.Prelude.{◌≡◌, ℕ, List, [], ◌∷◌, Option, false, true, Ok}
 use Rattle.rules.specs.Specification.{Spec}
 use Rattle.rules.specs.Parts.{NestedUnit, preamble, bytes_of}
 use Rattle.rules.specs.Run.{document_of}
 use Rattle.rules.specs.Filters.{trailer_text}
-use Rattle.rules.specs.Output.{Frame, output}
+use Rattle.rules.specs.Output.{Border, Frame, output}
 use Rattle.made_sheets.specs.Made.{MadeSheet}
 use Rattle.made_sheets.specs.Dress.{Dress}
 use Rattle.made_sheets.specs.MadeOutput.{made_output}
@@ -80,7 +80,7 @@ OpenSheetsShowThePages =
 
 -- a machine runs the output of these made sheets up to the trailer, and has then printed these pictures
 abbrev pub OpenMadeIsPrinted :
-    Further → Work → Option ℤ → Dress → List MadeSheet → List NestedUnit → (ℕ → List Painting) → State → Type 0
+    Further → Work → Option Border → Dress → List MadeSheet → List NestedUnit → (ℕ → List Painting) → State → Type 0
 OpenMadeIsPrinted x w border dress all us picture s =
     OpenRuns x false (begun w (tokens (made_output border dress all us)))
     (record s { left = tokens (trailer_text us); sheets = sheet_pictures border us picture s all })
@@ -88,7 +88,7 @@ OpenMadeIsPrinted x w border dress all us picture s =
 -- the same of any made sheets, each page on a paper of its own, if no lines are added but comments: a law
 abbrev pub OpenMadeSheetsShowThePages : Type 0
 OpenMadeSheetsShowThePages =
-    (x z : Further) (w : Work) (border : Option ℤ) (dress : Dress) (all : List MadeSheet) (text : List ℕ)
+    (x z : Further) (w : Work) (border : Option Border) (dress : Dress) (all : List MadeSheet) (text : List ℕ)
     (us : List NestedUnit) (picture : ℕ → List Painting) (s : State)
     → IsBlind x → RunsPreambles x z → IsQuiet dress → document_of text ≡ Ok us
     → preamble_comments_apart us ≡ true → OpenPreambleRuns z w IsGround (bytes_of (preamble us)) s → IsPlainGround s

@@ -8,6 +8,7 @@ use Rattle.std.proofs.lemmas.List.Elements.{All-nil, All-cons, All-append, All-w
 use Rattle.std.proofs.lemmas.List.Splits.{slice_split_at}
 use Rattle.rules.specs.Bytes.{line}
 use Rattle.rules.specs.Numbers.{IsNumber, decimals_of, decimals_value, fraction_text, number_of, points_text, printed}
+use Rattle.rules.specs.Output.{Border}
 use Rattle.rules.specs.Papers.{Paper, is_side as may_be_side}
 use Rattle.rules.specs.Units.{fields, is_blank, is_comment, is_end, line_len}
 use Rattle.rules.proofs.Digits.{decimal_writes, number_of-last}
@@ -212,14 +213,14 @@ page_whole n =
     no_ends_append (codes "%%Page: " ++ decimal n ++ codes " ") (decimal n)
     (no_ends_append (codes "%%Page: " ++ decimal n) (codes " ") (no_ends_append (codes "%%Page: ") (decimal n) refl (no_ends_decimal n)) refl) (no_ends_decimal n)
 
-no_head : (m : ℕ) (border : Option ℤ) (texts : List (List ℕ)) (slots : List MadeSlot)
+no_head : (m : ℕ) (border : Option Border) (texts : List (List ℕ)) (slots : List MadeSlot)
     → head_of m (flat_map (made_slot_text border texts) slots ++ line (codes "showpage")) ≡ []
 no_head zero border texts slots = refl
 no_head (suc m) border texts [] = refl
 no_head (suc m) border texts (Blank ∷ slots) = no_head (suc m) border texts slots
 no_head (suc m) border texts (Placed p item paper ∷ slots) = refl
 
-silent : (border : Option ℤ) (texts : List (List ℕ)) (s : ℕ) (sheet : MadeSheet) (paper : Paper)
+silent : (border : Option Border) (texts : List (List ℕ)) (s : ℕ) (sheet : MadeSheet) (paper : Paper)
     → page_head (made_sheet_text border (telling_of (paper ∷ [])) texts s sheet) ≡ []
 silent border texts s sheet paper =
     let p : List ℕ = line (page_content (s + 1)) in
@@ -244,11 +245,11 @@ told w h first count more e f =
     ap (λ t. if t then Some (fields first) else comment_fields medium_comment (count ∷ rest)) e
     ∙ ap (λ t. if t then Some (fields count) else comment_fields medium_comment rest) f
 
-abbrev Found : (named : List ℕ → Option Paper) (home : Paper) (first count : List ℕ) (more trailer : List (List ℕ)) (border : Option ℤ) (texts : List (List ℕ)) (s : ℕ) (sheet : MadeSheet) → Paper → Type 0
+abbrev Found : (named : List ℕ → Option Paper) (home : Paper) (first count : List ℕ) (more trailer : List (List ℕ)) (border : Option Border) (texts : List (List ℕ)) (s : ℕ) (sheet : MadeSheet) → Paper → Type 0
 Found named home first count more trailer border texts s sheet paper =
     own_paper named home (first ∷ count ∷ ((telling_of (paper ∷ [])).header ++ more)) trailer (made_sheet_text border (telling_of (paper ∷ [])) texts s sheet) ≡ paper
 
-found : (named : List ℕ → Option Paper) (home : Paper) (first count : List ℕ) (more trailer : List (List ℕ)) (border : Option ℤ) (texts : List (List ℕ)) (s : ℕ) (sheet : MadeSheet) (w h : ℕ)
+found : (named : List ℕ → Option Paper) (home : Paper) (first count : List ℕ) (more trailer : List (List ℕ)) (border : Option Border) (texts : List (List ℕ)) (s : ℕ) (sheet : MadeSheet) (w h : ℕ)
     → 100_000 ≤ w → w ≤ 9_999_999_999 → 100_000 ≤ h → h ≤ 9_999_999_999 → is_comment medium_comment first ≡ false → is_comment medium_comment count ≡ false
     → Found named home first count more trailer border texts s sheet (of_parts w h)
 found named home first count more trailer border texts s sheet w h sw fw sh fh e f =

@@ -1,5 +1,6 @@
 -- What is found of a paper that was reported.
 use Rattle.std.specs.Prelude.{◌≡◌, ℕ, ◌*◌, ◌≤◌, pos, false, List, [], ◌∷◌, ◌++◌, codes, Option, ℤ}
+use Rattle.rules.specs.Output.{Border}
 use Rattle.rules.specs.Papers.{Paper}
 use Rattle.rules.specs.Units.{is_comment}
 use Rattle.made_sheets.specs.Made.{MadeSheet}
@@ -19,7 +20,7 @@ pub record IsTellable (side : ℤ) : Type 0 where
 abbrev pub OneIsFound : Type 0
 OneIsFound =
     (named : List ℕ → Option Paper) (home paper : Paper) (first count : List ℕ) (more trailer : List (List ℕ))
-    (border : Option ℤ) (texts : List (List ℕ)) (s : ℕ) (sheet : MadeSheet)
+    (border : Option Border) (texts : List (List ℕ)) (s : ℕ) (sheet : MadeSheet)
     → IsTellable paper.width → IsTellable paper.height
     → is_comment (codes "%%DocumentMedia") first ≡ false → is_comment (codes "%%DocumentMedia") count ≡ false
     → own_paper named home (first ∷ count ∷ ((telling_of (paper ∷ [])).header ++ more)) trailer

@@ -1,9 +1,10 @@
 -- Given an output, a machine prints what the document's own pages print.
-use Rattle.std.specs.Prelude.{Option, Ok, ℤ}
+use Rattle.std.specs.Prelude.{Option, Ok}
 use Rattle.std.proofs.Common.{◌≡◌, ℕ, ◌≤◌, true, false, List, [], length}
 use Rattle.rules.specs.Parts.{NestedUnit, preamble, bytes_of}
 use Rattle.rules.specs.Filters.{trailer_text}
 use Rattle.rules.specs.Run.{document_of}
+use Rattle.rules.specs.Output.{Border}
 use Rattle.made_sheets.specs.Made.{MadeSheet}
 use Rattle.made_sheets.specs.Dress.{Dress, undressed}
 use Rattle.made_sheets.specs.MadeOutput.{dressed_preamble, made_output}
@@ -28,7 +29,7 @@ begins_alike R start dress sheets text us s q d apart run =
     runs_alike R start (bytes_of (preamble us)) (dressed_preamble sheets dress.header us) s (dressed_runs_alike sheets dress.header text us (comments_read dress.header q.header) d apart run.0) run
 
 -- any machine whose runs are these prints a document's sheets
-pub document_is_shown : (R : State → State → Type 0) → AreRuns R → (start : List Token → State) (at : ℕ → State) (least : ℕ) (border : Option ℤ) (dress : Dress) (all : List MadeSheet) (text : List ℕ) (us : List NestedUnit) (picture : ℕ → List Painting)
+pub document_is_shown : (R : State → State → Type 0) → AreRuns R → (start : List Token → State) (at : ℕ → State) (least : ℕ) (border : Option Border) (dress : Dress) (all : List MadeSheet) (text : List ℕ) (us : List NestedUnit) (picture : ℕ → List Painting)
     → IsQuiet dress → document_of text ≡ Ok us → preamble_comments_apart us ≡ true → RunsOn R start (bytes_of (preamble us)) (at 0) → (at 0).painted ≡ []
     → ((k : ℕ) → least ≤ k → Prints R (at k)) → FirstHas least all → OnSheetsFrom (Bodies R at border us picture) 0 all
     → R (start (tokens (made_output border dress all us)))
@@ -36,7 +37,7 @@ pub document_is_shown : (R : State → State → Type 0) → AreRuns R → (star
 document_is_shown R m start at least border dress all text us picture q d apart run =
     bodies_are_shown R m start at least border dress all us picture q (begins_alike R start dress (length all) text us (at 0) q d apart run)
 
-pub still_document_is_shown : (R : State → State → Type 0) → AreRuns R → (start : List Token → State) (border : Option ℤ) (dress : Dress) (all : List MadeSheet) (text : List ℕ) (us : List NestedUnit) (picture : ℕ → List Painting) (s : State)
+pub still_document_is_shown : (R : State → State → Type 0) → AreRuns R → (start : List Token → State) (border : Option Border) (dress : Dress) (all : List MadeSheet) (text : List ℕ) (us : List NestedUnit) (picture : ℕ → List Painting) (s : State)
     → IsQuiet dress → document_of text ≡ Ok us → preamble_comments_apart us ≡ true → RunsOn R start (bytes_of (preamble us)) s → s.painted ≡ []
     → Prints R s → OnSheetsFrom (Bodies R (still s) border us picture) 0 all
     → R (start (tokens (made_output border dress all us))) (record s { left = tokens (trailer_text us); sheets = sheet_pictures border us picture s all })

@@ -1,5 +1,5 @@
 -- What a machine prints, given an output.
-use Rattle.std.specs.Prelude.{Option, codes, decimal, flat_map, ℤ}
+use Rattle.std.specs.Prelude.{Option, codes, decimal, flat_map}
 use Rattle.std.specs.List.{enumerate_from}
 use Rattle.std.proofs.Common.{◌≡◌, ℕ, suc, ◌+◌, ◌≤◌, arith, refl, ap, ◌∙◌, sym, subst, false, List, [], ◌∷◌, ◌++◌, map, append_assoc, append-nil, length}
 use Rattle.std.proofs.lemmas.Grind.{flat_map-append}
@@ -9,7 +9,7 @@ use Rattle.rules.specs.Papers.{Paper}
 use Rattle.rules.specs.Specification.{Item, Spec}
 use Rattle.rules.specs.Parts.{NestedUnit, pages, preamble, bytes_of}
 use Rattle.rules.specs.Filters.{kept, drops_in_header, ended, with_count, preamble_text, trailer_text}
-use Rattle.rules.specs.Output.{Frame, opening_text, closing_text, output}
+use Rattle.rules.specs.Output.{Border, Frame, opening_text, closing_text, output}
 use Rattle.made_sheets.specs.Made.{MadeSlot, Blank, Placed, MadeSheet}
 use Rattle.made_sheets.specs.Dress.{Dress, undressed, lines_text}
 use Rattle.made_sheets.specs.MadeOutput.{made_slot_text, made_sheet_text, with_lines, dressed_preamble, made_output}
@@ -41,7 +41,7 @@ complete_read text e =
 abbrev placed_of : List Shown → List Token
 placed_of xs = flat_map placed_tokens (map (λ x. x.placed) xs)
 
-slot_read : (border : Option ℤ) (us : List NestedUnit) (picture : ℕ → List Painting) (p : ℕ) (item : Item) (paper : Paper) → IsComplete (body_of_page us p)
+slot_read : (border : Option Border) (us : List NestedUnit) (picture : ℕ → List Painting) (p : ℕ) (item : Item) (paper : Paper) → IsComplete (body_of_page us p)
     → Reads Between (made_slot_text border (pages us) (Placed p item paper)) (placed_of (shown_slot border us picture (Placed p item paper))) Between
 slot_read border us picture p item paper h =
     let frame : Frame = frame_of border paper in
@@ -60,7 +60,7 @@ placed_append xs ys = ap (flat_map placed_tokens) (map-append (λ x. x.placed) x
 abbrev pub AreComplete : List NestedUnit → ℕ → Paper → ℕ → Type 0
 AreComplete us k paper p = IsComplete (body_of_page us p)
 
-slots_read : (border : Option ℤ) (us : List NestedUnit) (picture : ℕ → List Painting) (k : ℕ) (slots : List MadeSlot) → OnSlotsFrom (AreComplete us) k slots
+slots_read : (border : Option Border) (us : List NestedUnit) (picture : ℕ → List Painting) (k : ℕ) (slots : List MadeSlot) → OnSlotsFrom (AreComplete us) k slots
     → Reads Between (flat_map (made_slot_text border (pages us)) slots) (placed_of (flat_map (shown_slot border us picture) slots)) Between
 slots_read border us picture k [] h = refl
 slots_read border us picture k (Blank ∷ slots) h = slots_read border us picture k slots h
@@ -72,7 +72,7 @@ slots_read border us picture k (Placed p item paper ∷ slots) h =
     (slot_read border us picture p item paper h.0)
     (slots_read border us picture (suc k) slots h.1))
 
-pub sheet_read : (border : Option ℤ) (dress : Dress) (us : List NestedUnit) (picture : ℕ → List Painting) → IsQuiet dress → (number k : ℕ) (sheet : MadeSheet) → OnSlotsFrom (AreComplete us) k sheet.slots
+pub sheet_read : (border : Option Border) (dress : Dress) (us : List NestedUnit) (picture : ℕ → List Painting) → IsQuiet dress → (number k : ℕ) (sheet : MadeSheet) → OnSlotsFrom (AreComplete us) k sheet.slots
     → Reads Between (made_sheet_text border dress (pages us) number sheet) (sheet_tokens (map (λ x. x.placed) (shown_sheet border us picture sheet))) Between
 sheet_read border dress us picture q number k sheet h =
     let header : List ℕ = line (codes "%%Page: " ++ decimal (number + 1) ++ codes " " ++ decimal (number + 1)) in
@@ -89,7 +89,7 @@ sheet_read border dress us picture q number k sheet h =
     (reads_join Between Between Between ((header ++ start) ++ middle) finish shown [] begun (comments_read (dress.finish number sheet.paper) (q.finish number sheet.paper))) in
     reads_join Between Between Between (((header ++ start) ++ middle) ++ finish) (line (codes "showpage")) shown (Name (codes "showpage") ∷ []) done refl
 
-sheets_read : (border : Option ℤ) (dress : Dress) (us : List NestedUnit) (picture : ℕ → List Painting) → IsQuiet dress → (number k : ℕ) (all : List MadeSheet) → OnSheetsFrom (AreComplete us) k all
+sheets_read : (border : Option Border) (dress : Dress) (us : List NestedUnit) (picture : ℕ → List Painting) → IsQuiet dress → (number k : ℕ) (all : List MadeSheet) → OnSheetsFrom (AreComplete us) k all
     → Reads Between (flat_map (λ (s, sheet). made_sheet_text border dress (pages us) s sheet) (enumerate_from number all)) (sheets_tokens (map (shown_sheet border us picture) all)) Between
 sheets_read border dress us picture q number k [] h = refl
 sheets_read border dress us picture q number k (sheet ∷ all) h =
@@ -98,7 +98,7 @@ sheets_read border dress us picture q number k (sheet ∷ all) h =
     (sheet_read border dress us picture q number k sheet h.0)
     (sheets_read border dress us picture q (number + 1) (pages_past k sheet.slots) all h.1)
 
-output_cut : (border : Option ℤ) (dress : Dress) (all : List MadeSheet) (us : List NestedUnit) (picture : ℕ → List Painting) → IsQuiet dress
+output_cut : (border : Option Border) (dress : Dress) (all : List MadeSheet) (us : List NestedUnit) (picture : ℕ → List Painting) → IsQuiet dress
     → IsComplete (dressed_preamble (length all) dress.header us) → OnSheetsFrom (AreComplete us) 0 all
     → tokens (made_output border dress all us)
     ≡ tokens (dressed_preamble (length all) dress.header us) ++ (sheets_tokens (map (shown_sheet border us picture) all) ++ tokens (trailer_text us))
@@ -144,21 +144,21 @@ abbrev pub BodyPlaces : (State → State → Type 0) → (ℕ → State) → Fra
 BodyPlaces R at frame us k p picture =
     IsComplete (body_of_page us p) × ((item : Item) → Places R at (at 0).graphics k (record { placed = record { numbers = numbers_of frame item; body = tokens (body_of_page us p) }; picture = picture }))
 
-abbrev pub Bodies : (State → State → Type 0) → (ℕ → State) → Option ℤ → List NestedUnit → (ℕ → List Painting) → ℕ → Paper → ℕ → Type 0
+abbrev pub Bodies : (State → State → Type 0) → (ℕ → State) → Option Border → List NestedUnit → (ℕ → List Painting) → ℕ → Paper → ℕ → Type 0
 Bodies R at border us picture k paper p = BodyPlaces R at (frame_of border paper) us k p (picture p)
 
-slots_place : (R : State → State → Type 0) (at : ℕ → State) (border : Option ℤ) (us : List NestedUnit) (picture : ℕ → List Painting) (k : ℕ) (slots : List MadeSlot)
+slots_place : (R : State → State → Type 0) (at : ℕ → State) (border : Option Border) (us : List NestedUnit) (picture : ℕ → List Painting) (k : ℕ) (slots : List MadeSlot)
     → OnSlotsFrom (Bodies R at border us picture) k slots → AllPlace R at (at 0).graphics k (flat_map (shown_slot border us picture) slots)
 slots_place R at border us picture k [] h = tt
 slots_place R at border us picture k (Blank ∷ slots) h = slots_place R at border us picture k slots h
 slots_place R at border us picture k (Placed p item paper ∷ slots) h = (h.0.1 item, slots_place R at border us picture (suc k) slots h.1)
 
-shown_past : (border : Option ℤ) (us : List NestedUnit) (picture : ℕ → List Painting) (k : ℕ) (slots : List MadeSlot) → past k (flat_map (shown_slot border us picture) slots) ≡ pages_past k slots
+shown_past : (border : Option Border) (us : List NestedUnit) (picture : ℕ → List Painting) (k : ℕ) (slots : List MadeSlot) → past k (flat_map (shown_slot border us picture) slots) ≡ pages_past k slots
 shown_past border us picture k [] = refl
 shown_past border us picture k (Blank ∷ slots) = shown_past border us picture k slots
 shown_past border us picture k (Placed p item paper ∷ slots) = shown_past border us picture (suc k) slots
 
-sheets_place : (R : State → State → Type 0) (at : ℕ → State) (border : Option ℤ) (us : List NestedUnit) (picture : ℕ → List Painting) (k : ℕ) (all : List MadeSheet)
+sheets_place : (R : State → State → Type 0) (at : ℕ → State) (border : Option Border) (us : List NestedUnit) (picture : ℕ → List Painting) (k : ℕ) (all : List MadeSheet)
     → OnSheetsFrom (Bodies R at border us picture) k all → AllSheetsPlace R at (at 0).graphics k (map (shown_sheet border us picture) all)
 sheets_place R at border us picture k [] h = tt
 sheets_place R at border us picture k (sheet ∷ all) h = (
@@ -167,17 +167,17 @@ sheets_place R at border us picture k (sheet ∷ all) h = (
       (sheets_place R at border us picture (pages_past k sheet.slots) all h.1),
 )
 
-sheets_past : (border : Option ℤ) (us : List NestedUnit) (picture : ℕ → List Painting) (k : ℕ) (all : List MadeSheet) → past_all k (map (shown_sheet border us picture) all) ≡ pages_past_all k all
+sheets_past : (border : Option Border) (us : List NestedUnit) (picture : ℕ → List Painting) (k : ℕ) (all : List MadeSheet) → past_all k (map (shown_sheet border us picture) all) ≡ pages_past_all k all
 sheets_past border us picture k [] = refl
 sheets_past border us picture k (sheet ∷ all) =
     ap (λ n. past_all n (map (shown_sheet border us picture) all)) (shown_past border us picture k sheet.slots) ∙ sheets_past border us picture (pages_past k sheet.slots) all
 
-begins_there : (least : ℕ) (border : Option ℤ) (us : List NestedUnit) (picture : ℕ → List Painting) (all : List MadeSheet) → FirstHas least all → Begins least 0 (map (shown_sheet border us picture) all)
+begins_there : (least : ℕ) (border : Option Border) (us : List NestedUnit) (picture : ℕ → List Painting) (all : List MadeSheet) → FirstHas least all → Begins least 0 (map (shown_sheet border us picture) all)
 begins_there least border us picture [] h = tt
 begins_there least border us picture (sheet ∷ all) h = subst (λ n. least ≤ n) (sym (shown_past border us picture 0 sheet.slots)) h
 
 -- after so many pages the machine is at a state that prints, if they are at least so many
-pub bodies_are_shown : (R : State → State → Type 0) → AreRuns R → (start : List Token → State) (at : ℕ → State) (least : ℕ) (border : Option ℤ) (dress : Dress) (all : List MadeSheet) (us : List NestedUnit) (picture : ℕ → List Painting)
+pub bodies_are_shown : (R : State → State → Type 0) → AreRuns R → (start : List Token → State) (at : ℕ → State) (least : ℕ) (border : Option Border) (dress : Dress) (all : List MadeSheet) (us : List NestedUnit) (picture : ℕ → List Painting)
     → IsQuiet dress → RunsOn R start (dressed_preamble (length all) dress.header us) (at 0) → (at 0).painted ≡ [] → ((k : ℕ) → least ≤ k → Prints R (at k)) → FirstHas least all
     → OnSheetsFrom (Bodies R at border us picture) 0 all
     → R (start (tokens (made_output border dress all us)))
@@ -201,7 +201,7 @@ none_needed [] = tt
 none_needed (sheet ∷ all) = omega arith
 
 -- and if the state stays the same
-pub still_bodies_are_shown : (R : State → State → Type 0) → AreRuns R → (start : List Token → State) (border : Option ℤ) (dress : Dress) (all : List MadeSheet) (us : List NestedUnit) (picture : ℕ → List Painting) (s : State)
+pub still_bodies_are_shown : (R : State → State → Type 0) → AreRuns R → (start : List Token → State) (border : Option Border) (dress : Dress) (all : List MadeSheet) (us : List NestedUnit) (picture : ℕ → List Painting) (s : State)
     → IsQuiet dress → RunsOn R start (dressed_preamble (length all) dress.header us) s → s.painted ≡ [] → Prints R s → OnSheetsFrom (Bodies R (still s) border us picture) 0 all
     → R (start (tokens (made_output border dress all us))) (record s { left = tokens (trailer_text us); sheets = sheet_pictures border us picture s all })
 still_bodies_are_shown R m start border dress all us picture s q run nothing_painted prints bodies =

@@ -1,6 +1,6 @@
 -- The text of a whole output as tokens, and the picture of a document.
-use Rattle.std.specs.Prelude.{◌≡◌, ℕ, suc, ◌≤◌, ℤ, List, [], ◌∷◌, ◌++◌, map, flat_map, Option, option_map}
-use Rattle.std.specs.Prelude.{slice_index_or, length, false}
+use Rattle.std.specs.Prelude.{◌≡◌, ℕ, suc, ◌≤◌, List, [], ◌∷◌, ◌++◌, map, flat_map, Option, option_map}
+use Rattle.std.specs.Prelude.{slice_index_or, length, false, ◌-ℤ◌}
 use Rattle.rules.specs.Papers.{Paper}
 use Rattle.rules.specs.Numbers.{points_text, scale_text}
 use Rattle.rules.specs.Specification.{Item, Spec}
@@ -8,16 +8,25 @@ use Rattle.rules.specs.Signatures.{sheets_in}
 use Rattle.rules.specs.Placement.{matrix_of}
 use Rattle.rules.specs.Parts.{NestedUnit, pages}
 use Rattle.rules.specs.Filters.{preamble_text, trailer_text, prepared}
-use Rattle.rules.specs.Output.{Frame, body_text, opening_text, output}
+use Rattle.rules.specs.Output.{Border, Frame, body_text, opening_text, output}
 use Rattle.made_sheets.specs.Made.{MadeSlot, Blank, Placed, MadeSheet, made_of}
 use Rattle.pictures.specs.Objects.{Token}
 use Rattle.pictures.specs.Dictionaries.{userdict}
 use Rattle.pictures.specs.Machine.{State, Painting, Runs}
 use Rattle.pictures.specs.Scanner.{tokens, IsComplete}
-use Rattle.pictures.specs.Sheets.{Numbers, Shown, PaintsAlone, IsGround, saving_tokens, placing_tokens}
+use Rattle.pictures.specs.Sheets.{BorderNumbers, Numbers, Shown, PaintsAlone, IsGround, saving_tokens, placing_tokens}
 use Rattle.pictures.specs.Pictures.{printed}
 
 -- the numbers that the output has for an item
+-- a border within a paper
+abbrev pub border_numbers : Paper → Border → BorderNumbers
+border_numbers paper b = record {
+  wide = points_text b.width;
+  low = points_text b.inset;
+  right = points_text (paper.width -ℤ b.inset);
+  top = points_text (paper.height -ℤ b.inset);
+}
+
 abbrev pub numbers_of : Frame → Item → Numbers
 numbers_of frame item =
     let m = matrix_of frame.paper item in
@@ -30,7 +39,7 @@ numbers_of frame item =
       y = points_text m.ty;
       width = points_text frame.paper.width;
       height = points_text frame.paper.height;
-      border = option_map points_text frame.border;
+      border = option_map (border_numbers frame.paper) frame.border;
     }
 
 -- a law: what comes before a placed page is cut into the tokens of the sheet's text, and ends between tokens
@@ -65,11 +74,11 @@ abbrev pub body_of_page : List NestedUnit → ℕ → List ℕ
 body_of_page us p = body_text (prepared (page_of us p))
 
 -- the frame of a page: its own paper, and the border, which is the same for all pages
-abbrev pub frame_of : Option ℤ → Paper → Frame
+abbrev pub frame_of : Option Border → Paper → Frame
 frame_of border paper = record { paper = paper; border = border }
 
 -- a slot with the page's own picture, placed by its item, on its own paper; a blank one has none
-abbrev pub shown_slot : Option ℤ → List NestedUnit → (ℕ → List Painting) → MadeSlot → List Shown
+abbrev pub shown_slot : Option Border → List NestedUnit → (ℕ → List Painting) → MadeSlot → List Shown
 shown_slot border us picture Blank = []
 shown_slot border us picture (Placed p item paper) =
     record {
@@ -77,12 +86,12 @@ shown_slot border us picture (Placed p item paper) =
       picture = picture p;
     } ∷ []
 
-abbrev pub shown_sheet : Option ℤ → List NestedUnit → (ℕ → List Painting) → MadeSheet → List Shown
+abbrev pub shown_sheet : Option Border → List NestedUnit → (ℕ → List Painting) → MadeSheet → List Shown
 shown_sheet border us picture sheet = flat_map (shown_slot border us picture) sheet.slots
 
 -- the picture that each sheet should have, the latest sheet first: the pictures of its slots, in order
 abbrev pub sheet_pictures :
-    Option ℤ → List NestedUnit → (ℕ → List Painting) → State → List MadeSheet → List (List Painting)
+    Option Border → List NestedUnit → (ℕ → List Painting) → State → List MadeSheet → List (List Painting)
 sheet_pictures border us picture s all = printed s.graphics (map (shown_sheet border us picture) all) s.sheets
 
 -- What is so of the pages on sheets.

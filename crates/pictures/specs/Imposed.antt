@@ -1,9 +1,10 @@
 -- The output of made sheets, on which each page has its own paper: the pictures that it should have.
-use Rattle.std.specs.Prelude.{◌≡◌, ℕ, Bool, true, false, not, ◌&&◌, ◌==◌, List, [], ◌∷◌, Option, Ok, ℤ}
+use Rattle.std.specs.Prelude.{◌≡◌, ℕ, Bool, true, false, not, ◌&&◌, ◌==◌, List, [], ◌∷◌, Option, Ok}
 use Rattle.rules.specs.Papers.{Paper}
 use Rattle.rules.specs.Parts.{NestedUnit, preamble, bytes_of}
 use Rattle.rules.specs.Filters.{trailer_text}
 use Rattle.rules.specs.Run.{document_of}
+use Rattle.rules.specs.Output.{Border}
 use Rattle.made_sheets.specs.Made.{MadeSheet}
 use Rattle.made_sheets.specs.Dress.{Dress}
 use Rattle.made_sheets.specs.MadeOutput.{made_output}
@@ -38,7 +39,7 @@ pub record IsQuiet (dress : Dress) : Type 0 where
 -- Made sheets.
 
 -- a machine runs the output of these sheets up to the trailer, and has then printed these pictures
-abbrev pub MadeIsPrinted : Option ℤ → Dress → List MadeSheet → List NestedUnit → (ℕ → List Painting) → State → Type 0
+abbrev pub MadeIsPrinted : Option Border → Dress → List MadeSheet → List NestedUnit → (ℕ → List Painting) → State → Type 0
 MadeIsPrinted border dress all us picture s =
     Runs false (started (tokens (made_output border dress all us)))
     (record s { left = tokens (trailer_text us); sheets = sheet_pictures border us picture s all })
@@ -48,7 +49,7 @@ MadeIsPrinted border dress all us picture s =
 -- than comments
 abbrev pub MadeSheetsShowThePages : Type 0
 MadeSheetsShowThePages =
-    (border : Option ℤ) (dress : Dress) (all : List MadeSheet) (text : List ℕ) (us : List NestedUnit)
+    (border : Option Border) (dress : Dress) (all : List MadeSheet) (text : List ℕ) (us : List NestedUnit)
     (picture : ℕ → List Painting) (s : State)
     → IsQuiet dress → document_of text ≡ Ok us
     → preamble_comments_apart us ≡ true → PreambleRuns IsGround (bytes_of (preamble us)) s → IsPlainGround s

@@ -10,8 +10,16 @@ use Rattle.pictures.specs.Operators.{all_old, all_are_old}
 use Rattle.pictures.specs.Machine.{Segment, Graphics, Painting, State, save_of, initial, step, RunsBy}
 use Rattle.pictures.specs.Placing.{Place, picture_at}
 
--- the texts of the numbers by which a page is placed: its matrix, the paper's width and height, the border's width if
--- there is one
+-- the texts of the numbers by which a border is drawn: how wide its line is, how far its path lies from the left and from
+-- below, and how far it reaches
+pub record BorderNumbers : Type 0 where
+  pub wide : List ℕ
+  pub low : List ℕ
+  pub right : List ℕ
+  pub top : List ℕ
+
+-- the texts of the numbers by which a page is placed: its matrix, the paper's width and height, and those of the border
+-- if there is one
 pub record Numbers : Type 0 where
   pub a : List ℕ
   pub b : List ℕ
@@ -21,24 +29,28 @@ pub record Numbers : Type 0 where
   pub y : List ℕ
   pub width : List ℕ
   pub height : List ℕ
-  pub border : Option (List ℕ)
+  pub border : Option BorderNumbers
 
 abbrev pub zero_text : List ℕ
 zero_text = codes "0"
 
+-- a path around a rectangle
+abbrev pub rectangle_tokens : (low right top : List ℕ) → List Token
+rectangle_tokens low right top =
+    Name (codes "newpath") ∷ Number low ∷ Number low ∷ Name (codes "moveto")
+    ∷ Number right ∷ Number low ∷ Name (codes "lineto")
+    ∷ Number right ∷ Number top ∷ Name (codes "lineto")
+    ∷ Number low ∷ Number top ∷ Name (codes "lineto") ∷ Name (codes "closepath") ∷ []
+
 -- a path around the paper
 abbrev pub edge_tokens : Numbers → List Token
-edge_tokens n =
-    Name (codes "newpath") ∷ Number zero_text ∷ Number zero_text ∷ Name (codes "moveto")
-    ∷ Number n.width ∷ Number zero_text ∷ Name (codes "lineto")
-    ∷ Number n.width ∷ Number n.height ∷ Name (codes "lineto")
-    ∷ Number zero_text ∷ Number n.height ∷ Name (codes "lineto") ∷ Name (codes "closepath") ∷ []
+edge_tokens n = rectangle_tokens zero_text n.width n.height
 
-abbrev pub border_tokens : Numbers → Option (List ℕ) → List Token
-border_tokens n None = []
-border_tokens n (Some width) =
-    Name (codes "gsave") ∷ Number width ∷ Name (codes "setlinewidth")
-    ∷ (edge_tokens n ++ Name (codes "stroke") ∷ Name (codes "grestore") ∷ [])
+abbrev pub border_tokens : Option BorderNumbers → List Token
+border_tokens None = []
+border_tokens (Some b) =
+    Name (codes "gsave") ∷ Number b.wide ∷ Name (codes "setlinewidth")
+    ∷ (rectangle_tokens b.low b.right b.top ++ Name (codes "stroke") ∷ Name (codes "grestore") ∷ [])
 
 abbrev pub saving_tokens : List Token
 saving_tokens =
@@ -49,7 +61,7 @@ abbrev pub placing_tokens : Numbers → List Token
 placing_tokens n =
     Name (codes "[") ∷ Number n.a ∷ Number n.b ∷ Number n.c ∷ Number n.d ∷ Number n.x ∷ Number n.y ∷ Name (codes "]")
     ∷ Name (codes "concat")
-    ∷ (edge_tokens n ++ (Name (codes "clip") ∷ Name (codes "newpath") ∷ border_tokens n n.border))
+    ∷ (edge_tokens n ++ (Name (codes "clip") ∷ Name (codes "newpath") ∷ border_tokens n.border))
 
 abbrev pub closing_tokens : List Token
 closing_tokens = Name (codes "ImposeSave") ∷ Name (codes "restore") ∷ []
@@ -81,12 +93,15 @@ point name x y chain = record {
   settings = [];
 }
 
+abbrev pub rectangle : (low right top : List ℕ) → List Call → List Segment
+rectangle low right top chain =
+    record { call = record { name = codes "closepath"; operands = [] }; chain = chain; settings = [] }
+    ∷ point (codes "lineto") low top chain ∷ point (codes "lineto") right top chain
+    ∷ point (codes "lineto") right low chain ∷ point (codes "moveto") low low chain ∷ []
+
 -- around the paper
 abbrev pub edge : Numbers → List Call → List Segment
-edge n chain =
-    record { call = record { name = codes "closepath"; operands = [] }; chain = chain; settings = [] }
-    ∷ point (codes "lineto") zero_text n.height chain ∷ point (codes "lineto") n.width n.height chain
-    ∷ point (codes "lineto") n.width zero_text chain ∷ point (codes "moveto") zero_text zero_text chain ∷ []
+edge n chain = rectangle zero_text n.width n.height chain
 
 -- the place of a page that is placed by these numbers, if the graphics state was this. Its matrix is outermost
 -- within those that were there, and so is its paper
@@ -96,16 +111,16 @@ place_in g n = record {
   clip = record { name = codes "clip"; path = edge n (matrix_of n ∷ g.chain) } ∷ g.clip;
 }
 
--- the border, which is painted before the page
-abbrev pub border_in : Graphics → Numbers → Option (List ℕ) → List Painting
+-- the border, which is painted before the page, at its place and under its clip
+abbrev pub border_in : Graphics → Numbers → Option BorderNumbers → List Painting
 border_in g n None = []
-border_in g n (Some width) = record {
+border_in g n (Some b) = record {
   call = record { name = codes "stroke"; operands = [] };
   graphics = record {
     chain = (place_in g n).chain;
-    path = edge n (place_in g n).chain;
+    path = rectangle b.low b.right b.top (place_in g n).chain;
     clip = (place_in g n).clip;
-    settings = record { name = codes "setlinewidth"; operands = Plain (Number width) ∷ [] } ∷ g.settings;
+    settings = record { name = codes "setlinewidth"; operands = Plain (Number b.wide) ∷ [] } ∷ g.settings;
   };
 } ∷ []
 

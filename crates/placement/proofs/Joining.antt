@@ -1,11 +1,8 @@
 -- Texts that were appended part by part, as wholes.
-use Rattle.std.proofs.Common.{◌≡◌, ℕ, List, [], ◌∷◌, ◌+◌, ◌≤◌, ◌++◌, ℤ, ◌∙◌, ap, refl, length, append_assoc}
+use Rattle.std.proofs.Common.{◌≡◌, ℕ, List, [], ◌∷◌, ◌+◌, ◌≤◌, ◌++◌, refl, length, append_assoc}
 use Rattle.std.specs.Prelude.{codes}
-use Rattle.rules.specs.Numbers.{points_text}
-use Rattle.rules.specs.Papers.{Paper}
 use Rattle.rules.specs.Placement.{spaced}
-use Rattle.rules.specs.Output.{edge_text}
-use Rattle.placement.proofs.Keeping.{fit_three, fit_four, fit_five}
+use Rattle.placement.proofs.Keeping.{fit_two, fit_three, fit_four, fit_five}
 
 pub scales_joined :
     (o a b c d v1 v2 v3 : List ℕ) → v1 ≡ o ++ (codes "[" ++ a) → v2 ≡ v1 ++ (codes " " ++ b) → v3 ≡ v2 ++ (codes " " ++ c)
@@ -18,40 +15,35 @@ pub matrix_joined :
     → v3 ++ codes "]" ≡ o ++ (codes "[" ++ spaced (a ∷ b ∷ c ∷ d ∷ x ∷ y ∷ []) ++ codes "]")
 matrix_joined o a b c d x y v1 v2 v3 e1 e2 e3 = rw (e3, e2, e1) (simp append_assoc)
 
-edge_joined :
-    (o w h v1 v2 v3 v4 : List ℕ) → v1 ≡ o ++ (codes "newpath 0 0 moveto " ++ w) → v2 ≡ v1 ++ (codes " 0 lineto " ++ w) → v3 ≡ v2 ++ (codes " " ++ h)
-    → v4 ≡ v3 ++ (codes " lineto 0 " ++ h)
-    → v4 ++ codes " lineto closepath"
-    ≡ o ++ (codes "newpath 0 0 moveto " ++ w ++ codes " 0 lineto " ++ w ++ codes " " ++ h ++ codes " lineto 0 " ++ h ++ codes " lineto closepath")
-edge_joined o w h v1 v2 v3 v4 e1 e2 e3 e4 = rw (e4, e3, e2, e1) (simp append_assoc)
+pub corner_joined : (o text x y v1 : List ℕ) → v1 ≡ o ++ (text ++ x) → v1 ++ (codes " " ++ y) ≡ o ++ (text ++ (x ++ codes " " ++ y))
+corner_joined o text x y v1 e1 = rw e1 (simp append_assoc)
+
+pub corner_fits : (text x y : List ℕ) → length (text ++ x) ≤ length (text ++ (x ++ codes " " ++ y))
+corner_fits text x y = fit_two _ (text ++ x) (codes " " ++ y) (corner_joined [] text x y (text ++ x) refl)
 
 pub path_joined :
-    (paper : Paper) (width height : ℤ) → width ≡ paper.width → height ≡ paper.height
-    → (o v1 v2 v3 v4 : List ℕ) → v1 ≡ o ++ (codes "newpath 0 0 moveto " ++ points_text width) → v2 ≡ v1 ++ (codes " 0 lineto " ++ points_text width)
-    → v3 ≡ v2 ++ (codes " " ++ points_text height) → v4 ≡ v3 ++ (codes " lineto 0 " ++ points_text height)
-    → v4 ++ codes " lineto closepath" ≡ o ++ edge_text paper
-path_joined paper width height w h o v1 v2 v3 v4 e1 e2 e3 e4 =
-    edge_joined o (points_text paper.width) (points_text paper.height) v1 v2 v3 v4
-    (e1 ∙ ap (λ x. o ++ (codes "newpath 0 0 moveto " ++ points_text x)) w)
-    (e2 ∙ ap (λ x. v1 ++ (codes " 0 lineto " ++ points_text x)) w)
-    (e3 ∙ ap (λ y. v2 ++ (codes " " ++ points_text y)) h)
-    (e4 ∙ ap (λ y. v3 ++ (codes " lineto 0 " ++ points_text y)) h)
+    (o a b c d v1 v2 v3 v4 : List ℕ) → v1 ≡ o ++ (codes "newpath " ++ a) → v2 ≡ v1 ++ (codes " moveto " ++ b) → v3 ≡ v2 ++ (codes " lineto " ++ c)
+    → v4 ≡ v3 ++ (codes " lineto " ++ d)
+    → v4 ++ codes " lineto closepath"
+    ≡ o ++ (codes "newpath " ++ a ++ codes " moveto " ++ b ++ codes " lineto " ++ c ++ codes " lineto " ++ d ++ codes " lineto closepath")
+path_joined o a b c d v1 v2 v3 v4 e1 e2 e3 e4 = rw (e4, e3, e2, e1) (simp append_assoc)
 
 pub path_fits :
-    (paper : Paper) (width height : ℤ) → width ≡ paper.width → height ≡ paper.height
-    → (length (codes "newpath 0 0 moveto " ++ points_text width) ≤ length (edge_text paper))
-    × (length (codes "newpath 0 0 moveto " ++ points_text width) + length (codes " 0 lineto " ++ points_text width) ≤ length (edge_text paper))
-    × ((length (codes "newpath 0 0 moveto " ++ points_text width) + length (codes " 0 lineto " ++ points_text width))
-    + length (codes " " ++ points_text height) ≤ length (edge_text paper))
-    × (((length (codes "newpath 0 0 moveto " ++ points_text width) + length (codes " 0 lineto " ++ points_text width))
-    + length (codes " " ++ points_text height)) + length (codes " lineto 0 " ++ points_text height) ≤ length (edge_text paper))
-path_fits paper width height w h =
-    let one = codes "newpath 0 0 moveto " ++ points_text width in
-    let two = codes " 0 lineto " ++ points_text width in
-    let three = codes " " ++ points_text height in
-    let four = codes " lineto 0 " ++ points_text height in
-    fit_five (edge_text paper) one two three four (codes " lineto closepath")
-    (path_joined paper width height w h [] one (one ++ two) ((one ++ two) ++ three) (((one ++ two) ++ three) ++ four) refl refl refl refl)
+    (a b c d : List ℕ)
+    → let all : List ℕ = codes "newpath " ++ a ++ codes " moveto " ++ b ++ codes " lineto " ++ c ++ codes " lineto " ++ d ++ codes " lineto closepath" in
+    let one : List ℕ = codes "newpath " ++ a in
+    let two : List ℕ = codes " moveto " ++ b in
+    let three : List ℕ = codes " lineto " ++ c in
+    let four : List ℕ = codes " lineto " ++ d in
+    (length one ≤ length all) × (length one + length two ≤ length all) × ((length one + length two) + length three ≤ length all)
+    × (((length one + length two) + length three) + length four ≤ length all)
+path_fits a b c d =
+    let one : List ℕ = codes "newpath " ++ a in
+    let two : List ℕ = codes " moveto " ++ b in
+    let three : List ℕ = codes " lineto " ++ c in
+    let four : List ℕ = codes " lineto " ++ d in
+    fit_five _ one two three four (codes " lineto closepath")
+    (path_joined [] a b c d one (one ++ two) ((one ++ two) ++ three) (((one ++ two) ++ three) ++ four) refl refl refl refl)
 
 pub border_joined :
     (o width edge v1 v2 v3 : List ℕ) → v1 ≡ o ++ (codes "gsave " ++ width) → v2 ≡ v1 ++ codes " setlinewidth " → v3 ≡ v2 ++ edge

@@ -61,6 +61,12 @@ pub full_later : (old middle : Vec ℕ Global) (most part all : ℕ) → Grown o
 full_later old middle most part all before full fits = let room = before.room in let len = before.len in omega arith
 
 -- each part of a text but the last is no longer than the text
+pub fit_two : (all a b : List ℕ) → a ++ b ≡ all → length a ≤ length all
+fit_two all a b is =
+    let whole : length (a ++ b) ≡ length all = ap length is in
+    let one : length (a ++ b) ≡ length a + length b = length-append a b in
+    omega arith
+
 pub fit_three : (all a b c : List ℕ) → (a ++ b) ++ c ≡ all → (length a ≤ length all) × (length a + length b ≤ length all)
 fit_three all a b c is =
     let whole : length ((a ++ b) ++ c) ≡ length all = ap length is in

@@ -9,4 +9,4 @@ mod texts;
 pub use matrix::Matrix;
 pub use place::matrix_of;
 pub use std::alloc::AllocError as NoMemory;
-pub use texts::{closing_text, matrix_text, opening_text};
+pub use texts::{closing_text, matrix_text, opening_text, opening_within};

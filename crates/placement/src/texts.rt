@@ -1,8 +1,10 @@
 //! The texts around a placed page. Each is appended whole or not at all.
-ghost use Rattle.std.specs.Prelude.{◌≡◌, ◌+◌, ◌<◌, ◌≤◌, ◌++◌, length, OnOk, OnErr, vec_len, vec_capacity, take};
+ghost use Rattle.std.specs.Prelude.{◌≡◌, ◌+◌, ◌<◌, ◌≤◌, ◌++◌, ◌-ℤ◌, length, OnOk, OnErr, vec_len};
+ghost use Rattle.std.specs.Prelude.{vec_capacity, take};
 ghost use Rattle.rules.specs.Numbers.{scale_text, points_text};
 ghost use Rattle.rules.specs.Placement.{matrix_text as text_of};
-ghost use Rattle.rules.specs.Output.{Frame, edge_text, border_text, opening_text as opening, closing_text as closing};
+ghost use Rattle.rules.specs.Output.{Frame, framed, border_within, point_text, path_text, edge_text, border_text};
+ghost use Rattle.rules.specs.Output.{opening_text as opening, closing_text as closing};
 ghost use Rattle.pagespec.specs.Items.{item_of};
 ghost use Rattle.placement.specs.Kept.{Keeps};
 ghost use Rattle.placement.specs.Matrices.{numbers_of};
@@ -10,9 +12,47 @@ ghost use Rattle.placement.specs.Fronts.{scales_text, placing_text};
 
 use super::matrix::Matrix;
 use super::place::matrix_of;
-use lengths::{Grains, Number, Paper, print_points, print_scale};
+use lengths::{Grains, Number, Paper, print_grains, print_points, print_scale};
 use pagespec::Item;
 use std::alloc::AllocError;
+use std::marker::Model;
+
+/// A coordinate of a path, in grains: a length, or what is between two.
+#[derive(Clone, Copy)]
+struct Coordinate {
+    grains: i128,
+}
+
+impl Model for Coordinate {
+    ghost use Rattle.std.specs.Prelude.{ℤ, ◌*◌, ◌^◌, ◌≤◌, nat_abs};
+
+    ghost Value = { ℤ };
+
+    ghost view = { λ c. c.grains };
+
+    ghost invariant = { λ c. nat_abs c.grains ≤ 2 * 10 ^ 23 };
+
+    ghost inverse = { λ v. record { grains = v } };
+}
+
+impl Coordinate {
+    fn of(length: Grains) -> Coordinate
+        ensures { result ≡ length }
+    {
+        Coordinate {
+            grains: length.get(),
+        }
+    }
+
+    /// What is between two lengths.
+    fn between(from: Grains, to: Grains) -> Coordinate
+        ensures { result ≡ to -ℤ from }
+    {
+        Coordinate {
+            grains: to.get() - from.get(),
+        }
+    }
+}
 
 /// Appends the six numbers of a matrix in brackets: the first four in full, the shift in points, rounded to five
 /// decimals. If memory is refused, nothing is appended.
@@ -29,22 +69,39 @@ pub fn matrix_text(matrix: &Matrix, out: &mut Vec<u8>) -> Result<(), AllocError>
 
 /// Appends what comes before a page placed by this item: its `save`, a `showpage` that does nothing, the matrix,
 /// and a clip to the paper, which is placed with the page. If a border is asked for, a line that draws one of this
-/// width follows. If memory is refused, nothing is appended.
+/// width along the paper's edges follows. If memory is refused, nothing is appended.
 pub fn opening_text(
     item: &Item,
     paper: &Paper,
     border: Option<Grains>,
     out: &mut Vec<u8>,
 ) -> Result<(), AllocError>
-    ensures appended { let frame : Frame = record { paper = paper.now; border = border } in
+    ensures appended { OnOk result (out.new.items ≡ out.old.items ++ opening (framed paper.now border) (item_of item.now)) }
+    ensures unchanged { OnErr result (out.new.items ≡ out.old.items) }
+    ensures full { OnErr result (vec_capacity out.old < vec_len out.old
+        + length (opening (framed paper.now border) (item_of item.now))) }
+    ensures capacity { vec_capacity out.old ≤ vec_capacity out.new }
+{
+    opening_within(item, paper, border, Grains::ZERO, out)
+}
+
+/// The same with a border that is drawn so far within each edge. The clip is still to the whole paper.
+pub fn opening_within(
+    item: &Item,
+    paper: &Paper,
+    border: Option<Grains>,
+    inset: Grains,
+    out: &mut Vec<u8>,
+) -> Result<(), AllocError>
+    ensures appended { let frame : Frame = record { paper = paper.now; border = border_within inset border } in
         OnOk result (out.new.items ≡ out.old.items ++ opening frame (item_of item.now)) }
     ensures unchanged { OnErr result (out.new.items ≡ out.old.items) }
-    ensures full { let frame : Frame = record { paper = paper.now; border = border } in
+    ensures full { let frame : Frame = record { paper = paper.now; border = border_within inset border } in
         OnErr result (vec_capacity out.old < vec_len out.old + length (opening frame (item_of item.now))) }
     ensures capacity { vec_capacity out.old ≤ vec_capacity out.new }
 {
     let len = out.len();
-    let appended = append_opening(item, paper, border, out);
+    let appended = append_opening(item, paper, border, inset, out);
     undo_if_refused(appended, len, out)
 }
 
@@ -80,18 +137,19 @@ fn append_opening(
     item: &Item,
     paper: &Paper,
     border: Option<Grains>,
+    inset: Grains,
     out: &mut Vec<u8>,
 ) -> Result<(), AllocError>
-    ensures appended { let frame : Frame = record { paper = paper.now; border = border } in
+    ensures appended { let frame : Frame = record { paper = paper.now; border = border_within inset border } in
         OnOk result (out.new.items ≡ out.old.items ++ opening frame (item_of item.now)) }
-    ensures full { let frame : Frame = record { paper = paper.now; border = border } in
+    ensures full { let frame : Frame = record { paper = paper.now; border = border_within inset border } in
         OnErr result (vec_capacity out.old < vec_len out.old + length (opening frame (item_of item.now))) }
     ensures kept { Keeps out.old out.new }
 {
     append_placing(item, paper, out)?;
     append_edge(paper, out)?;
     append_text(b" clip newpath\n", out)?;
-    append_border(paper, border, out)
+    append_border(paper, border, inset, out)
 }
 
 /// The `save`, the `showpage` that does nothing, and the matrix.
@@ -136,11 +194,17 @@ fn append_scales(matrix: &Matrix, out: &mut Vec<u8>) -> Result<(), AllocError>
     append_scale(b" ", matrix.d, out)
 }
 
-/// The line that draws a border, if there is one.
+/// The line that draws a border so far within the paper's edges, if there is one.
 #[tactic(auto, using(crate::proofs::Keeping::keeps_more))]
-fn append_border(paper: &Paper, border: Option<Grains>, out: &mut Vec<u8>) -> Result<(), AllocError>
-    ensures appended { OnOk result (out.new.items ≡ out.old.items ++ border_text paper.now border) }
-    ensures full { OnErr result (vec_capacity out.old < vec_len out.old + length (border_text paper.now border)) }
+fn append_border(
+    paper: &Paper,
+    border: Option<Grains>,
+    inset: Grains,
+    out: &mut Vec<u8>,
+) -> Result<(), AllocError>
+    ensures appended { OnOk result (out.new.items ≡ out.old.items ++ border_text paper.now (border_within inset border)) }
+    ensures full { OnErr result (vec_capacity out.old < vec_len out.old
+        + length (border_text paper.now (border_within inset border))) }
     ensures kept { Keeps out.old out.new }
 {
     let Some(width) = border else {
@@ -148,8 +212,23 @@ fn append_border(paper: &Paper, border: Option<Grains>, out: &mut Vec<u8>) -> Re
     };
     append_points(b"gsave ", width, out)?;
     append_text(b" setlinewidth ", out)?;
-    append_edge(paper, out)?;
+    append_inner(paper, inset, out)?;
     append_text(b" stroke grestore\n", out)
+}
+
+/// The path so far within the paper's edges.
+#[tactic(auto, using(crate::proofs::Keeping::keeps_more))]
+fn append_inner(paper: &Paper, inset: Grains, out: &mut Vec<u8>) -> Result<(), AllocError>
+    ensures appended { OnOk result (out.new.items ≡ out.old.items
+        ++ path_text inset (paper.now.width -ℤ inset) (paper.now.height -ℤ inset)) }
+    ensures full { OnErr result (vec_capacity out.old < vec_len out.old
+        + length (path_text inset (paper.now.width -ℤ inset) (paper.now.height -ℤ inset))) }
+    ensures kept { Keeps out.old out.new }
+{
+    let low = Coordinate::of(inset);
+    let right = Coordinate::between(inset, paper.width());
+    let top = Coordinate::between(inset, paper.height());
+    append_path(low, right, top, out)
 }
 
 /// The path around the paper.
@@ -159,12 +238,45 @@ fn append_edge(paper: &Paper, out: &mut Vec<u8>) -> Result<(), AllocError>
     ensures full { OnErr result (vec_capacity out.old < vec_len out.old + length (edge_text paper.now)) }
     ensures kept { Keeps out.old out.new }
 {
-    let (width, height) = (paper.width(), paper.height());
-    append_points(b"newpath 0 0 moveto ", width, out)?;
-    append_points(b" 0 lineto ", width, out)?;
-    append_points(b" ", height, out)?;
-    append_points(b" lineto 0 ", height, out)?;
+    let low = Coordinate::of(Grains::ZERO);
+    let right = Coordinate::of(paper.width());
+    let top = Coordinate::of(paper.height());
+    append_path(low, right, top, out)
+}
+
+/// The path around a rectangle.
+#[tactic(auto, using(crate::proofs::Keeping::keeps_more))]
+fn append_path(
+    low: Coordinate,
+    right: Coordinate,
+    top: Coordinate,
+    out: &mut Vec<u8>,
+) -> Result<(), AllocError>
+    ensures appended { OnOk result (out.new.items ≡ out.old.items ++ path_text low right top) }
+    ensures full { OnErr result (vec_capacity out.old < vec_len out.old + length (path_text low right top)) }
+    ensures kept { Keeps out.old out.new }
+{
+    append_corner(b"newpath ", low, low, out)?;
+    append_corner(b" moveto ", right, low, out)?;
+    append_corner(b" lineto ", right, top, out)?;
+    append_corner(b" lineto ", low, top, out)?;
     append_text(b" lineto closepath", out)
+}
+
+/// A text followed by a corner of a path.
+#[tactic(auto, using(crate::proofs::Keeping::keeps_more))]
+fn append_corner(
+    text: &[u8],
+    x: Coordinate,
+    y: Coordinate,
+    out: &mut Vec<u8>,
+) -> Result<(), AllocError>
+    ensures appended { OnOk result (out.new.items ≡ out.old.items ++ (text.now ++ point_text x y)) }
+    ensures full { OnErr result (vec_capacity out.old < vec_len out.old + length (text.now ++ point_text x y)) }
+    ensures kept { Keeps out.old out.new }
+{
+    append_coordinate(text, x, out)?;
+    append_coordinate(b" ", y, out)
 }
 
 /// A text followed by a number in full.
@@ -187,6 +299,17 @@ fn append_points(text: &[u8], grains: Grains, out: &mut Vec<u8>) -> Result<(), A
 {
     out.extend_from_slice(text)?;
     print_points(grains, out)
+}
+
+/// A text followed by a coordinate in points.
+#[tactic(auto, using(crate::proofs::Keeping::keeps_more))]
+fn append_coordinate(text: &[u8], x: Coordinate, out: &mut Vec<u8>) -> Result<(), AllocError>
+    ensures appended { OnOk result (out.new.items ≡ out.old.items ++ (text.now ++ points_text x)) }
+    ensures full { OnErr result (vec_capacity out.old < vec_len out.old + length (text.now ++ points_text x)) }
+    ensures kept { Keeps out.old out.new }
+{
+    out.extend_from_slice(text)?;
+    print_grains(x.grains, out)
 }
 
 /// A text.

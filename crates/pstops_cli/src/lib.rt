@@ -10,7 +10,7 @@ mod values;
 
 pub use command::{CommandFault, Request, read_command};
 pub use messages::{Fault, fault_line};
-pub use program::{Ended, pstops};
+pub use program::{ExitReport, pstops};
 pub use request_runs::run_request;
 pub use std::alloc::AllocError as NoMemory;
 pub use world::{MOST_BYTES, ReadFault, ReadSource, Source, SourceFault, read_input};

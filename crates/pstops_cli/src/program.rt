@@ -20,7 +20,7 @@ use world::{ReadFault, ReadSource, World, buffered, read_input, write_out};
 
 /// How the program ended.
 #[derive(Drop)]
-pub struct Ended<W: World> {
+pub struct ExitReport<W: World> {
     /// The exit status.
     pub status: u8,
     /// The line for standard error, empty if there is none.
@@ -40,7 +40,7 @@ pub fn pstops<R: Threads + Wait + Sync, W: World>(
     alloc: Global,
     words: &[String],
     world: W,
-) -> Ended<W>
+) -> ExitReport<W>
     // It stopped before anything was created; or one output was created, and the request that the words make was run.
     ensures ended { EndsProgram (map string_bytes words.now) (W.gives world) (W.tells world) (is_some result.world)
         (is_some result.output) (option_and_then W.Output.contents result.output) result.status result.line.items }
@@ -90,7 +90,7 @@ fn stop<W: World>(
     fault: &Fault,
     world: Option<W>,
     output: Option<W::Output>,
-) -> Ended<W>
+) -> ExitReport<W>
     ensures said { IsSaid fault.now result.status result.line.items }
     ensures world { result.world ≡ world }
     ensures output { result.output ≡ output }
@@ -100,7 +100,7 @@ fn stop<W: World>(
         // Not even the line found memory.
         Err(_) => (3, Vec::new(alloc)),
     };
-    Ended {
+    ExitReport {
         status,
         line,
         world,
@@ -115,7 +115,7 @@ fn run_in<R: Threads + Wait + Sync, W: World>(
     request: &Request,
     input: &[u8],
     world: W,
-) -> Ended<W>
+) -> ExitReport<W>
     ensures ended { CreatesAndRuns request.now input.now (W.tells world) (is_some result.world) (is_some result.output)
         (option_and_then W.Output.contents result.output) result.status result.line.items }
 {
@@ -149,7 +149,7 @@ fn run_into<R: Threads + Wait + Sync, W: World>(
     request: &Request,
     input: &[u8],
     output: W::Output,
-) -> Ended<W>
+) -> ExitReport<W>
     ensures created { is_some result.world ≡ false }
     ensures ran { (tells : Bool)
         → W.Output.contents output ≡ told_if tells (option_map string_bytes request.now.outfile) []
@@ -170,7 +170,7 @@ fn run_into<R: Threads + Wait + Sync, W: World>(
         let fault = Fault::Run(RunError::Write { written: 0 });
         return stop(alloc, &fault, None, opened.output);
     }
-    Ended {
+    ExitReport {
         status,
         line,
         world: None,

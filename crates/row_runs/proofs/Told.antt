@@ -1,10 +1,11 @@
 -- What a job on made sheets writes and reports, if each sheet has the lines that report its paper.
-use Rattle.std.proofs.Common.{◌≡◌, ◌∙◌, ℕ, ℤ, ap, List, length, Option}
+use Rattle.std.proofs.Common.{◌≡◌, ◌∙◌, ℕ, ap, List, length, Option}
 use Rattle.std.specs.List.{enumerate_from}
 use Rattle.std.proofs.lemmas.List.{length-map}
 use Rattle.std.proofs.lemmas.List.FromFn.{length-enumerate_from}
 use Rattle.rules.specs.Parts.{NestedUnit, pages}
 use Rattle.rules.specs.Sheets.{Plan, layout}
+use Rattle.rules.specs.Output.{Border}
 use Rattle.made_sheets.specs.Made.{MadeSheet}
 use Rattle.made_sheets.specs.Dress.{Dress}
 use Rattle.made_sheets.specs.Dressed.{DressedSheet, dressed_output}
@@ -28,7 +29,7 @@ pub each_dressed : (dress : Dressing) (d : Dress) (all : List MadeSheet) → dre
 each_dressed dress d all is = ap (λ (x : Dressing). length x.hems) is ∙ length-map (enumerate_from 0 all) _ ∙ length-enumerate_from 0 all
 
 -- the output
-pub output_told : (border : Option ℤ) (strokes : List Stroke) (all : List MadeSheet) (us : List NestedUnit) (dress : Dressing) → dress ≡ dressing_of (marked strokes (telling all)) all
+pub output_told : (border : Option Border) (strokes : List Stroke) (all : List MadeSheet) (us : List NestedUnit) (dress : Dressing) → dress ≡ dressing_of (marked strokes (telling all)) all
     → dressed_output border dress.header (dressed_by dress.hems all) us ≡ told_output border strokes all us
 output_told border strokes all us dress is =
     let d = marked strokes (telling all) in
@@ -37,7 +38,7 @@ output_told border strokes all us dress is =
     ∙ dressed_is_made border d all us
 
 -- the report
-pub report_told : (job : JobView) (border : Option ℤ) (strokes : List Stroke) (all : List MadeSheet) (us : List NestedUnit) (n : ℕ) (report : Report) → job.plan ≡ made_plan n all → n ≡ length (pages us)
+pub report_told : (job : JobView) (border : Option Border) (strokes : List Stroke) (all : List MadeSheet) (us : List NestedUnit) (n : ℕ) (report : Report) → job.plan ≡ made_plan n all → n ≡ length (pages us)
     → layout (made_plan n all) ≡ made_layout n all → output_of job ≡ told_output border strokes all us → ReportsOf job report → ReportsOn border strokes all us report
 report_told job border strokes all us n report plan count laid out told =
     record {

@@ -1,7 +1,8 @@
 -- What a run by a specification on a row writes, and why it is refused.
-use Rattle.std.specs.Prelude.{◌≡◌, ◌⊎◌, ℕ, List, [], length, IsOk, Ok, Option, Result, option_map}
+use Rattle.std.specs.Prelude.{◌≡◌, ◌⊎◌, ℕ, List, [], length, pos, IsOk, Ok, Option, Result, option_map}
 use Rattle.std.specs.Io.KnownBytes.{Appends}
 use Rattle.rules.specs.Parts.{pages}
+use Rattle.rules.specs.Output.{Border, border_within}
 use Rattle.made_sheets.specs.Choice.{RowFault, chosen, signed}
 use Rattle.made_sheets.specs.Made.{MadeSheet}
 use Rattle.made_sheets.specs.MadePlans.{made_plan_of}
@@ -36,16 +37,20 @@ pub record AreSpecPlan (j : SpecJob) (made : List MadeSheet) : Type 0 where
   pub sheets : AreBySpec j made
   pub planned : made_plan_of (pages_of j) made ≡ Ok made
 
+-- the border that each page has, along its edges, if there is one
+abbrev pub border_by_spec : SpecJob → Option Border
+border_by_spec j = border_within (pos 0) j.border
+
 -- the output of such sheets, without marks
 abbrev pub output_by_spec : SpecJob → List MadeSheet → List ℕ
-output_by_spec j made = told_output j.border [] made j.document.now
+output_by_spec j made = told_output (border_by_spec j) [] made j.document.now
 
 -- exactly the output of these sheets was appended, with the lines that report their papers, and the report has its numbers
 pub record ImposesBySpec (j : SpecJob) (old new : Option (List ℕ)) (done : Report) : Type 0 where
   pub made : List MadeSheet
   pub planned : AreSpecPlan j made
   pub written : Appends old new (output_by_spec j made)
-  pub report : ReportsOn j.border [] made j.document.now done
+  pub report : ReportsOn (border_by_spec j) [] made j.document.now done
 
 -- why there are no such sheets: the fault of the row, or, if there is one, a limit that they pass; or memory ran out
 abbrev pub RefusesSheetsBySpec : SpecJob → AskedError → Type 0

@@ -2,6 +2,7 @@
 use Rattle.std.specs.Prelude.{◌≡◌, ℕ, List, length, Option, IsOk, Ok}
 use Rattle.std.specs.Io.KnownBytes.{Appends}
 use Rattle.rules.specs.Parts.{pages}
+use Rattle.rules.specs.Output.{Border, border_within}
 use Rattle.made_sheets.specs.Made.{MadeSheet}
 use Rattle.made_sheets.specs.MadePlans.{made_plan_of}
 use Rattle.sheet_plan.specs.MadeRefusals.{RefusesMade}
@@ -30,9 +31,13 @@ pub record ArePlanned (j : RowJob) (made : List MadeSheet) : Type 0 where
 abbrev pub strokes_on : RowJob → List Stroke
 strokes_on j = strokes_in j.marks j.asked.laying
 
+-- the border that each page has, if there is one
+abbrev pub border_on : RowJob → Option Border
+border_on j = border_within j.inset j.border
+
 -- the output of such sheets
 abbrev pub output_on : RowJob → List MadeSheet → List ℕ
-output_on j made = told_output j.border (strokes_on j) made j.document.now
+output_on j made = told_output (border_on j) (strokes_on j) made j.document.now
 
 -- exactly the output of the sheets that are asked for was appended, and the report has its numbers: so these pages are
 -- printed in this order, each at its place, and nothing else; but on posters they lie inside and apart
@@ -40,7 +45,7 @@ pub record Imposes (j : RowJob) (old new : Option (List ℕ)) (done : Report) : 
   pub made : List MadeSheet
   pub planned : ArePlanned j made
   pub written : Appends old new (output_on j made)
-  pub report : ReportsOn j.border (strokes_on j) made j.document.now done
+  pub report : ReportsOn (border_on j) (strokes_on j) made j.document.now done
 
 -- a refusal names the first fault: of the row; if there is one, of a page in its cell or as a poster; if its pages have their places, of
 -- the sheets. Out of memory comes after the checks of the row

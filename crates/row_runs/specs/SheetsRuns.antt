@@ -1,6 +1,7 @@
 -- What is written of sheets that were made, what is reported of it, and why they are refused.
-use Rattle.std.specs.Prelude.{◌≡◌, ℕ, ◌≤◌, ℤ, List, length, Option, Ok}
+use Rattle.std.specs.Prelude.{◌≡◌, ℕ, ◌≤◌, List, length, Option, Ok}
 use Rattle.rules.specs.Parts.{NestedUnit, pages}
+use Rattle.rules.specs.Output.{Border, border_within}
 use Rattle.made_sheets.specs.Made.{MadeSheet}
 use Rattle.made_sheets.specs.MadeOutput.{made_output}
 use Rattle.made_sheets.specs.MadePlans.{made_layout, made_plan_of}
@@ -16,11 +17,11 @@ use Rattle.row_runs.specs.declared.error.AskedError.TheVariants as error
 
 -- the output of sheets that report their papers, with these strokes at the end of each; without strokes it is that of sheets
 -- that report their papers and no more
-abbrev pub told_output : (border : Option ℤ) → List Stroke → List MadeSheet → List NestedUnit → List ℕ
+abbrev pub told_output : (border : Option Border) → List Stroke → List MadeSheet → List NestedUnit → List ℕ
 told_output border strokes all us = made_output border (marked strokes (telling all)) all us
 
 -- the numbers of a report
-pub record ReportsOn (border : Option ℤ) (strokes : List Stroke) (all : List MadeSheet) (us : List NestedUnit) (report : Report)
+pub record ReportsOn (border : Option Border) (strokes : List Stroke) (all : List MadeSheet) (us : List NestedUnit) (report : Report)
     : Type 0 where
   pub page_count : report.pages ≡ length (pages us)
   pub sheet_count : report.sheets ≡ length all
@@ -28,12 +29,16 @@ pub record ReportsOn (border : Option ℤ) (strokes : List Stroke) (all : List M
   pub swept_within : report.swept ≤ report.sheets
   pub byte_count : report.bytes ≡ length (told_output border strokes all us)
 
+-- the border that each page has, if there is one
+abbrev pub border_in : SheetJob → Option Border
+border_in j = border_within j.inset j.border
+
 -- the output of a job, and the numbers of a report on it
 abbrev pub output_in : SheetJob → List ℕ
-output_in j = told_output j.border j.strokes.now j.sheets.now j.document.now
+output_in j = told_output (border_in j) j.strokes.now j.sheets.now j.document.now
 
 abbrev pub ReportsIn : SheetJob → Report → Type 0
-ReportsIn j report = ReportsOn j.border j.strokes.now j.sheets.now j.document.now report
+ReportsIn j report = ReportsOn (border_in j) j.strokes.now j.sheets.now j.document.now report
 
 -- a refusal names the first fault of the sheets; memory runs out once they are planned
 abbrev pub RefusesSheets : (pages : ℕ) → List MadeSheet → AskedError → Type 0

@@ -21,13 +21,14 @@ use sheet_text::{Dress, Job};
 use std::alloc::{AllocError, Global};
 
 /// The sheets of a document, which was read before: each with its own paper, and with pages that are placed by their own
-/// papers. A border round each page, wider than nothing, if one is asked for; and strokes that are drawn at the end of each
-/// sheet.
+/// papers. A border round each page, wider than nothing, if one is asked for, and how far within the page's edges it is
+/// drawn; and strokes that are drawn at the end of each sheet.
 #[derive(Clone, Copy)]
 pub struct SheetJob<'j, 'd> {
     pub document: &'j Document<'d>,
     pub sheets: &'j MadeSheets,
     pub border: Option<Grains>,
+    pub inset: Grains,
     pub strokes: &'j [Stroke],
 }
 
@@ -80,6 +81,7 @@ impl<'j, 'd> PlannedSheets<'j, 'd> {
             job.document,
             job.sheets,
             job.border,
+            job.inset,
             &self.dress,
         )
     }

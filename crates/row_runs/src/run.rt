@@ -14,14 +14,15 @@ use sheet_plan::MadeSheets;
 use std::alloc::Global;
 
 /// What is imposed of a document, which was read before; the papers of its pages in their order, where those that
-/// aren't known have the sheet's; a border round each page, wider than nothing, if one is asked for; and which marks are drawn
-/// at the end of each sheet.
+/// aren't known have the sheet's; a border round each page, wider than nothing, if one is asked for, and how far within the
+/// page's edges it is drawn; and which marks are drawn at the end of each sheet.
 #[derive(Clone, Copy)]
 pub struct RowJob<'j, 'd> {
     pub document: &'j Document<'d>,
     pub papers: &'j [Paper],
     pub asked: Asked<'j>,
     pub border: Option<Grains>,
+    pub inset: Grains,
     pub marks: Marks,
 }
 

@@ -1,7 +1,8 @@
 -- What a run writes, if specification, document and plan are accepted. The texts are rules of this project. Their
 -- operators (save, restore, concat, clip, showpage) are of the PostScript Language Reference. The clipping path and
 -- the border, which are placed with the page, are of pstops(1), options -w, -h, -p and -d.
-use Rattle.std.specs.Prelude.{ℕ, ◌+◌, List, [], ◌++◌, length, flat_map, codes, decimal, Option, Some, None, ℤ}
+use Rattle.std.specs.Prelude.{◌≡◌, ℕ, ◌+◌, List, [], ◌++◌, length, flat_map, codes, decimal, Option, Some, None}
+use Rattle.std.specs.Prelude.{ℤ, pos, ◌-ℤ◌}
 use Rattle.std.specs.Prelude.{slice_index_or, Result, Ok, Err}
 use Rattle.std.specs.List.{enumerate_from}
 use Rattle.rules.specs.Bytes.{line}
@@ -15,24 +16,49 @@ use Rattle.rules.specs.Units.{FaultyBlock}
 use Rattle.rules.specs.Parts.{NestedUnit, pages}
 use Rattle.rules.specs.Filters.{preamble_text, trailer_text, prepared}
 
--- the paper, and the width in grains of the border around each placed page, if there is one
+-- a border: how wide it is drawn, and how far within each edge of a paper, in grains
+pub record Border : Type 0 where
+  pub width : ℤ
+  pub inset : ℤ
+
+-- so far within the edges a border of this width, if one is given
+abbrev pub border_within : (inset : ℤ) → Option ℤ → Option Border
+border_within inset None = None
+border_within inset (Some width) = Some (record { width = width; inset = inset })
+
+-- the paper, and the border around each placed page, if there is one
 pub record Frame : Type 0 where
   pub paper : Paper
-  pub border : Option ℤ
+  pub border : Option Border
+
+-- a border along the edges
+abbrev pub framed : Paper → Option ℤ → Frame
+framed paper width = record { paper = paper; border = border_within (pos 0) width }
+
+abbrev pub point_text : (x y : ℤ) → List ℕ
+point_text x y = points_text x ++ codes " " ++ points_text y
+
+-- a path around a rectangle that lies so far from the left and from below, and reaches so far
+abbrev pub path_text : (low right top : ℤ) → List ℕ
+path_text low right top =
+    codes "newpath " ++ point_text low low ++ codes " moveto " ++ point_text right low ++ codes " lineto "
+    ++ point_text right top ++ codes " lineto " ++ point_text low top ++ codes " lineto closepath"
 
 -- a path around the paper
 abbrev pub edge_text : Paper → List ℕ
-edge_text paper =
-    let w = points_text paper.width in
-    let h = points_text paper.height in
-    codes "newpath 0 0 moveto " ++ w ++ codes " 0 lineto " ++ w ++ codes " " ++ h ++ codes " lineto 0 " ++ h
-    ++ codes " lineto closepath"
+edge_text paper = path_text (pos 0) paper.width paper.height
 
 -- the line that draws a border
-abbrev pub border_text : Paper → Option ℤ → List ℕ
+abbrev pub border_text : Paper → Option Border → List ℕ
 border_text paper None = []
-border_text paper (Some width) =
-    line (codes "gsave " ++ points_text width ++ codes " setlinewidth " ++ edge_text paper ++ codes " stroke grestore")
+border_text paper (Some b) =
+    line (codes "gsave " ++ points_text b.width ++ codes " setlinewidth "
+    ++ path_text b.inset (paper.width -ℤ b.inset) (paper.height -ℤ b.inset) ++ codes " stroke grestore")
+
+-- a law: without an inset the border is drawn along the path that clips the page
+abbrev pub BorderOnEdge : Type 0
+BorderOnEdge = (paper : Paper) (width : ℤ) → border_text paper (border_within (pos 0) (Some width))
+    ≡ line (codes "gsave " ++ points_text width ++ codes " setlinewidth " ++ edge_text paper ++ codes " stroke grestore")
 
 -- before a placed page: its changes will be restored, its showpage does nothing, and it is placed and clipped
 abbrev pub opening_text : Frame → Item → List ℕ

@@ -1,6 +1,7 @@
 //! Laws of the definitions. The functions do nothing.
 ghost use Rattle.rules.specs.Admissible.{OneAnswer, OneReading};
 ghost use Rattle.rules.specs.Numbers.{NumberIsPrinted, NumberWithoutZero, PrintedIsPrinted};
+ghost use Rattle.rules.specs.Output.{BorderOnEdge};
 ghost use Rattle.rules.specs.Parts.{PartsMakeText};
 ghost use Rattle.rules.specs.Placement.{MatrixPuts};
 ghost use Rattle.rules.specs.Sheets.{SheetCount};
@@ -60,6 +61,11 @@ pub fn each_page_once()
 /// A matrix sends each whole point where its item puts it.
 pub fn matrix_puts()
     ensures { MatrixPuts }
+{}
+
+/// Without an inset a border is drawn along the path that clips the page.
+pub fn border_on_edge()
+    ensures { BorderOnEdge }
 {}
 
 /// A text is cut into its units, and only into these.

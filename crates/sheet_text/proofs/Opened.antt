@@ -12,7 +12,7 @@ use Rattle.rules.specs.Bytes.{line}
 use Rattle.rules.specs.Papers.{Paper, grains}
 use Rattle.rules.specs.Specification.{Item, Turn, Measure}
 use Rattle.rules.specs.Placement.{Matrix, matrix, matrix_text}
-use Rattle.rules.specs.Output.{Frame, edge_text, border_text, opening_text}
+use Rattle.rules.specs.Output.{Border, Frame, border_within, edge_text, border_text, opening_text}
 
 -- a text of a matrix, with the lines round it
 around : Frame → Matrix → List ℕ
@@ -27,7 +27,7 @@ matrix_for : Paper → Turn → ℤ → Measure → Measure → Matrix
 matrix_for paper turn scale x y = matrix turn scale (record { x = grains paper x.number x.unit; y = grains paper y.number y.unit })
 
 -- the text for an item is also the one for another that places its page alike
-pub alike : (p q : Paper) (m n : Option ℤ) (i j : Item) (text : List ℕ) → text ≡ opening_text (record { paper = p; border = m }) i
+pub alike : (p q : Paper) (m n : Option Border) (i j : Item) (text : List ℕ) → text ≡ opening_text (record { paper = p; border = m }) i
     → i.turn ≡ j.turn → i.scale ≡ j.scale → i.x ≡ j.x → i.y ≡ j.y → p ≡ q → m ≡ n → text ≡ opening_text (record { paper = q; border = n }) j
 unfolding around matrix_for
 alike p q m n i j text is turn scale x y paper border =
@@ -47,6 +47,9 @@ option_same None None t is told = refl
 option_same None (Some y) t is told = cc
 option_same (Some x) None t is told = cc
 option_same (Some x) (Some y) t is told = ap (λ v. Some v) (int_same x y t is told)
+
+pub border_same : (inset other : ℤ) (a b : Option ℤ) → inset ≡ other → a ≡ b → border_within inset a ≡ border_within other b
+border_same inset other a b e f = ap (λ t. border_within t a) e ∙ ap (border_within other) f
 
 both : (s t : Bool) → (s && t) ≡ true → (s ≡ true) × (t ≡ true)
 both true t e = (refl, e)

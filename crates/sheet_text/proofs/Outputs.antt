@@ -1,18 +1,19 @@
 -- The output of a job is that of its sheets with their lines.
 use Rattle.std.proofs.Common.{ℕ, suc, List, [], ◌∷◌, ◌+◌, ◌<◌, ◌++◌, ◌≡◌, ap, sym, refl, ◌∙◌, length, arith}
-use Rattle.std.specs.Prelude.{map, flat_map, slice_index_or, Option, ℤ}
+use Rattle.std.specs.Prelude.{map, flat_map, slice_index_or, Option}
 use Rattle.std.specs.List.{enumerate_from, range_with_len}
 use Rattle.std.proofs.lemmas.List.{length-map}
 use Rattle.rules.specs.Sheets.{Plan}
 use Rattle.rules.specs.Parts.{pages}
 use Rattle.rules.specs.Filters.{trailer_text}
+use Rattle.rules.specs.Output.{Border}
 use Rattle.made_sheets.specs.Dressed.{DressedSheet, dressed_sheet_text, dressed_output}
 use Rattle.made_sheets.specs.MadeOutput.{dressed_preamble}
 use Rattle.made_sheets.specs.MadePlans.{page_of}
 use Rattle.sheet_text.specs.Jobs.{JobView, AreOfPlan, no_sheet, text_of, output_of}
 
 -- texts by number are those of the sheets
-texts_are : (border : Option ℤ) (texts : List (List ℕ)) (text : ℕ → List ℕ) (k : ℕ) (sheets : List DressedSheet)
+texts_are : (border : Option Border) (texts : List (List ℕ)) (text : ℕ → List ℕ) (k : ℕ) (sheets : List DressedSheet)
     → ((i s : ℕ) → i < length sheets → s ≡ k + i → text s ≡ dressed_sheet_text border texts s (slice_index_or sheets i no_sheet))
     → flat_map text (range_with_len k (length sheets)) ≡ flat_map (λ (s, sheet). dressed_sheet_text border texts s sheet) (enumerate_from k sheets)
 texts_are border texts text k [] each = refl

@@ -1,6 +1,6 @@
 -- The slots of a sheet and their texts.
 use Rattle.std.proofs.Common.{ℕ, zero, suc, List, [], ◌∷◌, Option, Some, None, ◌+◌, ◌<◌, ◌++◌, ◌≡◌, ap, sym, refl, ◌∙◌, length, take, arith, append_assoc}
-use Rattle.std.specs.Prelude.{slice_get, slice_index_or, map, flat_map, option_map, Ok, ℤ, IfSome}
+use Rattle.std.specs.Prelude.{slice_get, slice_index_or, map, flat_map, option_map, Ok, IfSome}
 use Rattle.pagespec.specs.Items.{item_of}
 use Rattle.sheet_plan.specs.OfSheets.{placed_of}
 use Rattle.sheet_plan.specs.declared.made.PlacedSlot.{PlacedSlot}
@@ -13,7 +13,7 @@ use Rattle.rules.specs.Specification.{Item}
 use Rattle.rules.specs.Sheets.{Plan}
 use Rattle.rules.specs.Parts.{pages}
 use Rattle.rules.specs.Filters.{prepared}
-use Rattle.rules.specs.Output.{opening_text, body_text, closing_text}
+use Rattle.rules.specs.Output.{Border, opening_text, body_text, closing_text}
 use Rattle.made_sheets.specs.Made.{MadeSlot, Blank, Placed}
 use Rattle.made_sheets.specs.Dressed.{DressedSheet}
 use Rattle.made_sheets.specs.MadeOutput.{made_slot_text}
@@ -70,7 +70,7 @@ joined : (old opened body closed : List ℕ) → ((old ++ opened) ++ body) ++ cl
 joined old opened body closed = ap (λ x. x ++ closed) (append_assoc old opened body) ∙ append_assoc old (opened ++ body) closed
 
 -- the text of a slot that has a page
-pub slot_is : (border : Option ℤ) (texts : List (List ℕ)) (p : ℕ) (item : Item) (paper : Paper) (it : MadeSlot) (old one two three body : List ℕ) → Placed p item paper ≡ it
+pub slot_is : (border : Option Border) (texts : List (List ℕ)) (p : ℕ) (item : Item) (paper : Paper) (it : MadeSlot) (old one two three body : List ℕ) → Placed p item paper ≡ it
     → one ≡ old ++ opening_text (record { paper = paper; border = border }) item → two ≡ one ++ body → three ≡ two ++ closing_text → prepared (slice_index_or texts p []) ≡ Ok body
     → three ≡ old ++ made_slot_text border texts it
 slot_is border texts p item paper it old one two three body is first second third made =
@@ -82,7 +82,7 @@ slot_is border texts p item paper it old one two three body is first second thir
     ∙ ap (λ slot. old ++ made_slot_text border texts slot) is
 
 -- a body with the texts that open and close it
-pub placed_is : (border : Option ℤ) (p q : ℕ) (item other : Item) (paper sheet : Paper) (old one two three body : List ℕ) → Placed p item paper ≡ Placed q other sheet
+pub placed_is : (border : Option Border) (p q : ℕ) (item other : Item) (paper sheet : Paper) (old one two three body : List ℕ) → Placed p item paper ≡ Placed q other sheet
     → one ≡ old ++ opening_text (record { paper = paper; border = border }) item → two ≡ one ++ body → three ≡ two ++ closing_text
     → three ≡ old ++ (opening_text (record { paper = sheet; border = border }) other ++ body ++ closing_text)
 placed_is border p q item other paper sheet old one two three body is first second third =
@@ -96,7 +96,7 @@ placed_is border p q item other paper sheet old one two three body is first seco
     opened (Placed k i r) = opening_text (record { paper = r; border = border }) i
 
 -- a body that was prepared for the page of a slot is the slot's text, opened and closed
-pub slot_shelved : (border : Option ℤ) (texts : List (List ℕ)) (plan : Plan) (sheets : List DressedSheet) (s k p : ℕ) (it : MadeSlot) (old new raw body : List ℕ) → AreOfPlan plan sheets
+pub slot_shelved : (border : Option Border) (texts : List (List ℕ)) (plan : Plan) (sheets : List DressedSheet) (s k p : ℕ) (it : MadeSlot) (old new raw body : List ℕ) → AreOfPlan plan sheets
     → slice_get (pages_on plan s) k ≡ Some (Some p) → slice_get (slice_index_or sheets s no_sheet).slots k ≡ Some it
     → ((q : ℕ) (item : Item) (paper : Paper) → slice_get (slice_index_or sheets s no_sheet).slots k ≡ Some (Placed q item paper) → new ≡ old ++ (opening_text (record { paper = paper; border = border }) item ++ body ++ closing_text))
     → raw ≡ slice_index_or texts p [] → prepared raw ≡ Ok body → new ≡ old ++ made_slot_text border texts it

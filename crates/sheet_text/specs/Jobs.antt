@@ -6,7 +6,7 @@ use Rattle.rules.specs.Bytes.{line}
 use Rattle.rules.specs.Sheets.{Plan, layout}
 use Rattle.rules.specs.Parts.{NestedUnit, pages}
 use Rattle.rules.specs.Filters.{trailer_text}
-use Rattle.rules.specs.Output.{Frame}
+use Rattle.rules.specs.Output.{Border, Frame}
 use Rattle.made_sheets.specs.Made.{MadeSlot, made_of}
 use Rattle.made_sheets.specs.Dress.{undressed}
 use Rattle.made_sheets.specs.Dressed.{DressedSheet, dressed_sheets, dressed_sheet_text}
@@ -17,7 +17,7 @@ use Rattle.made_sheets.specs.MadePlans.{page_of}
 pub record JobView : Type 0 where
   pub plan : Plan
   pub units : List NestedUnit
-  pub border : Option ℤ
+  pub border : Option Border
   pub header : List (List ℕ)
   pub sheets : List DressedSheet
 

@@ -5,13 +5,13 @@ use Rattle.made_sheets.specs.Made.{made_of}
 use Rattle.made_sheets.specs.Dress.{undressed}
 use Rattle.made_sheets.specs.Dressed.{DressedSheet, dressed_sheets}
 use Rattle.sheet_text.specs.Dressings.{dressed_by}
-use Rattle.sheet_text.specs.declared.papers.Papers.{Papers}
-use Rattle.sheet_text.specs.declared.papers.Papers.TheVariants.{One, Made}
+use Rattle.sheet_text.specs.declared.papers.SheetPapers.{SheetPapers}
+use Rattle.sheet_text.specs.declared.papers.SheetPapers.TheVariants.{One, Made}
 
-abbrev pub sheets_on : Papers → Plan → List DressedSheet
+abbrev pub sheets_on : SheetPapers → Plan → List DressedSheet
 sheets_on (One paper) plan = dressed_sheets undressed (made_of paper plan.sheets)
 sheets_on (Made sheets dress) plan = dressed_by dress.now.hems sheets.now
 
-abbrev pub header_on : Papers → List (List ℕ)
+abbrev pub header_on : SheetPapers → List (List ℕ)
 header_on (One paper) = []
 header_on (Made sheets dress) = dress.now.header

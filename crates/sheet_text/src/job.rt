@@ -2,7 +2,7 @@
 ghost use Rattle.std.specs.Prelude.{◌≡◌, ℕ, ◌<◌, [], length, IsTrue, IfSome, Option, Some, slice_get, slice_index_or};
 ghost use Rattle.rules.specs.Parts.{pages};
 ghost use Rattle.rules.specs.Specification.{Spec};
-ghost use Rattle.rules.specs.Output.{output, sheet_text};
+ghost use Rattle.rules.specs.Output.{border_within, framed, output, sheet_text};
 ghost use Rattle.made_sheets.specs.Dress.{lines_text};
 ghost use Rattle.made_sheets.specs.Dressed.{dressed_output};
 ghost use Rattle.sheet_plan.specs.OfSheets.{made_plan, placed_of};
@@ -11,25 +11,27 @@ ghost use Rattle.sheet_text.specs.Dressings.{dressed_by};
 ghost use Rattle.sheet_text.specs.Jobs.{JobView, AreOfPlan, of_frame, is_border, output_of, text_of, sheet_of, slots_of};
 
 use crate::dress::Dress;
-use crate::papers::Papers;
+use crate::papers::SheetPapers;
 use dsc::Document;
 use lengths::{Grains, Paper};
 use sheet_plan::{MadeSheets, PlacedSlot, Plan};
 use std::marker::Model;
 
 /// A plan of the pages of a document, the papers that they are made for, a border round each placed page, if one is
-/// asked for, and the lines that the output gets besides.
+/// asked for, how far it is within the page's edges, and the lines that the output gets besides.
 #[derive(Drop)]
 pub struct Job<'j, 'd> {
     plan: &'j Plan<'j>,
     document: &'j Document<'d>,
     pub(crate) border: Option<Grains>,
-    papers: Papers<'j>,
+    pub(crate) inset: Grains,
+    papers: SheetPapers<'j>,
     sheets: u32,
 }
 
 impl<'j, 'd> Model for Job<'j, 'd> {
     ghost use Rattle.std.specs.Prelude.{◌≡◌, length};
+    ghost use Rattle.rules.specs.Output.{border_within};
     ghost use Rattle.rules.specs.Parts.{pages};
     ghost use Rattle.sheet_plan.specs.Plans.{IsSound};
     ghost use Rattle.sheet_text.specs.Jobs.{JobView, AreOfPlan};
@@ -40,7 +42,7 @@ impl<'j, 'd> Model for Job<'j, 'd> {
     ghost view = { λ j. record {
       plan = j.plan.now;
       units = j.document.now;
-      border = j.border;
+      border = border_within j.inset j.border;
       header = header_on j.papers;
       sheets = sheets_on j.papers j.plan.now;
     } };
@@ -60,31 +62,34 @@ impl<'j, 'd> Job<'j, 'd> {
     ) -> Self
         requires same_pages { plan.now.pages ≡ length (pages document.now) }
         requires border { IsTrue (is_border border) }
-        ensures value { result ≡ of_frame plan.now document.now (record { paper = paper; border = border }) }
+        ensures value { result ≡ of_frame plan.now document.now (framed paper border) }
 
         // If the plan is that of a specification, in signatures or not, the output is the specification's.
         ensures output { (sides : Option ℕ) (spec : Spec) → plan.now ≡ planned_in sides spec (length (pages document.now))
-            → output_of result ≡ output (record { paper = paper; border = border }) sides spec document.now }
+            → output_of result ≡ output (framed paper border) sides spec document.now }
 
         // Each sheet has the text of the plan's sheet with its number.
-        ensures texts { (s : ℕ) → text_of result s ≡ sheet_text (record { paper = paper; border = border })
+        ensures texts { (s : ℕ) → text_of result s ≡ sheet_text (framed paper border)
             (pages document.now) s (slice_index_or plan.now.sheets s []) }
     {
         Job {
             plan,
             document,
             border,
-            papers: Papers::One(paper),
+            inset: Grains::ZERO,
+            papers: SheetPapers::One(paper),
             sheets: plan.sheets(),
         }
     }
 
-    /// The plan is that of these sheets, on the document's pages, and each sheet has its lines.
+    /// The plan is that of these sheets, on the document's pages, and each sheet has its lines. A border is drawn so far
+    /// within each edge of its page.
     pub fn made(
         plan: &'j Plan<'j>,
         document: &'j Document<'d>,
         sheets: &'j MadeSheets,
         border: Option<Grains>,
+        inset: Grains,
         dress: &'j Dress,
     ) -> Self
         requires same_pages { plan.now.pages ≡ length (pages document.now) }
@@ -94,18 +99,19 @@ impl<'j, 'd> Job<'j, 'd> {
         ensures value { result ≡ record {
           plan = plan.now;
           units = document.now;
-          border = border;
+          border = border_within inset border;
           header = dress.now.header;
           sheets = dressed_by dress.now.hems sheets.now;
         } }
         ensures output { output_of result
-            ≡ dressed_output border dress.now.header (dressed_by dress.now.hems sheets.now) document.now }
+            ≡ dressed_output (border_within inset border) dress.now.header (dressed_by dress.now.hems sheets.now) document.now }
     {
         Job {
             plan,
             document,
             border,
-            papers: Papers::Made(sheets, dress),
+            inset,
+            papers: SheetPapers::Made(sheets, dress),
             sheets: plan.sheets(),
         }
     }
@@ -139,8 +145,8 @@ impl<'j, 'd> Job<'j, 'd> {
         ensures { result.now ≡ lines_text self.now.header }
     {
         match &self.papers {
-            Papers::One(_) => &[],
-            Papers::Made(_, dress) => dress.header().text(),
+            SheetPapers::One(_) => &[],
+            SheetPapers::Made(_, dress) => dress.header().text(),
         }
     }
 
@@ -150,8 +156,8 @@ impl<'j, 'd> Job<'j, 'd> {
         ensures { result.now ≡ lines_text (sheet_of self.now sheet).start }
     {
         match &self.papers {
-            Papers::One(_) => &[],
-            Papers::Made(_, dress) => dress.of_sheet(sheet).start.text(),
+            SheetPapers::One(_) => &[],
+            SheetPapers::Made(_, dress) => dress.of_sheet(sheet).start.text(),
         }
     }
 
@@ -161,8 +167,8 @@ impl<'j, 'd> Job<'j, 'd> {
         ensures { result.now ≡ lines_text (sheet_of self.now sheet).finish }
     {
         match &self.papers {
-            Papers::One(_) => &[],
-            Papers::Made(_, dress) => dress.of_sheet(sheet).finish.text(),
+            SheetPapers::One(_) => &[],
+            SheetPapers::Made(_, dress) => dress.of_sheet(sheet).finish.text(),
         }
     }
 
@@ -174,7 +180,7 @@ impl<'j, 'd> Job<'j, 'd> {
         ensures page { IfSome result (λ placed. placed.page < length (pages self.now.units)) }
     {
         match &self.papers {
-            Papers::One(paper) => match self.plan.page_of(sheet, slot) {
+            SheetPapers::One(paper) => match self.plan.page_of(sheet, slot) {
                 Some(page) => Some(PlacedSlot {
                     page,
                     item: self.plan.item_of(sheet, slot),
@@ -182,7 +188,7 @@ impl<'j, 'd> Job<'j, 'd> {
                 }),
                 None => None,
             },
-            Papers::Made(sheets, _) => sheets.placed(sheet, u32::from(slot)),
+            SheetPapers::Made(sheets, _) => sheets.placed(sheet, u32::from(slot)),
         }
     }
 }

@@ -1,13 +1,13 @@
 //! The texts before placed pages, each printed once and kept.
 ghost use Rattle.std.specs.Prelude.{◌≡◌, ◌++◌, OnOk, IfOk, IfSome, true, false};
-ghost use Rattle.rules.specs.Output.{Frame, opening_text as opening};
+ghost use Rattle.rules.specs.Output.{Frame, border_within, opening_text as opening};
 ghost use Rattle.pagespec.specs.Items.{item_of};
 
 use crate::job::Job;
 use crate::rope::Rope;
 use lengths::{Grains, Paper};
 use pagespec::{Item, Measure};
-use placement::opening_text;
+use placement::opening_within;
 use std::alloc::{AllocError, Global};
 use std::marker::Model;
 
@@ -32,14 +32,16 @@ impl Model for Openings {
     ghost invariant = { λ o. vec_len o.kept ≤ 64 };
 }
 
-/// What is written before a page that is placed by this item on this paper, with a border of this width if there is one.
+/// What is written before a page that is placed by this item on this paper, with a border of this width so far within its
+/// edges, if there is one.
 #[derive(Drop)]
 struct Opening {
     item: Item,
     paper: Paper,
     border: Option<Grains>,
+    inset: Grains,
     text: Vec<u8>,
-    ghost opens: { let frame : Frame = record { paper = paper; border = border }
+    ghost opens: { let frame : Frame = record { paper = paper; border = border_within inset border }
         in text.items ≡ opening frame (item_of item) },
 }
 
@@ -68,7 +70,7 @@ impl Openings {
             return Ok(());
         }
         let mut text = Vec::new(self.alloc);
-        opening_text(item, paper, job.border, &mut text)?;
+        opening_within(item, paper, job.border, job.inset, &mut text)?;
         out.append(text.as_slice())?;
         self.keep(job, item, paper, text)?;
         Ok(())
@@ -112,6 +114,7 @@ impl Openings {
             item: *item,
             paper: *paper,
             border: job.border,
+            inset: job.inset,
             text,
         };
         self.kept.push(opening)?;
@@ -130,6 +133,7 @@ impl Opening {
             && is_same(self.item.offset.1, item.offset.1)
             && self.paper == *paper
             && self.border == job.border
+            && self.inset == job.inset
         {
             Some(self.text.as_slice())
         } else {

@@ -5,7 +5,7 @@ use sheet_plan::MadeSheets;
 
 /// One paper for all pages; or sheets that were made, whose pages have papers of their own, and their lines.
 #[derive(Drop)]
-pub(crate) enum Papers<'j> {
+pub(crate) enum SheetPapers<'j> {
     One(Paper),
     Made(&'j MadeSheets, &'j Dress),
 }

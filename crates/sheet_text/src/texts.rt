@@ -1,7 +1,7 @@
 //! Texts of several sheets in the same memory.
 ghost use Rattle.std.specs.Prelude.{◌≡◌, ◌<◌, ◌≤◌, ◌+◌, ◌++◌, ◌∷◌, [], length, take, drop, IfOk, OnOk, OnErr, Some, slice_get};
 ghost use Rattle.sheet_text.specs.Texts.{joined, texts_in, AreIn};
-ghost use Rattle.sheet_text.specs.declared.texts.Part.{Part};
+ghost use Rattle.sheet_text.specs.declared.texts.TextPart.{TextPart};
 
 use crate::rope::{Pieces, Placed, Rope};
 use std::alloc::{AllocError, Global};
@@ -13,13 +13,13 @@ use std::mem;
 pub struct Texts<'r> {
     alloc: Global,
     own: Vec<u8>,
-    parts: Vec<Part<'r>>,
+    parts: Vec<TextPart<'r>>,
 }
 
 /// A text: where its own bytes begin and end, and the slices between them, whose places are counted from where they
 /// begin.
 #[derive(Drop)]
-struct Part<'r> {
+struct TextPart<'r> {
     start: usize,
     end: usize,
     slices: Vec<Placed<'r>>,
@@ -86,7 +86,7 @@ impl<'r> Texts<'r> {
         self.own.extend_from_slice(text.own.as_slice())?;
         let slices = mem::replace(&mut text.slices, Vec::new(self.alloc));
         text.own.clear();
-        self.parts.push_reserved(Part {
+        self.parts.push_reserved(TextPart {
             start,
             end: self.own.len(),
             slices,
@@ -135,11 +135,11 @@ impl<'r> Texts<'r> {
 
 /// How many texts come right after each other from this one on, none of which has slices, so many at most, and their
 /// bytes.
-fn plain<'p>(own: &'p [u8], parts: &[Part<'_>], nth: usize, most: usize) -> (usize, &'p [u8])
+fn plain<'p>(own: &'p [u8], parts: &[TextPart<'_>], nth: usize, most: usize) -> (usize, &'p [u8])
     requires nth { nth < length parts.now }
     requires most { 0 < most }
     requires parts { AreIn own.now parts.now }
-    requires plain { (part : Part) → slice_get parts.now nth ≡ Some part → part.slices.items ≡ [] }
+    requires plain { (part : TextPart) → slice_get parts.now nth ≡ Some part → part.slices.items ≡ [] }
     ensures count { (0 < result.0) × (result.0 ≤ most) × (nth + result.0 ≤ length parts.now) }
     ensures bytes { result.1.now ≡ joined (take result.0 (drop nth (texts_in own.now parts.now))) }
 {

@@ -152,7 +152,7 @@ pub fn write_early<'r, S: Sink, B: Spent<'r>>(
 
 /// How a run ended, and how many sheets no worker imposed.
 #[derive(Clone, Copy, Debug)]
-pub struct Rest {
+pub struct RunEnd {
     pub progress: Progress,
     pub swept: u32,
 }
@@ -166,7 +166,7 @@ pub fn write_rest<S: Sink>(
     progress: Progress,
     early: &Early<'_>,
     trailer: &[u8],
-) -> Rest
+) -> RunEnd
     requires countable { progress.halted ≡ None → IsCountable (S.seen sink.old) }
     requires next { progress.halted ≡ None → progress.next ≤ length job.now.plan.sheets }
     requires early { AreEarly job.now early.now.groups.items }
@@ -181,15 +181,15 @@ pub fn write_rest<S: Sink>(
     let mut progress = progress;
     let mut swept = 0;
     if progress.halted.is_some() {
-        return Rest { progress, swept };
+        return RunEnd { progress, swept };
     }
     for _ in progress.next..job.sheets() {
         progress = write_next(alloc, job, sink, progress, early, &mut swept);
         if progress.halted.is_some() {
-            return Rest { progress, swept };
+            return RunEnd { progress, swept };
         }
     }
-    Rest {
+    RunEnd {
         progress: write_text(sink, progress, trailer),
         swept,
     }

@@ -1,6 +1,6 @@
 //! Faults that no small command line brings about, by their names.
 use dsc::DscError;
-use impose_cli::{CommandFault, Fault};
+use impose_cli::{ImposeFault, RequestFault};
 use imposer::RunError;
 use layouts::ArrangementError;
 use pagespec::SpecError;
@@ -10,7 +10,7 @@ use std::io;
 use std::io::ErrorKind;
 
 /// The fault of that name, which may have a number: `Spec.Syntax(12)`.
-pub fn fault_named(name: &str) -> Option<Fault> {
+pub fn fault_named(name: &str) -> Option<ImposeFault> {
     let (name, number) = match name.split_once('(') {
         None => (name, 0),
         Some((name, rest)) => match rest.strip_suffix(')') {
@@ -23,7 +23,7 @@ pub fn fault_named(name: &str) -> Option<Fault> {
     };
     if let Some(name) = name.strip_prefix("Spec.") {
         return match spec_error_named(name, number) {
-            Some(error) => Some(Fault::Run(RunError::Spec(error))),
+            Some(error) => Some(ImposeFault::Run(RunError::Spec(error))),
             None => None,
         };
     }
@@ -48,38 +48,40 @@ fn spec_error_named(name: &str, number: u32) -> Option<SpecError> {
     }
 }
 
-fn write_fault_named(name: &str, written: u64) -> Option<Fault> {
+fn write_fault_named(name: &str, written: u64) -> Option<ImposeFault> {
     let kind = match name {
         "" => {
             let cause = None;
-            return Some(Fault::Write { written, cause });
+            return Some(ImposeFault::Write { written, cause });
         }
         ".BrokenPipe" => ErrorKind::BrokenPipe,
         ".StorageFull" => ErrorKind::StorageFull,
         _ => return None,
     };
-    Some(Fault::Write {
+    Some(ImposeFault::Write {
         written,
         cause: Some(io::Error::from(kind)),
     })
 }
 
-fn other_fault_named(name: &str, written: u64) -> Option<Fault> {
+fn other_fault_named(name: &str, written: u64) -> Option<ImposeFault> {
     match name {
-        "NoText" => Some(Fault::Command(CommandFault::NoText)),
-        "NoMemory" => Some(Fault::Command(CommandFault::NoMemory)),
-        "Read" => Some(Fault::Read(None)),
-        "TooLong" => Some(Fault::TooLong),
-        "Run.NoMemory" => Some(Fault::Run(RunError::NoMemory { written })),
-        "Document.TooLong" => Some(Fault::Run(RunError::Document(DscError::TooLong))),
-        "Document.TooManyPages" => Some(Fault::Run(RunError::Document(DscError::TooManyPages))),
-        "Plan.TooManySheets" => Some(Fault::Run(RunError::Plan(PlanError::TooManySheets))),
-        "Plan.TooManyPages" => Some(Fault::Run(RunError::Plan(PlanError::TooManyPages))),
-        "Plan.TooManyPlaces" => Some(Fault::Run(RunError::Plan(PlanError::TooManyPlaces))),
-        "Sheets.TooManySheets" => Some(Fault::Sheets(MadeError::TooManySheets)),
-        "Layout.CellsOutOfRange" => Some(Fault::Layout(ArrangementError::CellsOutOfRange)),
-        "Layout.ScaleOutOfRange" => Some(Fault::Layout(ArrangementError::ScaleOutOfRange)),
-        "Poster.TilesOutOfRange" => Some(Fault::Poster(PosterError::TilesOutOfRange)),
+        "NoText" => Some(ImposeFault::Command(RequestFault::NoText)),
+        "NoMemory" => Some(ImposeFault::Command(RequestFault::NoMemory)),
+        "Read" => Some(ImposeFault::Read(None)),
+        "TooLong" => Some(ImposeFault::TooLong),
+        "Run.NoMemory" => Some(ImposeFault::Run(RunError::NoMemory { written })),
+        "Document.TooLong" => Some(ImposeFault::Run(RunError::Document(DscError::TooLong))),
+        "Document.TooManyPages" => Some(ImposeFault::Run(RunError::Document(
+            DscError::TooManyPages,
+        ))),
+        "Plan.TooManySheets" => Some(ImposeFault::Run(RunError::Plan(PlanError::TooManySheets))),
+        "Plan.TooManyPages" => Some(ImposeFault::Run(RunError::Plan(PlanError::TooManyPages))),
+        "Plan.TooManyPlaces" => Some(ImposeFault::Run(RunError::Plan(PlanError::TooManyPlaces))),
+        "Sheets.TooManySheets" => Some(ImposeFault::Sheets(MadeError::TooManySheets)),
+        "Layout.CellsOutOfRange" => Some(ImposeFault::Layout(ArrangementError::CellsOutOfRange)),
+        "Layout.ScaleOutOfRange" => Some(ImposeFault::Layout(ArrangementError::ScaleOutOfRange)),
+        "Poster.TilesOutOfRange" => Some(ImposeFault::Poster(PosterError::TilesOutOfRange)),
         _ => None,
     }
 }

@@ -3,7 +3,8 @@ use crate::asked::{Asked, asked_of};
 use crate::cut_off::found_of_cut_offs;
 use crate::made_faults::fault_named;
 use impose_cli::{
-    CommandFault, Done, Ended, Fault, RoomyText, fault_status, impose, read_command, text_said,
+    Done, Ended, ImposeFault, RequestFault, RoomyText, fault_status, impose, read_command,
+    text_said,
 };
 use lengths::paper_by_name;
 use std::alloc::{AllocError, Global};
@@ -104,9 +105,9 @@ fn found_at_the_end(
 }
 
 /// Help and the version, which go to standard output.
-fn printed(alloc: Global, outcome: &Result<Done, Fault>) -> Result<Vec<u8>, AllocError> {
+fn printed(alloc: Global, outcome: &Result<Done, ImposeFault>) -> Result<Vec<u8>, AllocError> {
     match outcome {
-        Err(Fault::Command(CommandFault::Words(asked))) if !asked.use_stderr() => {
+        Err(ImposeFault::Command(RequestFault::Words(asked))) if !asked.use_stderr() => {
             let text = format!(in alloc; "{asked}")?;
             Vec::from_slice(alloc, text.as_str().as_bytes())
         }

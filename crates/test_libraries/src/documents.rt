@@ -19,7 +19,7 @@ use crate::documents::known_laws::call_laws;
 use crate::documents::paper_commands::answer_of_papers;
 use crate::documents::row_commands::answer_of_rows;
 use crate::documents::words::words_of;
-use crate::refusals::{MOST_REFUSED, reports_no_memory};
+use crate::refusals::{MOST_REFUSED, is_fair};
 use std::alloc::Global;
 use test_cases::{Case, Document, Found, Tally, load};
 use test_tools::{has_refused, refuse};
@@ -49,9 +49,10 @@ pub fn run_all(rt: &HostRuntime) -> anyhow::Result<()> {
     tally.end(rt)
 }
 
-/// The result of a command, once no growth of it is refused. One in which a growth is refused fails, or reports that memory
-/// is out.
+/// The result of a command, once no growth of it is refused. One in which a growth is refused fails, reports that memory is
+/// out, or has the result that it always has.
 fn found(alloc: Global, case: &Case, documents: &[Document]) -> anyhow::Result<Found> {
+    let usual = found_once(alloc, case, documents)?;
     for number in 1..MOST_REFUSED {
         refuse(alloc, number);
         let found = found_once(alloc, case, documents);
@@ -59,7 +60,7 @@ fn found(alloc: Global, case: &Case, documents: &[Document]) -> anyhow::Result<F
             return found;
         }
         if let Ok(mut found) = found {
-            if !reports_no_memory(found.output.as_slice()) {
+            if !is_fair(found.output.as_slice(), usual.output.as_slice()) {
                 found
                     .error
                     .extend_from_slice(b"a refused growth isn't reported\n")?;
@@ -67,7 +68,7 @@ fn found(alloc: Global, case: &Case, documents: &[Document]) -> anyhow::Result<F
             }
         }
     }
-    found_once(alloc, case, documents)
+    Ok(usual)
 }
 
 /// The result of a command: its answer, or why it has none.

@@ -12,7 +12,7 @@ mod printed;
 mod specifications;
 mod words;
 
-use crate::refusals::{MOST_REFUSED, reports_no_memory};
+use crate::refusals::{MOST_REFUSED, is_fair};
 use crate::specifications::answer::Answer;
 use test_cases::{Case, CaseFile, Found, Tally, load};
 use test_tools::{has_refused, refuse};
@@ -64,9 +64,10 @@ fn found(rt: &HostRuntime, output: Vec<u8>) -> Found {
     }
 }
 
-/// The result of a command, if it is one, once no growth of it is refused. One in which a growth is refused has no result, or
-/// reports that memory is out.
+/// The result of a command, if it is one, once no growth of it is refused. One in which a growth is refused has no result,
+/// reports that memory is out, or has the result that it always has.
 fn answer_of(rt: &HostRuntime, case: &Case) -> Option<Vec<u8>> {
+    let usual = answer_once(rt, case)?;
     for number in 1..MOST_REFUSED {
         refuse(rt.alloc(), number);
         let answer = answer_once(rt, case);
@@ -74,12 +75,12 @@ fn answer_of(rt: &HostRuntime, case: &Case) -> Option<Vec<u8>> {
             return answer;
         }
         if let Some(text) = answer {
-            if !reports_no_memory(text.as_slice()) {
+            if !is_fair(text.as_slice(), usual.as_slice()) {
                 return Vec::from_slice(rt.alloc(), b"a refused growth isn't reported\n").ok();
             }
         }
     }
-    answer_once(rt, case)
+    Some(usual)
 }
 
 /// The result of a command, if it is one.

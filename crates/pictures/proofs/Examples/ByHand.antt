@@ -7,7 +7,7 @@ use Rattle.rules.specs.Papers.{Pt, points}
 use Rattle.rules.specs.Specification.{Modifier, Moved, Spec}
 use Rattle.rules.specs.Units.{◌>>=◌}
 use Rattle.rules.specs.Run.{document_of, DocumentFault}
-use Rattle.rules.specs.Output.{Frame, output}
+use Rattle.rules.specs.Output.{Frame, framed, output}
 use Rattle.rules.proofs.Examples.Written.{measure}
 use Rattle.pictures.specs.Objects.{Number, Plain, Array, Call}
 use Rattle.pictures.specs.Machine.{Segment, Clip, Painting}
@@ -45,7 +45,7 @@ abbrev pub paper : Frame
 paper = record { paper = points 200 300; border = None }
 
 abbrev pub bordered : Frame
-bordered = record { paper = points 200 300; border = Some (pos 127_000_000_000) }
+bordered = framed (points 200 300) (Some (pos 127_000_000_000))
 
 -- around that paper
 abbrev pub edge : List Call → List Segment

@@ -8,7 +8,7 @@ use Rattle.rules.specs.Papers.{Pt, Cm, points}
 use Rattle.rules.specs.Specification.{Quarters, Scaled, Moved, Measure, WrittenItem, Spec, settled}
 use Rattle.rules.specs.Units.{◌>>=◌}
 use Rattle.rules.specs.Run.{document_of, DocumentFault}
-use Rattle.rules.specs.Output.{Frame, output}
+use Rattle.rules.specs.Output.{Frame, framed, output}
 use Rattle.rules.proofs.Examples.Written.{item, measure, written}
 
 abbrev lines : List (List ℕ) → List ℕ
@@ -153,7 +153,7 @@ unfolding digits
 page_twice_on_a_sheet = refl
 
 -- `0` with a border of 1 pt: the copy of 273 bytes, and a line of 107
-border_of_one_point : bytes_in (record { paper = points 595 842; border = Some (pos 127_000_000_000) }) (read 1 ((plain 0 ∷ []) ∷ [])) (document_of_pages 1) ≡ Ok 380
+border_of_one_point : bytes_in (framed (points 595 842) (Some (pos 127_000_000_000))) (read 1 ((plain 0 ∷ []) ∷ [])) (document_of_pages 1) ≡ Ok 380
 unfolding digits
 border_of_one_point = refl
 

@@ -109,7 +109,7 @@ fn fault_of(alloc: Global, n: u32, page: Named, sheet: Named, kept: Kept) -> &'s
         return "no paper";
     };
     let Some(spec) = laid_out(alloc, n, &papers, kept) else {
-        return "refused";
+        return "refused, or out of memory";
     };
     if spec.groups().len() != 1 || spec.modulo() != n {
         return "not so many sheets";
@@ -178,7 +178,7 @@ fn booklet_fault(alloc: Global, page: Named, sheet: Named, long_edge: bool) -> &
         return "no paper";
     };
     let Ok(spec) = bind(alloc, &papers, &Binding::plain(long_edge)) else {
-        return "refused";
+        return "refused, or out of memory";
     };
     let sides = (page.1, page.2);
     let (front, back) = (

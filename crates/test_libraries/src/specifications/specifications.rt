@@ -91,16 +91,17 @@ fn goes_on(alloc: Global, prefix: &str) -> Result<bool, NoMemory> {
     ] {
         let mut whole = String::from_str(alloc, prefix)?;
         whole.push_str(end)?;
-        if !is_stuck(alloc, whole.as_str()) {
+        if !is_stuck(alloc, whole.as_str())? {
             return Ok(true);
         }
     }
     Ok(false)
 }
 
-fn is_stuck(alloc: Global, text: &str) -> bool {
+fn is_stuck(alloc: Global, text: &str) -> Result<bool, NoMemory> {
     match read_spec(alloc, text) {
-        Err(SpecError::Syntax(_)) => true,
-        _ => false,
+        Err(SpecError::Syntax(_)) => Ok(true),
+        Err(SpecError::NoMemory) => Err(NoMemory),
+        _ => Ok(false),
     }
 }

@@ -88,7 +88,11 @@ fn repeated(alloc: Global, parts: [&str; 4], times: i128) -> Result<String, NoMe
 
 /// A specification. If it is refused, the refusal is printed.
 pub fn specification(out: &mut Answer, words: &[String], at: usize) -> Option<Spec> {
-    let text = long_text(out.alloc, word(words, at)?)?;
+    let word = word(words, at)?;
+    let Some(text) = long_text(out.alloc, word) else {
+        out.note(false);
+        return None;
+    };
     match read_spec(out.alloc, text.as_str()) {
         Ok(spec) => Some(spec),
         Err(error) => {

@@ -6,7 +6,7 @@ use Rattle.layouts.specs.Refusals.{first_of, is_length, why_not_bound}
 use Rattle.layouts.specs.declared.error.ArrangementError.TheVariants as why
 use Rattle.row_runs.specs.declared.asked.Laying.TheVariants as laying
 use Rattle.impose_words.specs.Spacings.{binding_in}
-use Rattle.impose_said.specs.declared.fault.Fault.TheVariants as fault
+use Rattle.impose_said.specs.declared.fault.ImposeFault.TheVariants as fault
 use Rattle.impose_cli.proofs.laying.booklet_laying.Goals as goal
 
 pub returns-then-not-is_length-clause-refused : goal.returns-then-not-is_length-clause-refused

@@ -2,7 +2,7 @@ use Rattle.std.proofs.Common.{◌≡◌, ◌∙◌, ap, subst, None, Some}
 use Rattle.std.specs.Prelude.{option_map}
 use Rattle.layouts.specs.Fitted.{setting_of}
 use Rattle.layouts.specs.Refusals.{why_not_arranged}
-use Rattle.impose_said.specs.declared.fault.Fault.TheVariants as fault
+use Rattle.impose_said.specs.declared.fault.ImposeFault.TheVariants as fault
 use Rattle.impose_cli.proofs.laying.cells_for.Goals as goal
 
 pub returns-in-Ok-clause-made : goal.returns-in-Ok-clause-made

@@ -5,7 +5,7 @@ use Rattle.layouts.specs.Fitted.{setting_of}
 use Rattle.layouts.specs.Grids.{count_of}
 use Rattle.layouts.specs.Refusals.{why_not_arranged}
 use Rattle.row_runs.specs.declared.asked.Laying.TheVariants as laying
-use Rattle.impose_said.specs.declared.fault.Fault.TheVariants as fault
+use Rattle.impose_said.specs.declared.fault.ImposeFault.TheVariants as fault
 use Rattle.impose_cli.proofs.Noted.{are_enough}
 use Rattle.impose_cli.proofs.laying.notes_laying.Goals as goal
 

@@ -2,7 +2,7 @@ use Rattle.std.proofs.Common.{◌≡◌, Ok, is_some, option_and_then, option_ma
 use Rattle.rules.specs.Admissible.{Takes, most_slots}
 use Rattle.rules.specs.Run.{document_of}
 use Rattle.imposer.specs.Runs.{IsRefusal}
-use Rattle.impose_said.specs.declared.fault.Fault.TheVariants as fault
+use Rattle.impose_said.specs.declared.fault.ImposeFault.TheVariants as fault
 use Rattle.impose_cli.specs.Endings.{RefusesTaskRun, WritesTask}
 use Rattle.impose_cli.proofs.Coming.{comes_refused}
 use Rattle.impose_cli.proofs.Ending.{asked_as, job_comes, plan_refused}

@@ -1,5 +1,5 @@
 use Rattle.std.proofs.Common.{ap, inl, is_some, option_and_then, option_map, rules}
-use Rattle.impose_said.specs.declared.fault.Fault.TheVariants as fault
+use Rattle.impose_said.specs.declared.fault.ImposeFault.TheVariants as fault
 use Rattle.impose_cli.specs.SpecRows.{ImposesSpecTask, RefusesSpecTaskRun}
 use Rattle.impose_cli.specs.Refusals.{IsRefusedFor}
 use Rattle.impose_cli.proofs.Coming.{comes_refused}

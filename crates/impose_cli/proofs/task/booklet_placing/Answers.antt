@@ -6,15 +6,15 @@ use Rattle.layouts.specs.Refusals.{why_not_bound}
 use Rattle.layouts.specs.declared.error.ArrangementError.{ArrangementError}
 use Rattle.impose_said.specs.Faults.{without_memory}
 use Rattle.impose_cli.specs.Tasks.{IsWritten}
-use Rattle.impose_said.specs.declared.fault.Fault.{Fault}
-use Rattle.impose_said.specs.declared.fault.Fault.TheVariants as fault
+use Rattle.impose_said.specs.declared.fault.ImposeFault.{ImposeFault}
+use Rattle.impose_said.specs.declared.fault.ImposeFault.TheVariants as fault
 use Rattle.impose_cli.proofs.Placing.{ok_both, refuses_layout}
 use Rattle.impose_cli.proofs.task.booklet_placing.Goals as goal
 
 pub returns-in-Err-clause-refused : goal.returns-in-Err-clause-refused
 returns-in-Err-clause-refused c =
     let why = why_not_bound c.args.papers.now.page c.args.papers.now.sheet c.args.binding.now in
-    subst (λ (f : Fault). (f ≡ without_memory) ⊎ ((e : ArrangementError) × (f ≡ fault.Layout e) × (why ≡ Some e))) (sym c.from.ensures)
+    subst (λ (f : ImposeFault). (f ≡ without_memory) ⊎ ((e : ArrangementError) × (f ≡ fault.Layout e) × (why ≡ Some e))) (sym c.from.ensures)
     (refuses_layout why c.in-Err.error c.in-Err.ensures.refused)
 
 pub returns-in-Ok-clause-placed : goal.returns-in-Ok-clause-placed

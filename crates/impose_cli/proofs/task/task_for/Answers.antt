@@ -3,7 +3,7 @@ use Rattle.rules.specs.Papers.{Paper}
 use Rattle.std.specs.Prelude.{◌⊎◌}
 use Rattle.impose_words.specs.Choices.{is_said}
 use Rattle.impose_said.specs.Faults.{without_memory}
-use Rattle.impose_said.specs.declared.fault.Fault.TheVariants as fault
+use Rattle.impose_said.specs.declared.fault.ImposeFault.TheVariants as fault
 use Rattle.impose_cli.specs.Tasks.{page_paper_found, sheet_paper_found}
 use Rattle.impose_cli.specs.Refusals.{HasOtherPapers, RefusesDocument, RefusesLayout}
 use Rattle.impose_cli.proofs.OnePaper.{by_layout, refused_check, refused_count}

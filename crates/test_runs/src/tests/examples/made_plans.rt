@@ -5,7 +5,7 @@ ghost use Rattle.sheet_writer.specs.Sinks.{IsCountable};
 use crate::tests::checks::{assert_bytes, assert_that};
 use dsc::Document;
 use imposer::{Dress, Job, Lines, MemorySink, Open, Report, SheetLines, Sink, Workers, run_plan};
-use lengths::{Number, Paper, paper_by_name};
+use lengths::{Grains, Number, Paper, paper_by_name};
 use pagespec::{Item, Measure, Turn};
 use sheet_plan::{MadeSheets, MadeSlot, Plan};
 use std::alloc::{AllocError, Global};
@@ -85,7 +85,7 @@ fn run_dressed<R: Threads + Wait + Sync, S: Sink>(
     if dress.len() != sheets.len() {
         return Err(AllocError)?;
     }
-    let job = Job::made(&plan, &document, sheets, None, dress);
+    let job = Job::made(&plan, &document, sheets, None, Grains::ZERO, dress);
     let workers = Workers {
         preparers: 1,
         imposers: 1,

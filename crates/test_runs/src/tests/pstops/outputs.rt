@@ -1,7 +1,7 @@
 //! The whole program over a world in memory: how many inputs it opens, and outputs that fail at any byte.
 use super::words_of;
 use crate::tests::checks::{assert_bytes, assert_that};
-use pstops_cli::{Ended, pstops};
+use pstops_cli::{ExitReport, pstops};
 use std::alloc::{AllocError, Global};
 use std::io::{self, ErrorKind, Write};
 use std::process::Abort;
@@ -24,7 +24,7 @@ fn ended<'a, R: Threads + Wait + Sync>(
     document: &'a str,
     takes: Takes,
     opened: &'a AtomicU32,
-) -> Result<Ended<InMemory<'a>>, AllocError> {
+) -> Result<ExitReport<InMemory<'a>>, AllocError> {
     let words = words_of(alloc, words)?;
     let world = InMemory {
         alloc,

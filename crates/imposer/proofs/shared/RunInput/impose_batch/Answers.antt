@@ -8,7 +8,7 @@ use Rattle.imposer.proofs.shared.RunInput.impose_batch.Goals.{else-loop-test, th
 
 pub impose_into-requires-clause-texts : goal.impose_into-requires-clause-texts
 impose_into-requires-clause-texts g c =
-    have_none g.T.Texts.text c.clear.new.self c.clear.ensures.sheets c.clear.ensures.texts
+    have_none g.T.SheetTexts.text c.clear.new.self c.clear.ensures.sheets c.clear.ensures.texts
 
 pub loop-preserved : goal.loop-preserved
 loop-preserved g c = record {
@@ -36,6 +36,6 @@ returns-clause-tokens g c = elim c.loop-test.branch [
 
 pub returns-clause-texts : goal.returns-clause-texts
 returns-clause-texts g c = elim c.loop-test.branch [
-  | else-loop-test w ↦ subst (HaveTexts g.T.Texts.text) (sym w.batch-is) c.loop.invariant.texts
-  | then-loop-test+in_ok-impose_more+then-not-branch w ↦ subst (HaveTexts g.T.Texts.text) (sym w.batch-is) w.in_ok-impose_more.ensures.texts
+  | else-loop-test w ↦ subst (HaveTexts g.T.SheetTexts.text) (sym w.batch-is) c.loop.invariant.texts
+  | then-loop-test+in_ok-impose_more+then-not-branch w ↦ subst (HaveTexts g.T.SheetTexts.text) (sym w.batch-is) w.in_ok-impose_more.ensures.texts
 ]

@@ -6,5 +6,5 @@ abbrev pub invariant-loop : goal.invariant-loop
 invariant-loop g l = record {
   tokens : AreTokens l.self.shared.now.table.now l.self.shared.now.ready.now 1 l.tokens;
   imposes : OnlyImposes l.fn.tokens l.tokens;
-  texts : HaveTexts g.T.Texts.text l.batch;
+  texts : HaveTexts g.T.SheetTexts.text l.batch;
 }

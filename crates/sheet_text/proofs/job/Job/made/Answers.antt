@@ -1,3 +1,4 @@
+use Rattle.rules.specs.Output.{border_within}
 use Rattle.sheet_text.specs.Dressings.{dressed_by}
 use Rattle.sheet_text.proofs.Hemmed.{of_plan}
 use Rattle.sheet_text.proofs.Outputs.{output_dressed}
@@ -11,7 +12,7 @@ returns-clause-output c =
     output_dressed (record {
       plan = c.args.plan.now;
       units = c.args.document.now;
-      border = c.args.border;
+      border = border_within c.args.inset c.args.border;
       header = c.args.dress.now.header;
       sheets = dressed_by c.args.dress.now.hems c.args.sheets.now;
     })

@@ -10,7 +10,7 @@ use Rattle.sheet_plan.specs.OfSheets.{slots_at}
 use Rattle.sheet_text.specs.Dressings.{dressed_by}
 use Rattle.sheet_text.specs.Jobs.{JobView, AreOfPlan, no_sheet}
 use Rattle.sheet_text.specs.PapersOf.{sheets_on}
-use Rattle.sheet_text.specs.declared.papers.Papers.{Papers}
+use Rattle.sheet_text.specs.declared.papers.SheetPapers.{SheetPapers}
 use Rattle.sheet_text.proofs.Hemmed.{counted, within_both, slots_are}
 use Rattle.sheet_text.proofs.OnePaper.{slot_at, blank_at}
 use Rattle.sheet_text.proofs.Slots.{slot_count, page_within}
@@ -21,7 +21,7 @@ placed-requires-clause-sheet c =
     let hems = c.in-Made.field-1.now.hems in
     let all = c.in-Made.sheets.now in
     let job = c.args.self.now in
-    let is : dressed_by hems all ≡ job.sheets = ap (λ (p : Papers). sheets_on p c.self.inside.plan.now) (sym c.in-Made.is) ∙ ap (λ (j : JobView). j.sheets) c.self.view_is in
+    let is : dressed_by hems all ≡ job.sheets = ap (λ (p : SheetPapers). sheets_on p c.self.inside.plan.now) (sym c.in-Made.is) ∙ ap (λ (j : JobView). j.sheets) c.self.view_is in
     let of : AreOfPlan job.plan job.sheets = subst (λ (j : JobView). AreOfPlan j.plan j.sheets) c.self.view_is c.self.invariant.3 in
     (within_both hems all c.args.sheet (counted job.plan job.sheets hems all c.args.sheet is of c.requires.sheet)).1
 
@@ -30,7 +30,7 @@ placed-requires-clause-slot c =
     let hems = c.in-Made.field-1.now.hems in
     let all = c.in-Made.sheets.now in
     let job = c.args.self.now in
-    let is : dressed_by hems all ≡ job.sheets = ap (λ (p : Papers). sheets_on p c.self.inside.plan.now) (sym c.in-Made.is) ∙ ap (λ (j : JobView). j.sheets) c.self.view_is in
+    let is : dressed_by hems all ≡ job.sheets = ap (λ (p : SheetPapers). sheets_on p c.self.inside.plan.now) (sym c.in-Made.is) ∙ ap (λ (j : JobView). j.sheets) c.self.view_is in
     let of : AreOfPlan job.plan job.sheets = subst (λ (j : JobView). AreOfPlan j.plan j.sheets) c.self.view_is c.self.invariant.3 in
     let lt = counted job.plan job.sheets hems all c.args.sheet is of c.requires.sheet in
     let there : length (slice_index_or job.sheets c.args.sheet no_sheet).slots ≡ length (slots_at all c.args.sheet) =
@@ -44,7 +44,7 @@ pub returns-in-Some-clause-value : goal.returns-in-Some-clause-value
 returns-in-Some-clause-value c =
     let paper = c.in-One.paper in
     let plan = c.self.inside.plan.now in
-    let is : dressed_sheets undressed (made_of paper plan.sheets) ≡ c.args.self.now.sheets = ap (λ (p : Papers). sheets_on p plan) (sym c.in-One.is) ∙ ap (λ (j : JobView). j.sheets) c.self.view_is in
+    let is : dressed_sheets undressed (made_of paper plan.sheets) ≡ c.args.self.now.sheets = ap (λ (p : SheetPapers). sheets_on p plan) (sym c.in-One.is) ∙ ap (λ (j : JobView). j.sheets) c.self.view_is in
     ap (λ (sheets : List DressedSheet). slice_get (slice_index_or sheets c.args.sheet no_sheet).slots c.args.slot) (sym is)
     ∙ slot_at paper plan c.args.sheet c.args.slot (Some c.in-Some.page) (item_of c.item_of.result.now) (c.page_of.ensures.value ∙ ap Some c.in-Some.is) c.item_of.ensures.value
 
@@ -52,7 +52,7 @@ pub returns-in-None-clause-value : goal.returns-in-None-clause-value
 returns-in-None-clause-value c =
     let paper = c.in-One.paper in
     let plan = c.self.inside.plan.now in
-    let is : dressed_sheets undressed (made_of paper plan.sheets) ≡ c.args.self.now.sheets = ap (λ (p : Papers). sheets_on p plan) (sym c.in-One.is) ∙ ap (λ (j : JobView). j.sheets) c.self.view_is in
+    let is : dressed_sheets undressed (made_of paper plan.sheets) ≡ c.args.self.now.sheets = ap (λ (p : SheetPapers). sheets_on p plan) (sym c.in-One.is) ∙ ap (λ (j : JobView). j.sheets) c.self.view_is in
     ap (λ (sheets : List DressedSheet). slice_get (slice_index_or sheets c.args.sheet no_sheet).slots c.args.slot) (sym is)
     ∙ blank_at paper plan c.args.sheet c.args.slot (c.page_of.ensures.value ∙ ap Some c.in-None.is)
 
@@ -61,7 +61,7 @@ returns-in-Made-clause-value c =
     let hems = c.in-Made.field-1.now.hems in
     let all = c.in-Made.sheets.now in
     let job = c.args.self.now in
-    let is : dressed_by hems all ≡ job.sheets = ap (λ (p : Papers). sheets_on p c.self.inside.plan.now) (sym c.in-Made.is) ∙ ap (λ (j : JobView). j.sheets) c.self.view_is in
+    let is : dressed_by hems all ≡ job.sheets = ap (λ (p : SheetPapers). sheets_on p c.self.inside.plan.now) (sym c.in-Made.is) ∙ ap (λ (j : JobView). j.sheets) c.self.view_is in
     let of : AreOfPlan job.plan job.sheets = subst (λ (j : JobView). AreOfPlan j.plan j.sheets) c.self.view_is c.self.invariant.3 in
     let lt = counted job.plan job.sheets hems all c.args.sheet is of c.requires.sheet in
     ap (λ (sheets : List DressedSheet). slice_get (slice_index_or sheets c.args.sheet no_sheet).slots c.args.slot) (sym is)
@@ -74,7 +74,7 @@ returns-in-Made-clause-page c =
     let hems = c.in-Made.field-1.now.hems in
     let all = c.in-Made.sheets.now in
     let job = c.args.self.now in
-    let is : dressed_by hems all ≡ job.sheets = ap (λ (p : Papers). sheets_on p c.self.inside.plan.now) (sym c.in-Made.is) ∙ ap (λ (j : JobView). j.sheets) c.self.view_is in
+    let is : dressed_by hems all ≡ job.sheets = ap (λ (p : SheetPapers). sheets_on p c.self.inside.plan.now) (sym c.in-Made.is) ∙ ap (λ (j : JobView). j.sheets) c.self.view_is in
     let of : AreOfPlan job.plan job.sheets = subst (λ (j : JobView). AreOfPlan j.plan j.sheets) c.self.view_is c.self.invariant.3 in
     let sound : IsSound job.plan = subst (λ (j : JobView). IsSound j.plan) c.self.view_is c.self.invariant.2 in
     let all_pages : job.plan.pages ≡ length (pages job.units) = subst (λ (j : JobView). j.plan.pages ≡ length (pages j.units)) c.self.view_is c.self.invariant.0 in

@@ -3,8 +3,8 @@ use Rattle.std.specs.Prelude.{pos}
 use Rattle.pagespec.specs.Items.{turn_of, measure_of}
 use Rattle.layouts.specs.Cells.{in_points, turn_in, row_of, column_of}
 use Rattle.layouts.proofs.Reach.{item_is}
-use Rattle.layouts.proofs.item.Layout.item_in.Goals.{then-self, else-self}
-use Rattle.layouts.proofs.item.Layout.item_in.Goals as goal
+use Rattle.layouts.proofs.item.GridLayout.item_in.Goals.{then-self, else-self}
+use Rattle.layouts.proofs.item.GridLayout.item_in.Goals as goal
 
 pub returns : goal.returns
 returns c =

@@ -3,8 +3,8 @@ use Rattle.std.specs.Prelude.{pos, nat_abs, ◌-ℤ◌}
 use Rattle.pagespec.specs.Items.{turn_of, measure_of}
 use Rattle.layouts.specs.Cells.{in_points, turn_in, half_turned, whole}
 use Rattle.layouts.proofs.Reach.{parts_are}
-use Rattle.layouts.proofs.item.Layout.back_in.Goals.{then-self, else-self}
-use Rattle.layouts.proofs.item.Layout.back_in.Goals as goal
+use Rattle.layouts.proofs.item.GridLayout.back_in.Goals.{then-self, else-self}
+use Rattle.layouts.proofs.item.GridLayout.back_in.Goals as goal
 
 pub returns : goal.returns
 returns c =

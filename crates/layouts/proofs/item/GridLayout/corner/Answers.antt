@@ -1,7 +1,7 @@
 use Rattle.std.proofs.Common.{arith, rules, ◌≡◌}
 use Rattle.layouts.specs.Cells.{corner_x, corner_y}
 use Rattle.layouts.proofs.Reach.{corner_fits}
-use Rattle.layouts.proofs.item.Layout.corner.Goals as goal
+use Rattle.layouts.proofs.item.GridLayout.corner.Goals as goal
 
 pub returns-then-turned-clause-across : goal.returns-then-turned-clause-across
 returns-then-turned-clause-across c =

@@ -2,7 +2,7 @@ use Rattle.std.proofs.Common.{rules, ◌≡◌, ◌≤◌, ◌∙◌, subst, sym
 use Rattle.std.specs.Prelude.{pos, ◌+ℤ◌, ◌-ℤ◌, nat_abs, if◌then◌else◌}
 use Rattle.layouts.specs.Cells.{trimmed, row_of, column_of, whole}
 use Rattle.layouts.proofs.Reach.{shift_fits, right_is, top_is}
-use Rattle.layouts.proofs.item.Layout.shift.Goals as goal
+use Rattle.layouts.proofs.item.GridLayout.shift.Goals as goal
 
 pub returns-clause-right : goal.returns-clause-right
 returns-clause-right c =
