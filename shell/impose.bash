@@ -1,23 +1,25 @@
 # bash completion for impose and impose-pdf: commands, options, names of papers, files. No function of others is needed.
 
 # The words that can stand in a place; `checks/options` compares them with `impose --help`.
-_impose_commands='nup booklet cards stack notes poster select spec help'
+_impose_commands='nup booklet zine cards stack notes poster select spec help'
 _impose_papers='a0 a1 a2 a3 a4 a5 a6 b0 b1 b2 b3 b4 b5 b6 c4 c5 c6 dl letter legal tabloid ledger statement executive folio quarto 10x14'
 _impose_options_of() {
     local all='--paper --sheet --border --unguarded --print-spec --quiet --help -p -q -h'
     local parts='--odd --even --reverse'
     local looks='--plan --preview'
     local row="--pages $parts"
-    local laid="--margin --gap --trim --marks --rtl --same-scale $row $looks"
+    local numbers='--numbers --numbers-from'
+    local laid="--margin --gap --trim --marks --rtl --same-scale $numbers $row $looks"
     local cells="--order --turned --scale $laid"
     case "$1" in
         '') echo '--help --version -h -V' ;;
         nup | cards) echo "$cells $all" ;;
         booklet) echo "--signature --creep --long-edge $laid $all" ;;
+        zine) echo "--same-scale --margin --gap --rtl $row $looks $all" ;;
         stack) echo "--duplex $cells $all" ;;
-        notes) echo "--same-scale --margin --gap --trim $row $looks $all" ;;
+        notes) echo "--same-scale --margin --gap --trim $numbers $row $looks $all" ;;
         poster) echo "--overlap --margin $row $looks $all" ;;
-        select) echo "$parts $looks $all" ;;
+        select) echo "$numbers $parts $looks $all" ;;
         spec) echo "--signature $row $all" ;;
     esac
 }
@@ -33,6 +35,8 @@ _impose_values_of() {
         --turned) echo 'left right' ;;
         --scale) echo '0.5 0.7 1' ;;
         --marks) echo 'fold cut fold,cut' ;;
+        --numbers) echo '8pt 10pt 12pt' ;;
+        --numbers-from) echo '1 2 3' ;;
         --creep) echo '.5mm 1mm 2mm' ;;
         --signature) echo 'auto 4 8 12 16 20 24 28 32' ;;
         --pages | --preview) ;;

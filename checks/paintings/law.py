@@ -9,6 +9,12 @@ from parts import Document, comments_apart, drops_in_header, drops_in_page, firs
 # `sheet_names` of specs/Sheets; `restore` is checked after each page.
 SHEET_NAMES = b"showpage userdict save put [ ] concat newpath moveto lineto closepath clip gsave setlinewidth stroke grestore".split()
 PUT_NAMES = {b"showpage", b"ImposeSave"}
+# `marking_names`, `sizing_names` and `asking_names` of crates/dressed_pictures: those of a sheet's own strokes, and of the lines that set its size.
+MARKING = b"gsave setgray setlinewidth [ ] setdash newpath moveto lineto stroke grestore".split()
+SIZING = b"where pop ifelse systemdict known and if dict dup [ ] put get exec".split()
+ASKING = b"userdict copy true".split()
+MARKED = "on sheets with marks or lines for notes: the names of these mean the operators"
+SIZED = "on sheets of several papers: the names of the lines that set them mean the operators"
 LOOKING = set(b"""initgraphics currentmatrix setmatrix defaultmatrix initmatrix initclip clippath pathforall setpagedevice erasepage
 copypage""".split())
 NAMES = f"uses the machine's {len(PROVED) + len(ALWAYS)} names alone"
@@ -57,7 +63,23 @@ def ground(document, further=False):
         ("the graphics state is as initgraphics makes it (a font may be set)", left_set(m.graphics)),
         ("nothing is saved or pushed", "something is" if is_saved(m) else None),
         ("no string, array, procedure or font lies on the operand stack", newer(m)),
+        *on_all_sheets(m, False),
     ], True
+
+
+def on_all_sheets(m, is_guarded):
+    """What is asked besides for sheets with strokes, and for those of several papers (`TakesLines`, `TakesPlainLines`)."""
+    def others(names):
+        wrong = [name for name in names if m.found(name) != m.system(name)]
+        return f"these don't: {text(wrong)}" if wrong else None
+
+    flag = None if is_guarded or m.found(b"PStoPSenablepage") is None else "PStoPSenablepage is there"
+    return [(MARKED, others(MARKING)), (SIZED, others(SIZING if is_guarded else SIZING + ASKING) or flag)]
+
+
+def unmet(premises):
+    """Which aren't met, without those that only some sheets ask for."""
+    return [f"{words}: {wrong}" for words, wrong in premises if wrong is not None and words not in (MARKED, SIZED)]
 
 
 def left_set(g):

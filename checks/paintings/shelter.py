@@ -4,7 +4,7 @@ specs/Pages, Shelter, OwnShowpage and Silenced of crates/guarded_pictures have t
 wrong, or None if it is met."""
 import re
 from pathlib import Path
-from law import left_set, newer
+from law import left_set, newer, on_all_sheets
 from machine import (ELEMENTS, READ_ONLY, USERDICT, Bound, Dictionary, Graphics, Literal, Machine, Matrix, Name, Number, Operator, Procedure, Saved,
                      Scanner, Snapshot, Stopped, Truth, is_complete)
 from parts import comments_apart, drops_in_header, drops_in_page, is_comment, key_of, line_at
@@ -127,6 +127,7 @@ def ground(document, g, further):
         ("showpage is the guard's, or one in a writable dictionary", showpage_is(m, g)),
         ("the graphics state is as initgraphics makes it (a font may be set)", reset),
         ("no string, array, procedure or font is on the operand stack", newer(m)),
+        *(on_all_sheets(m, True) if form(m) == GUARDED else ()),
     ], form(m)
 
 

@@ -1,6 +1,6 @@
 """Which law about pictures speaks of a document, by running the second machine: outright, or given further operators; or none, and why.
 
-The closed machine is tried first, then the open one: that with further operators, of crates/open_pictures and open_guarded_pictures. The
+The closed machine is tried first, then the open one: that with further operators, of crates/open_pictures and open_pictures. The
 operators are noted that a run uses. names.tsv says of each whether it looks at where the page is."""
 import copy
 from dataclasses import dataclass, field
@@ -21,14 +21,17 @@ OF_MATRICES = {b"forall": 2, b"get": 2, b"put": 3, b"aload": 1, b"astore": 1, b"
 # What is a font there is a dictionary here.
 AS_FONTS = {b"findfont", b"scalefont", b"setfont", b"selectfont"}
 BARE = "open_pictures::laws::"
-GUARDED = "open_guarded_pictures::laws::"
+GUARDED = "open_pictures::laws::"
+DRESSED = "dressed_pictures::laws::"
 LAWS = {
-    (False, None): "pictures::laws::sheets_show_the_pages, made_sheets_show_the_pages",
-    (True, None): f"{BARE}open_sheets_show_the_pages, open_made_sheets_show_the_pages",
-    (False, shelter.GUARDED): "guarded_pictures::laws::guarded_document_is_shown, made_document_is_shown",
-    (True, shelter.GUARDED): f"{GUARDED}open_guarded_document_is_shown, open_made_document_is_shown",
+    (False, None): f"pictures::laws::sheets_show_the_pages, {DRESSED}dressed_sheets_show_the_pages",
+    (True, None): f"{BARE}open_sheets_show_the_pages, {DRESSED}open_dressed_sheets_show_the_pages",
+    (False, shelter.GUARDED): f"guarded_pictures::laws::guarded_document_is_shown, {DRESSED}dressed_document_is_shown",
+    (True, shelter.GUARDED): f"{GUARDED}open_guarded_document_is_shown, {DRESSED}open_dressed_document_is_shown",
     (False, shelter.OWN): "guarded_pictures::laws::own_showpage_is_shown, own_made_document_is_shown",
-    (False, shelter.SILENCED): "guarded_pictures::laws::silenced_document_is_shown",
+    (True, shelter.OWN): f"{GUARDED}open_own_showpage_is_shown, open_own_made_document_is_shown",
+    (False, shelter.SILENCED): "guarded_pictures::laws::silenced_document_is_shown, silenced_made_document_is_shown",
+    (True, shelter.SILENCED): f"{GUARDED}open_silenced_document_is_shown, open_silenced_made_document_is_shown",
 }
 LOOKS = {
     "no": "doesn't look at the place",
@@ -177,7 +180,7 @@ def without_guard(text, is_open):
     document = Document(text)
     noted = Noted(document.preamble) if is_open else None
     premises, pictures = premises_of(document, noted or False)
-    why = [f"{words}: {wrong}" for words, wrong in premises if wrong is not None]
+    why = law.unmet(premises)
     together = None if why or is_open else law.together(document, pictures)
     named = LAWS[is_open, None] + (", sheets_show_the_document" if not is_open and together is None else "")
     return Verdict(None if why else named, why, noted, not why, premises)
@@ -191,11 +194,8 @@ def with_guard(text, is_open):
     if form is not None:
         wrong = ((number + 1, shelter.page(document, number, guard, form, noted or False)) for number in range(len(document.pages)))
         premises.append(("each page paints a picture by itself", by_page(wrong)))
-    why = [f"{words}: {wrong}" for words, wrong in premises if wrong is not None]
-    ran = not why
-    if form is not None and (is_open, form) not in LAWS:
-        why.append(f"there is no law with further operators for a document with {'its own showpage' if form == shelter.OWN else 'an empty showpage'}")
-    return Verdict(None if why else LAWS[is_open, form], why, noted, ran, premises)
+    why = law.unmet(premises)
+    return Verdict(None if why else LAWS[is_open, form], why, noted, not why, premises)
 
 
 def listed(text):

@@ -1,14 +1,18 @@
 -- Worked examples.
 use Rattle.std.proofs.Common.{◌≡◌, refl}
-use Rattle.std.specs.Prelude.{Bool, codes, map, [], ◌∷◌, false, true}
+use Rattle.std.specs.Prelude.{Bool, codes, map, [], ◌∷◌, false, true, pos, None, Some}
 use Rattle.std.specs.Fmt.{digits}
-use Rattle.rules.specs.Papers.{points}
+use Rattle.rules.specs.Papers.{Pt, points}
+use Rattle.rules.specs.Specification.{Item, Turn, Upright, Left, Half}
 use Rattle.made_sheets.specs.Dress.{undressed}
+use Rattle.made_sheets.specs.Made.{Blank}
 use Rattle.layouts.specs.Placed.{Room}
 use Rattle.layouts.specs.Cells.{Grid}
 use Rattle.dressing.specs.Strokes.{cut_marks, fold_marks, outer_cut_marks}
 use Rattle.dressing.specs.Ruled.{note_lines}
 use Rattle.dressing.specs.Drawn.{mark_lines, marked, stroke_line}
+use Rattle.dressing.specs.Numbered.{foot_text, number_line, slot_lines}
+use Rattle.dressing.specs.declared.numbers.Numbers.{Numbers}
 
 -- a sheet of 100 by 200 points with a margin of 10 points and a gap of 4, in two columns
 abbrev small : Room
@@ -124,3 +128,37 @@ added = refl
 
 no_marks : mark_lines [] ≡ []
 no_marks = refl
+
+-- numbers of 10 points, from 3 on, in cells of 100 points: the middle of their feet is 50 points below the middle of their pages
+abbrev tens : Numbers
+tens = record { how = record { size = pos 1_270_000_000_000; first = 3 }; places = []; below = Some (pos 6_350_000_000_000) }
+
+-- the fifth page of a row, which has 100 by 200 points, half as large and turned so about its corner, which is in the middle of a
+-- sheet of 200 by 250
+abbrev page_turned : Turn → Item
+page_turned turn = record {
+  page = 0;
+  from_end = false;
+  turn = turn;
+  scale = pos 500_000_000;
+  x = record { number = pos 100_000_000_000; unit = Pt };
+  y = record { number = pos 125_000_000_000; unit = Pt };
+}
+
+number_on_its_side : number_line tens 4 (page_turned Left) (points 100 200)
+    ≡ codes "gsave 0 setgray /Times-Roman findfont 10 scalefont setfont 100 125 translate 90 rotate 25 18 moveto (7) dup stringwidth pop -2 div 0 rmoveto show grestore"
+unfolding digits
+number_on_its_side = refl
+
+-- on a page that is lower than its cell the number stands below it, and in a cell of its own 18 points above its edge
+below_the_page : number_line tens 0 (page_turned Half) (points 100 100)
+    ≡ codes "gsave 0 setgray /Times-Roman findfont 10 scalefont setfont 100 125 translate 180 rotate 25 -7 moveto (3) dup stringwidth pop -2 div 0 rmoveto show grestore"
+unfolding digits
+below_the_page = refl
+
+in_a_cell_of_its_own : foot_text None (points 100 200) (page_turned Upright) ≡ codes "25 18 moveto ("
+unfolding digits
+in_a_cell_of_its_own = refl
+
+no_number : slot_lines tens Blank ≡ []
+no_number = refl

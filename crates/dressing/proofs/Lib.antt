@@ -12,3 +12,5 @@ pub mod Examples
 pub mod Turns
 pub mod Given
 pub mod Earlier
+pub mod Quiet
+pub mod Numbered

@@ -1,12 +1,21 @@
--- The lines that draw marks begin nothing.
-use Rattle.std.specs.Prelude.{codes, map, ℤ, true}
+-- The lines that draw marks and numbers begin nothing.
+use Rattle.std.specs.Prelude.{codes, decimal, flat_map, map, ℤ, pos, true, ◌+◌, Option, Some, None}
 use Rattle.std.proofs.Common.{◌≡◌, ℕ, List, [], ◌∷◌, ◌++◌, refl}
 use Rattle.rules.specs.Numbers.{points_text}
-use Rattle.seams.proofs.Plainly.{no_ends_append, no_ends_points}
+use Rattle.rules.specs.Papers.{Paper}
+use Rattle.rules.specs.Placement.{offset}
+use Rattle.rules.specs.Specification.{Item, Turn, Upright, Left, Half, Right}
+use Rattle.made_sheets.specs.Dress.{Dress}
+use Rattle.made_sheets.specs.Made.{MadeSlot, Blank, Placed}
+use Rattle.sheet_plan.specs.OfSheets.{slots_at}
+use Rattle.seams.proofs.Plainly.{no_ends_append, no_ends_decimal, no_ends_points}
 use Rattle.seams.specs.Seams.{no_ends}
-use Rattle.imposed_again.specs.MadeAgain.{AreTame, IsTame}
-use Rattle.dressing.specs.Drawn.{mark_lines, point_text, stroke_line}
-use Rattle.dressing.specs.Laws.{MarksAreTame}
+use Rattle.imposed_again.specs.MadeAgain.{AreTame, IsTame, IsTameDress}
+use Rattle.dressing.specs.Drawn.{mark_lines, marked, point_text, stroke_line}
+use Rattle.dressing.specs.Numbered.{corner_text, degrees, font_text, foot_text, middle, number_line, number_lines, numbered, rise, shown_text}
+use Rattle.dressing.specs.Numbered.{slot_lines}
+use Rattle.dressing.specs.Laws.{DrawnIsTame}
+use Rattle.dressing.specs.declared.numbers.Numbers.{Numbers}
 use Rattle.dressing.specs.declared.strokes.Stroke.{Stroke}
 
 whole_point : (x y : ℤ) → no_ends (point_text x y) ≡ true
@@ -42,9 +51,61 @@ lines : (strokes : List Stroke) → AreTame (mark_lines strokes)
 lines [] = tt
 lines (s ∷ strokes) = (begins, both (map stroke_line (s ∷ strokes)) (codes "grestore" ∷ []) (all_strokes (s ∷ strokes)) (ends, tt))
 
-pub marks_are_tame : MarksAreTame
-marks_are_tame strokes dress tame = record {
+whole_font : (size : ℤ) → no_ends (font_text size) ≡ true
+whole_font size =
+    no_ends_append (codes "gsave 0 setgray /Times-Roman findfont ") (points_text size ++ codes " scalefont setfont ") refl
+    (no_ends_append (points_text size) (codes " scalefont setfont ") (no_ends_points size) refl)
+
+whole_degrees : (t : Turn) → no_ends (degrees t) ≡ true
+whole_degrees Upright = refl
+whole_degrees Left = refl
+whole_degrees Half = refl
+whole_degrees Right = refl
+
+whole_corner : (paper : Paper) (item : Item) → no_ends (corner_text paper item) ≡ true
+whole_corner paper item =
+    let corner = point_text (offset paper item).x (offset paper item).y in
+    no_ends_append corner (codes " translate " ++ (degrees item.turn ++ codes " rotate ")) (whole_point (offset paper item).x (offset paper item).y)
+    (no_ends_append (codes " translate ") (degrees item.turn ++ codes " rotate ") refl (no_ends_append (degrees item.turn) (codes " rotate ") (whole_degrees item.turn) refl))
+
+whole_foot : (below : Option ℤ) (paper : Paper) (item : Item) → no_ends (foot_text below paper item) ≡ true
+whole_foot below paper item =
+    let x = pos (middle item.scale paper.width) in
+    no_ends_append (point_text x (rise below paper item)) (codes " moveto (") (whole_point x (rise below paper item)) refl
+
+whole_shown : (number : ℕ) → no_ends (shown_text number) ≡ true
+whole_shown number = no_ends_append (decimal number) (codes ") dup stringwidth pop -2 div 0 rmoveto show grestore") (no_ends_decimal number) refl
+
+whole_number : (n : Numbers) (place : ℕ) (item : Item) (paper : Paper) → no_ends (number_line n place item paper) ≡ true
+whole_number n place item paper =
+    let foot = foot_text n.below paper item in
+    let shown = shown_text (n.how.first + place) in
+    no_ends_append (font_text n.how.size) (corner_text paper item ++ (foot ++ shown)) (whole_font n.how.size)
+    (no_ends_append (corner_text paper item) (foot ++ shown) (whole_corner paper item)
+    (no_ends_append foot shown (whole_foot n.below paper item) (whole_shown (n.how.first + place))))
+
+pub number : (n : Numbers) (place : ℕ) (item : Item) (paper : Paper) → IsTame (number_line n place item paper)
+number n place item paper = record { whole = whole_number n place item paper; no_data = refl; no_document = refl; no_end = refl; no_page = refl; no_trailer = refl }
+
+slots : (n : Numbers) (all : List MadeSlot) → AreTame (flat_map (slot_lines n) all)
+slots n [] = tt
+slots n (Blank ∷ all) = slots n all
+slots n (Placed place item paper ∷ all) = (number n place item paper, slots n all)
+
+pub marked_tamely : (strokes : List Stroke) (dress : Dress) → IsTameDress dress → IsTameDress (marked strokes dress)
+marked_tamely strokes dress tame = record {
   header = tame.header;
   start = tame.start;
   finish = λ s paper. both (dress.finish s paper) (mark_lines strokes) (tame.finish s paper) (lines strokes);
 }
+
+numbered_tamely : (numbers : Option Numbers) (dress : Dress) → IsTameDress dress → IsTameDress (numbered numbers dress)
+numbered_tamely None dress tame = tame
+numbered_tamely (Some n) dress tame = record {
+  header = tame.header;
+  start = tame.start;
+  finish = λ s paper. both (dress.finish s paper) (number_lines n s) (tame.finish s paper) (slots n (slots_at n.places s));
+}
+
+pub drawn_is_tame : DrawnIsTame
+drawn_is_tame drawn dress tame = numbered_tamely drawn.numbers (marked drawn.strokes dress) (marked_tamely drawn.strokes dress tame)

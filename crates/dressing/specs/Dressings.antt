@@ -7,7 +7,7 @@ use Rattle.made_sheets.specs.Dress.{Dress}
 use Rattle.made_sheets.specs.Dressed.{dressed_sheets}
 use Rattle.sheet_text.specs.Dressings.{Dressing, Hem, dressed_by}
 use Rattle.papers.specs.Told.{sheet_lines, telling_of}
-use Rattle.dressing.specs.Drawn.{marked}
+use Rattle.dressing.specs.Numbered.{drawn_on, nothing_drawn}
 
 -- what a dress gives to these sheets
 abbrev pub dressing_of : Dress → List MadeSheet → Dressing
@@ -38,6 +38,6 @@ hem_of_sheet finish paper = record { start = sheet_lines paper; finish = finish 
 abbrev pub hems_told : (finish : List (List ℕ)) → List MadeSheet → List Hem
 hems_told finish all = map (λ sheet. hem_of_sheet finish sheet.paper) all
 
--- without marks the lines are those that report papers, and no others: a law
+-- if nothing is drawn the lines are those that report papers, and no others: a law
 abbrev pub NoMarksAreTelling : Type 0
-NoMarksAreTelling = (told : List Paper) → marked [] (telling_of told) ≡ telling_of told
+NoMarksAreTelling = (told : List Paper) → drawn_on nothing_drawn (telling_of told) ≡ telling_of told

@@ -1,4 +1,4 @@
--- What holds of marks.
+-- What holds of marks and numbers.
 use Rattle.std.specs.Prelude.{◌≡◌, ◌⊎◌, ℕ, ◌+◌, ◌<◌, ℤ, pos, ◌-ℤ◌, ◌*ℤ◌, ◌≤ℤ◌, List, ◌++◌}
 use Rattle.std.specs.List.{AllByRecursion}
 use Rattle.made_sheets.specs.Dress.{Dress}
@@ -13,7 +13,7 @@ use Rattle.layouts.specs.declared.arrangement.Order.{Order}
 use Rattle.dressing.specs.Places.{grains_in}
 use Rattle.dressing.specs.Strokes.{cut_marks, fold_marks, outer_cut_marks}
 use Rattle.dressing.specs.Ruled.{note_cell, note_lines, row_lines}
-use Rattle.dressing.specs.Drawn.{marked}
+use Rattle.dressing.specs.Numbered.{Drawn, drawn_on}
 use Rattle.dressing.specs.declared.strokes.Stroke.{Stroke}
 
 -- both ends of a stroke, measured in one direction, are at most so much, or at least
@@ -91,6 +91,7 @@ abbrev pub LinesAreBeside : Type 0
 LinesAreBeside = (room : Room) (g : Grid) (row column : ℕ) → column + 1 < g.columns
     → AllByRecursion (IsOutsideCell (cell_at room g row column)) (note_lines room g)
 
--- the lines that draw strokes begin no page, no data and no embedded document, so what they are added to is a document again
-abbrev pub MarksAreTame : Type 0
-MarksAreTame = (strokes : List Stroke) (dress : Dress) → IsTameDress dress → IsTameDress (marked strokes dress)
+-- the lines that draw strokes and numbers begin no page, no data and no embedded document, so what they are added to is a
+-- document again
+abbrev pub DrawnIsTame : Type 0
+DrawnIsTame = (drawn : Drawn) (dress : Dress) → IsTameDress dress → IsTameDress (drawn_on drawn dress)

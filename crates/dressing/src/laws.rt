@@ -1,8 +1,9 @@
 //! Laws of the definitions. The functions do nothing.
 ghost use Rattle.dressing.specs.Places.{PiecesAreLike};
 ghost use Rattle.dressing.specs.Between.{FoldMarksAreOnFold, MarksAreBetween};
-ghost use Rattle.dressing.specs.Laws.{LinesAreBeside, LinesAreInCell, MarksAreInMargin, MarksAreOutside, MarksAreTame, MarksMissPages};
+ghost use Rattle.dressing.specs.Laws.{DrawnIsTame, LinesAreBeside, LinesAreInCell, MarksAreInMargin, MarksAreOutside, MarksMissPages};
 ghost use Rattle.dressing.specs.Dressings.{DressingDresses, NoMarksAreTelling};
+ghost use Rattle.dressing.specs.Quiet.{MarkedAreFound, MarksAreQuiet};
 
 /// Cut along all marks of a side, all pieces are as wide.
 pub fn pieces_are_like()
@@ -44,9 +45,19 @@ pub fn lines_are_beside()
     ensures { LinesAreBeside }
 {}
 
-/// Sheets with marks can be imposed again.
-pub fn marks_are_tame()
-    ensures { MarksAreTame }
+/// Sheets with marks and numbers can be imposed again.
+pub fn drawn_is_tame()
+    ensures { DrawnIsTame }
+{}
+
+/// The papers that sheets with marks report are found, as those of sheets without.
+pub fn marks_are_quiet()
+    ensures { MarksAreQuiet }
+{}
+
+/// In what was written of sheets, with marks or without, each one's own paper is found, as it is printed.
+pub fn marked_are_found()
+    ensures { MarkedAreFound }
 {}
 
 /// Sheets with the lines that a dress gives them are the dressed sheets.
@@ -54,7 +65,7 @@ pub fn dressing_dresses()
     ensures { DressingDresses }
 {}
 
-/// Without marks sheets have the lines that report their papers, and no others.
+/// If nothing is drawn sheets have the lines that report their papers, and no others.
 pub fn no_marks_are_telling()
     ensures { NoMarksAreTelling }
 {}

@@ -1,9 +1,10 @@
-//! What sheets get besides their pages: lines that report their paper, marks for folds and cuts, lines for notes.
+//! What sheets get besides their pages: lines that report their paper, marks for folds and cuts, lines for notes, numbers of pages.
 #![tactic(auto)]
 
 mod dress;
 pub mod laws;
 mod lines;
+mod numbers;
 mod paper_lines;
 mod places;
 mod ruled;
@@ -12,7 +13,8 @@ mod told;
 
 pub use dress::dress_of;
 pub use lines::mark_lines;
+pub use numbers::{Numbering, Numbers};
 pub use places::gap_at;
-pub use ruled::note_lines;
+pub use ruled::{cell_height, note_lines};
 pub use strokes::{Marks, Stroke, cut_marks, fold_marks, outer_cut_marks};
 pub use told::told_papers;

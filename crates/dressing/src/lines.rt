@@ -45,7 +45,7 @@ fn push_stroke(alloc: Global, lines: &mut Lines, stroke: &Stroke) -> Result<(), 
 }
 
 /// A point, in points.
-fn append_point(x: Grains, y: Grains, line: &mut Vec<u8>) -> Result<(), AllocError>
+pub(crate) fn append_point(x: Grains, y: Grains, line: &mut Vec<u8>) -> Result<(), AllocError>
     ensures { OnOk result (line.new.items ≡ line.old.items ++ point_text x y) }
 {
     print_points(x, line)?;

@@ -1,5 +1,5 @@
 //! Lines that report a paper.
-ghost use Rattle.std.specs.Prelude.{◌≡◌, ◌++◌, ◌∷◌, [], codes, fold, map, IfOk, OnOk};
+ghost use Rattle.std.specs.Prelude.{◌≡◌, ◌++◌, ◌∷◌, [], codes, fold, map, IfOk, OnOk, ℕ};
 ghost use Rattle.papers.specs.Own.{covering as covering_paper};
 ghost use Rattle.papers.specs.Told.{box_line, medium_line, medium_text, one_header, page_size_lines as size_lines};
 ghost use Rattle.papers.specs.Told.{several_header, sheet_lines as lines_of_sheet, setting_line, size_name, size_text, telling_of};
@@ -51,6 +51,16 @@ fn covering_all(first: &Paper, others: &[Paper]) -> Paper
         large = covering(&large, paper);
     }
     large
+}
+
+/// The lines at the start of a sheet of this paper: none, unless sheets have several.
+pub(crate) fn start_lines(alloc: Global, told: &[Paper], paper: &Paper) -> Result<Lines, AllocError>
+    ensures { IfOk result (λ lines. (sheet : ℕ) → lines ≡ (telling_of told.now).start sheet paper.now) }
+{
+    match told {
+        [] | [_] => Ok(Lines::new(alloc)),
+        [_, _, ..] => sheet_lines(alloc, paper),
+    }
 }
 
 /// The lines of a sheet of this paper, if sheets have several.

@@ -43,8 +43,15 @@ fn line_count(room: &Room, grid: Grid) -> u32
     ensures value { result ≡ count_of room.now grid }
     ensures few { result ≤ 10_000_000 }
 {
-    let high = part(room, read_height(room, grid), grid.rows);
-    (high.saturating_sub(1) / LINE_STEP) as u32
+    (cell_height(room, grid).saturating_sub(1) / LINE_STEP) as u32
+}
+
+/// How high a cell is, as one reads the sheet, in 10^-5 of a point; nothing if a gap takes it.
+pub fn cell_height(room: &Room, grid: Grid) -> u128
+    ensures value { result ≡ high_of room.now grid }
+    ensures few { result ≤ 10 ^ 13 }
+{
+    part(room, read_height(room, grid), grid.rows)
 }
 
 /// The side that is read as the sheet's height.

@@ -7,17 +7,20 @@ ghost use Rattle.dressing.specs.Strokes.{outer_cut_marks as outer_cut_of};
 ghost use Rattle.dressing.specs.Strokes.{level_at, level_between, level_strokes, marks_between, marks_round};
 ghost use Rattle.dressing.specs.Strokes.{upright_at, upright_between, upright_strokes};
 
+use crate::numbers::Numbering;
 use crate::places::{gap_at, grains};
 use layouts::{Grid, Room};
 use lengths::Grains;
 use std::alloc::{AllocError, Global};
 
-/// Which marks are asked for: where sheets are folded, where they are cut, and lines for notes beside their pages.
+/// Which marks are asked for: where sheets are folded, where they are cut, lines for notes beside their pages, and the
+/// numbers of pages.
 #[derive(Clone, Copy, Debug, PartialEq, Eq)]
 pub struct Marks {
     pub fold: bool,
     pub cut: bool,
     pub ruled: bool,
+    pub numbers: Option<Numbering>,
 }
 
 /// A line on a sheet, from a point to another one: how far each is from the left edge, and from the lower one.

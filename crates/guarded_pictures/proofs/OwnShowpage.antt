@@ -20,25 +20,25 @@ use Rattle.pictures.specs.Machine.{State, Graphics, Painting, Runs}
 use Rattle.pictures.specs.Scanner.{tokens}
 use Rattle.pictures.specs.Kept.{preamble_comments_apart}
 use Rattle.pictures.specs.Pictures.{printed, past, past_all, sheets_tokens}
-use Rattle.pictures.specs.Sheets.{run_of, Numbers, Shown, closing_tokens, place_in}
+use Rattle.pictures.specs.Sheets.{run_of, Numbers, Shown, closing_tokens, placed_tokens, LeavesAsItWas, page_picture, place_in}
 use Rattle.pictures.specs.Documents.{started, PreambleRuns, FirstHas, OnSheetsFrom, all_sheets}
 use Rattle.pictures.specs.Imposed.{IsQuiet}
 use Rattle.pictures.proofs.Output.{undressed_is_quiet}
-use Rattle.pictures.proofs.Runs.{free_are_runs, runs_join}
+use Rattle.pictures.proofs.Runs.{AreRuns, free_are_runs, runs_join}
 use Rattle.pictures.proofs.Sheets.{Places, AllPlace, AllSheetsPlace, Prints, fresh, all_sheets_run}
 use Rattle.pictures.proofs.Tests.{by_test, first, second}
 use Rattle.pictures.proofs.Placed.{both_true}
 use Rattle.guarded_pictures.specs.Behind.{showpage_tokens}
 use Rattle.guarded_pictures.specs.Shelter.{means, all_absent, outline_tokens, sheltered, PaintsSheltered}
 use Rattle.guarded_pictures.specs.Lines.{clip_to, asks_userdict, with_asking}
-use Rattle.guarded_pictures.specs.Pages.{looked_up, around, IsOnPaper, AllShelteredFrom, AllSheetsShelteredFrom, PaintsFrom, shown_at}
+use Rattle.guarded_pictures.specs.Pages.{looked_up, around, placed_at, IsOnPaper, AllShelteredFrom, AllSheetsShelteredFrom, PaintsFrom, shown_at}
 use Rattle.guarded_pictures.specs.OwnShowpage.{HasItsOwn, OwnPageIsPlaced, asking, OwnSheetsArePrinted, OwnShowpageIsShown}
 use Rattle.guarded_pictures.proofs.Absent.{known_below}
 use Rattle.guarded_pictures.proofs.Asking.{asks_userdict_there, asking_shows}
 use Rattle.guarded_pictures.proofs.Begins.{Bears, begins_within, same_place}
 use Rattle.guarded_pictures.proofs.Ground.{guard_names, guard_stays_there}
 use Rattle.guarded_pictures.proofs.Lines.{prints}
-use Rattle.guarded_pictures.proofs.Placed.{placed_from}
+use Rattle.guarded_pictures.proofs.Placed.{middle_tokens, placed_from}
 use Rattle.guarded_pictures.proofs.PutThere.{means_other, has_other, differ_all, first_means}
 use Rattle.guarded_pictures.proofs.Sheets.{still_paints}
 use Rattle.guarded_pictures.proofs.Sheltering.{shelter_commutes}
@@ -104,7 +104,7 @@ still_own d s h =
       graphics = h.graphics;
     }
 
-own_anyway : (d : ℕ) (s : State) (ps : List Painting) (sheets : List (List Painting)) → HasItsOwn d s → HasItsOwn d (record s { painted = ps; sheets = sheets })
+pub own_anyway : (d : ℕ) (s : State) (ps : List Painting) (sheets : List (List Painting)) → HasItsOwn d s → HasItsOwn d (record s { painted = ps; sheets = sheets })
 own_anyway d s ps sheets h = record {
   guard = h.guard;
   own_first = h.own_first;
@@ -121,7 +121,7 @@ own_anyway d s ps sheets h = record {
 same_chain : (d : ℕ) (s : State) → HasItsOwn d s → is_same_chain s.graphics.chain s.graphics.chain ≡ true
 same_chain d s h = subst (λ l. is_same_chain l l ≡ true) (ap (λ z. z.chain) h.graphics) refl
 
-own_on_paper : (d : ℕ) (s : State) (n : Numbers) (l : List Token) → HasItsOwn d s → IsOnPaper n [] (around l n (with_asking d s))
+pub own_on_paper : (d : ℕ) (s : State) (n : Numbers) (l : List Token) → HasItsOwn d s → IsOnPaper n [] (around l n (with_asking d s))
 own_on_paper d s n l h = (
   ap (λ clips. clip_to n (place_in s.graphics n).chain ∷ clips) (sym (ap (λ z. z.clip) h.graphics)),
   same_place n s.graphics.chain (same_chain d s h),
@@ -131,27 +131,41 @@ own_on_paper d s n l h = (
 first_two : (a b c : Bool) → (a && (b && c)) ≡ true → (a && (b && true)) ≡ true
 first_two a b c e = both_true a (b && true) (first a (b && c) e) (both_true b true (first b c (second a (b && c) e)) refl)
 
-pub own_page_is_placed : OwnPageIsPlaced
+-- in any machine in which what the page does by itself is done in its place
+pub own_page_runs : (R : State → State → Type 0) → AreRuns R → (d : ℕ) (s end : State) (x : Shown) (rest : List Token) → HasItsOwn d s
+    → R (placed_at (around (closing_tokens ++ rest) x.placed.numbers (with_asking d s)) (sheltered [] (with_asking d s) (outline_tokens x.placed.numbers) x.placed.body))
+    (placed_at (around (closing_tokens ++ rest) x.placed.numbers (with_asking d s)) end)
+    → LeavesAsItWas (with_asking d s) end → end.painted ≡ x.picture
+    → R (run_of (placed_tokens x.placed ++ rest) s) (record (with_asking d s) { left = rest; painted = page_picture s.graphics x ++ s.painted })
 unfolding still_own guard_stays_there
-own_page_is_placed d s x rest h p =
+own_page_runs R m d s end x rest h runs leaves paints =
     let t : State = with_asking d s in
     let n : Numbers = x.placed.numbers in
     let more : List Token = closing_tokens ++ rest in
     let here = still_own d s h in
     let alone : all_absent (codes "userdict" ∷ codes "systemdict" ∷ []) (h.guard.number ∷ s.work.dictionaries) s.work.entries ≡ true = first_two _ _ _ h.guard.clip_alone in
     let bears : Bears [] t = record { guard = here.guard; found = d; found_is = here.own_first; encloses = here.flag_is; numbers = same_chain d s h } in
-    placed_from (Runs false) free_are_runs [] s t p.end x rest here.guard
+    placed_from R m [] s t end x rest here.guard
+    (m.free (run_of (middle_tokens n x.placed.body rest) s) (placed_at (around more n t) (sheltered [] t (outline_tokens n) x.placed.body))
     (begins_within [] s t n x.placed.body more bears (known_below looked_up 0 s.work.dictionaries s.work.entries h.guard.names (codes "userdict") refl) h.guard.save_is
-    (λ l. asks_userdict_there s h.guard.number d l h.own_first h.other h.writable h.guard.guard_is alone h.guard.few_operands))
+    (λ l. asks_userdict_there s h.guard.number d l h.own_first h.other h.writable h.guard.guard_is alone h.guard.few_operands)))
+    runs leaves paints
+
+pub own_page_is_placed : OwnPageIsPlaced
+own_page_is_placed d s x rest h p =
+    let t : State = with_asking d s in
+    let n : Numbers = x.placed.numbers in
+    let more : List Token = closing_tokens ++ rest in
+    own_page_runs (Runs false) free_are_runs d s p.end x rest h
     (shelter_commutes n [] (around more n t) (sheltered [] t (outline_tokens n) x.placed.body) p.end (own_on_paper d s n more h) p.run) p.leaves p.picture_is
 
 -- Sheets.
 
-own_after : (d : ℕ) (s : State) (k : ℕ) → HasItsOwn d s → HasItsOwn d (asking d s k)
+pub own_after : (d : ℕ) (s : State) (k : ℕ) → HasItsOwn d s → HasItsOwn d (asking d s k)
 own_after d s zero h = h
 own_after d s (suc k) h = still_own d (asking d s k) (own_after d s k h)
 
-same_graphics : (d : ℕ) (s : State) (k : ℕ) → (asking d s k).graphics ≡ s.graphics
+pub same_graphics : (d : ℕ) (s : State) (k : ℕ) → (asking d s k).graphics ≡ s.graphics
 same_graphics d s zero = refl
 same_graphics d s (suc k) = same_graphics d s k
 
@@ -168,20 +182,21 @@ asks_then : (d : ℕ) (s : State) (k : ℕ) → HasItsOwn d s → 1 ≤ k → me
 asks_then d s zero h le = absurd (omega (arith, le))
 asks_then d s (suc k) h le = let t : State = asking d s k in asks_now t.work.dictionaries t.work.entries d (own_after d s k h).own_first
 
-own_prints : (d : ℕ) (s : State) → HasItsOwn d s → (k : ℕ) → 1 ≤ k → Prints (Runs false) (asking d s k)
-own_prints d s h k le ps sheets rest =
+pub own_prints : (R : State → State → Type 0) → AreRuns R → (d : ℕ) (s : State) → HasItsOwn d s → (k : ℕ) → 1 ≤ k → Prints R (asking d s k)
+own_prints R m d s h k le ps sheets rest =
     let u : State = asking d s k in
     let g = own_after d s k h in
     let full : State = record u { painted = ps; sheets = sheets } in
     let end : State = fresh u rest [] (ps ∷ sheets) in
-    runs_join false (run_of (Name (codes "showpage") ∷ rest) full) (run_of (showpage_tokens ++ rest) full) end
+    m.free (run_of (Name (codes "showpage") ∷ rest) full) end
+    (runs_join false (run_of (Name (codes "showpage") ∷ rest) full) (run_of (showpage_tokens ++ rest) full) end
     (asking_shows full showpage_tokens rest (asks_then d s k h le) (known_below looked_up 0 u.work.dictionaries u.work.entries g.guard.names (codes "userdict") refl) g.showpage_is)
-    (subst (λ z. Runs false (run_of (showpage_tokens ++ rest) full) (record end { graphics = z })) g.graphics (prints full rest g.flag_is g.show_is))
+    (subst (λ z. Runs false (run_of (showpage_tokens ++ rest) full) (record end { graphics = z })) g.graphics (prints full rest g.flag_is g.show_is)))
 
 pub own_sheets_are_printed : OwnSheetsArePrinted
 own_sheets_are_printed d s xs rest h e b k =
     subst (λ ps. Runs false (record s { left = sheets_tokens xs ++ rest; painted = ps }) (fresh (asking d s (past_all 0 xs)) rest [] (printed s.graphics xs s.sheets))) (sym e)
-    (all_sheets_run (Runs false) free_are_runs (asking d s) s.graphics 1 (own_prints d s h) xs 0 rest s.sheets b (all_sheets_place (asking d s) s.graphics (own_places d s h) xs 0 k))
+    (all_sheets_run (Runs false) free_are_runs (asking d s) s.graphics 1 (own_prints (Runs false) free_are_runs d s h) xs 0 rest s.sheets b (all_sheets_place (asking d s) s.graphics (own_places d s h) xs 0 k))
 
 -- Documents.
 
@@ -190,7 +205,7 @@ pub own_is_shown : (sheet : Option Paper) (border : Option Border) (dress : Dres
     → PreambleRuns (HasItsOwn d) (bytes_of (preamble (units_of (guarded sheet text)))) s → FirstHas 1 all → OnSheetsFrom (PaintsFrom border us picture (asking d s)) 0 all
     → Runs false (started (tokens (made_output border dress all (units_of (guarded sheet text))))) (shown_at (asking d s) border (units_of (guarded sheet text)) picture all)
 own_is_shown sheet border dress all text us picture d s quiet doc few apart (complete, run, left, painted, none_printed, own) has h =
-    states_are_shown (asking d s) 1 sheet border dress all text us picture (own_places d s own) (own_prints d s own) quiet doc few apart complete run left painted has h
+    states_are_shown (asking d s) 1 sheet border dress all text us picture (own_places d s own) (own_prints (Runs false) free_are_runs d s own) quiet doc few apart complete run left painted has h
 
 pub own_showpage_is_shown : OwnShowpageIsShown
 own_showpage_is_shown sheet frame sides spec text us picture d s doc few apart run has h =

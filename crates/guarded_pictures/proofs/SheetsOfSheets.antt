@@ -193,13 +193,13 @@ old_still a b l m (Procedure ts) h k e = e
 old_still a b l m (Font ts) h k e = e
 old_still a b l m o h k e = refl
 
-operands_old : (a b l m : ℕ) (os : List Object) → a ≤ b → l ≤ m → all_are_old a l os ≡ true → all_are_old b m os ≡ true
+pub operands_old : (a b l m : ℕ) (os : List Object) → a ≤ b → l ≤ m → all_are_old a l os ≡ true → all_are_old b m os ≡ true
 operands_old a b l m [] h k e = refl
 operands_old a b l m (o ∷ os) h k e =
     both_true (is_old b m o) (all_are_old b m os) (old_still a b l m o h k (first (is_old a l o) (all_are_old a l os) e))
     (operands_old a b l m os h k (second (is_old a l o) (all_are_old a l os) e))
 
-dictionaries_old : (a b : ℕ) (ds : List ℕ) → a ≤ b → all_old a ds ≡ true → all_old b ds ≡ true
+pub dictionaries_old : (a b : ℕ) (ds : List ℕ) → a ≤ b → all_old a ds ≡ true → all_old b ds ≡ true
 dictionaries_old a b [] h e = refl
 dictionaries_old a b (d ∷ ds) h e =
     both_true (nat_lt d (b + 1)) (all_old b ds) (grows (a + 1) (b + 1) d (first (nat_lt d (a + 1)) (all_old a ds) e) (omega (arith, h)))

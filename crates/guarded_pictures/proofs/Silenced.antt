@@ -21,22 +21,22 @@ use Rattle.pictures.specs.Machine.{State, Painting, Runs, push, worked}
 use Rattle.pictures.specs.Scanner.{tokens}
 use Rattle.pictures.specs.Kept.{preamble_comments_apart}
 use Rattle.pictures.specs.Pictures.{printed, past_all, sheets_tokens}
-use Rattle.pictures.specs.Sheets.{run_of, in_userdict, Numbers, Shown, closing_tokens}
+use Rattle.pictures.specs.Sheets.{run_of, in_userdict, Numbers, Shown, closing_tokens, placed_tokens, LeavesAsItWas, page_picture}
 use Rattle.pictures.specs.Documents.{started, PreambleRuns, FirstHas, OnSheetsFrom, all_sheets}
 use Rattle.pictures.specs.Imposed.{IsQuiet}
 use Rattle.pictures.proofs.Output.{undressed_is_quiet}
-use Rattle.pictures.proofs.Runs.{free_are_runs, runs_one, runs_join, runs_none}
+use Rattle.pictures.proofs.Runs.{AreRuns, free_are_runs, runs_one, runs_join, runs_none}
 use Rattle.pictures.proofs.Sheets.{Places, Prints, fresh, all_sheets_run}
 use Rattle.pictures.proofs.Tests.{by_test}
 use Rattle.pictures.proofs.Opening.{apart}
 use Rattle.guarded_pictures.specs.Behind.{save_tokens, showpage_tokens}
 use Rattle.guarded_pictures.specs.Shelter.{means, outline_tokens, sheltered, PaintsSheltered}
-use Rattle.guarded_pictures.specs.Pages.{looked_up, looked_up_first, around, PaintsFrom, shown_at}
+use Rattle.guarded_pictures.specs.Pages.{looked_up, looked_up_first, around, placed_at, PaintsFrom, shown_at}
 use Rattle.guarded_pictures.specs.Silenced.{IsSilenced, with_showpage, showing, ShowpageIsPutBack, SilencedPageIsPlaced, SilencedSheetsArePrinted, SilencedDocumentIsShown}
 use Rattle.guarded_pictures.proofs.Absent.{known, known_below}
 use Rattle.guarded_pictures.proofs.Steps.{some, by_name}
 use Rattle.guarded_pictures.proofs.Begins.{Bears, before, for_save, saved_state, looking, filling, measuring, looked, finding, up_to_test, marks_page, begins_within}
-use Rattle.guarded_pictures.proofs.Placed.{placed_from, on_paper, takes_pages}
+use Rattle.guarded_pictures.proofs.Placed.{middle_tokens, placed_from, on_paper, takes_pages}
 use Rattle.guarded_pictures.proofs.PutThere.{means_other, first_means}
 use Rattle.guarded_pictures.proofs.OwnShowpage.{all_sheets_place}
 use Rattle.guarded_pictures.proofs.Sheets.{still_guarded, still_paints, page_places, guarded_prints}
@@ -118,21 +118,35 @@ showpage_is_put_back s rest h =
 
 -- A page.
 
-pub silenced_page_is_placed : SilencedPageIsPlaced
-silenced_page_is_placed s x rest h p =
+-- in any machine in which what the page does by itself is done in its place
+pub silenced_page_runs : (R : State → State → Type 0) → AreRuns R → (s end : State) (x : Shown) (rest : List Token) → IsSilenced s
+    → R (placed_at (around (closing_tokens ++ rest) x.placed.numbers (with_showpage s)) (sheltered [] (with_showpage s) (outline_tokens x.placed.numbers) x.placed.body))
+    (placed_at (around (closing_tokens ++ rest) x.placed.numbers (with_showpage s)) end)
+    → LeavesAsItWas (with_showpage s) end → end.painted ≡ x.picture
+    → R (run_of (placed_tokens x.placed ++ rest) s) (record (with_showpage s) { left = rest; painted = page_picture s.graphics x ++ s.painted })
+silenced_page_runs R m s end x rest h runs leaves paints =
     let t : State = with_showpage s in
     let n : Numbers = x.placed.numbers in
     let more : List Token = closing_tokens ++ rest in
     let g = takes_pages t h.guarded in
     let bears : Bears [] t = record { guard = h.guarded.guard; found = 0; found_is = h.guarded.userdict_first; encloses = h.guarded.flag_is; numbers = g.numbers } in
-    placed_from (Runs false) free_are_runs [] s t p.end x rest h.guarded.guard
+    placed_from R m [] s t end x rest h.guarded.guard
+    (m.free (run_of (middle_tokens n x.placed.body rest) s) (placed_at (around more n t) (sheltered [] t (outline_tokens n) x.placed.body))
     (begins_within [] s t n x.placed.body more bears (user_is s h) (as_with s (codes "save") (Some (Procedure save_tokens)) refl h.guarded.guard.save_is)
-    (λ l. showpage_is_put_back s l h))
-    (shelter_commutes n [] (around more n t) (sheltered [] t (outline_tokens n) x.placed.body) p.end (on_paper [] t n more g) p.run) p.leaves p.picture_is
+    (λ l. showpage_is_put_back s l h)))
+    runs leaves paints
+
+pub silenced_page_is_placed : SilencedPageIsPlaced
+silenced_page_is_placed s x rest h p =
+    let t : State = with_showpage s in
+    let n : Numbers = x.placed.numbers in
+    let more : List Token = closing_tokens ++ rest in
+    silenced_page_runs (Runs false) free_are_runs s p.end x rest h
+    (shelter_commutes n [] (around more n t) (sheltered [] t (outline_tokens n) x.placed.body) p.end (on_paper [] t n more (takes_pages t h.guarded)) p.run) p.leaves p.picture_is
 
 -- Sheets: the first page puts the showpage there again, and those after it find it.
 
-silenced_anyway : (s : State) (ps : List Painting) (sheets : List (List Painting)) → IsSilenced s → IsSilenced (record s { painted = ps; sheets = sheets })
+pub silenced_anyway : (s : State) (ps : List Painting) (sheets : List (List Painting)) → IsSilenced s → IsSilenced (record s { painted = ps; sheets = sheets })
 silenced_anyway s ps sheets h = record { empty = h.empty; guarded = still_guarded (with_showpage s) ps sheets h.guarded }
 
 silenced_places : (s : State) → IsSilenced s → (k : ℕ) (x : Shown) → PaintsSheltered [] (showing s (suc k)) (outline_tokens x.placed.numbers) x.placed.body x.picture → Places (Runs false) (showing s) s.graphics k x
@@ -141,14 +155,14 @@ silenced_places s h zero x p =
     (still_paints [] (with_showpage s) ps sheets (outline_tokens x.placed.numbers) x.placed.body x.picture p)
 silenced_places s h (suc k) x p = page_places [] (with_showpage s) x (takes_pages (with_showpage s) h.guarded) p
 
-silenced_prints : (s : State) → IsSilenced s → (k : ℕ) → 1 ≤ k → Prints (Runs false) (showing s k)
-silenced_prints s h zero le = absurd (omega (arith, le))
-silenced_prints s h (suc k) le = guarded_prints (Runs false) free_are_runs (with_showpage s) h.guarded
+pub silenced_prints : (R : State → State → Type 0) → AreRuns R → (s : State) → IsSilenced s → (k : ℕ) → 1 ≤ k → Prints R (showing s k)
+silenced_prints R m s h zero le = absurd (omega (arith, le))
+silenced_prints R m s h (suc k) le = guarded_prints R m (with_showpage s) h.guarded
 
 pub silenced_sheets_are_printed : SilencedSheetsArePrinted
 silenced_sheets_are_printed s xs rest h e b k =
     subst (λ ps. Runs false (record s { left = sheets_tokens xs ++ rest; painted = ps }) (fresh (showing s (past_all 0 xs)) rest [] (printed s.graphics xs s.sheets))) (sym e)
-    (all_sheets_run (Runs false) free_are_runs (showing s) s.graphics 1 (silenced_prints s h) xs 0 rest s.sheets b (all_sheets_place (showing s) s.graphics (silenced_places s h) xs 0 k))
+    (all_sheets_run (Runs false) free_are_runs (showing s) s.graphics 1 (silenced_prints (Runs false) free_are_runs s h) xs 0 rest s.sheets b (all_sheets_place (showing s) s.graphics (silenced_places s h) xs 0 k))
 
 -- Documents.
 
@@ -157,7 +171,7 @@ pub silenced_is_shown : (sheet : Option Paper) (border : Option Border) (dress :
     → PreambleRuns IsSilenced (bytes_of (preamble (units_of (guarded sheet text)))) s → FirstHas 1 all → OnSheetsFrom (PaintsFrom border us picture (showing s)) 0 all
     → Runs false (started (tokens (made_output border dress all (units_of (guarded sheet text))))) (shown_at (showing s) border (units_of (guarded sheet text)) picture all)
 silenced_is_shown sheet border dress all text us picture s quiet doc few comments (complete, run, left, painted, none_printed, silenced) has h =
-    states_are_shown (showing s) 1 sheet border dress all text us picture (silenced_places s silenced) (silenced_prints s silenced) quiet doc few comments complete run left painted has h
+    states_are_shown (showing s) 1 sheet border dress all text us picture (silenced_places s silenced) (silenced_prints (Runs false) free_are_runs s silenced) quiet doc few comments complete run left painted has h
 
 pub silenced_document_is_shown : SilencedDocumentIsShown
 silenced_document_is_shown sheet frame sides spec text us picture s doc few comments run has h =

@@ -1,6 +1,6 @@
 -- What was written for a request is a document again.
 use Rattle.std.proofs.Common.{◌≤◌, ◌<◌, ◌≡◌, ◌∙◌, ℕ, ◌++◌, List, ap, drop, length, subst, sym, inl, inr, true, false, Bool, None, Option, Result, Ok, refl}
-use Rattle.std.specs.Prelude.{Some, [], nat_lt}
+use Rattle.std.specs.Prelude.{Some, nat_lt}
 use Rattle.std.proofs.Math.Seq.{drop-append_seam}
 use Rattle.std.proofs.lemmas.Bool.{ltb-false}
 use Rattle.rules.specs.Admissible.{most_slots}
@@ -13,10 +13,10 @@ use Rattle.imposed_again.proofs.MadeAgain.{made_is_document}
 use Rattle.papers.specs.Told.{telling}
 use Rattle.papers.proofs.Tame.{telling_is_tame}
 use Rattle.made_sheets.specs.Dress.{Dress}
-use Rattle.dressing.specs.Drawn.{marked}
-use Rattle.dressing.proofs.Tame.{marks_are_tame}
+use Rattle.dressing.specs.Numbered.{drawn_on, nothing_drawn}
+use Rattle.dressing.proofs.Tame.{drawn_is_tame}
 use Rattle.row_runs.specs.BySpec.{border_by_spec, output_by_spec}
-use Rattle.row_runs.specs.Runs.{border_on, output_on, strokes_on}
+use Rattle.row_runs.specs.Runs.{border_on, drawn_of, output_on}
 use Rattle.impose_cli.specs.Tasks.{FinishesSpec, frame_used, sheet_paper_found, taken_text}
 use Rattle.impose_cli.specs.RowTasks.{FinishesRow, text_for}
 use Rattle.impose_cli.specs.SpecRows.{FinishesSpecRow}
@@ -56,7 +56,7 @@ few_sheets pages all e =
     ltb-false _ _ (passes (nat_lt most_sheets (length all)) MadeTooManySheets _ all first.1).0
 
 abbrev dress_on : {r : ImposeRequest} {input : List ℕ} {old new : Option (List ℕ)} {done : Finished} → FinishesRow r input old new done → Dress
-dress_on h = marked (strokes_on h.job) (telling h.imposes.made)
+dress_on h = drawn_on (drawn_of h.job) (telling h.imposes.made)
 
 row_again : (r : ImposeRequest) (input old text : List ℕ) (done : Finished) (h : FinishesRow r input (Some old) (Some (old ++ text)) done)
     → length (output_on h.job h.imposes.made) ≤ most_input_bytes → 0 < length h.imposes.made
@@ -65,7 +65,7 @@ row_again r input old text done h l some =
     let taken = text_for r h.job.papers.now done.page_paper input in
     let made = h.imposes.made in
     let us = h.job.document.now in
-    let i = made_is_document (border_on h.job) (dress_on h) made taken us (marks_are_tame (strokes_on h.job) (telling made) (telling_is_tame made)) h.is_job.document some (few_sheets _ made h.imposes.planned.planned) l in
+    let i = made_is_document (border_on h.job) (dress_on h) made taken us (drawn_is_tame (drawn_of h.job) (telling made) (telling_is_tame made)) h.is_job.document some (few_sheets _ made h.imposes.planned.planned) l in
     record {
       accepted = i.0;
       again = i.1;
@@ -76,7 +76,7 @@ row_again r input old text done h l some =
 -- ---- by a specification on a row
 
 abbrev bare_dress_on : {r : ImposeRequest} {input : List ℕ} {old new : Option (List ℕ)} {done : Finished} → FinishesSpecRow r input old new done → Dress
-bare_dress_on h = marked [] (telling h.imposes.made)
+bare_dress_on h = drawn_on nothing_drawn (telling h.imposes.made)
 
 spec_row_again : (r : ImposeRequest) (input old text : List ℕ) (done : Finished) (h : FinishesSpecRow r input (Some old) (Some (old ++ text)) done)
     → length (output_by_spec h.job h.imposes.made) ≤ most_input_bytes → 0 < length h.imposes.made
@@ -85,7 +85,7 @@ spec_row_again r input old text done h l some =
     let taken = taken_text r.is_guarded h.job.sheet input in
     let made = h.imposes.made in
     let us = h.job.document.now in
-    let i = made_is_document (border_by_spec h.job) (bare_dress_on h) made taken us (marks_are_tame [] (telling made) (telling_is_tame made)) h.document some (few_sheets _ made h.imposes.planned.planned) l in
+    let i = made_is_document (border_by_spec h.job) (bare_dress_on h) made taken us (drawn_is_tame nothing_drawn (telling made) (telling_is_tame made)) h.document some (few_sheets _ made h.imposes.planned.planned) l in
     record {
       accepted = i.0;
       again = i.1;

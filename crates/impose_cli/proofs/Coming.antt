@@ -12,7 +12,7 @@ use Rattle.rules.specs.Parts.{NestedUnit}
 use Rattle.rules.specs.Output.{Border}
 use Rattle.made_sheets.specs.Made.{MadeSheet}
 use Rattle.made_sheets.specs.MadePlans.{made_plan_of}
-use Rattle.dressing.specs.declared.strokes.Stroke.{Stroke}
+use Rattle.dressing.specs.Numbered.{Drawn}
 use Rattle.row_runs.specs.SheetsRuns.{RefusesSheets, ReportsOn, told_output}
 use Rattle.row_runs.specs.declared.error.AskedError.{AskedError}
 use Rattle.impose_cli.specs.Faults.{of_asked}
@@ -124,8 +124,8 @@ comes_reported R R' W W' about name tells (Err f) has_output written refused wro
 abbrev pub RefusesThese : (pages : ℕ) → List MadeSheet → ImposeFault → Type 0
 RefusesThese pages made f = (error : AskedError) × (f ≡ of_asked pages error) × RefusesSheets pages made error
 
-abbrev pub WritesThese : (pages : ℕ) → (border : Option Border) → List Stroke → List MadeSheet → List NestedUnit → (old new : Option (List ℕ)) → Report → Type 0
-WritesThese pages border strokes made us old new report = (made_plan_of pages made ≡ Ok made) × Appends old new (told_output border strokes made us) × ReportsOn border strokes made us report
+abbrev pub WritesThese : (pages : ℕ) → (border : Option Border) → Drawn → List MadeSheet → List NestedUnit → (old new : Option (List ℕ)) → Report → Type 0
+WritesThese pages border drawn made us old new report = (made_plan_of pages made ≡ Ok made) × Appends old new (told_output border drawn made us) × ReportsOn border drawn made us report
 
 -- ---- the sheets of a job
 

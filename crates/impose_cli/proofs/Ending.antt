@@ -14,7 +14,7 @@ use Rattle.rules.specs.Sheets.{Plan}
 use Rattle.sheet_plan.specs.Plans.{planned, planned_in}
 use Rattle.sheet_plan.specs.Refusals.{Refuses, RefusesIn}
 use Rattle.sheet_plan.specs.declared.error.PlanError.{PlanError}
-use Rattle.sheet_text.specs.Jobs.{JobView, of_frame}
+use Rattle.sheet_text.specs.Jobs.{JobView, is_border, of_frame}
 use Rattle.sheet_writer.specs.Sinks.{fresh_sink}
 use Rattle.imposer.proofs.Made.{job_answers}
 use Rattle.imposer.proofs.Refusals.{refused_plan}
@@ -45,6 +45,7 @@ placed_as_named : (l : Layout) (s : Spacing) (named : List ℕ) (page_paper shee
 placed_as_named (layout.NUp n) s named page_paper sheet_paper pages text sides is h = absurd is
 placed_as_named (layout.Booklet signature long_edge) s named page_paper sheet_paper pages text sides is h = absurd is
 placed_as_named (layout.SpecRow specs signing) s named page_paper sheet_paper pages text sides is h = absurd is
+placed_as_named layout.Zine s named page_paper sheet_paper pages text sides is h = absurd is
 placed_as_named layout.Selection s named page_paper sheet_paper pages text sides is h = absurd is
 placed_as_named (layout.Cards n) s named page_paper sheet_paper pages text sides is h = absurd is
 placed_as_named (layout.Stack n duplex) s named page_paper sheet_paper pages text sides is h = absurd is
@@ -67,6 +68,8 @@ finishes r input task told old new report named is tells h =
       page_paper = is.page_paper;
       text = named.0;
       is_text = named.1;
+      said = is.said;
+      border = ap is_border (sym is.border) ∙ accepted.options.1;
       spec = spec;
       takes = subst (λ t. Takes most_slots t spec) p.0 accepted.takes;
       units = units;
@@ -93,6 +96,7 @@ by_spec (layout.Stack cells duplex) text r input f is h = absurd is
 by_spec (layout.Notes pages) text r input f is h = absurd is
 by_spec (layout.Poster columns on) text r input f is h = absurd is
 by_spec (layout.Booklet signing long_edge) text r input f is h = absurd is
+by_spec layout.Zine text r input f is h = absurd is
 by_spec layout.Selection text r input f is h = absurd is
 by_spec (layout.SpecRow specs signing) text r input f is h = absurd is
 

@@ -1,14 +1,23 @@
 -- What the fault of a layout's error says of the layout.
-use Rattle.std.proofs.Common.{◌≡◌, ◌∙◌, ap, refl, sym, inl, inr, Bool, Option, Some, Result, Ok, Err, IfOk}
-use Rattle.std.specs.Prelude.{◌⊎◌, pos, option_map}
+use Rattle.std.proofs.Common.{◌≡◌, ◌∙◌, ap, refl, subst, sym, inl, inr, Bool, true, false, ℕ, List, Option, Some, Result, Ok, Err, IfOk}
+use Rattle.std.specs.Prelude.{◌⊎◌, OnOk, not, pos, option_map}
+use Rattle.std.specs.Ordering.{int_eq}
 use Rattle.rules.specs.Papers.{Paper}
-use Rattle.layouts.specs.Refusals.{IsFault, first_of, is_length, why_not_bound}
+use Rattle.std.proofs.lemmas.Bool.{not-false}
+use Rattle.std.proofs.lemmas.Bool.Decides.{Decides-int_eq}
+use Rattle.layouts.specs.Refusals.{IsFault, first_of as first_fault_of, is_length, why_not_bound}
 use Rattle.layouts.specs.declared.arrangement.Binding.{Binding}
 use Rattle.layouts.specs.declared.error.ArrangementError.{ArrangementError}
 use Rattle.layouts.specs.declared.error.ArrangementError.TheVariants.{CellsOutOfRange, SideTooLong, LengthOutOfRange, NothingLeftOfPage, FoldOnLongEdge, NoRoom, ScaleOutOfRange, ScaleTooLarge, CreepOverFold, NoMemory}
 use Rattle.impose_said.specs.Faults.{of_layout, without_memory}
+use Rattle.rows.specs.Sewing.{signing_of}
 use Rattle.rows.specs.declared.sewing.Signing.{Signing}
-use Rattle.impose_cli.specs.Refusals.{RefusesLayout}
+use Rattle.made_sheets.specs.Choice.{sides_for}
+use Rattle.layouts.specs.Grids.{bound}
+use Rattle.layouts.specs.Laws.{IsBound}
+use Rattle.impose_cli.specs.Tasks.{IsPlaced, IsWritten}
+use Rattle.impose_cli.specs.Refusals.{RefusesFor, first_of, why_not_specified}
+use Rattle.impose_cli.specs.RowTasks.{why_not_laid}
 use Rattle.impose_words.specs.Spacings.{binding_in}
 use Rattle.impose_words.specs.declared.request.Layout.TheVariants as layout
 use Rattle.impose_words.specs.declared.request.Spacing.{Spacing}
@@ -42,10 +51,40 @@ pub refuses_laid : (found : Option ArrangementError) (f : ImposeFault) → (f �
 refuses_laid found f (inl h) = inl h
 refuses_laid found f (inr (e, told, why)) = inr (ap (option_map fault.Layout) why ∙ ap Some (sym told))
 
+-- leaves that creep, and those that don't
+pub creeping : (signing : Signing) (long_edge : Bool) (s : Spacing) (page sheet : Paper) (f : ImposeFault) (creeps : Bool) → creeps ≡ not (int_eq s.creep (pos 0)) → creeps ≡ true → f ≡ fault.NoSpecification
+    → RefusesFor (why_not_specified (layout.Booklet signing long_edge) s page sheet) f
+creeping signing long_edge s page sheet f creeps is moved told =
+    inr (ap (λ b. first_of b fault.NoSpecification (why_not_laid (layout.Booklet signing long_edge) s page sheet)) (not_true (int_eq s.creep (pos 0)) (sym is ∙ moved)) ∙ ap Some (sym told))
+  where
+    not_true : (b : Bool) → not b ≡ true → b ≡ false
+    not_true false e = refl
+    not_true true e = sym e
+
+pub at_rest : (s : Spacing) (creeps : Bool) → creeps ≡ not (int_eq s.creep (pos 0)) → creeps ≡ false → s.creep ≡ pos 0
+at_rest s creeps is still = (Decides-int_eq s.creep (pos 0)).0 (not-false (int_eq s.creep (pos 0)) (sym is ∙ still))
+
 -- of a booklet whose leaves don't creep it is why they can't be bound
+pub still_booklet : (signing : Signing) (long_edge : Bool) (s : Spacing) (page sheet : Paper) (b : Binding) (found : Option ArrangementError) → s.creep ≡ pos 0 → b ≡ binding_in s long_edge
+    → why_not_bound page sheet b ≡ found → why_not_specified (layout.Booklet signing long_edge) s page sheet ≡ option_map fault.Layout found
+still_booklet signing long_edge s page sheet b found none is why =
+    ap (λ z. first_of (int_eq z (pos 0)) fault.NoSpecification (option_map fault.Layout (first_fault_of (is_length z) LengthOutOfRange (why_not_bound page sheet (binding_in s long_edge))))) none
+    ∙ ap (option_map fault.Layout) (ap (why_not_bound page sheet) (sym is) ∙ why)
+
+pub placed_booklet : (signing : Signing) (long_edge : Bool) (s : Spacing) (page sheet : Paper) (pages : ℕ) (b : Binding) (sides : ℕ) (text : List ℕ) (told : Option ℕ) → s.creep ≡ pos 0 → b ≡ binding_in s long_edge
+    → sides ≡ sides_for (signing_of signing) pages → (IsWritten (bound page sheet b) text × IsBound page sheet b (bound page sheet b)) × (told ≡ Some sides)
+    → IsPlaced (layout.Booklet signing long_edge) s page sheet pages text told
+placed_booklet signing long_edge s page sheet pages b sides text told still is many h =
+    (still, subst (λ x. IsWritten (bound page sheet x) text × IsBound page sheet x (bound page sheet x)) is h.0, h.1 ∙ ap Some many)
+
 pub refuses_booklet : (signing : Signing) (long_edge : Bool) (s : Spacing) (page sheet : Paper) (b : Binding) (f : ImposeFault) → s.creep ≡ pos 0 → b ≡ binding_in s long_edge
     → (f ≡ without_memory) ⊎ ((e : ArrangementError) × (f ≡ fault.Layout e) × (why_not_bound page sheet b ≡ Some e))
-    → (f ≡ without_memory) ⊎ RefusesLayout (layout.Booklet signing long_edge) s page sheet f
+    → RefusesFor (why_not_specified (layout.Booklet signing long_edge) s page sheet) f
 refuses_booklet signing long_edge s page sheet b f none is (inl h) = inl h
 refuses_booklet signing long_edge s page sheet b f none is (inr (e, told, why)) =
-    inr (inr (inr (ap (option_map fault.Layout) (ap (λ z. first_of (is_length z) LengthOutOfRange (why_not_bound page sheet (binding_in s long_edge))) none ∙ (ap (why_not_bound page sheet) (sym is) ∙ why)) ∙ ap Some (sym told))))
+    inr (still_booklet signing long_edge s page sheet b (Some e) none is why ∙ ap Some (sym told))
+
+-- of something that is there
+pub if_there : {T E : Type 0} (r : Result T E) (P : Type 0) → P → OnOk r P
+if_there (Ok x) P p = p
+if_there (Err e) P p = tt

@@ -13,7 +13,7 @@ use Rattle.impose_cli.specs.Programs.{BreaksAt, CarriesOut, FailsToWrite, Gives,
 use Rattle.impose_cli.specs.RowTasks.{LaysRows}
 use Rattle.rules.specs.Papers.{Paper}
 use Rattle.impose_words.specs.Words.{Entered, MakesBy, Reads}
-use Rattle.impose_cli.specs.Refusals.{HasOnePaper}
+use Rattle.impose_cli.specs.Refusals.{HasNoFault}
 use Rattle.impose_cli.specs.Unread.{MayBeRead, RefusesRequest}
 use Rattle.impose_cli.specs.Tasks.{IsTask}
 use Rattle.impose_said.specs.declared.fault.ImposeFault.{ImposeFault}
@@ -62,11 +62,11 @@ uncreated name text what tells f outcome has_output written told none =
 
 -- the specification was printed to standard output
 pub printed : (r : ImposeRequest) (input : List ℕ) (tells : Bool) (task : Task) (lines : List ℕ) (outcome : Result Done ImposeFault)
-    (has_output : Bool) (written : Option (List ℕ)) → IsTask r input task → HasOnePaper r input task.options.paper
+    (has_output : Bool) (written : Option (List ℕ)) → IsTask r input task → HasNoFault r input
     → Writes None lines done.Printed tells outcome has_output written → Prints r input tells outcome has_output written
-printed r input tells task lines (Ok what) has_output written is_task one h =
-    subst (λ d. Prints r input tells (Ok d) has_output written) (sym h.0) (task, lines, is_task, one, h.1)
-printed r input tells task lines (Err f) has_output written is_task one h = inr (task, lines, is_task, one, h)
+printed r input tells task lines (Ok what) has_output written is_task none h =
+    subst (λ d. Prints r input tells (Ok d) has_output written) (sym h.0) (task, lines, is_task, none, h.1)
+printed r input tells task lines (Err f) has_output written is_task none h = inr (task, lines, is_task, none, h)
 
 -- the plan or the picture was written to the output of that name
 pub shown : (l : Overview) (name : Option (List ℕ)) (r : ImposeRequest) (input : List ℕ) (tells : Bool) (text : List ℕ)
@@ -83,6 +83,7 @@ lays (layout.Stack cells duplex) e = tt
 lays (layout.Booklet signing long_edge) e = tt
 lays (layout.Notes pages) e = tt
 lays (layout.Poster columns rows) e = tt
+lays layout.Zine e = tt
 lays layout.Selection e = tt
 lays (layout.Spec specs) e = cc
 lays (layout.SpecRow specs signing) e = cc

@@ -1,8 +1,10 @@
 -- What comes of a task with a row, and of a request.
-use Rattle.std.proofs.Common.{◌≡◌, ◌⊎◌, ◌∙◌, ap, sym, subst, refl, inl, inr, Bool, true, false, ◌∷◌, List, ℕ, Option, Some, None, Result, Ok, Err}
-use Rattle.std.specs.Prelude.{length, option_map, string_bytes}
+use Rattle.std.proofs.Common.{◌≡◌, ◌⊎◌, ◌∙◌, ap, sym, subst, refl, inl, inr, Bool, true, false, ◌∷◌, List, ℕ, Option, Some, None, Result, Ok, Err, ap₂}
+use Rattle.std.specs.Prelude.{IfSome, length, option_map, string_bytes}
 use Rattle.std.specs.Io.KnownBytes.{Appends}
 use Rattle.made_sheets.specs.Made.{MadeSheet}
+use Rattle.dressing.specs.Numbered.{Drawn}
+use Rattle.dressing.specs.declared.numbers.Numbers.{Numbers}
 use Rattle.dressing.specs.declared.strokes.Stroke.{Stroke}
 use Rattle.rules.specs.Papers.{Paper}
 use Rattle.std.proofs.lemmas.List.{length-map}
@@ -12,10 +14,10 @@ use Rattle.dsc.proofs.Reading.{accepted_cut}
 use Rattle.dsc.proofs.Slices.{text_whole}
 use Rattle.rules.specs.Parts.{NestedUnit, bytes_of, pages}
 use Rattle.rules.specs.Run.{document_of}
-use Rattle.rows.specs.Sewing.{signing_of}
+use Rattle.rows.specs.Sewing.{MayBeSewn}
 use Rattle.imposer.specs.declared.outcome.Report.{Report}
 use Rattle.row_runs.specs.declared.run.RowJob.{RowJob}
-use Rattle.row_runs.specs.Runs.{Imposes, border_on, page_count, strokes_on}
+use Rattle.row_runs.specs.Runs.{Imposes, border_on, drawn_of, page_count}
 use Rattle.row_runs.specs.Sheets.{AreAsked}
 use Rattle.row_runs.specs.SheetsRuns.{ReportsOn, told_output}
 use Rattle.row_runs.specs.Standing.{StandAsLaid}
@@ -27,18 +29,15 @@ use Rattle.impose_cli.proofs.Coming.{RefusesThese, WritesThese, comes_as, comes_
 use Rattle.papers.specs.AsOne.{as_one, kinds, paper_among}
 use Rattle.papers.specs.declared.cuts.Cut.{Cut}
 use Rattle.papers.specs.Names.{paper_named}
-use Rattle.imposer.specs.declared.outcome.RunError.TheVariants as run
-use Rattle.sheet_text.specs.Jobs.{is_border}
 use Rattle.impose_said.specs.Faults.{without_memory}
 use Rattle.dsc.specs.PagesBehind.{pages_behind}
 use Rattle.impose_said.specs.declared.finished.PaperOrigin.{PaperOrigin}
 use Rattle.impose_cli.specs.ToldPages.{told_pages}
 use Rattle.impose_cli.specs.Tasks.{HasBehind, HasPages}
-use Rattle.impose_said.specs.declared.fault.ImposeFault.TheVariants as fault
-use Rattle.impose_cli.specs.Refusals.{RefusesDocument, RefusesLaying, RefusesRowTask, RefusesSides}
+use Rattle.impose_cli.specs.Refusals.{RefusesDocument, RefusesFor, RefusesOptions, RefusesRowTask}
 use Rattle.impose_cli.specs.Reaches.{HasReach, HasReachOver, reach_in, reach_over}
 use Rattle.papers.specs.declared.reach.Reach.{Reach}
-use Rattle.impose_cli.specs.RowTasks.{ArePapersOf, cut_in, papers_in, row_paper, sheet_paper_in, text_for, FinishesRow, ImposesTask, IsJobOf, IsRowJob, IsRowPaper, IsRowTask, LaysRows}
+use Rattle.impose_cli.specs.RowTasks.{ArePapersOf, cut_in, papers_in, row_paper, text_for, why_no_row, FinishesRow, ImposesTask, IsJobOf, IsRowJob, IsRowPaper, IsRowTask, LaysRows}
 use Rattle.impose_said.specs.declared.fault.ImposeFault.{ImposeFault}
 use Rattle.impose_words.specs.declared.request.Layout.{Layout}
 use Rattle.impose_words.specs.declared.request.Layout.TheVariants as layout
@@ -50,9 +49,10 @@ pub is_row_job : (r : ImposeRequest) (input : List ℕ) (t : RowTask) (job : Row
 is_row_job r input t job is of = record {
   document = ap (λ ps. document_of (text_for r ps t.page_paper input)) of.papers ∙ ap document_of (sym is.text) ∙ of.document;
   choice = of.choice;
-  signing = ap (option_map signing_of) of.signing ∙ is.signing;
+  signing = of.signing ∙ is.signing;
   laying = is.laying ∙ ap Some (sym of.laying);
   possible = is.possible;
+  options = (subst (λ s. IfSome s MayBeSewn) is.signing is.may_be_sewn, is.border);
   same_scale = of.same_scale;
   border = of.border;
   inset = of.inset;
@@ -100,9 +100,7 @@ as_many r us first own papers n count is one = count
 -- why there is no task for a document that is accepted, with sheets and cells for this paper
 abbrev pub RefusesAccepted : ImposeRequest → (page_paper : Paper) → ImposeFault → Type 0
 RefusesAccepted r page_paper f =
-    RefusesLaying r.layout r.spacing page_paper (sheet_paper_in r.layout r.sheet_paper page_paper) f
-    ⊎ (RefusesSides r.layout f
-    ⊎ (((f ≡ fault.Run run.Options) × (is_border r.border ≡ false)) ⊎ (f ≡ without_memory)))
+    RefusesFor (why_no_row r page_paper) f ⊎ ((why_no_row r page_paper ≡ None) × RefusesOptions r f)
 
 pub refused_after : (r : ImposeRequest) (input : List ℕ) (found : Paper × PaperOrigin) (f : ImposeFault) → IsRowPaper r input found → RefusesAccepted r found.0 f
     → RefusesRowTask r input f
@@ -111,7 +109,7 @@ refused_after r input found f is why = inr (found, is, why)
 pub refused_found : (r : ImposeRequest) (input : List ℕ) (f : ImposeFault) → RefusesDocument input f ⊎ ((n : ℕ) × HasPages input n × (f ≡ without_memory)) → RefusesRowTask r input f
 refused_found r input f h = elim h [
   | inl refused ↦ inl refused
-  | inr spent ↦ let us = spent.1.0 in refused_after r input (row_paper r input us) f (us, spent.1.1, refl) (inr (inr (inr spent.2)))
+  | inr spent ↦ let us = spent.1.0 in refused_after r input (row_paper r input us) f (us, spent.1.1, refl) (inl (inl spent.2))
 ]
 
 pub finishes_row : (r : ImposeRequest) (input : List ℕ) (t : RowTask) (told : Option ℕ) (old new : Option (List ℕ)) (report : Report) → IsRowTask r input t → told ≡ told_pages input → ImposesTask r t old new report
@@ -135,6 +133,7 @@ on_row (layout.Stack cells duplex) r input f rows h = h
 on_row (layout.Notes pages) r input f rows h = h
 on_row (layout.Poster columns on) r input f rows h = h
 on_row (layout.Booklet signing long_edge) r input f rows h = h
+on_row layout.Zine r input f rows h = h
 on_row layout.Selection r input f rows h = h
 on_row (layout.Spec specs) r input f rows h = absurd rows
 on_row (layout.SpecRow specs signing) r input f rows h = absurd rows
@@ -159,13 +158,20 @@ row_runs r input t told tells outcome left has_output written rows is tells_it r
     (λ f why. on_row r.layout r input f rows (inr (record { task = t; is_task = is; refused = why })))
     (λ old new report done. inr (inl (finishes_row r input t told old new report is tells_it done))) h)
 
+-- what is drawn is what these strokes and these numbers are
+abbrev pub with_both : List Stroke → Option Numbers → Drawn
+with_both strokes numbers = record { strokes = strokes; numbers = numbers }
+
+pub both_drawn : {s t : List Stroke} {n m : Option Numbers} → s ≡ t → n ≡ m → with_both s n ≡ with_both t m
+both_drawn e f = ap₂ with_both e f
+
 -- what comes of its sheets, if these are asked for, comes of a job
-pub made_comes : (job : RowJob) (made : List MadeSheet) (strokes : List Stroke) (name : Option (List ℕ)) (tells : Bool) (outcome : Result Report ImposeFault) (has_output : Bool) (written : Option (List ℕ))
-    → AreAsked (page_count job) job.papers.now job.asked made → StandAsLaid job.asked.laying made → strokes ≡ strokes_on job
-    → Comes (RefusesThese (page_count job) made) (WritesThese (page_count job) (border_on job) strokes made job.document.now) name tells outcome has_output written
+pub made_comes : (job : RowJob) (made : List MadeSheet) (drawn : Drawn) (name : Option (List ℕ)) (tells : Bool) (outcome : Result Report ImposeFault) (has_output : Bool) (written : Option (List ℕ))
+    → AreAsked (page_count job) job.papers.now job.asked made → StandAsLaid job.asked.laying made → drawn ≡ drawn_of job
+    → Comes (RefusesThese (page_count job) made) (WritesThese (page_count job) (border_on job) drawn made job.document.now) name tells outcome has_output written
     → Comes (RefusesRowJob job) (Imposes job) name tells outcome has_output written
-made_comes job made strokes name tells outcome has_output written asked stand marked h =
-    comes_as (RefusesThese (page_count job) made) (RefusesRowJob job) (WritesThese (page_count job) (border_on job) strokes made job.document.now) (Imposes job) name tells outcome has_output written
+made_comes job made drawn name tells outcome has_output written asked stand marked h =
+    comes_as (RefusesThese (page_count job) made) (RefusesRowJob job) (WritesThese (page_count job) (border_on job) drawn made job.document.now) (Imposes job) name tells outcome has_output written
     (λ f why. (why.0, why.1, sheets_refused job made why.0 asked why.2))
     (λ old new report done. record {
       made = made;

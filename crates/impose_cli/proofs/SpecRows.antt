@@ -1,16 +1,17 @@
 -- What comes of a task by a specification on a row.
 use Rattle.std.proofs.Common.{◌≡◌, ◌∙◌, ap, sym, subst, refl, inl, inr, Bool, false, List, [], ℕ, Option, None, Result, Err}
-use Rattle.std.specs.Prelude.{option_map, string_bytes}
+use Rattle.std.specs.Prelude.{IfSome, option_map, string_bytes}
 use Rattle.made_sheets.specs.Made.{MadeSheet}
-use Rattle.rules.specs.Admissible.{Takes, most_slots}
+use Rattle.rows.specs.Sewing.{MayBeSewn}
 use Rattle.rules.specs.Run.{document_of}
 use Rattle.imposer.specs.declared.outcome.Report.{Report}
+use Rattle.dressing.specs.Numbered.{nothing_drawn}
 use Rattle.row_runs.specs.BySpec.{AreBySpec, ImposesBySpec, border_by_spec, pages_of}
 use Rattle.row_runs.specs.declared.by_spec.SpecJob.{SpecJob}
 use Rattle.row_runs.proofs.Refused.{spec_refused}
 use Rattle.impose_cli.specs.Abouts.{reported_by}
 use Rattle.impose_cli.specs.Endings.{Comes, IsImposed, RefusesImposing, Runs}
-use Rattle.impose_cli.specs.SpecRows.{FinishesSpecRow, ImposesSpecTask, IsSpecJobOf, IsSpecRow, IsSpecRowTask, LaysSpecRow, RefusesSpecRowJob, RefusesSpecRowRun, RefusesSpecRowTask, RefusesSpecTaskRun}
+use Rattle.impose_cli.specs.SpecRows.{FinishesSpecRow, ImposesSpecTask, IsSpecJobOf, IsSpecRowTask, LaysSpecRow, TakesNamed, RefusesSpecRowJob, RefusesSpecRowRun, RefusesSpecRowTask, RefusesSpecTaskRun}
 use Rattle.impose_cli.specs.declared.runs.About.{About}
 use Rattle.impose_cli.specs.ToldPages.{told_pages}
 use Rattle.impose_cli.specs.Tasks.{taken_text}
@@ -31,9 +32,9 @@ finishes_spec_row r input t told old new report is tells h =
       behind = is.behind;
       told = tells;
       job = h.0;
-      text = is.text_of_spec;
-      named = subst (IsSpecRow r.layout is.text_of_spec) (sym of.signing) is.named;
-      takes = subst (Takes most_slots is.text_of_spec) (sym of.spec) is.takes;
+      spec = subst (TakesNamed r.layout) (sym of.spec) is.spec;
+      signing = of.signing ∙ is.signing;
+      options = (subst (λ s. IfSome s MayBeSewn) is.signing is.may_be_sewn, is.border);
       document = ap (λ p. document_of (taken_text r.is_guarded p input)) of.sheet_paper ∙ ap document_of (sym is.text) ∙ of.document;
       choice = of.choice;
       of_sheets = of.sheet_paper ∙ is.sheet_paper;
@@ -53,6 +54,7 @@ on_spec_row (layout.Stack cells duplex) r input f rows h = absurd rows
 on_spec_row (layout.Notes pages) r input f rows h = absurd rows
 on_spec_row (layout.Poster columns on) r input f rows h = absurd rows
 on_spec_row (layout.Booklet signing long_edge) r input f rows h = absurd rows
+on_spec_row layout.Zine r input f rows h = absurd rows
 on_spec_row layout.Selection r input f rows h = absurd rows
 on_spec_row (layout.Spec specs) r input f rows h = absurd rows
 
@@ -78,10 +80,10 @@ spec_row_runs r input t told tells outcome left has_output written rows is tells
 
 -- what comes of its sheets comes of a job
 pub spec_made_comes : (job : SpecJob) (made : List MadeSheet) (name : Option (List ℕ)) (tells : Bool) (outcome : Result Report ImposeFault) (has_output : Bool) (written : Option (List ℕ)) → AreBySpec job made
-    → Comes (RefusesThese (pages_of job) made) (WritesThese (pages_of job) (border_by_spec job) [] made job.document.now) name tells outcome has_output written
+    → Comes (RefusesThese (pages_of job) made) (WritesThese (pages_of job) (border_by_spec job) nothing_drawn made job.document.now) name tells outcome has_output written
     → Comes (RefusesSpecRowJob job) (ImposesBySpec job) name tells outcome has_output written
 spec_made_comes job made name tells outcome has_output written are h =
-    comes_as (RefusesThese (pages_of job) made) (RefusesSpecRowJob job) (WritesThese (pages_of job) (border_by_spec job) [] made job.document.now) (ImposesBySpec job) name tells outcome has_output written
+    comes_as (RefusesThese (pages_of job) made) (RefusesSpecRowJob job) (WritesThese (pages_of job) (border_by_spec job) nothing_drawn made job.document.now) (ImposesBySpec job) name tells outcome has_output written
     (λ f why. (why.0, why.1, spec_refused job made why.0 are why.2))
     (λ old new report done. record { made = made; planned = record { sheets = are; planned = done.0 }; written = done.1; report = done.2 }) h
 

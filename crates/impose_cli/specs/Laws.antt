@@ -1,6 +1,6 @@
 -- What holds of what impose wrote.
 use Rattle.std.proofs.Common.{inl, inr}
-use Rattle.std.specs.Prelude.{◌≡◌, ℕ, ◌<◌, ◌≤◌, List, [], ◌++◌, length, Option, Some, Ok}
+use Rattle.std.specs.Prelude.{◌≡◌, ℕ, ◌<◌, ◌≤◌, List, ◌++◌, length, Option, Some, Ok}
 use Rattle.rules.specs.Parts.{NestedUnit, page_run, pages, trailer}
 use Rattle.rules.specs.Sheets.{Slot, sheets}
 use Rattle.rules.specs.Output.{Border, Frame}
@@ -11,8 +11,8 @@ use Rattle.made_sheets.specs.Dress.{Dress}
 use Rattle.imposed_again.specs.Again.{IsAgain, depth_behind, sheet_texts}
 use Rattle.imposed_again.specs.MadeAgain.{IsMadeAgain, made_texts}
 use Rattle.papers.specs.Told.{telling}
-use Rattle.dressing.specs.Drawn.{marked}
-use Rattle.row_runs.specs.Runs.{border_on, strokes_on}
+use Rattle.dressing.specs.Numbered.{drawn_on, nothing_drawn}
+use Rattle.row_runs.specs.Runs.{border_on, drawn_of}
 use Rattle.row_runs.specs.BySpec.{border_by_spec}
 use Rattle.impose_cli.specs.Tasks.{FinishesSpec, frame_used}
 use Rattle.impose_cli.specs.Endings.{Finishes}
@@ -49,10 +49,10 @@ IsAgainFor {r} {input} {old} {new} {done} (inl h) text =
     IsDocumentAgain (frame_used r done) (sheets_named h) h.units text
 IsAgainFor (inr (inl h)) text =
     0 < length h.imposes.made
-    → IsMadeDocument (border_on h.job) (marked (strokes_on h.job) (telling h.imposes.made)) h.imposes.made h.job.document.now text
+    → IsMadeDocument (border_on h.job) (drawn_on (drawn_of h.job) (telling h.imposes.made)) h.imposes.made h.job.document.now text
 IsAgainFor (inr (inr h)) text =
     0 < length h.imposes.made
-    → IsMadeDocument (border_by_spec h.job) (marked [] (telling h.imposes.made)) h.imposes.made h.job.document.now text
+    → IsMadeDocument (border_by_spec h.job) (drawn_on nothing_drawn (telling h.imposes.made)) h.imposes.made h.job.document.now text
 
 -- what was appended for a request that was carried out is a document again, if it has no more than 2^30 bytes
 abbrev pub WroteDocument : Type 0

@@ -10,7 +10,7 @@ use Rattle.papers.specs.Home.{home_paper}
 use Rattle.impose_cli.specs.Endings.{AfterWrite, IsUncreated, RefusesRow, Runs}
 use Rattle.impose_said.specs.Faults.{without_memory}
 use Rattle.impose_cli.specs.Looks.{TellsRow}
-use Rattle.impose_cli.specs.Refusals.{HasOnePaper, RefusesTask}
+use Rattle.impose_cli.specs.Refusals.{HasNoFault, RefusesTask}
 use Rattle.impose_said.specs.Statuses.{fault_status}
 use Rattle.impose_cli.specs.Tasks.{IsTask}
 use Rattle.impose_cli.specs.Unread.{MayBeRead, RefusesRequest}
@@ -78,19 +78,19 @@ abbrev pub Writes : (name : Option (List ℕ)) → (text : List ℕ) → Done �
 Writes name text what tells (Ok said) has_output written = (said ≡ what) × Appends (told_if tells name []) written text
 Writes name text what tells (Err f) has_output written = FailsToWrite name text tells f has_output written
 
--- What comes of a request to print the specification for this input: there is a task, of one paper for all pages if it lays
--- a row, and standard output has what was printed of it; or there is none, or no memory, and nothing was created; or there is
--- such a task, and a write failed.
+-- What comes of a request to print the specification for this input: there is a task, which nothing refuses, and standard
+-- output has what was printed of it; or there is none, or no memory, and nothing was created; or there is such a task, and a
+-- write failed.
 abbrev pub Prints : ImposeRequest → (input : List ℕ) → (tells : Bool) → Result Done ImposeFault → (has_output : Bool)
     → (written : Option (List ℕ)) → Type 0
 Prints r input tells (Ok (done.Imposed finished)) has_output written = ⊥
 Prints r input tells (Ok done.Printed) has_output written =
-    (task : Task) × (lines : List ℕ) × IsTask r input task × HasOnePaper r input task.options.paper
+    (task : Task) × (lines : List ℕ) × IsTask r input task × HasNoFault r input
     × Appends (told_if tells None []) written lines
 Prints r input tells (Ok done.Shown) has_output written = ⊥
 Prints r input tells (Err f) has_output written =
     ((RefusesTask r input f ⊎ (f ≡ without_memory)) × (has_output ≡ false))
-    ⊎ ((task : Task) × (lines : List ℕ) × IsTask r input task × HasOnePaper r input task.options.paper
+    ⊎ ((task : Task) × (lines : List ℕ) × IsTask r input task × HasNoFault r input
     × FailsToWrite None lines tells f has_output written)
 
 -- What comes of a request to show the sheets for this input: the output of this name has exactly the text that reports on the

@@ -1,8 +1,9 @@
 -- What a refused request says.
-use Rattle.std.specs.Prelude.{◌≡◌, ◌≢◌, ◌⊎◌, ℕ, pos, IfSome, List, Some, Err, true, false}
+use Rattle.std.specs.Prelude.{◌≡◌, ◌⊎◌, ◌||◌, not, if◌then◌else◌, ℕ, pos, IfSome, List, Option, None, Some, Ok, Err, Bool, true, false}
+use Rattle.std.specs.Ordering.{int_eq}
 use Rattle.rules.specs.Papers.{Paper}
+use Rattle.rules.specs.Parts.{NestedUnit}
 use Rattle.rules.specs.Run.{document_of}
-use Rattle.rows.specs.Sewing.{MayBeSewn}
 use Rattle.imposer.specs.declared.outcome.RunError.TheVariants as run
 use Rattle.dsc.specs.declared.errors.DscError.{DscError}
 use Rattle.dsc.specs.Faults as dsc
@@ -10,9 +11,8 @@ use Rattle.imposer.specs.Outcomes.{of_document as of_read}
 use Rattle.impose_said.specs.Faults.{without_memory}
 use Rattle.impose_cli.specs.Faults.{of_document}
 use Rattle.impose_words.specs.Choices.{is_said}
-use Rattle.sheet_text.specs.Jobs.{is_border}
-use Rattle.impose_cli.specs.RowTasks.{IsRowPaper, TellsOnePaper, has_specification, sheet_paper_in, why_not_laid}
-use Rattle.impose_cli.specs.Tasks.{HasPages, page_paper_found, sheet_paper_found}
+use Rattle.impose_cli.specs.RowTasks.{HasOptions, IsRowPaper, TellsOnePaper, has_specification, is_of_one_paper, why_no_row, why_not_laid}
+use Rattle.impose_cli.specs.Tasks.{page_paper_found, sheet_paper_found}
 use Rattle.impose_words.specs.declared.request.Spacing.{Spacing}
 use Rattle.impose_words.specs.declared.request.Layout.{Layout}
 use Rattle.impose_words.specs.declared.request.Layout.TheVariants as layout
@@ -43,52 +43,70 @@ RefusesText text f = (why : DscError) × (f ≡ fault.Run (of_read why)) × IsRe
 abbrev pub RefusesLaying : Layout → Spacing → (page_paper sheet_paper : Paper) → ImposeFault → Type 0
 RefusesLaying l s page_paper sheet_paper f = why_not_laid l s page_paper sheet_paper ≡ Some f
 
--- why no specification is printed: out of memory, or there is no such layout, or one that no specification says
--- (RULES, 16, steps 7 to 9)
-abbrev pub RefusesLayout : Layout → Spacing → (page_paper sheet_paper : Paper) → ImposeFault → Type 0
-RefusesLayout layout.Selection s page_paper sheet_paper f = f ≡ fault.NoSpecification
-RefusesLayout (layout.Cards cells) s page_paper sheet_paper f = f ≡ fault.NoSpecification
-RefusesLayout (layout.Stack cells duplex) s page_paper sheet_paper f = f ≡ fault.NoSpecification
-RefusesLayout (layout.Notes pages) s page_paper sheet_paper f = f ≡ fault.NoSpecification
-RefusesLayout (layout.Poster columns rows) s page_paper sheet_paper f = f ≡ fault.NoSpecification
-RefusesLayout (layout.Booklet signing long_edge) s page_paper sheet_paper f =
-    ((f ≡ fault.NoSpecification) × (s.creep ≢ pos 0))
-    ⊎ ((f ≡ without_memory) ⊎ RefusesLaying (layout.Booklet signing long_edge) s page_paper sheet_paper f)
-RefusesLayout l s page_paper sheet_paper f = (f ≡ without_memory) ⊎ RefusesLaying l s page_paper sheet_paper f
+-- out of memory, or this fault, if there is one
+abbrev pub RefusesFor : Option ImposeFault → ImposeFault → Type 0
+RefusesFor found f = (f ≡ without_memory) ⊎ (found ≡ Some f)
 
--- ---- the request
+-- ---- a task by a specification
 
--- a specification is made for the layout, and not all of its pages have this paper
-abbrev pub HasOtherPapers : ImposeRequest → (input : List ℕ) → Paper → Type 0
-HasOtherPapers r input paper = (has_specification r.layout ≡ true) × TellsOnePaper r input paper false
+-- the fault of a test that fails, and otherwise what follows
+abbrev pub first_of : Bool → ImposeFault → Option ImposeFault → Option ImposeFault
+first_of holds f next = if holds then next else Some f
 
--- none is made, or all have it
-abbrev pub HasOnePaper : ImposeRequest → (input : List ℕ) → Paper → Type 0
-HasOnePaper r input paper = (has_specification r.layout ≡ false) ⊎ TellsOnePaper r input paper true
+-- a specification says the layout: one that is named, or one that is made for it, unless leaves creep
+abbrev pub is_specified : Layout → Spacing → Bool
+is_specified (layout.NUp cells) s = true
+is_specified (layout.Booklet signing long_edge) s = int_eq s.creep (pos 0)
+is_specified (layout.Spec specs) s = true
+is_specified (layout.SpecRow specs signing) s = true
+is_specified other s = false
 
--- why there is no task: the document is refused; or it isn't, and pages are chosen or marks are asked for, which no
--- specification says, or pages have other papers, or the layout is refused, or memory ran out
+-- why none does, with pages of this paper on sheets of that
+abbrev pub why_not_specified : Layout → Spacing → (page_paper sheet_paper : Paper) → Option ImposeFault
+why_not_specified l s page_paper sheet_paper =
+    first_of (is_specified l s) fault.NoSpecification (why_not_laid l s page_paper sheet_paper)
+
+-- if a specification is made for the layout, all pages have this paper
+abbrev pub are_alike : ImposeRequest → (input : List ℕ) → List NestedUnit → Paper → Bool
+are_alike r input us paper = not (has_specification r.layout) || is_of_one_paper r input us paper
+
+-- the first reason why no specification says what is asked for of a document: pages are chosen, or marks asked for; or pages
+-- have other papers; or the layout has none, or is refused (RULES, 16, steps 8 and 9)
+abbrev pub why_no_task : ImposeRequest → (input : List ℕ) → List NestedUnit → Option ImposeFault
+why_no_task r input us = let page_paper = (page_paper_found r.page_paper r.home_paper input).0 in
+    first_of (is_said r.choice r.marks) fault.NoSpecification
+    (first_of (are_alike r input us page_paper) fault.SeveralPapers
+    (why_not_specified r.layout r.spacing page_paper (sheet_paper_found r.sheet_paper page_paper)))
+
+-- the document is accepted, and there is no such reason
+abbrev pub HasNoFault : ImposeRequest → (input : List ℕ) → Type 0
+HasNoFault r input = (us : List NestedUnit) × (document_of input ≡ Ok us) × (why_no_task r input us ≡ None)
+
+-- why there is no task: the document is refused; or it isn't, and this is the first such reason. Out of memory may come in
+-- place of what follows the document
 abbrev pub RefusesTask : ImposeRequest → (input : List ℕ) → ImposeFault → Type 0
 RefusesTask r input f =
     RefusesDocument input f
-    ⊎ ((n : ℕ) × HasPages input n
-    × (((f ≡ fault.NoSpecification) × (is_said r.choice r.marks ≡ false))
-    ⊎ ((f ≡ without_memory)
-    ⊎ (((f ≡ fault.SeveralPapers) × HasOtherPapers r input (page_paper_found r.page_paper r.home_paper input).0)
-    ⊎ (let page_paper = (page_paper_found r.page_paper r.home_paper input).0 in
-    RefusesLayout r.layout r.spacing page_paper (sheet_paper_found r.sheet_paper page_paper) f)))))
+    ⊎ ((us : List NestedUnit) × (document_of input ≡ Ok us) × RefusesFor (why_no_task r input us) f)
 
--- a signature of so many sides can't be folded, or has too many
-abbrev pub RefusesSides : Layout → ImposeFault → Type 0
-RefusesSides (layout.Booklet signing long_edge) f = (f ≡ fault.Run run.Options) × (MayBeSewn signing → ⊥)
-RefusesSides other f = ⊥
+-- what a check of the papers alone says: a specification is made for the layout, and not all pages have this paper
+abbrev pub HasOtherPapers : ImposeRequest → (input : List ℕ) → Paper → Type 0
+HasOtherPapers r input paper = (has_specification r.layout ≡ true) × TellsOnePaper r input paper false
 
--- why there is no task with a row: the document is refused; or it isn't, and the layout is, or the signature, or a border
--- as wide as nothing, or memory ran out (RULES, 16, steps 7, 9, 10)
+-- or none is made, or all have it
+abbrev pub HasOnePaper : ImposeRequest → (input : List ℕ) → Paper → Type 0
+HasOnePaper r input paper = (has_specification r.layout ≡ false) ⊎ TellsOnePaper r input paper true
+
+-- ---- a task with a row
+
+-- the options of a request are refused: a signature can't be folded or has too many sides, or a border is as wide as nothing
+abbrev pub RefusesOptions : ImposeRequest → ImposeFault → Type 0
+RefusesOptions r f = (f ≡ fault.Run run.Options) × (HasOptions r → ⊥)
+
+-- why there is no task with a row: the document is refused; or it isn't, and the layout is; or it isn't, and the options are.
+-- Out of memory may come in place of what follows the document (RULES, 16, steps 7, 9, 10)
 abbrev pub RefusesRowTask : ImposeRequest → (input : List ℕ) → ImposeFault → Type 0
 RefusesRowTask r input f =
     RefusesDocument input f
     ⊎ ((found : Paper × PaperOrigin) × IsRowPaper r input found
-    × (RefusesLaying r.layout r.spacing found.0 (sheet_paper_in r.layout r.sheet_paper found.0) f
-    ⊎ (RefusesSides r.layout f
-    ⊎ (((f ≡ fault.Run run.Options) × (is_border r.border ≡ false)) ⊎ (f ≡ without_memory)))))
+    × (RefusesFor (why_no_row r found.0) f ⊎ ((why_no_row r found.0 ≡ None) × RefusesOptions r f)))

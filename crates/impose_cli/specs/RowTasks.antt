@@ -4,11 +4,12 @@ use Rattle.std.specs.List.{list_all}
 use Rattle.rules.specs.Papers.{Paper}
 use Rattle.rules.specs.Parts.{NestedUnit, pages}
 use Rattle.rules.specs.Run.{document_of}
-use Rattle.made_sheets.specs.Choice.{RowFault, Signing, imposed_row}
+use Rattle.made_sheets.specs.Choice.{RowFault, imposed_row}
 use Rattle.made_sheets.specs.Rows.{Row}
 use Rattle.row_sheets.specs.RowSheets.{selected_sheet}
 use Rattle.rows.specs.Choices.{choice_of}
-use Rattle.rows.specs.Sewing.{MayBeSewn, signing_of}
+use Rattle.rows.specs.Sewing.{MayBeSewn}
+use Rattle.rows.specs.declared.sewing.Signing.{Signing}
 use Rattle.layouts.specs.Fitted.{binding_setting_of, setting_of}
 use Rattle.layouts.specs.Grids.{count_of, rounded_down, rounded_up}
 use Rattle.layouts.specs.Refusals.{first_of, is_length, why_not_arranged, why_not_bound}
@@ -29,7 +30,7 @@ use Rattle.row_runs.specs.declared.run.RowJob.{RowJob}
 use Rattle.impose_words.specs.Choices.{choice_in}
 use Rattle.row_sheets.specs.Posters.{why_no_poster}
 use Rattle.row_sheets.specs.declared.poster.Poster.{Poster}
-use Rattle.impose_words.specs.Spacings.{arrangement_in, binding_in, notes_in}
+use Rattle.impose_words.specs.Spacings.{arrangement_in, binding_in, notes_in, zine_in}
 use Rattle.impose_words.specs.declared.request.Spacing.{Spacing}
 use Rattle.impose_cli.specs.ToldPages.{told_pages}
 use Rattle.impose_cli.specs.Reaches.{HasReach, takes}
@@ -45,17 +46,15 @@ use Rattle.impose_said.specs.declared.finished.PaperOrigin.{PaperOrigin}
 use Rattle.impose_said.specs.declared.finished.PaperOrigin.TheVariants.{FirstPage}
 use Rattle.impose_cli.specs.declared.row_task.RowTask.{RowTask}
 
--- how a layout is sewn
+-- how a layout's row is sewn
 abbrev pub signing_in : Layout → Option Signing
-signing_in (layout.Booklet signing long_edge) = Some (signing_of signing)
-signing_in (layout.NUp cells) = None
-signing_in (layout.Cards cells) = None
-signing_in (layout.Stack cells duplex) = None
-signing_in (layout.Notes pages) = None
-signing_in (layout.Poster columns rows) = None
-signing_in layout.Selection = None
-signing_in (layout.Spec specs) = None
-signing_in (layout.SpecRow specs signing) = None
+signing_in (layout.Booklet signing long_edge) = Some signing
+signing_in (layout.SpecRow specs signing) = signing
+signing_in other = None
+
+-- its signatures have as many sides as they may have, and a border is wider than nothing
+abbrev pub HasOptions : ImposeRequest → Type 0
+HasOptions r = IfSome (signing_in r.layout) MayBeSewn × (is_border r.border ≡ true)
 
 -- the paper of the sheets of a layout, for pages of this paper: a selection keeps pages on their own (RULES, 12.5)
 abbrev pub sheet_paper_in : Layout → (named : Option Paper) → (page_paper : Paper) → Paper
@@ -91,6 +90,7 @@ laying_in (layout.Notes pages) s page_paper sheet_paper =
     Some (laying.Grid (setting_of page_paper sheet_paper (notes_in s pages)) pages)
 laying_in (layout.Poster columns rows) s page_paper sheet_paper =
     Some (laying.Poster (poster_in s columns rows sheet_paper))
+laying_in layout.Zine s page_paper sheet_paper = Some (laying.Zine (setting_of page_paper sheet_paper (zine_in s)))
 laying_in layout.Selection s page_paper sheet_paper = Some (laying.AsTheyAre sheet_paper)
 laying_in (layout.Spec specs) s page_paper sheet_paper = None
 laying_in (layout.SpecRow specs signing) s page_paper sheet_paper = None
@@ -110,9 +110,14 @@ why_not_laid (layout.Notes pages) s page_paper sheet_paper =
 why_not_laid (layout.Poster columns rows) s page_paper sheet_paper = if is_length s.margin && is_length s.overlap
     then option_map fault.Poster (why_no_poster page_paper (poster_in s columns rows sheet_paper))
     else Some (fault.Layout why.LengthOutOfRange)
+why_not_laid layout.Zine s page_paper sheet_paper = option_map fault.Layout (why_not_arranged page_paper sheet_paper (zine_in s))
 why_not_laid layout.Selection s page_paper sheet_paper = None
 why_not_laid (layout.Spec specs) s page_paper sheet_paper = None
 why_not_laid (layout.SpecRow specs signing) s page_paper sheet_paper = None
+
+-- why a request can't lay pages of this paper on its sheets
+abbrev pub why_no_row : ImposeRequest → (page_paper : Paper) → Option ImposeFault
+why_no_row r page_paper = why_not_laid r.layout r.spacing page_paper (sheet_paper_in r.layout r.sheet_paper page_paper)
 
 -- the paper of a selection's first sheet; blank sheets have this one
 abbrev pub first_paper : Result Row RowFault → (papers : List Paper) → (blank : Paper) → Paper
@@ -213,9 +218,9 @@ pub record IsRowTask (r : ImposeRequest) (input : List ℕ) (t : RowTask) : Type
   pub behind : HasBehind input t.behind
   pub text : t.text.items ≡ text_for r t.papers.items t.page_paper input
   pub laying : laying_in r.layout r.spacing t.page_paper (sheet_paper_in r.layout r.sheet_paper t.page_paper) ≡ Some t.laying
-  pub possible : why_not_laid r.layout r.spacing t.page_paper (sheet_paper_in r.layout r.sheet_paper t.page_paper) ≡ None
+  pub possible : why_no_row r t.page_paper ≡ None
   pub may_be_laid : MayBeLaid t.laying
-  pub signing : option_map signing_of t.signing ≡ signing_in r.layout
+  pub signing : t.signing ≡ signing_in r.layout
   pub may_be_sewn : IfSome t.signing MayBeSewn
   pub border : is_border r.border ≡ true
 
@@ -235,13 +240,14 @@ abbrev pub ImposesTask : ImposeRequest → RowTask → (old new : Option (List �
 ImposesTask r t old new report = (job : RowJob) × IsJobOf r t job × Imposes job old new report
 
 -- the job is what the request asks for with this document, laid out for pages of this paper; and for none of its lengths,
--- its cells and these papers the layout had to be refused
+-- its cells, these papers and its options it had to be refused
 pub record IsRowJob (r : ImposeRequest) (input : List ℕ) (page_paper : Paper) (job : RowJob) : Type 0 where
   pub document : document_of (text_for r job.papers.now page_paper input) ≡ Ok job.document.now
   pub choice : choice_of job.asked.choice ≡ choice_in r.choice
-  pub signing : option_map signing_of job.asked.signing ≡ signing_in r.layout
+  pub signing : job.asked.signing ≡ signing_in r.layout
   pub laying : laying_in r.layout r.spacing page_paper (sheet_paper_in r.layout r.sheet_paper page_paper) ≡ Some job.asked.laying
-  pub possible : why_not_laid r.layout r.spacing page_paper (sheet_paper_in r.layout r.sheet_paper page_paper) ≡ None
+  pub possible : why_no_row r page_paper ≡ None
+  pub options : HasOptions r
   pub same_scale : job.asked.same_scale ≡ r.spacing.same_scale
   pub border : job.border ≡ r.border
   pub inset : job.inset ≡ r.spacing.trim

@@ -1,41 +1,49 @@
 -- What is imposed by a specification on a row of pages, and how: a request for a document, if it names both.
-use Rattle.std.specs.Prelude.{◌≡◌, ◌⊎◌, ⊤, ℕ, true, false, List, Option, None, IfSome, Ok, string_bytes}
+use Rattle.std.specs.Prelude.{◌≡◌, ◌⊎◌, ⊤, ℕ, true, List, Option, None, IfSome, Ok, string_bytes}
 use Rattle.rules.specs.Admissible.{Takes, most_slots}
+use Rattle.rules.specs.Specification.{Spec}
 use Rattle.rules.specs.Run.{document_of}
 use Rattle.rows.specs.Choices.{choice_of}
 use Rattle.rows.specs.Sewing.{MayBeSewn}
-use Rattle.rows.specs.declared.sewing.Signing.{Signing}
 use Rattle.sheet_text.specs.Jobs.{is_border}
 use Rattle.imposer.specs.declared.outcome.Report.{Report}
-use Rattle.imposer.specs.declared.outcome.RunError.TheVariants as run
 use Rattle.row_runs.specs.BySpec.{ImposesBySpec, RefusesBySpec, pages_of}
 use Rattle.row_runs.specs.declared.by_spec.SpecJob.{SpecJob}
 use Rattle.row_runs.specs.declared.error.AskedError.{AskedError}
 use Rattle.impose_words.specs.Choices.{choice_in}
 use Rattle.impose_said.specs.Faults.{without_memory}
 use Rattle.impose_cli.specs.Faults.{of_asked}
-use Rattle.impose_cli.specs.Refusals.{RefusesDocument, RefusesText}
+use Rattle.impose_cli.specs.Refusals.{RefusesDocument, RefusesOptions, RefusesText}
+use Rattle.impose_cli.specs.RowTasks.{HasOptions, signing_in}
 use Rattle.impose_cli.specs.Tasks.{HasBehind, HasPages, page_paper_found, sheet_paper_found, taken_text}
 use Rattle.impose_cli.specs.ToldPages.{told_pages}
 use Rattle.impose_cli.specs.Reaches.{HasReachOver}
 use Rattle.impose_cli.specs.Unread.{RefusesSpecification}
 use Rattle.impose_said.specs.declared.fault.ImposeFault.{ImposeFault}
-use Rattle.impose_said.specs.declared.fault.ImposeFault.TheVariants as fault
 use Rattle.impose_words.specs.declared.request.Layout.{Layout}
 use Rattle.impose_words.specs.declared.request.Layout.TheVariants as layout
 use Rattle.impose_words.specs.declared.request.ImposeRequest.{ImposeRequest}
 use Rattle.impose_cli.specs.declared.spec_row.SpecRowTask.{SpecRowTask}
 use Rattle.impose_said.specs.declared.finished.Finished.{Finished}
 
--- the layout is this text of a specification, on a row that is sewn so
-abbrev pub IsSpecRow : Layout → (text : List ℕ) → (how : Option Signing) → Type 0
-IsSpecRow (layout.SpecRow specs signing) text how = (text ≡ string_bytes specs) × (how ≡ signing)
-IsSpecRow other text how = ⊥
-
 -- the layout is a specification on a row
 abbrev pub LaysSpecRow : Layout → Type 0
 LaysSpecRow (layout.SpecRow specs signing) = ⊤
 LaysSpecRow other = ⊥
+
+-- whose text is this
+abbrev pub IsNamed : Layout → (text : List ℕ) → Type 0
+IsNamed (layout.SpecRow specs signing) text = text ≡ string_bytes specs
+IsNamed other text = ⊥
+
+-- and which is this one
+abbrev pub TakesNamed : Layout → Spec → Type 0
+TakesNamed l spec = (text : List ℕ) × IsNamed l text × Takes most_slots text spec
+
+-- or its text is refused as none
+abbrev pub RefusesNamed : Layout → ImposeFault → Type 0
+RefusesNamed (layout.SpecRow specs signing) f = RefusesSpecification (string_bytes specs) f
+RefusesNamed other f = ⊥
 
 -- the task is what the request asks for with this document
 pub record IsSpecRowTask (r : ImposeRequest) (input : List ℕ) (t : SpecRowTask) : Type 0 where
@@ -43,9 +51,8 @@ pub record IsSpecRowTask (r : ImposeRequest) (input : List ℕ) (t : SpecRowTask
   pub document : HasPages input page_count
   pub behind : HasBehind input t.counted.behind
   pub reach : HasReachOver r input t.page_paper t.counted.reach
-  pub text_of_spec : List ℕ
-  pub named : IsSpecRow r.layout text_of_spec t.signing
-  pub takes : Takes most_slots text_of_spec t.spec
+  pub spec : TakesNamed r.layout t.spec
+  pub signing : t.signing ≡ signing_in r.layout
   pub page_paper : (t.page_paper, t.origin) ≡ page_paper_found r.page_paper r.home_paper input
   pub sheet_paper : t.sheet_paper ≡ sheet_paper_found r.sheet_paper t.page_paper
   pub text : t.text.items ≡ taken_text r.is_guarded t.sheet_paper input
@@ -72,9 +79,9 @@ pub record FinishesSpecRow (r : ImposeRequest) (input : List ℕ) (old new : Opt
   pub behind : HasBehind input done.behind
   pub told : done.told ≡ told_pages input
   pub job : SpecJob
-  pub text : List ℕ
-  pub named : IsSpecRow r.layout text job.signing
-  pub takes : Takes most_slots text job.spec.now
+  pub spec : TakesNamed r.layout job.spec.now
+  pub signing : job.signing ≡ signing_in r.layout
+  pub options : HasOptions r
   pub document : document_of (taken_text r.is_guarded job.sheet input) ≡ Ok job.document.now
   pub choice : choice_of job.choice ≡ choice_in r.choice
   pub of_sheets : job.sheet ≡ sheet_paper_found r.sheet_paper done.page_paper
@@ -86,20 +93,15 @@ pub record FinishesSpecRow (r : ImposeRequest) (input : List ℕ) (old new : Opt
 
 -- ---- refusals
 
--- the specification is refused, or a signature of so many sides
-abbrev pub RefusesSpecRow : Layout → ImposeFault → Type 0
-RefusesSpecRow (layout.SpecRow specs signing) f = RefusesSpecification (string_bytes specs) f
-    ⊎ ((f ≡ fault.Run run.Options) × (IfSome signing MayBeSewn → ⊥))
-RefusesSpecRow other f = ⊥
-
--- why there is no task: the document is refused; or it isn't, and the specification is, or the signature, or a border as
--- wide as nothing, or memory ran out
+-- why there is no task: the document is refused; or it isn't, and the specification is; or it isn't, and the options are. Out of
+-- memory may come in place of what follows the document
 abbrev pub RefusesSpecRowTask : ImposeRequest → (input : List ℕ) → ImposeFault → Type 0
 RefusesSpecRowTask r input f =
     RefusesDocument input f
     ⊎ ((n : ℕ) × HasPages input n
-    × (RefusesSpecRow r.layout f
-    ⊎ (((f ≡ fault.Run run.Options) × (is_border r.border ≡ false)) ⊎ (f ≡ without_memory))))
+    × ((f ≡ without_memory)
+    ⊎ (RefusesNamed r.layout f
+    ⊎ ((spec : Spec) × TakesNamed r.layout spec × RefusesOptions r f))))
 
 -- the fault names the first check of a job that fails
 abbrev pub RefusesSpecRowJob : SpecJob → ImposeFault → Type 0

@@ -24,6 +24,7 @@ use Rattle.papers.specs.declared.media.Comment.{Comment}
 use Rattle.impose_said.specs.declared.finished.PaperOrigin.{PaperOrigin}
 use Rattle.impose_said.specs.declared.finished.PaperOrigin.TheVariants.{Named, ByComment, AtHome}
 use Rattle.impose_words.specs.Choices.{is_said}
+use Rattle.sheet_text.specs.Jobs.{is_border}
 use Rattle.impose_words.specs.Spacings.{arrangement_in, binding_in}
 use Rattle.impose_words.specs.declared.request.Spacing.{Spacing}
 use Rattle.impose_words.specs.declared.request.Layout.{Layout}
@@ -63,7 +64,7 @@ abbrev pub IsWritten : Spec → (text : List ℕ) → Type 0
 IsWritten spec text = (text ≡ canonical spec) × Takes most_slots text spec
 
 -- The text of the specification and the sides of a signature to which a layout comes, for so many pages of a paper. None
--- says a selection, cards, a stack, lines for notes, a poster, or leaves that creep (RULES, 14)
+-- says a selection, a zine, cards, a stack, lines for notes, a poster, or leaves that creep (RULES, 14)
 abbrev pub IsPlaced : Layout → Spacing → (page_paper sheet_paper : Paper) → (pages : ℕ) → (text : List ℕ)
     → (sides : Option ℕ) → Type 0
 IsPlaced (layout.NUp cells) s page_paper sheet_paper pages text sides = let a = arrangement_in s cells in
@@ -80,6 +81,7 @@ IsPlaced (layout.Cards cells) s page_paper sheet_paper pages text sides = ⊥
 IsPlaced (layout.Stack cells duplex) s page_paper sheet_paper pages text sides = ⊥
 IsPlaced (layout.Notes n) s page_paper sheet_paper pages text sides = ⊥
 IsPlaced (layout.Poster columns rows) s page_paper sheet_paper pages text sides = ⊥
+IsPlaced layout.Zine s page_paper sheet_paper pages text sides = ⊥
 IsPlaced layout.Selection s page_paper sheet_paper pages text sides = ⊥
 
 -- the task is what the request asks for with this document
@@ -98,7 +100,7 @@ pub record IsTask (request : ImposeRequest) (input : List ℕ) (task : Task) : T
   pub workers : task.options.workers ≡ record { preparers = 2; imposers = 2 }
 
 -- what a task asks of a run
-abbrev pub asked_by : Task → runs.ImposeRequest
+abbrev pub asked_by : Task → runs.Request
 asked_by t = runs.request t.options (string_bytes t.spec) t.text.items
 
 -- ---- what comes of a request
@@ -120,6 +122,8 @@ pub record FinishesSpec (r : ImposeRequest) (input : List ℕ) (old new : Option
   pub page_paper : (done.page_paper, done.origin) ≡ page_paper_found r.page_paper r.home_paper input
   pub text : List ℕ
   pub is_text : IsSpec r.layout text
+  pub said : is_said r.choice r.marks ≡ true
+  pub border : is_border r.border ≡ true
   pub spec : Spec
   pub takes : Takes most_slots text spec
   pub units : List NestedUnit

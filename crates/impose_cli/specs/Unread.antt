@@ -6,7 +6,7 @@ use Rattle.rules.specs.Specification.{Spec}
 use Rattle.rules.specs.Admissible.{Takes, most_slots}
 use Rattle.made_sheets.specs.Choice.{NotARange, row_of_text}
 use Rattle.rows.specs.declared.error.RowError.TheVariants as row
-use Rattle.pagespec.specs.Refusals.{IsRefusal}
+use Rattle.pagespec.specs.Refusals.{IsPlaced, IsRefusal}
 use Rattle.pagespec.specs.declared.error.SpecError.{SpecError}
 use Rattle.imposer.specs.Outcomes.{of_spec}
 use Rattle.impose_cli.specs.RowTasks.{sheet_paper_in, why_not_laid}
@@ -28,9 +28,9 @@ use Rattle.impose_said.specs.declared.fault.ImposeFault.TheVariants as fault
 abbrev pub IsSpecification : (text : List ℕ) → Type 0
 IsSpecification text = (spec : Spec) × Takes most_slots text spec
 
--- the fault is the text's first, or out of memory
+-- the fault is the text's first, or out of memory; that of its grammar has a place in it
 abbrev pub RefusesSpecification : (text : List ℕ) → ImposeFault → Type 0
-RefusesSpecification text f = (e : SpecError) × (f ≡ fault.Run (of_spec e)) × IsRefusal text e
+RefusesSpecification text f = (e : SpecError) × (f ≡ fault.Run (of_spec e)) × IsRefusal text e × IsPlaced text e
 
 -- the text of a specification is one; and if the paper of the pages is named, the layout lays them on such sheets
 abbrev pub IsPossible : Layout → Spacing → (page_paper sheet_paper : Option Paper) → Type 0

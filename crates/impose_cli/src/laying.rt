@@ -1,18 +1,19 @@
 //! How a layout lays a row of pages on sheets.
-ghost use Rattle.std.specs.Prelude.{◌≡◌, ◌↔◌, ◌<◌, ◌≤◌, IfErr, IfOk, IfSome, IsTrue, OnOk, None, Some, option_map};
+ghost use Rattle.std.specs.Prelude.{◌≡◌, ◌↔◌, ◌<◌, ◌≤◌, IfErr, IfOk, IfSome, IsTrue, OnOk, None, true};
 ghost use Rattle.layouts.specs.Cells.{size};
 ghost use Rattle.layouts.specs.Fitted.{setting_of};
 ghost use Rattle.layouts.specs.Grids.{count_of, rounded_down as rounded_down_of, rounded_up as rounded_up_of};
 ghost use Rattle.layouts.specs.Refusals.{is_length as may_be_length};
-ghost use Rattle.rows.specs.Sewing.{MayBeSewn, signing_of};
+ghost use Rattle.rows.specs.Sewing.{MayBeSewn};
+ghost use Rattle.sheet_text.specs.Jobs.{is_border};
 ghost use Rattle.row_runs.specs.Sheets.{MayBeLaid};
-ghost use Rattle.impose_cli.specs.Refusals.{RefusesLaying, RefusesSides};
+ghost use Rattle.impose_cli.specs.Refusals.{RefusesLaying, RefusesOptions};
 ghost use Rattle.impose_words.specs.Spacings.{arrangement_in};
 ghost use Rattle.impose_cli.specs.RowTasks.{laying_in, sheet_paper_in, signing_in, why_not_laid};
 ghost use Rattle.impose_words.specs.declared.request.Layout.TheVariants as layout;
 
 use impose_said::ImposeFault;
-use impose_words::{Layout, Spacing};
+use impose_words::{ImposeRequest, Layout, Spacing};
 use imposer::RunError;
 use layouts::{ArrangementError, Cells, Papers, Setting};
 use lengths::{Grains, Paper};
@@ -55,6 +56,7 @@ pub(crate) fn laying_for(
         }
         Layout::Notes { pages } => notes_laying(*pages, spacing, papers),
         Layout::Poster { columns, rows } => poster_laying(*columns, *rows, spacing, papers),
+        Layout::Zine => zine_laying(spacing, papers),
         Layout::Selection => Ok(Some(Laying::AsTheyAre {
             blank: papers.sheet,
         })),
@@ -190,6 +192,19 @@ fn notes_laying(
     }
 }
 
+fn zine_laying(spacing: &Spacing, papers: &Papers) -> Result<Option<Laying>, ImposeFault>
+    ensures laying { IfOk result (λ laying.
+        laying ≡ laying_in layout.Zine spacing.now papers.now.page papers.now.sheet) }
+    ensures may_be { IfOk result (λ laying. IfSome laying MayBeLaid) }
+    ensures possible { OnOk result (why_not_laid layout.Zine spacing.now papers.now.page papers.now.sheet ≡ None) }
+    ensures refused { IfErr result (RefusesLaying layout.Zine spacing.now papers.now.page papers.now.sheet) }
+{
+    match Setting::of(papers, &spacing.zine()) {
+        Ok(setting) => Ok(Some(Laying::Zine { setting })),
+        Err(error) => Err(ImposeFault::Layout(error)),
+    }
+}
+
 fn poster_laying(
     columns: u32,
     rows: u32,
@@ -244,26 +259,47 @@ fn rounded_up(length: Grains) -> u64
     (length.get() as u64 + 1_269_999) / 1_270_000
 }
 
-/// How a layout is sewn, if it is.
-pub(crate) fn signing_for(layout: &Layout) -> Result<Option<Signing>, ImposeFault>
-    ensures signing { IfOk result (λ signing. option_map signing_of signing ≡ signing_in layout.now) }
+/// How the row of a request is sewn, if it is. Refused are a signature that can't have so many sides, and a border as wide
+/// as nothing.
+#[tactic(auto, using(crate::proofs::RowOptions::no_border, crate::proofs::RowOptions::not_sewn))]
+pub(crate) fn signing_for(request: &ImposeRequest) -> Result<Option<Signing>, ImposeFault>
+    ensures signing { IfOk result (λ signing. signing ≡ signing_in request.now.layout) }
     ensures may_be { IfOk result (λ signing. IfSome signing MayBeSewn) }
-    ensures refused { IfErr result (RefusesSides layout.now) }
+    ensures border { OnOk result (is_border request.now.border ≡ true) }
+    ensures refused { IfErr result (RefusesOptions request.now) }
+{
+    let signing = named_signing(&request.layout);
+    if !is_drawn(request.border) {
+        return Err(ImposeFault::Run(RunError::Options));
+    }
+    match signing {
+        Some(how) if !may_be_sewn(how) => Err(ImposeFault::Run(RunError::Options)),
+        _ => Ok(signing),
+    }
+}
+
+fn named_signing(layout: &Layout) -> Option<Signing>
+    ensures { result ≡ signing_in layout.now }
 {
     match layout {
-        Layout::Booklet { signing, .. } => {
-            if may_be_sewn(*signing) {
-                Ok(Some(*signing))
-            } else {
-                Err(ImposeFault::Run(RunError::Options))
-            }
-        }
-        _ => Ok(None),
+        Layout::Booklet { signing, .. } => Some(*signing),
+        Layout::SpecRow { signing, .. } => *signing,
+        _ => None,
+    }
+}
+
+/// Whether a border can be drawn, if one is asked for: it is wider than nothing.
+pub(crate) fn is_drawn(border: Option<Grains>) -> bool
+    ensures { result ≡ is_border border }
+{
+    match border {
+        Some(width) => width.get() > 0,
+        None => true,
     }
 }
 
 /// Whether a signature may have so many sides, if a number is named.
-pub(crate) fn may_be_sewn(signing: Signing) -> bool
+fn may_be_sewn(signing: Signing) -> bool
     ensures { IsTrue result ↔ MayBeSewn signing }
 {
     match signing {

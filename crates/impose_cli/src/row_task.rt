@@ -34,7 +34,7 @@ use dsc::Document;
 use impose_said::{ImposeFault, PaperOrigin};
 use impose_words::{ImposeRequest, Layout, PageChoice};
 use imposer::{Report, RunError};
-use lengths::{Grains, Paper};
+use lengths::Paper;
 use papers::{Cut, Reach, as_one, cut_by, first_instead_of, own_papers};
 use row_runs::{Asked, AskedError, Laying, RowJob};
 use rows::{RowError, Signing, imposed_row};
@@ -83,13 +83,10 @@ pub(crate) fn row_task(
         Ok(None) => unreachable!(),
         Err(fault) => return Err(fault),
     };
-    let signing = match signing_for(&request.layout) {
+    let signing = match signing_for(request) {
         Ok(signing) => signing,
         Err(fault) => return Err(fault),
     };
-    if !is_drawn(request.border) {
-        return Err(ImposeFault::Run(RunError::Options));
-    }
     let sheet = match guarded_paper(alloc, request, &found, &papers.sheet) {
         Ok(sheet) => sheet,
         Err(fault) => return Err(fault),
@@ -322,16 +319,6 @@ fn paper_of_first(row: &[Option<u32>], papers: &[Paper], blank: &Paper) -> Paper
             None => *blank,
         },
         _ => *blank,
-    }
-}
-
-/// Whether a border can be drawn, if one is asked for: it is wider than nothing.
-pub(crate) fn is_drawn(border: Option<Grains>) -> bool
-    ensures { result ≡ is_border border }
-{
-    match border {
-        Some(width) => width.get() > 0,
-        None => true,
     }
 }
 

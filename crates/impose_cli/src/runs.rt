@@ -18,9 +18,10 @@ ghost use Rattle.impose_cli.specs.Endings.{IsSaidOf, WritesJob, WritesSheets, Wr
 ghost use Rattle.impose_cli.specs.Abouts.{reported_by};
 ghost use Rattle.impose_said.specs.declared.fault.ImposeFault.TheVariants as faults;
 
+use crate::laying::is_drawn;
 use crate::left::{Left, closed, stopped};
 use crate::roomy_text::RoomyText;
-use crate::row_task::{asked_fault_of, impose_task, is_drawn, row_task};
+use crate::row_task::{asked_fault_of, impose_task, row_task};
 use crate::spec_row::{impose_spec_task, spec_row_task};
 use crate::task::{Task, WORKERS, task_for};
 use crate::told_pages::told_pages;
@@ -113,6 +114,7 @@ pub(crate) fn impose_job<R: Threads + Wait + Sync, W: World>(
         border: job.border,
         inset: job.inset,
         strokes: row.strokes.as_slice(),
+        numbers: &row.numbers,
     };
     write_sheets(rt, alloc, &made, name, world)
 }
@@ -171,6 +173,7 @@ pub(crate) fn impose_spec_job<R: Threads + Wait + Sync, W: World>(
         border: job.border,
         inset: Grains::ZERO,
         strokes: &[],
+        numbers: &None,
     };
     write_sheets(rt, alloc, &made, name, world)
 }

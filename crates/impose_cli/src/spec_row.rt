@@ -1,16 +1,14 @@
 //! What is imposed by a specification on a row of pages, and how.
-ghost use Rattle.std.specs.Prelude.{List, ℕ, IfErr, IfOk, IfSome, IsTrue, is_some, option_and_then, option_map, string_bytes};
+ghost use Rattle.std.specs.Prelude.{IfErr, IfOk, IfSome, IsTrue, is_some, option_and_then, option_map, string_bytes};
 ghost use Rattle.sheet_text.specs.Jobs.{is_border};
 ghost use Rattle.impose_cli.specs.Endings.{Comes};
-ghost use Rattle.rules.specs.Admissible.{Takes, most_slots};
 ghost use Rattle.rows.specs.Sewing.{MayBeSewn};
-ghost use Rattle.impose_cli.specs.SpecRows.{ImposesSpecTask, IsSpecRow, IsSpecRowTask, LaysSpecRow};
-ghost use Rattle.impose_cli.specs.SpecRows.{RefusesSpecRow, RefusesSpecRowTask, RefusesSpecTaskRun};
+ghost use Rattle.impose_cli.specs.SpecRows.{ImposesSpecTask, IsSpecRowTask, LaysSpecRow, TakesNamed};
+ghost use Rattle.impose_cli.specs.SpecRows.{RefusesNamed, RefusesSpecRowTask, RefusesSpecTaskRun};
 
-use crate::laying::may_be_sewn;
+use crate::laying::signing_for;
 use crate::left::{Left, stopped};
 use crate::roomy_text::RoomyText;
-use crate::row_task::is_drawn;
 use crate::runs::impose_spec_job;
 use crate::task::{CountedPages, pages_of, paper_of_pages, paper_of_sheets, text_to_impose};
 use command_words::name_of;
@@ -57,13 +55,14 @@ pub(crate) fn spec_row_task(
         Ok(counted) => counted,
         Err(fault) => return Err(fault),
     };
-    let (spec, signing) = match spec_and_signing(alloc, &request.layout) {
-        Ok(named) => named,
+    let spec = match named_spec(alloc, &request.layout) {
+        Ok(spec) => spec,
         Err(fault) => return Err(fault),
     };
-    if !is_drawn(request.border) {
-        return Err(ImposeFault::Run(RunError::Options));
-    }
+    let signing = match signing_for(request) {
+        Ok(signing) => signing,
+        Err(fault) => return Err(fault),
+    };
     let sheet_paper = *paper_of_sheets(&request.sheet_paper, &page_paper);
     match text_to_impose(request.is_guarded, &sheet_paper, input) {
         Ok(text) => Ok(SpecRowTask {
@@ -79,24 +78,19 @@ pub(crate) fn spec_row_task(
     }
 }
 
-/// The specification, and how its row is sewn, if it is.
-fn spec_and_signing(alloc: Global, layout: &Layout) -> Result<(Spec, Option<Signing>), ImposeFault>
+/// The specification that the layout names.
+fn named_spec(alloc: Global, layout: &Layout) -> Result<Spec, ImposeFault>
     requires rows { LaysSpecRow layout.now }
-    ensures named { IfOk result (λ x. (text : List ℕ) × IsSpecRow layout.now text x.1 × Takes most_slots text x.0) }
-    ensures may_be { IfOk result (λ x. IfSome x.1 MayBeSewn) }
-    ensures refused { IfErr result (RefusesSpecRow layout.now) }
+    ensures named { IfOk result (λ spec. TakesNamed layout.now spec) }
+    ensures refused { IfErr result (RefusesNamed layout.now) }
 {
-    let (specs, signing) = match layout {
-        Layout::SpecRow { specs, signing } => (specs.as_str(), *signing),
+    let specs = match layout {
+        Layout::SpecRow { specs, .. } => specs.as_str(),
         _ => unreachable!(),
     };
-    let spec = match read_spec(alloc, specs) {
-        Ok(spec) => spec,
-        Err(error) => return Err(ImposeFault::Run(RunError::from(error))),
-    };
-    match signing {
-        Some(how) if !may_be_sewn(how) => Err(ImposeFault::Run(RunError::Options)),
-        _ => Ok((spec, signing)),
+    match read_spec(alloc, specs) {
+        Ok(spec) => Ok(spec),
+        Err(error) => Err(ImposeFault::Run(RunError::from(error))),
     }
 }
 

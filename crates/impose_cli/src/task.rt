@@ -1,5 +1,6 @@
 //! What is imposed, and how: the request for a document.
-ghost use Rattle.std.specs.Prelude.{◌≡◌, ◌⊎◌, ℕ, List, ◌<◌, ◌≤◌, IfErr, IfOk, None, OnOk, Some, option_map, string_bytes, unwrap_or};
+ghost use Rattle.std.specs.Prelude.{◌≡◌, ◌⊎◌, ℕ, List, ◌<◌, ◌≤◌, IfErr, IfOk, None, OnOk, Some, not, option_map, pos, string_bytes, unwrap_or};
+ghost use Rattle.std.specs.Ordering.{int_eq};
 ghost use Rattle.rules.specs.Run.{most_pages};
 ghost use Rattle.made_sheets.specs.Choice.{sides_for};
 ghost use Rattle.rows.specs.Sewing.{signing_of};
@@ -13,7 +14,7 @@ ghost use Rattle.impose_cli.specs.RowTasks.{has_specification as is_made_for};
 ghost use Rattle.impose_cli.specs.Tasks.{HasBehind, HasPages, IsPlaced, IsTask, IsWritten, page_paper_found};
 ghost use Rattle.impose_cli.specs.Tasks.{sheet_paper_found, taken_text};
 ghost use Rattle.impose_cli.specs.Reaches.{HasReachOver};
-ghost use Rattle.impose_cli.specs.Refusals.{HasOnePaper, HasOtherPapers, RefusesDocument, RefusesLayout, RefusesTask};
+ghost use Rattle.impose_cli.specs.Refusals.{HasNoFault, HasOnePaper, HasOtherPapers, RefusesDocument, RefusesFor, RefusesTask, why_not_specified};
 ghost use Rattle.impose_words.specs.Choices.{is_said as says};
 ghost use Rattle.impose_cli.specs.Unread.{IsPossible, IsSpecification, RefusesSpecification, RefusesUnread};
 ghost use Rattle.impose_words.specs.declared.request.Layout.TheVariants as layout;
@@ -102,7 +103,7 @@ fn check_spec(alloc: Global, specs: &str) -> Result<(), ImposeFault>
 fn is_said(choice: &PageChoice, marks: Marks) -> bool
     ensures { result ≡ says choice.now marks }
 {
-    choice.is_whole() && !(marks.fold || marks.cut || marks.ruled)
+    choice.is_whole() && !(marks.fold || marks.cut || marks.ruled || marks.numbers.is_some())
 }
 
 /// The specification that says what a request asks for, with what a run by it takes; and the fault if there is none: a
@@ -114,8 +115,7 @@ pub fn task_for(
     input: RoomyText,
 ) -> Result<Task, ImposeFault>
     ensures is_task { IfOk result (IsTask request.now input.items) }
-    // It does what a run of the request does, in which pages are placed by their own papers.
-    ensures one_paper { IfOk result (λ task. HasOnePaper request.now input.items task.options.paper) }
+    ensures accepted { OnOk result (HasNoFault request.now input.items) }
     ensures refused { IfErr result (RefusesTask request.now input.items) }
 {
     // The document is read as it came, so that a fault has its place there.
@@ -333,13 +333,14 @@ fn placing(
     requires few { pages ≤ most_pages }
     ensures placed { IfOk result (λ placed.
         IsPlaced layout.now spacing.now papers.now.page papers.now.sheet pages (string_bytes placed.0) placed.1) }
-    ensures refused { IfErr result (λ f.
-        (f ≡ without_memory) ⊎ RefusesLayout layout.now spacing.now papers.now.page papers.now.sheet f) }
+    ensures possible { OnOk result (why_not_specified layout.now spacing.now papers.now.page papers.now.sheet ≡ None) }
+    ensures refused { IfErr result (RefusesFor
+        (why_not_specified layout.now spacing.now papers.now.page papers.now.sheet)) }
 {
     match layout {
         Layout::NUp(cells) => nup_placing(alloc, *cells, spacing, papers),
         Layout::Booklet { signing, long_edge } => {
-            if spacing.creep.get() != 0 {
+            if creeps(spacing) {
                 return Err(ImposeFault::NoSpecification);
             }
             let sides = sides_of(*signing, pages);
@@ -348,12 +349,21 @@ fn placing(
         Layout::Cards(_) | Layout::Stack { .. } | Layout::Selection => Err(
             ImposeFault::NoSpecification,
         ),
-        Layout::Notes { .. } | Layout::Poster { .. } => Err(ImposeFault::NoSpecification),
+        Layout::Notes { .. } | Layout::Poster { .. } | Layout::Zine => Err(
+            ImposeFault::NoSpecification,
+        ),
         Layout::Spec(specs) => named_placing(alloc, specs.as_str(), None),
         Layout::SpecRow { specs, signing } => {
             named_placing(alloc, specs.as_str(), row_sides(*signing, pages))
         }
     }
+}
+
+/// Whether leaves creep.
+fn creeps(spacing: &Spacing) -> bool
+    ensures { result ≡ not (int_eq spacing.now.creep (pos 0)) }
+{
+    spacing.creep.get() != 0
 }
 
 /// The text that is named, beside these sides.
@@ -376,7 +386,10 @@ fn nup_placing(
 ) -> Result<PlacedItem, ImposeFault>
     ensures placed { IfOk result (λ placed.
         IsPlaced (layout.NUp cells) spacing.now papers.now.page papers.now.sheet 0 (string_bytes placed.0) placed.1) }
-    ensures refused { IfErr result (RefusesLayout (layout.NUp cells) spacing.now papers.now.page papers.now.sheet) }
+    ensures possible { OnOk result
+        (why_not_specified (layout.NUp cells) spacing.now papers.now.page papers.now.sheet ≡ None) }
+    ensures refused { IfErr result (RefusesFor
+        (why_not_specified (layout.NUp cells) spacing.now papers.now.page papers.now.sheet)) }
 {
     match arrange(alloc, papers, &spacing.arrangement(cells)) {
         Ok(spec) => written(alloc, &spec, None),
@@ -394,6 +407,7 @@ fn booklet_placing(
         (IsWritten (bound papers.now.page papers.now.sheet binding.now) (string_bytes placed.0)
         × IsBound papers.now.page papers.now.sheet binding.now (bound papers.now.page papers.now.sheet binding.now))
         × (placed.1 ≡ Some sides)) }
+    ensures possible { OnOk result (why_not_bound papers.now.page papers.now.sheet binding.now ≡ None) }
     ensures refused { IfErr result (λ f. (f ≡ without_memory) ⊎ ((e : ArrangementError)
         × (f ≡ faults.Layout e) × (why_not_bound papers.now.page papers.now.sheet binding.now ≡ Some e))) }
 {

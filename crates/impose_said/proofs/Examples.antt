@@ -1,6 +1,6 @@
 -- Exit statuses, and what is said, worked out.
 use Rattle.std.proofs.Common.{◌≡◌, true, false, [], ◌∷◌, refl, map}
-use Rattle.std.specs.Prelude.{codes, None, Some}
+use Rattle.std.specs.Prelude.{codes, neg_ℤ, pos, None, Some}
 use Rattle.std.specs.Fmt.{digits}
 use Rattle.clap.specs.declared.error.kind.ErrorKind.TheVariants.{DisplayHelp, DisplayVersion, UnknownArgument}
 use Rattle.layouts.specs.declared.error.ArrangementError.TheVariants as layout
@@ -9,7 +9,8 @@ use Rattle.impose_said.specs.declared.fault.Packing.TheVariants.{Gzip}
 use Rattle.impose_said.specs.declared.fault.IdleOption.TheVariants.{CutMarks}
 use Rattle.impose_words.specs.declared.fault.RequestFault.TheVariants as command
 use Rattle.impose_said.specs.Statuses.{words_status, command_status, layout_status, fault_status}
-use Rattle.impose_said.specs.Said.{behind_text, is_pdf_name, told_text}
+use Rattle.impose_said.specs.Said.{behind_text, blanks_text, cut_pages_text, edges_text, is_pdf_name, leaves_text, size_text, told_text}
+use Rattle.rules.specs.Papers.{points}
 
 -- Exit statuses.
 
@@ -26,6 +27,42 @@ faults : map fault_status (fault.NoSuchPage 1 2 ∷ fault.NoSpecification ∷ fa
 faults = refl
 
 -- What is said of a finished run.
+
+-- of cells that are filled up
+some_blanks : blanks_text 3 ≡ codes ", blanks 3"
+unfolding digits
+some_blanks = refl
+
+no_blanks : blanks_text 0 ≡ []
+no_blanks = refl
+
+one_leaf : leaves_text 1 ≡ codes " (1 leaf)"
+one_leaf = refl
+
+two_leaves : leaves_text 2 ≡ codes " (2 leaves)"
+unfolding digits
+two_leaves = refl
+
+-- of pages 4 to 6 all are cut, page 5 is, or two of four are
+cut_in_a_row : cut_pages_text (record { first = 3; last = 5; pages = 3; paper = points 842 1191 }) ≡ codes "pages 4-6"
+unfolding digits
+cut_in_a_row = refl
+
+one_cut : cut_pages_text (record { first = 4; last = 4; pages = 1; paper = points 842 1191 }) ≡ codes "page 5"
+unfolding digits
+one_cut = refl
+
+some_cut : cut_pages_text (record { first = 1; last = 4; pages = 2; paper = points 842 1191 }) ≡ codes "2 pages from 2 to 5"
+unfolding digits
+some_cut = refl
+
+size_of_a_paper : size_text (points 595 842) ≡ codes "595 x 842"
+unfolding digits
+size_of_a_paper = refl
+
+before_the_corner : edges_text (record { left = neg_ℤ (pos 635_000_000_000); bottom = pos 0; right = pos 12_700_000_000_000; top = pos 25_400_000_000_000 }) ≡ codes "from -5 x 0 to 100 x 200"
+unfolding digits
+before_the_corner = refl
 
 none_behind : behind_text 0 ≡ None
 none_behind = refl

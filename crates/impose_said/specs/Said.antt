@@ -1,7 +1,7 @@
 -- What is said on standard error of how the program ended: which lines, in which order, and what is in those of a finished run. What
 -- a fault's message is no word here says, nor what is said of words that the command doesn't take.
 use Rattle.std.specs.Prelude.{⊤, ◌≡◌, ◌==◌, ◌⊎◌, ◌++◌, if◌then◌else◌, ℕ, List, [], Bool, true, false, Option, Some, None, Result, Ok, Err}
-use Rattle.std.specs.Prelude.{◌-◌, codes, decimal, nat_eq, ◌||◌, ◌&&◌, not, option_map, string_bytes}
+use Rattle.std.specs.Prelude.{◌+◌, ◌-◌, ◌*◌, ◌/◌, ℤ, pos, int_le, codes, decimal, nat_eq, ◌||◌, ◌&&◌, option_map, string_bytes}
 use Rattle.std.specs.List.{ends_with}
 use Rattle.std.specs.IoError.{error_kind}
 use Rattle.std.specs.declared.io.ErrorKind.{ErrorKind}
@@ -10,8 +10,11 @@ use Rattle.clap.specs.Words.{kind_of}
 use Rattle.clap.specs.declared.error.Error.{Error as WordsError}
 use Rattle.std.specs.Ordering.{int_eq}
 use Rattle.rules.specs.Bytes.{line}
+use Rattle.rules.specs.Numbers.{points_text}
 use Rattle.rules.specs.Papers.{Paper}
+use Rattle.layouts.specs.Grids.{count_of}
 use Rattle.papers.specs.declared.media.Comment.TheVariants as comment
+use Rattle.papers.specs.declared.boxes.Edges.{Edges}
 use Rattle.papers.specs.declared.cuts.Cut.{Cut}
 use Rattle.papers.specs.declared.reach.Reach.{Reach}
 use Rattle.imposer.specs.declared.outcome.Report.{Report}
@@ -21,7 +24,10 @@ use Rattle.impose_said.specs.declared.fault.ImposeFault.{ImposeFault}
 use Rattle.impose_said.specs.declared.fault.ImposeFault.TheVariants as fault
 use Rattle.impose_said.specs.declared.finished.Done.{Done}
 use Rattle.impose_said.specs.declared.finished.Done.TheVariants as done
+use Rattle.impose_words.specs.Choices.{is_whole}
 use Rattle.impose_words.specs.declared.request.ImposeRequest.{ImposeRequest}
+use Rattle.impose_words.specs.declared.request.Layout.{Layout}
+use Rattle.impose_words.specs.declared.request.Layout.TheVariants as layout
 use Rattle.impose_said.specs.declared.finished.Finished.{Finished}
 use Rattle.impose_said.specs.declared.finished.PaperOrigin.{PaperOrigin}
 use Rattle.impose_said.specs.declared.finished.PaperOrigin.TheVariants as origin
@@ -37,36 +43,77 @@ origin_text (origin.ByComment comment.BoundingBox) = codes "by its %%BoundingBox
 origin_text origin.AtHome = codes "the usual one here, as the document names none"
 origin_text origin.FirstPage = codes "that of page 1, as no page has the document's"
 
--- how many pages, sheets and bytes there are; after the pages there may be blanks, and leaves after the sheets
-abbrev pub HasCounts : Report → (text : List ℕ) → Type 0
-HasCounts report text = (blanks leaves : List ℕ) × (text ≡ codes "pages " ++ (decimal report.pages ++ (blanks
-    ++ (codes ", sheets " ++ (decimal report.sheets ++ (leaves ++ (codes ", bytes " ++ decimal report.bytes)))))))
+-- both sides of a paper, and how far something reaches, in points
+abbrev pub sides_text : (width height : ℤ) → List ℕ
+sides_text width height = points_text width ++ (codes " x " ++ points_text height)
+
+abbrev pub size_text : Paper → List ℕ
+size_text paper = sides_text paper.width paper.height
+
+-- how many places each sheet has, if all have equally many
+abbrev pub places_on : Layout → ℕ
+places_on (layout.NUp cells) = count_of cells
+places_on (layout.Notes pages) = pages
+places_on (layout.Booklet signing long_edge) = 2
+places_on layout.Zine = 8
+places_on other = 0
+
+-- how many of them have no page, if all pages are taken, each once
+abbrev pub blanks_of : ImposeRequest → Report → ℕ
+blanks_of r report = if is_whole r.choice then places_on r.layout * report.sheets - report.pages else 0
+
+abbrev pub blanks_text : (blanks : ℕ) → List ℕ
+blanks_text blanks = if blanks == 0 then [] else codes ", blanks " ++ decimal blanks
+
+-- the sheets are sides of leaves of paper
+abbrev pub are_sides : Layout → Bool
+are_sides (layout.Booklet signing long_edge) = true
+are_sides (layout.Stack cells duplex) = duplex
+are_sides other = false
+
+abbrev pub leaves_text : (leaves : ℕ) → List ℕ
+leaves_text leaves = if leaves == 1 then codes " (1 leaf)" else codes " (" ++ (decimal leaves ++ codes " leaves)")
+
+-- how many pages, sheets and bytes there are; after the pages the blanks, and after the sheets the leaves
+abbrev pub counts_text : Report → ImposeRequest → List ℕ
+counts_text report r = codes "pages " ++ (decimal report.pages ++ (blanks_text (blanks_of r report)
+    ++ (codes ", sheets " ++ (decimal report.sheets ++ ((if are_sides r.layout then leaves_text ((report.sheets + 1) / 2) else [])
+    ++ (codes ", bytes " ++ decimal report.bytes))))))
 
 -- two papers are one
 abbrev pub is_same : Paper → Paper → Bool
 is_same a b = int_eq a.width b.width && int_eq a.height b.height
 
--- another paper is named for the sheets than the pages have
-abbrev pub is_other_paper : (named : Option Paper) → (page_paper : Paper) → Bool
-is_other_paper None page_paper = false
-is_other_paper (Some sheet) page_paper = not (is_same sheet page_paper)
+-- the size of the sheets, if another paper is named for them than the pages have
+abbrev pub sheets_text : (named : Option Paper) → (page_paper : Paper) → List ℕ
+sheets_text None page_paper = []
+sheets_text (Some sheet) page_paper =
+    if is_same sheet page_paper then [] else codes "; sheets of " ++ (size_text sheet ++ codes " pt")
 
--- the size of the sheets, if they have another paper
-abbrev pub IsOfSheets : (other : Bool) → (text : List ℕ) → Type 0
-IsOfSheets false text = text ≡ []
-IsOfSheets true text = (size : List ℕ) × (text ≡ codes "; sheets of " ++ (size ++ codes " pt"))
+-- the report: the counts, the size of the pages' paper with where it was found, and that of the sheets (RULES, 17)
+abbrev pub report_text : Finished → ImposeRequest → List ℕ
+report_text finished r = counts_text finished.report r ++ (codes "; pages of " ++ (size_text finished.page_paper
+    ++ (codes " pt, " ++ (origin_text finished.origin ++ sheets_text r.sheet_paper finished.page_paper))))
 
--- the report: the counts, the size of the pages' paper with where it was found, and that of the sheets if it is another one
-abbrev pub IsReport : Finished → ImposeRequest → (message : Option (List ℕ)) → Type 0
-IsReport finished r message = (counts size sheets : List ℕ) × HasCounts finished.report counts
-    × IsOfSheets (is_other_paper r.sheet_paper finished.page_paper) sheets
-    × (message ≡ Some (counts ++ (codes "; pages of " ++ (size ++ (codes " pt, " ++ (origin_text finished.origin ++ sheets))))))
+abbrev pub some_pages_text : (pages first last : ℕ) → List ℕ
+some_pages_text pages first last = decimal pages ++ (codes " pages from " ++ (decimal first ++ (codes " to " ++ decimal last)))
+
+-- the pages that are cut, counted from 1: one, all from the first to the last, or some of these
+abbrev pub cut_pages_text : Cut → List ℕ
+cut_pages_text cut = if cut.pages == 1 then codes "page " ++ decimal (cut.first + 1)
+    else (if cut.first + cut.pages == cut.last + 1
+    then codes "pages " ++ (decimal (cut.first + 1) ++ (codes "-" ++ decimal (cut.last + 1)))
+    else some_pages_text cut.pages (cut.first + 1) (cut.last + 1))
+
+-- the size of one that is cut, and how far several reach
+abbrev pub cut_size_text : Cut → List ℕ
+cut_size_text cut = if cut.pages == 1 then size_text cut.paper else codes "up to " ++ size_text cut.paper
 
 -- of pages that the paper cuts which is named for them, if there are some: which pages, and both sizes
-abbrev pub IsOfCut : Option Cut → (message : Option (List ℕ)) → Type 0
-IsOfCut None message = message ≡ None
-IsOfCut (Some cut) message = (pages own named : List ℕ)
-    × (message ≡ Some (codes "--paper cuts " ++ (pages ++ (codes ": " ++ (own ++ (codes " on " ++ named))))))
+abbrev pub cut_text : Option Cut → (named : Paper) → Option (List ℕ)
+cut_text None named = None
+cut_text (Some cut) named =
+    Some (codes "--paper cuts " ++ (cut_pages_text cut ++ (codes ": " ++ (cut_size_text cut ++ (codes " on " ++ size_text named)))))
 
 -- how many more pages reach beyond their papers
 abbrev pub others_text : (pages : ℕ) → List ℕ
@@ -74,11 +121,16 @@ others_text pages = if pages == 0 then []
     else (if pages == 1 then codes ", and 1 other page beyond its own"
     else codes ", and " ++ (decimal pages ++ codes " other pages beyond theirs"))
 
+-- how far a page reaches: to its upper right corner, and from its lower left one if that is before 0
+abbrev pub edges_text : Edges → List ℕ
+edges_text e = if int_le (pos 0) e.left && int_le (pos 0) e.bottom then codes "to " ++ sides_text e.right e.top
+    else codes "from " ++ (sides_text e.left e.bottom ++ (codes " to " ++ sides_text e.right e.top))
+
 -- of pages that reach beyond their papers, if there are some: the first one, how far it reaches, and its paper
-abbrev pub IsOfReach : Option Reach → (message : Option (List ℕ)) → Type 0
-IsOfReach None message = message ≡ None
-IsOfReach (Some reach) message = (page box placed : List ℕ)
-    × (message ≡ Some (codes "page " ++ (page ++ (codes " reaches " ++ (box ++ (codes " on " ++ (placed ++ others_text (reach.pages - 1))))))))
+abbrev pub reach_text : Option Reach → Option (List ℕ)
+reach_text None = None
+reach_text (Some reach) = Some (codes "page " ++ (decimal (reach.first + 1) ++ (codes " reaches " ++ (edges_text reach.edges
+    ++ (codes " on " ++ (size_text reach.paper ++ others_text (reach.pages - 1)))))))
 
 -- of pages that follow the document's trailer, if there are some
 abbrev pub behind_text : (pages : ℕ) → Option (List ℕ)
@@ -143,11 +195,11 @@ pub record SaysLines (finished : Finished) (r : ImposeRequest) (text : List ℕ)
   pub behind : List ℕ
   pub told : List ℕ
   pub note : List ℕ
-  pub reports : MaySay (IsReport finished r) report
-  pub cuts : MaySay (IsOfCut finished.cut) cut
-  pub reaches : MaySay (IsOfReach finished.reach) reach
-  pub tells_behind : MaySay (λ message. message ≡ behind_text finished.behind) behind
-  pub tells_count : MaySay (λ message. message ≡ told_text finished.told finished.report.pages) told
+  pub reports : IsLineOf (Some (report_text finished r)) report
+  pub cuts : IsLineOf (cut_text finished.cut finished.page_paper) cut
+  pub reaches : IsLineOf (reach_text finished.reach) reach
+  pub tells_behind : IsLineOf (behind_text finished.behind) behind
+  pub tells_count : IsLineOf (told_text finished.told finished.report.pages) told
   pub notes : MaySay (IsNote (option_map string_bytes r.outfile)) note
   pub in_order : text ≡ report ++ (cut ++ (reach ++ (behind ++ (told ++ note))))
 

@@ -111,8 +111,8 @@ pub fn fault_text(
 }
 
 const NO_SPECIFICATION: &str =
-    "--print-spec: no specification says a selection, cards, a stack, notes or a poster, nor --pages, --odd, --even, --reverse, \
-    --creep or --marks; leave it out";
+    "--print-spec: no specification says a selection, a zine, cards, a stack, notes or a poster, nor --pages, --odd, --even, --reverse, \
+    --creep, --marks or --numbers; leave it out";
 
 const SEVERAL_PAPERS: &str =
     "--print-spec: a specification has one paper, and not all pages have the document's: name one by --paper, or leave \
@@ -278,11 +278,13 @@ fn value_text(alloc: Global, option: Opt, text: &str) -> Result<String, AllocErr
         Opt::Margin | Opt::Gap | Opt::Trim | Opt::Creep | Opt::Overlap => {
             length_text(alloc, option.id(), text, "5mm, .2in or 14pt")
         }
+        Opt::Numbers => length_text(alloc, option.id(), text, "10pt or 4mm, up to 72pt"),
         Opt::Count(command) => cells_text(alloc, command, text),
         Opt::Signature => signature_text(alloc, text),
         Opt::Order | Opt::Turned | Opt::Scale | Opt::BookletMarks | Opt::CutMarks => {
             word_text(alloc, option, text)
         }
+        Opt::NumbersFrom => word_text(alloc, option, text),
         Opt::Outfile => outfile_text(alloc, text),
         Opt::Preview => picture_text(alloc, text),
     }
@@ -412,6 +414,9 @@ fn word_text(alloc: Global, option: Opt, text: &str) -> Result<String, AllocErro
             "unknown side '{text}' after --turned: give left or right"
         ),
         Opt::Scale => format!(in alloc; "bad scale '{text}' after --scale: give a number as 0.7"),
+        Opt::NumbersFrom => format!(in alloc;
+            "bad number '{text}' after --numbers-from: give a whole one, and the size too, as --numbers 10pt --numbers-from 3"
+        ),
         Opt::BookletMarks => format!(in alloc;
             "unknown marks '{text}' after --marks: give fold, cut or fold,cut"
         ),

@@ -134,6 +134,7 @@ fn tip(kind: ErrorKind, words: &[String]) -> Option<&'static str> {
 fn is_command(word: &str) -> bool {
     word == "nup"
         || word == "booklet"
+        || word == "zine"
         || word == "cards"
         || word == "stack"
         || word == "notes"
@@ -204,7 +205,7 @@ fn tip_on_unknown(command: &str, behind: &[String]) -> Option<&'static str> {
         }
         if command == "spec" && (word == "--plan" || word.starts_with("--preview")) {
             return Some(
-                "plans and pictures are made for nup, booklet, cards, stack, notes, poster and select; without one: impose spec 0,0 \
+                "plans and pictures are made for nup, booklet, zine, cards, stack, notes, poster and select; without one: impose spec 0,0 \
                 in.ps out.ps",
             );
         }
@@ -268,6 +269,10 @@ fn tip_on_order(command: &str, word: &str) -> Option<&'static str> {
         Some(
             "nup, cards, stack and booklet have marks, as in: impose cards 8 --marks cut in.ps out.ps",
         )
+    } else if word == "--numbers" && (command == "poster" || command == "spec") {
+        Some(
+            "pages of posters and of specifications have no numbers; the others have, as in: impose nup 2 --numbers 10pt",
+        )
     } else {
         None
     }
@@ -290,6 +295,8 @@ fn tip_on_negative(command: &str, before: &str) -> &'static str {
         "a scale is above 0, as in: --scale 0.7"
     } else if before == "--pages" {
         TIP_ON_RANGES
+    } else if before == "--numbers-from" {
+        "the first number has no sign, as in: --numbers 10pt --numbers-from 3"
     } else if command == "nup" {
         "the number of pages has no sign, as in: impose nup 2 in.ps out.ps"
     } else if command == "cards" {
@@ -314,6 +321,7 @@ fn takes_length(option: &str) -> bool {
         || option == "--creep"
         || option == "--border"
         || option == "--overlap"
+        || option == "--numbers"
 }
 
 const TIP_ON_RANGES: &str =

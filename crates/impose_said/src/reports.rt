@@ -1,8 +1,15 @@
 //! What is said of a finished run.
-ghost use Rattle.std.specs.Prelude.{◌≡◌, IfOk, Some, option_map, string_bytes};
-ghost use Rattle.impose_said.specs.Said.{HasCounts, IsNote, IsOfCut, IsOfReach, IsReport, behind_text as text_of_behind};
-ghost use Rattle.impose_said.specs.Said.{others_text as text_of_others};
-ghost use Rattle.impose_said.specs.Said.{IsOfSheets, is_other_paper as is_other_named, is_same as are_same};
+ghost use Rattle.std.specs.Prelude.{◌≡◌, ◌+◌, ◌/◌, IfOk, if◌then◌else◌, [], option_map, string_bytes};
+ghost use Rattle.std.specs.Str.{IsAscii};
+ghost use Rattle.rules.specs.Numbers.{points_text as text_of_points};
+ghost use Rattle.impose_said.specs.Said.{IsNote, behind_text as text_of_behind};
+ghost use Rattle.impose_said.specs.Said.{blanks_of as blanks_in, blanks_text as text_of_blanks, counts_text as text_of_counts};
+ghost use Rattle.impose_said.specs.Said.{are_sides as are_sides_of, leaves_text as text_of_leaves, places_on as places_in};
+ghost use Rattle.impose_said.specs.Said.{cut_pages_text as text_of_cut_pages, cut_size_text as text_of_cut_size, cut_text as text_of_cut};
+ghost use Rattle.impose_said.specs.Said.{some_pages_text as text_of_some_pages};
+ghost use Rattle.impose_said.specs.Said.{edges_text as text_of_edges, others_text as text_of_others, reach_text as text_of_reach};
+ghost use Rattle.impose_said.specs.Said.{is_same as are_same, report_text as text_of_report, sheets_text as text_of_sheets};
+ghost use Rattle.impose_said.specs.Said.{sides_text as text_of_sides, size_text as text_of_size};
 ghost use Rattle.impose_said.specs.Said.{found_text as text_of_found, pages_text as text_of_pages, told_text as text_of_told};
 ghost use Rattle.impose_said.specs.Said.{is_pdf_name as names_pdf, origin_text as text_of_origin};
 
@@ -10,7 +17,7 @@ use crate::finished::{Finished, PaperOrigin};
 use crate::shown::shown_word;
 use impose_words::{ImposeRequest, Layout};
 use imposer::Report;
-use lengths::{Grains, Paper, print_points};
+use lengths::{Grains, Paper, print_grains};
 use papers::{Comment, Cut, Edges};
 use std::alloc::{AllocError, Global};
 
@@ -20,7 +27,7 @@ pub fn report_text(
     done: &Finished,
     request: &ImposeRequest,
 ) -> Result<String, AllocError>
-    ensures { IfOk result (λ text. IsReport done.now request.now (Some (string_bytes text))) }
+    ensures { IfOk result (λ text. string_bytes text ≡ text_of_report done.now request.now) }
 {
     let counts = counts_text(alloc, &done.report, request)?;
     let counts = counts.as_str();
@@ -38,23 +45,15 @@ fn sheets_text(
     named: &Option<Paper>,
     page_paper: &Paper,
 ) -> Result<String, AllocError>
-    ensures { IfOk result (λ text. IsOfSheets (is_other_named named.now page_paper.now) (string_bytes text)) }
-{
-    if !is_other_paper(named, page_paper) {
-        return Ok(String::new(alloc));
-    }
-    let size = size_text(alloc, named.as_ref().unwrap_or(page_paper))?;
-    let size = size.as_str();
-    format!(in alloc; "; sheets of {size} pt")
-}
-
-/// Whether another paper is named than this one.
-fn is_other_paper(named: &Option<Paper>, paper: &Paper) -> bool
-    ensures { result ≡ is_other_named named.now paper.now }
+    ensures { IfOk result (λ text. string_bytes text ≡ text_of_sheets named.now page_paper.now) }
 {
     match named {
-        Some(named) => !is_same(named, paper),
-        None => false,
+        Some(sheet) if !is_same(sheet, page_paper) => {
+            let size = size_text(alloc, sheet)?;
+            let size = size.as_str();
+            format!(in alloc; "; sheets of {size} pt")
+        }
+        _ => Ok(String::new(alloc)),
     }
 }
 
@@ -70,15 +69,12 @@ fn counts_text(
     report: &Report,
     request: &ImposeRequest,
 ) -> Result<String, AllocError>
-    ensures { IfOk result (λ text. HasCounts report.now (string_bytes text)) }
+    ensures { IfOk result (λ text. string_bytes text ≡ text_of_counts report.now request.now) }
 {
     let pages = report.pages;
     let sheets = report.sheets;
     let bytes = report.bytes;
-    let blanks = match blanks_of(request, report) {
-        0 => String::new(alloc),
-        blanks => format!(in alloc; ", blanks {blanks}")?,
-    };
+    let blanks = blanks_text(alloc, blanks_of(request, report))?;
     let blanks = blanks.as_str();
     let leaves = leaves_text(alloc, &request.layout, sheets)?;
     let leaves = leaves.as_str();
@@ -86,46 +82,103 @@ fn counts_text(
 }
 
 /// How many places of the sheets have no page, where all sheets have equally many and each page has one.
-fn blanks_of(request: &ImposeRequest, report: &Report) -> u64 {
-    let places = match request.layout {
-        Layout::NUp(cells) if request.choice.is_whole() => cells.count(),
-        Layout::Notes { pages } if request.choice.is_whole() => u64::from(pages),
-        Layout::Booklet { .. } if request.choice.is_whole() => 2,
+fn blanks_of(request: &ImposeRequest, report: &Report) -> u128
+    ensures { result ≡ blanks_in request.now report.now }
+{
+    if !request.choice.is_whole() {
+        return 0;
+    }
+    let places = u128::from(places_on(&request.layout)) * u128::from(report.sheets);
+    places.saturating_sub(u128::from(report.pages))
+}
+
+/// How many places each sheet has, where all have equally many.
+fn places_on(layout: &Layout) -> u64
+    ensures { result ≡ places_in layout.now }
+{
+    match layout {
+        Layout::NUp(cells) => cells.count(),
+        Layout::Notes { pages } => u64::from(*pages),
+        Layout::Booklet { .. } => 2,
+        Layout::Zine => 8,
         _ => 0,
-    };
-    places
-        .saturating_mul(u64::from(report.sheets))
-        .saturating_sub(u64::from(report.pages))
+    }
+}
+
+fn blanks_text(alloc: Global, blanks: u128) -> Result<String, AllocError>
+    ensures { IfOk result (λ text. string_bytes text ≡ text_of_blanks blanks) }
+{
+    match blanks {
+        0 => Ok(String::new(alloc)),
+        _ => format!(in alloc; ", blanks {blanks}"),
+    }
 }
 
 /// How many leaves of paper it takes, where sheets are printed on both sides.
-fn leaves_text(alloc: Global, layout: &Layout, sheets: u32) -> Result<String, AllocError> {
+fn leaves_text(alloc: Global, layout: &Layout, sheets: u32) -> Result<String, AllocError>
+    ensures { IfOk result (λ text. string_bytes text
+        ≡ (if are_sides_of layout.now then text_of_leaves ((sheets + 1) / 2) else [])) }
+{
+    if !are_sides(layout) {
+        return Ok(String::new(alloc));
+    }
+    let leaves = (u64::from(sheets) + 1) / 2;
+    match leaves {
+        1 => String::from_str(alloc, " (1 leaf)"),
+        _ => format!(in alloc; " ({leaves} leaves)"),
+    }
+}
+
+/// Whether sheets are the sides of leaves.
+fn are_sides(layout: &Layout) -> bool
+    ensures { result ≡ are_sides_of layout.now }
+{
     match layout {
-        Layout::Booklet { .. } | Layout::Stack { duplex: true, .. } => {
-            let leaves = sheets.div_ceil(2);
-            let word = if leaves == 1 { "leaf" } else { "leaves" };
-            format!(in alloc; " ({leaves} {word})")
-        }
-        _ => Ok(String::new(alloc)),
+        Layout::Booklet { .. } => true,
+        Layout::Stack { duplex, .. } => *duplex,
+        _ => false,
     }
 }
 
 /// Both sides of a paper, in points.
-fn size_text(alloc: Global, paper: &Paper) -> Result<String, AllocError> {
+fn size_text(alloc: Global, paper: &Paper) -> Result<String, AllocError>
+    ensures { IfOk result (λ text. string_bytes text ≡ text_of_size paper.now) }
+{
     sides_text(alloc, paper.width(), paper.height())
 }
 
-fn sides_text(alloc: Global, width: Grains, height: Grains) -> Result<String, AllocError> {
-    let mut size = Vec::new(alloc);
-    print_points(width, &mut size)?;
-    size.extend_from_slice(b" x ")?;
-    print_points(height, &mut size)?;
-    Ok(text_or_empty(alloc, size))
+fn sides_text(alloc: Global, width: Grains, height: Grains) -> Result<String, AllocError>
+    ensures { IfOk result (λ text. string_bytes text ≡ text_of_sides width height) }
+{
+    let width = points_text(alloc, width)?;
+    let width = width.as_str();
+    let height = points_text(alloc, height)?;
+    let height = height.as_str();
+    format!(in alloc; "{width} x {height}")
+}
+
+fn points_text(alloc: Global, length: Grains) -> Result<String, AllocError>
+    ensures { IfOk result (λ text. string_bytes text ≡ text_of_points length) }
+{
+    let mut text = Vec::new(alloc);
+    print_grains(length.get(), &mut text)?;
+    Ok(ascii_text(text))
+}
+
+/// These bytes as a text.
+fn ascii_text(bytes: Vec<u8>) -> String
+    requires { IsAscii bytes.items }
+    ensures { string_bytes result ≡ bytes.items }
+{
+    match String::from_utf8(bytes) {
+        Ok(text) => text,
+        Err(_) => unreachable!(),
+    }
 }
 
 /// What is said of pages that the paper cuts which is named for them.
 pub fn cut_text(alloc: Global, done: &Finished) -> Result<Option<String>, AllocError>
-    ensures { IfOk result (λ text. IsOfCut done.now.cut (option_map string_bytes text)) }
+    ensures { IfOk result (λ text. option_map string_bytes text ≡ text_of_cut done.now.cut done.now.page_paper) }
 {
     let Some(cut) = done.cut else {
         return Ok(None);
@@ -139,14 +192,60 @@ pub fn cut_text(alloc: Global, done: &Finished) -> Result<Option<String>, AllocE
     Ok(Some(format!(in alloc; "--paper cuts {pages}: {own} on {named}")?))
 }
 
+/// The pages that are cut, counted from 1.
+fn cut_pages_text(alloc: Global, cut: &Cut) -> Result<String, AllocError>
+    ensures { IfOk result (λ text. string_bytes text ≡ text_of_cut_pages cut.now) }
+{
+    let first = page_number(cut.first);
+    let last = page_number(cut.last);
+    if cut.pages == 1 {
+        format!(in alloc; "page {first}")
+    } else if cut.first as u128 + cut.pages as u128 == last {
+        format!(in alloc; "pages {first}-{last}")
+    } else {
+        some_pages_text(alloc, cut.pages, first, last)
+    }
+}
+
+/// So many of the pages from the first to the last.
+fn some_pages_text(
+    alloc: Global,
+    pages: usize,
+    first: u128,
+    last: u128,
+) -> Result<String, AllocError>
+    ensures { IfOk result (λ text. string_bytes text ≡ text_of_some_pages pages first last) }
+{
+    format!(in alloc; "{pages} pages from {first} to {last}")
+}
+
+/// A page that is counted from 0, counted from 1.
+fn page_number(page: usize) -> u128
+    ensures { result ≡ page + 1 }
+{
+    page as u128 + 1
+}
+
+/// The size of a page that is cut; of several, so far they reach.
+fn cut_size_text(alloc: Global, cut: &Cut) -> Result<String, AllocError>
+    ensures { IfOk result (λ text. string_bytes text ≡ text_of_cut_size cut.now) }
+{
+    let size = size_text(alloc, &cut.paper)?;
+    if cut.pages == 1 {
+        return Ok(size);
+    }
+    let size = size.as_str();
+    format!(in alloc; "up to {size}")
+}
+
 /// What is said of pages that reach beyond the papers by which they are placed: the first of them, and how many more there are.
 pub fn reach_text(alloc: Global, done: &Finished) -> Result<Option<String>, AllocError>
-    ensures { IfOk result (λ text. IsOfReach done.now.reach (option_map string_bytes text)) }
+    ensures { IfOk result (λ text. option_map string_bytes text ≡ text_of_reach done.now.reach) }
 {
     let Some(reach) = done.reach else {
         return Ok(None);
     };
-    let page = reach.first.saturating_add(1);
+    let page = page_number(reach.first);
     let edges = edges_text(alloc, &reach.edges)?;
     let edges = edges.as_str();
     let placed = size_text(alloc, &reach.paper)?;
@@ -157,7 +256,9 @@ pub fn reach_text(alloc: Global, done: &Finished) -> Result<Option<String>, Allo
 }
 
 /// How far a page reaches: to the upper right corner, and from the lower left one if that is before 0.
-fn edges_text(alloc: Global, edges: &Edges) -> Result<String, AllocError> {
+fn edges_text(alloc: Global, edges: &Edges) -> Result<String, AllocError>
+    ensures { IfOk result (λ text. string_bytes text ≡ text_of_edges edges.now) }
+{
     let upper = sides_text(alloc, edges.right, edges.top)?;
     let upper = upper.as_str();
     if edges.left.get() >= 0 && edges.bottom.get() >= 0 {
@@ -177,16 +278,6 @@ fn others_text(alloc: Global, pages: usize) -> Result<String, AllocError>
         1 => String::from_str(alloc, ", and 1 other page beyond its own"),
         _ => format!(in alloc; ", and {pages} other pages beyond theirs"),
     }
-}
-
-/// The size of a page that is cut; of several, so far they reach.
-fn cut_size_text(alloc: Global, cut: &Cut) -> Result<String, AllocError> {
-    let size = size_text(alloc, &cut.paper)?;
-    if cut.pages == 1 {
-        return Ok(size);
-    }
-    let size = size.as_str();
-    format!(in alloc; "up to {size}")
 }
 
 /// What is said of pages that follow the document's trailer.
@@ -242,20 +333,6 @@ fn found_text(alloc: Global, pages: usize) -> Result<String, AllocError>
     }
 }
 
-/// The pages that are cut, counted from 1.
-fn cut_pages_text(alloc: Global, cut: &Cut) -> Result<String, AllocError> {
-    let first = cut.first.saturating_add(1);
-    let last = cut.last.saturating_add(1);
-    let pages = cut.pages;
-    if pages == 1 {
-        format!(in alloc; "page {first}")
-    } else if pages == last.saturating_sub(cut.first) {
-        format!(in alloc; "pages {first}-{last}")
-    } else {
-        format!(in alloc; "{pages} pages from {first} to {last}")
-    }
-}
-
 /// What else is said of a finished run, if there is something: that a file named as a PDF isn't one.
 pub fn note_text(alloc: Global, request: &ImposeRequest) -> Result<Option<String>, AllocError>
     ensures { IfOk result (λ text. IsNote (option_map string_bytes request.now.outfile) (option_map string_bytes text)) }
@@ -289,12 +366,5 @@ fn origin_text(origin: PaperOrigin) -> &'static str
         PaperOrigin::ByComment(Comment::BoundingBox) => "by its %%BoundingBox",
         PaperOrigin::AtHome => "the usual one here, as the document names none",
         PaperOrigin::FirstPage => "that of page 1, as no page has the document's",
-    }
-}
-
-fn text_or_empty(alloc: Global, bytes: Vec<u8>) -> String {
-    match String::from_utf8(bytes) {
-        Ok(text) => text,
-        Err(_) => String::new(alloc),
     }
 }

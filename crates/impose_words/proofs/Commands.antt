@@ -9,7 +9,7 @@ use Rattle.clap.specs.Faults.{is_simple_and_free}
 use Rattle.clap.proofs.SimpleLemmas.{is_false}
 use Rattle.clap.specs.declared.builder.command.Command.{Command}
 use Rattle.clap.specs.declared.builder.command.Command.TheViews.{out-Command}
-use Rattle.impose_words.specs.Command.{apps, impose, with_top}
+use Rattle.impose_words.specs.Command.{first_apps, impose, other_apps, with_top}
 
 pub impose_is_simple : is_simple impose ≡ true
 unfolding impose
@@ -19,7 +19,7 @@ pub impose_is_free : is_simple_and_free impose ≡ true
 unfolding impose
 impose_is_free = refl
 
-pub impose_is_made : fold (λ a sub. with_subcommand a sub.top) (on_top with_top (new_app (codes "impose"))) apps ≡ impose
+pub impose_is_made : fold (λ a sub. with_subcommand a sub.top) (fold (λ a sub. with_subcommand a sub.top) (on_top with_top (new_app (codes "impose"))) first_apps) other_apps ≡ impose
 unfolding impose
 impose_is_made = refl
 
@@ -30,8 +30,11 @@ both false b e = cc
 abbrev pub is_plain : App → Bool
 is_plain a = a.top.is_plain
 
-pub apps_are_plain : list_all is_plain apps ≡ true
-apps_are_plain = refl
+pub first_are_plain : list_all is_plain first_apps ≡ true
+first_are_plain = refl
+
+pub others_are_plain : list_all is_plain other_apps ≡ true
+others_are_plain = refl
 
 -- a plain command has no global argument
 no_globals : (c : Command) → is_plain (app_of c) ≡ true → (out-Command c).has_globals ≡ false

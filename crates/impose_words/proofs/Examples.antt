@@ -14,8 +14,8 @@ use Rattle.rows.specs.declared.sewing.Signing.TheVariants.{OfSides, Auto}
 use Rattle.papers.specs.Names.{papers}
 use Rattle.impose_words.specs.Signatures.{signing_named}
 use Rattle.impose_words.specs.Sizes.{border_with_unit, length_with_unit, number_alone, size_named}
-use Rattle.impose_words.specs.Arranging.{booklet_marks_named, cells_named, cut_marks_named, noted_alone, run_named, turned_named}
-use Rattle.impose_words.specs.Words.{asked, part_by, file_asked, is_outfile, order_by}
+use Rattle.impose_words.specs.Arranging.{booklet_marks_named, cells_named, cut_marks_named, noted_alone, number_size_named, run_named, turned_named}
+use Rattle.impose_words.specs.Words.{asked, file_asked, first_named, is_outfile, order_by, part_by}
 
 -- Sizes of paper.
 
@@ -114,17 +114,30 @@ no_scales = refl
 -- Marks: a booklet has two kinds, other sheets have one.
 
 booklet_marks : map booklet_marks_named (codes "fold" ∷ codes "cut" ∷ codes "fold,cut" ∷ codes "cut,fold" ∷ codes "fold,fold" ∷ [] ∷ [])
-    ≡ Some (record { fold = true; cut = false; ruled = false })
-    ∷ Some (record { fold = false; cut = true; ruled = false })
-    ∷ Some (record { fold = true; cut = true; ruled = false })
-    ∷ Some (record { fold = true; cut = true; ruled = false })
+    ≡ Some (record { fold = true; cut = false; ruled = false; numbers = None })
+    ∷ Some (record { fold = false; cut = true; ruled = false; numbers = None })
+    ∷ Some (record { fold = true; cut = true; ruled = false; numbers = None })
+    ∷ Some (record { fold = true; cut = true; ruled = false; numbers = None })
     ∷ None
     ∷ None
     ∷ []
 booklet_marks = refl
 
-other_marks : map cut_marks_named (codes "cut" ∷ codes "fold" ∷ codes "fold,cut" ∷ []) ≡ Some (record { fold = false; cut = true; ruled = false }) ∷ None ∷ None ∷ []
+other_marks : map cut_marks_named (codes "cut" ∷ codes "fold" ∷ codes "fold,cut" ∷ []) ≡ Some (record { fold = false; cut = true; ruled = false; numbers = None }) ∷ None ∷ None ∷ []
 other_marks = refl
+
+-- Numbers: they have a size, up to 72 points, and the first is 1 or named.
+
+sizes : map number_size_named (codes "10pt" ∷ codes "72pt" ∷ codes "0" ∷ codes "10" ∷ codes "72.1pt" ∷ codes "-1pt" ∷ [])
+    ≡ Some (pos 1_270_000_000_000) ∷ Some (pos 9_144_000_000_000) ∷ None ∷ None ∷ None ∷ None ∷ []
+unfolding number_at
+sizes = refl
+
+first_numbers : map (first_named true) (None ∷ Some (codes "7") ∷ Some (codes "x") ∷ []) ≡ Some 1 ∷ Some 7 ∷ None ∷ []
+first_numbers = refl
+
+no_first_number : first_named false (Some (codes "7")) ≡ None
+no_first_number = refl
 
 outfiles : map is_outfile (None ∷ Some (codes "out.ps") ∷ Some (codes "./-q") ∷ Some (codes "-q") ∷ Some (codes "-") ∷ []) ≡ true ∷ true ∷ true ∷ false ∷ false ∷ []
 outfiles = refl

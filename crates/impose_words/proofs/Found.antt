@@ -1,5 +1,5 @@
 -- What was found for a subcommand, and what its refusals say of the words.
-use Rattle.std.proofs.Common.{◌≡◌, ℤ, ap, ap₂, refl, inl, inr, subst, sym, Bool, List, [], ◌∷◌, Option, Some, None, unwrap_or, true, false, true≢false}
+use Rattle.std.proofs.Common.{◌≡◌, ℕ, ℤ, ap, ap₂, refl, inl, inr, subst, sym, Bool, List, [], ◌∷◌, Option, Some, None, unwrap_or, true, false, true≢false}
 use Rattle.std.specs.Prelude.{codes, if◌then◌else◌, is_some, option_map}
 use Rattle.std.specs.Box.{box_value}
 use Rattle.clap.specs.Words.{Row, Text, found_of, rows_of, subcommand_name_of, subcommand_rows, subcommand_rows_of}
@@ -7,14 +7,17 @@ use Rattle.clap.specs.declared.parser.matches.ArgMatches.{ArgMatches}
 use Rattle.clap.specs.declared.parser.matches.ArgMatches.TheViews.{out-ArgMatches, out-SubCommand}
 use Rattle.rules.specs.Papers.{Paper}
 use Rattle.impose_words.specs.Faults.{NoValue, ParseRefuses, Refuses, RefusesFound, Says, Wrong, first, wrong_among, wrong_choice, wrong_marks}
-use Rattle.impose_words.specs.Faults.{wrong_order, wrong_sizes, wrong_spacing}
+use Rattle.impose_words.specs.Faults.{wrong_lines, wrong_numbers, wrong_order, wrong_sizes, wrong_spacing}
 use Rattle.impose_words.specs.Words.{ChoosesBy, Entered, Enters, Reads, ReadsSizes, SpacesBy, file_asked, given, has_flag, is_outfile}
+use Rattle.impose_words.specs.Arranging.{numbering, with_numbers}
+use Rattle.impose_words.specs.Words.{first_found, has_numbers, lines_found, number_size_found, numbers_found}
 use Rattle.impose_words.specs.Words.{length_found, marks_found, order_by, order_found, run_found, scale_found, turned_found}
 use Rattle.impose_words.specs.declared.request.Layout.{Layout}
 use Rattle.impose_words.specs.declared.request.Layout.TheVariants as layout
 use Rattle.impose_words.specs.declared.request.PageChoice.{PageChoice}
 use Rattle.impose_words.specs.declared.request.ImposeRequest.{ImposeRequest}
 use Rattle.impose_words.specs.declared.request.Spacing.{Spacing}
+use Rattle.dressing.specs.declared.numbers.Numbering.{Numbering}
 use Rattle.dressing.specs.declared.strokes.Marks.{Marks}
 use Rattle.layouts.specs.declared.arrangement.Order.{Order}
 use Rattle.layouts.specs.declared.arrangement.Run.{Run}
@@ -133,16 +136,50 @@ scale_wrong false found margin gap trim creep overlap order keeps m g t c o r s 
 scale_wrong true found margin gap trim creep overlap order keeps m g t c o r s =
     next (past _ m (past _ g (past _ t (past _ c (past _ o refl))))) (next (order_right found order r) (stop _ _ s))
 
+pub lines_right : (l : Layout) (found : List Row) (marks : Marks) → lines_found l found ≡ Some marks → wrong_lines l found ≡ None
+lines_right (layout.NUp cells) found marks e = past _ e refl
+lines_right (layout.Cards cells) found marks e = past _ e refl
+lines_right (layout.Stack cells duplex) found marks e = past _ e refl
+lines_right (layout.Booklet signing long_edge) found marks e = past _ e refl
+lines_right (layout.Notes pages) found marks e = refl
+lines_right (layout.Poster columns rows) found marks e = refl
+lines_right layout.Zine found marks e = refl
+lines_right layout.Selection found marks e = refl
+lines_right (layout.Spec specs) found marks e = refl
+lines_right (layout.SpecRow specs signing) found marks e = refl
+
+sizes_read : (size : Option (Option ℤ)) (first : Option ℕ) (numbers : Option Numbering) (w v : Wrong) → numbering size first ≡ Some numbers
+    → (if is_some size then (if is_some first then None else Some w) else Some v) ≡ None
+sizes_read None first numbers w v e = cc
+sizes_read (Some size) None numbers w v e = cc
+sizes_read (Some size) (Some first) numbers w v e = refl
+
+pub numbers_right : (has : Bool) (found : List Row) (numbers : Option Numbering) → (if has then numbering (number_size_found found) (first_found found) else Some None) ≡ Some numbers
+    → wrong_numbers has found ≡ None
+numbers_right false found numbers e = refl
+numbers_right true found numbers e = sizes_read (number_size_found found) (first_found found) numbers _ _ e
+
+-- marks that are read have parts that are
+parts : (lines : Option Marks) (numbers : Option (Option Numbering)) (marks : Marks) → with_numbers lines numbers ≡ Some marks
+    → ((l : Marks) × (lines ≡ Some l)) × ((n : Option Numbering) × (numbers ≡ Some n))
+parts None numbers marks e = cc
+parts (Some lines) None marks e = cc
+parts (Some lines) (Some numbers) marks e = ((lines, refl), (numbers, refl))
+
 pub marks_right : (l : Layout) (found : List Row) (marks : Marks) → marks_found l found ≡ Some marks → wrong_marks l found ≡ None
-marks_right (layout.NUp cells) found marks e = past _ e refl
-marks_right (layout.Cards cells) found marks e = past _ e refl
-marks_right (layout.Stack cells duplex) found marks e = past _ e refl
-marks_right (layout.Booklet signing long_edge) found marks e = past _ e refl
-marks_right (layout.Notes pages) found marks e = refl
-marks_right (layout.Poster columns rows) found marks e = refl
-marks_right layout.Selection found marks e = refl
-marks_right (layout.Spec specs) found marks e = refl
-marks_right (layout.SpecRow specs signing) found marks e = refl
+marks_right l found marks e =
+    let read = parts (lines_found l found) (numbers_found l found) marks e in
+    next (lines_right l found read.0.0 read.0.1) (numbers_right (has_numbers l) found read.1.0 read.1.1)
+
+-- the size alone is wrong, or the first number
+pub size_wrong : (has : Bool) (found : List Row) → true ≡ has → number_size_found found ≡ None → wrong_numbers has found ≡ Some (NoValue opt.Numbers)
+size_wrong false found has s = absurd (true≢false has)
+size_wrong true found has s = stop _ _ s
+
+pub first_wrong : (has : Bool) (found : List Row) (size : Option ℤ) → true ≡ has → number_size_found found ≡ Some size → first_found found ≡ None
+    → wrong_numbers has found ≡ Some (NoValue opt.NumbersFrom)
+first_wrong false found size has s f = absurd (true≢false has)
+first_wrong true found size has s f = past _ s (stop _ _ f)
 
 pub choice_right : (id : Option Text) (found : List Row) (choice : PageChoice) → ChoosesBy id found choice → wrong_choice id found ≡ None
 choice_right None found choice k = refl

@@ -1,11 +1,14 @@
 -- What the values of those arguments mean that say how pages are arranged in the cells of a sheet.
-use Rattle.std.specs.Prelude.{ℕ, ◌*◌, ◌==◌, ◌||◌, Bool, true, false, if◌then◌else◌, List, [], ◌∷◌, Option, Some, None, codes}
+use Rattle.std.specs.Prelude.{ℕ, ℤ, pos, int_le, ◌*◌, ◌==◌, ◌&&◌, ◌||◌, Bool, true, false, if◌then◌else◌, List, [], ◌∷◌}
+use Rattle.std.specs.Prelude.{Option, Some, None, option_map, codes}
 use Rattle.std.specs.Str.{bytes_eq}
 use Rattle.rules.specs.Numbers.{number_of}
 use Rattle.lengths.specs.Reading.{digits, is_empty, past_digits}
 use Rattle.papers.specs.Sizes.{letter_x}
 use Rattle.layouts.specs.Refusals.{is_count}
+use Rattle.dressing.specs.declared.numbers.Numbering.{Numbering}
 use Rattle.dressing.specs.declared.strokes.Marks.{Marks}
+use Rattle.impose_words.specs.Sizes.{length_with_unit}
 use Rattle.layouts.specs.declared.arrangement.Cells.{Cells}
 use Rattle.layouts.specs.declared.arrangement.Cells.TheVariants.{AtLeast, Exactly}
 use Rattle.layouts.specs.declared.arrangement.Run.{Run}
@@ -76,7 +79,7 @@ turned_named text =
 -- ---- with which marks
 
 abbrev pub no_marks : Marks
-no_marks = record { fold = false; cut = false; ruled = false }
+no_marks = record { fold = false; cut = false; ruled = false; numbers = None }
 
 -- lines for notes alone
 abbrev pub lines_alone : Marks
@@ -93,3 +96,28 @@ booklet_marks_named text =
 -- on other sheets, which are cut alone
 abbrev pub cut_marks_named : List ℕ → Option Marks
 cut_marks_named text = if bytes_eq text (codes "cut") then Some (record no_marks { cut = true }) else None
+
+-- ---- with which numbers
+
+-- they have up to 72 points, in grains (RULES, 15)
+abbrev pub largest_numbers : ℤ
+largest_numbers = pos 9_144_000_000_000
+
+abbrev pub among_sizes : Option ℤ → Option ℤ
+among_sizes None = None
+among_sizes (Some size) = if int_le (pos 1) size && int_le size largest_numbers then Some size else None
+
+-- how large they are
+abbrev pub number_size_named : List ℕ → Option ℤ
+number_size_named text = among_sizes (length_with_unit text)
+
+-- how they are drawn if they are so large, and the first of them is this
+abbrev pub numbering : (size : Option (Option ℤ)) → (first : Option ℕ) → Option (Option Numbering)
+numbering None first = None
+numbering (Some size) None = None
+numbering (Some size) (Some first) = Some (option_map (λ size. record { size = size; first = first }) size)
+
+-- marks and numbers
+abbrev pub with_numbers : Option Marks → Option (Option Numbering) → Option Marks
+with_numbers None numbers = None
+with_numbers (Some marks) numbers = option_map (λ numbers. record marks { numbers = numbers }) numbers

@@ -1,5 +1,5 @@
 -- Which pages a request chooses, and whether a specification says that.
-use Rattle.std.specs.Prelude.{Bool, true, false, ◌&&◌, ◌||◌, not, is_none, option_map, string_bytes}
+use Rattle.std.specs.Prelude.{Bool, true, false, ◌&&◌, ◌||◌, not, is_none, is_some, option_map, string_bytes}
 use Rattle.made_sheets.specs.Choice.{Choice}
 use Rattle.rows.specs.Choices.{part_named}
 use Rattle.rows.specs.declared.choices.Part.{Part}
@@ -23,4 +23,4 @@ is_whole c = is_none c.ranges && is_all c.part && not c.backwards
 -- a specification says which pages there are, and with which marks: all, in their order, and with none
 -- (RULES, 16, step 8)
 abbrev pub is_said : PageChoice → Marks → Bool
-is_said choice marks = is_whole choice && not (marks.fold || marks.cut || marks.ruled)
+is_said choice marks = is_whole choice && not (marks.fold || marks.cut || marks.ruled || is_some marks.numbers)

@@ -1,7 +1,7 @@
--- The command line: impose nup N, impose booklet, impose cards N, impose stack N, impose notes N, impose poster CxR,
+-- The command line: impose nup N, impose booklet, impose zine, impose cards N, impose stack N, impose notes N, impose poster CxR,
 -- impose select RANGES or impose spec SPECS, with [OPTIONS] [INFILE [OUTFILE]]. N is a number of pages, or columns and rows; for
 -- notes it is a number.
-use Rattle.std.specs.Prelude.{ℕ, true, List, [], ◌∷◌, Some, codes}
+use Rattle.std.specs.Prelude.{ℕ, true, List, [], ◌∷◌, Some, codes, ◌++◌}
 use Rattle.std.specs.List.{fold}
 use Rattle.clap.specs.Words.{App, Rule, Shape, Text, new_app, new_rule, with_rule, with_subcommand}
 use Rattle.clap.specs.Simple.{on_top}
@@ -62,7 +62,15 @@ laid_rules = flag_rule (codes "plan") ∷ option_rule (codes "preview") ∷ opti
 abbrev pub count_rule : Rule
 count_rule = required_rule (codes "count")
 
--- how many pages, in which order they are in cells, how they lie, how large they are, what is kept free, and which marks are drawn
+-- how large the numbers of pages are, and the first of them
+abbrev pub numbers_rule : Rule
+numbers_rule = option_rule (codes "numbers")
+
+abbrev pub first_rule : Rule
+first_rule = option_rule (codes "numbers-from")
+
+-- how many pages, in which order they are in cells, how they lie, how large they are, what is kept free, and which marks and
+-- numbers are drawn
 abbrev pub cell_rules : List Rule
 cell_rules =
     count_rule
@@ -74,6 +82,8 @@ cell_rules =
     ∷ option_rule (codes "gap")
     ∷ option_rule (codes "trim")
     ∷ option_rule (codes "marks")
+    ∷ numbers_rule
+    ∷ first_rule
     ∷ flag_rule (codes "rtl")
     ∷ []
 
@@ -89,28 +99,40 @@ stack_app = subcommand_app (codes "stack") cell_rules (flag_rule (codes "duplex"
 abbrev pub notes_app : App
 notes_app = subcommand_app (codes "notes")
     (count_rule ∷ flag_rule (codes "same-scale") ∷ option_rule (codes "margin") ∷ option_rule (codes "gap")
-    ∷ option_rule (codes "trim") ∷ []) laid_rules
+    ∷ option_rule (codes "trim") ∷ numbers_rule ∷ first_rule ∷ []) laid_rules
 
 -- columns and rows of sheets, and how far these overlap
 abbrev pub poster_app : App
 poster_app = subcommand_app (codes "poster")
     (count_rule ∷ option_rule (codes "overlap") ∷ option_rule (codes "margin") ∷ []) laid_rules
 
-abbrev pub booklet_app : App
-booklet_app = subcommand_app (codes "booklet")
-    (option_rule (codes "signature") ∷ option_rule (codes "creep") ∷ flag_rule (codes "long-edge")
+-- how leaves are sewn and lie, and what cells have of these
+abbrev pub booklet_rules : List Rule
+booklet_rules =
+    option_rule (codes "signature") ∷ option_rule (codes "creep") ∷ flag_rule (codes "long-edge")
     ∷ flag_rule (codes "same-scale") ∷ option_rule (codes "margin") ∷ option_rule (codes "gap") ∷ option_rule (codes "trim")
-    ∷ option_rule (codes "marks") ∷ flag_rule (codes "rtl") ∷ []) laid_rules
+    ∷ option_rule (codes "marks") ∷ numbers_rule ∷ first_rule ∷ flag_rule (codes "rtl") ∷ []
+
+abbrev pub booklet_app : App
+booklet_app = subcommand_app (codes "booklet") booklet_rules laid_rules
+
+abbrev pub zine_app : App
+zine_app = subcommand_app (codes "zine")
+    (flag_rule (codes "same-scale") ∷ option_rule (codes "margin") ∷ option_rule (codes "gap") ∷ flag_rule (codes "rtl") ∷ []) laid_rules
 
 abbrev pub select_app : App
-select_app = subcommand_app (codes "select") (required_rule (codes "ranges") ∷ []) look_rules
+select_app = subcommand_app (codes "select") (required_rule (codes "ranges") ∷ numbers_rule ∷ first_rule ∷ []) look_rules
 
 abbrev pub spec_app : App
 spec_app = subcommand_app (codes "spec")
     (required_rule (codes "specs") ∷ option_rule (codes "signature") ∷ []) (option_rule (codes "pages") ∷ [])
 
-abbrev pub apps : List App
-apps = nup_app ∷ booklet_app ∷ cards_app ∷ stack_app ∷ notes_app ∷ poster_app ∷ select_app ∷ spec_app ∷ []
+-- those with cells that are cut or folded, and the others
+abbrev pub first_apps : List App
+first_apps = nup_app ∷ booklet_app ∷ zine_app ∷ cards_app ∷ stack_app ∷ []
+
+abbrev pub other_apps : List App
+other_apps = notes_app ∷ poster_app ∷ select_app ∷ spec_app ∷ []
 
 -- the command itself: it has a version, and a subcommand must be among the words
 abbrev pub with_top : Shape → Shape
@@ -118,4 +140,4 @@ with_top s = record s { has_version = true; subcommand_required = true; arg_requ
 
 -- opaque, so that what a clause says of it stays short
 unfoldable pub impose : App
-impose = fold (λ a sub. with_subcommand a sub.top) (on_top with_top (new_app (codes "impose"))) apps
+impose = fold (λ a sub. with_subcommand a sub.top) (on_top with_top (new_app (codes "impose"))) (first_apps ++ other_apps)

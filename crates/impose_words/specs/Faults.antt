@@ -7,8 +7,8 @@ use Rattle.impose_words.specs.Arranging.{booklet_marks_named, cut_marks_named, n
 use Rattle.impose_words.specs.Command.{impose}
 use Rattle.impose_words.specs.Products.{is_picture_file, lays_rows}
 use Rattle.impose_words.specs.Spacings.{keeps_room}
-use Rattle.impose_words.specs.Words.{AsksFor, Entered, asked, border_found, cells_found, file_asked, given, is_outfile, length_found}
-use Rattle.impose_words.specs.Words.{part_found, picture_found, ranges_id, row_asked, run_found, scale_found, signing_found, size_found}
+use Rattle.impose_words.specs.Words.{AsksFor, Entered, asked, border_found, cells_found, file_asked, first_found, given, has_numbers}
+use Rattle.impose_words.specs.Words.{is_outfile, length_found, number_size_found, part_found, picture_found, ranges_id, row_asked, run_found, scale_found, signing_found, size_found}
 use Rattle.impose_words.specs.Words.{turned_found, two_found}
 use Rattle.impose_words.specs.declared.fault.RequestFault.{RequestFault}
 use Rattle.impose_words.specs.declared.fault.RequestFault.TheVariants as fault
@@ -57,6 +57,8 @@ is_value opt.Turned found = is_some (turned_found found)
 is_value opt.Scale found = is_some (scale_found found)
 is_value opt.BookletMarks found = is_some (asked no_marks booklet_marks_named (given opt.BookletMarks found))
 is_value opt.CutMarks found = is_some (asked no_marks cut_marks_named (given opt.CutMarks found))
+is_value opt.Numbers found = is_some (number_size_found found)
+is_value opt.NumbersFrom found = is_some (first_found found)
 is_value opt.Outfile found = is_outfile (file_asked (given opt.Outfile found))
 is_value opt.Preview found = is_picture_asked (picture_found found)
 
@@ -87,12 +89,13 @@ abbrev pub wrong_layout : (name : Text) → (found : List Row) → Option Wrong
 wrong_layout name found =
     if bytes_eq name (codes "nup") then wrong_cells grid.NUp found
     else (if bytes_eq name (codes "booklet") then wrong_among (opt.Signature ∷ []) found
+    else (if bytes_eq name (codes "zine") then None
     else (if bytes_eq name (codes "cards") then wrong_cells grid.Cards found
     else (if bytes_eq name (codes "stack") then wrong_cells grid.Stack found
     else (if bytes_eq name (codes "notes") then wrong_cells grid.Notes found
     else (if bytes_eq name (codes "poster") then wrong_cells grid.Poster found
     else (if bytes_eq name (codes "select") then missing_or (codes "ranges") found None
-    else (if bytes_eq name (codes "spec") then wrong_specs found else Some Missing)))))))
+    else (if bytes_eq name (codes "spec") then wrong_specs found else Some Missing))))))))
 
 -- in which order one reads the cells
 abbrev pub wrong_order : (found : List Row) → Option Wrong
@@ -106,12 +109,20 @@ wrong_spacing true found =
     (first (wrong_order found) (wrong_among (opt.Scale ∷ []) found))
 
 -- the marks, of sheets that have some
+abbrev pub wrong_lines : Layout → (found : List Row) → Option Wrong
+wrong_lines (layout.NUp cells) found = wrong_among (opt.CutMarks ∷ []) found
+wrong_lines (layout.Cards cells) found = wrong_among (opt.CutMarks ∷ []) found
+wrong_lines (layout.Stack cells duplex) found = wrong_among (opt.CutMarks ∷ []) found
+wrong_lines (layout.Booklet signing long_edge) found = wrong_among (opt.BookletMarks ∷ []) found
+wrong_lines other found = None
+
+-- the numbers, of pages that have some
+abbrev pub wrong_numbers : (has : Bool) → (found : List Row) → Option Wrong
+wrong_numbers false found = None
+wrong_numbers true found = wrong_among (opt.Numbers ∷ opt.NumbersFrom ∷ []) found
+
 abbrev pub wrong_marks : Layout → (found : List Row) → Option Wrong
-wrong_marks (layout.NUp cells) found = wrong_among (opt.CutMarks ∷ []) found
-wrong_marks (layout.Cards cells) found = wrong_among (opt.CutMarks ∷ []) found
-wrong_marks (layout.Stack cells duplex) found = wrong_among (opt.CutMarks ∷ []) found
-wrong_marks (layout.Booklet signing long_edge) found = wrong_among (opt.BookletMarks ∷ []) found
-wrong_marks other found = None
+wrong_marks layout found = first (wrong_lines layout found) (wrong_numbers (has_numbers layout) found)
 
 -- the pages, if they are chosen
 abbrev pub wrong_choice : (ranges : Option Text) → (found : List Row) → Option Wrong

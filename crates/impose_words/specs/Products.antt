@@ -38,6 +38,7 @@ lays_rows (layout.Stack cells duplex) = true
 lays_rows (layout.Booklet signing long_edge) = true
 lays_rows (layout.Notes pages) = true
 lays_rows (layout.Poster columns rows) = true
+lays_rows layout.Zine = true
 lays_rows layout.Selection = true
 lays_rows (layout.Spec specs) = false
 lays_rows (layout.SpecRow specs signing) = false

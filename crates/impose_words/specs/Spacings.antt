@@ -1,7 +1,7 @@
 -- What is kept free on the sheets of a request, how far leaves creep and sheets overlap, in which order one reads sheets, and
 -- at which scale the pages are.
-use Rattle.std.specs.Prelude.{ℕ, pos, Bool, true, false, None}
-use Rattle.layouts.specs.Grids.{plain_order}
+use Rattle.std.specs.Prelude.{ℕ, ℤ, pos, int_lt, Bool, true, false, if◌then◌else◌, None}
+use Rattle.layouts.specs.Grids.{leaf_order, plain, plain_order}
 use Rattle.layouts.specs.declared.arrangement.Arrangement.{Arrangement}
 use Rattle.layouts.specs.declared.arrangement.Binding.{Binding}
 use Rattle.layouts.specs.declared.arrangement.Cells.{Cells}
@@ -21,6 +21,7 @@ keeps_room (layout.Stack cells duplex) = true
 keeps_room (layout.Booklet signing long_edge) = true
 keeps_room (layout.Notes pages) = true
 keeps_room (layout.Poster columns rows) = true
+keeps_room layout.Zine = true
 keeps_room layout.Selection = false
 keeps_room (layout.Spec specs) = false
 keeps_room (layout.SpecRow specs signing) = false
@@ -58,6 +59,14 @@ down_right = record { run = Columns; right_to_left = false; turned = Upright }
 -- (RULES, 14)
 abbrev pub notes_in : Spacing → (pages : ℕ) → Arrangement
 notes_in s pages = record (arrangement_in s (Exactly 2 pages)) { order = down_right }
+
+-- the gap, or else the least length: a zine's rows are rounded each in its own way
+abbrev pub some_gap : (gap : ℤ) → ℤ
+some_gap gap = if int_lt (pos 0) gap then gap else pos 1
+
+-- two rows of four cells, that one reads from the left, or from the right (RULES, 14.4)
+abbrev pub zine_in : Spacing → Arrangement
+zine_in s = record (plain (Exactly 4 2)) { margin = s.margin; gap = some_gap s.gap; order = leaf_order s.order.right_to_left }
 
 -- the halves of a sheet (RULES, 14.1)
 abbrev pub binding_in : Spacing → (long_edge : Bool) → Binding

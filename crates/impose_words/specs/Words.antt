@@ -1,11 +1,11 @@
 -- What the words ask for, by the rows that the command finds among them.
-use Rattle.std.specs.Prelude.{◌≡◌, ◌||◌, ◌&&◌, [], ℤ, pos, Bool, true, false, not, if◌then◌else◌, is_some, IfSome}
+use Rattle.std.specs.Prelude.{◌≡◌, ◌||◌, ◌&&◌, [], ℕ, ℤ, pos, Bool, true, false, not, if◌then◌else◌, is_some, IfSome}
 use Rattle.std.specs.Prelude.{option_and_then, option_map, unwrap_or, List, Option, Some, None, codes, nat_eq, string_bytes}
 use Rattle.std.specs.Str.{bytes_eq}
 use Rattle.std.specs.List.{starts_with}
 use Rattle.clap.specs.Words.{Row, Text, fault_of, first_of, subcommand_of}
 use Rattle.rules.specs.Papers.{Paper}
-use Rattle.command_words.specs.Matches.{has_true}
+use Rattle.command_words.specs.Matches.{has_true, number_of}
 use Rattle.layouts.specs.declared.arrangement.Cells.{Cells}
 use Rattle.layouts.specs.declared.arrangement.Cells.TheVariants.{AtLeast, Exactly}
 use Rattle.layouts.specs.declared.arrangement.Order.{Order}
@@ -17,9 +17,10 @@ use Rattle.rows.specs.declared.sewing.Signing.{Signing}
 use Rattle.rows.specs.declared.sewing.Signing.TheVariants.{InOne}
 use Rattle.rows.specs.declared.choices.Part.{Part}
 use Rattle.rows.specs.declared.choices.Part.TheVariants.{All, Odd, Even}
+use Rattle.dressing.specs.declared.numbers.Numbering.{Numbering}
 use Rattle.dressing.specs.declared.strokes.Marks.{Marks}
 use Rattle.impose_words.specs.Arranging.{booklet_marks_named, cells_named, cut_marks_named, exact_alone, lines_alone, no_marks, noted_alone}
-use Rattle.impose_words.specs.Arranging.{run_named, turned_named}
+use Rattle.impose_words.specs.Arranging.{number_size_named, numbering, run_named, turned_named, with_numbers}
 use Rattle.impose_words.specs.Choices.{is_whole}
 use Rattle.impose_words.specs.declared.request.PageChoice.{PageChoice}
 use Rattle.impose_words.specs.Command.{impose}
@@ -62,6 +63,8 @@ opt_id opt.Turned = codes "turned"
 opt_id opt.Scale = codes "scale"
 opt_id opt.BookletMarks = codes "marks"
 opt_id opt.CutMarks = codes "marks"
+opt_id opt.Numbers = codes "numbers"
+opt_id opt.NumbersFrom = codes "numbers-from"
 opt_id opt.Outfile = codes "outfile"
 opt_id opt.Preview = codes "preview"
 
@@ -132,14 +135,42 @@ order_found found = order_by (run_found found) (has_flag (codes "rtl") found) (t
 
 -- a booklet is folded and cut, other sheets with cells are cut alone, and no others have marks; on those for notes lines are
 -- drawn
+abbrev pub lines_found : Layout → (found : List Row) → Option Marks
+lines_found (layout.Booklet signing long_edge) found = asked no_marks booklet_marks_named (given opt.BookletMarks found)
+lines_found (layout.Notes pages) found = Some lines_alone
+lines_found (layout.Poster columns rows) found = Some no_marks
+lines_found layout.Zine found = Some no_marks
+lines_found layout.Selection found = Some no_marks
+lines_found (layout.Spec specs) found = Some no_marks
+lines_found (layout.SpecRow specs signing) found = Some no_marks
+lines_found other found = asked no_marks cut_marks_named (given opt.CutMarks found)
+
+-- how large numbers are, if pages have some
+abbrev pub number_size_found : (found : List Row) → Option (Option ℤ)
+number_size_found found = asked None (λ text. option_map (λ size. Some size) (number_size_named text)) (given opt.Numbers found)
+
+-- the first number is 1, and another one is only named if there are numbers
+abbrev pub first_named : (numbered : Bool) → Option Text → Option ℕ
+first_named numbered None = Some 1
+first_named false (Some text) = None
+first_named true (Some text) = number_of text
+
+abbrev pub first_found : (found : List Row) → Option ℕ
+first_found found = first_named (is_some (given opt.Numbers found)) (given opt.NumbersFrom found)
+
+-- zines, posters, and what specifications place, have no numbers
+abbrev pub has_numbers : Layout → Bool
+has_numbers layout.Zine = false
+has_numbers (layout.Poster columns rows) = false
+has_numbers (layout.Spec specs) = false
+has_numbers (layout.SpecRow specs signing) = false
+has_numbers other = true
+
+abbrev pub numbers_found : Layout → (found : List Row) → Option (Option Numbering)
+numbers_found l found = if has_numbers l then numbering (number_size_found found) (first_found found) else Some None
+
 abbrev pub marks_found : Layout → (found : List Row) → Option Marks
-marks_found (layout.Booklet signing long_edge) found = asked no_marks booklet_marks_named (given opt.BookletMarks found)
-marks_found (layout.Notes pages) found = Some lines_alone
-marks_found (layout.Poster columns rows) found = Some no_marks
-marks_found layout.Selection found = Some no_marks
-marks_found (layout.Spec specs) found = Some no_marks
-marks_found (layout.SpecRow specs signing) found = Some no_marks
-marks_found other found = asked no_marks cut_marks_named (given opt.CutMarks found)
+marks_found l found = with_numbers (lines_found l found) (numbers_found l found)
 
 abbrev pub part_by : (odd even : Bool) → Option Part
 part_by false false = Some All
@@ -198,6 +229,7 @@ AsksFor name found (layout.Poster columns rows) = (name ≡ codes "poster")
 AsksFor name found (layout.Booklet signing long_edge) = (name ≡ codes "booklet")
     × (option_map (λ sewn. unwrap_or sewn InOne) (signing_found found) ≡ Some signing)
     × (has_flag (codes "long-edge") found ≡ long_edge)
+AsksFor name found layout.Zine = name ≡ codes "zine"
 AsksFor name found layout.Selection = (name ≡ codes "select") × (is_some (first_of (codes "ranges") found) ≡ true)
 AsksFor name found (layout.Spec specs) = (name ≡ codes "spec")
     × (first_of (codes "specs") found ≡ Some (string_bytes specs)) × (row_asked found ≡ false)

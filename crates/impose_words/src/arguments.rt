@@ -3,9 +3,11 @@ ghost use Rattle.std.specs.Prelude.{◌≡◌, IfOk, codes, map, true};
 ghost use Rattle.std.specs.List.{list_all};
 ghost use Rattle.clap.specs.Words.{app_of, rule_of};
 ghost use Rattle.command_words.specs.Arguments.{fits};
-ghost use Rattle.impose_words.specs.Command.{apps, booklet_app, cards_app, cell_rules, common_rules, count_rule, flag_rule, impose};
-ghost use Rattle.impose_words.specs.Command.{laid_rules, lettered, letter_p, letter_q, notes_app, nup_app, option_rule, positional_rule, poster_app, required_rule};
-ghost use Rattle.impose_words.specs.Command.{select_app, spec_app, stack_app, subcommand_app};
+ghost use Rattle.impose_words.specs.Command.{booklet_app, booklet_rules, cards_app, cell_rules, common_rules};
+ghost use Rattle.impose_words.specs.Command.{count_rule, first_apps, first_rule, flag_rule, impose, laid_rules};
+ghost use Rattle.impose_words.specs.Command.{letter_p, letter_q, lettered, notes_app, numbers_rule, nup_app};
+ghost use Rattle.impose_words.specs.Command.{option_rule, other_apps, positional_rule, poster_app, required_rule};
+ghost use Rattle.impose_words.specs.Command.{select_app, spec_app, stack_app, subcommand_app, zine_app};
 
 use clap::{Arg, ArgAction, Command, value_parser};
 use std::alloc::{AllocError, Global};
@@ -19,6 +21,7 @@ const PAPERS_AND_EXAMPLES: &str = "Papers:
 Examples:
   impose nup 2 in.ps out.ps           two pages on each sheet
   impose booklet in.ps out.ps         print on both sides, fold, staple
+  impose zine in.ps out.ps            eight pages on one side of a sheet: fold, cut, fold
   impose cards 8 in.ps out.ps         each page eight times on a sheet
   impose stack 2 in.ps out.ps         cut the pile in two, and the pages run on
   impose notes 3 in.ps out.ps         three pages on a sheet, and lines for notes beside them
@@ -37,21 +40,30 @@ pub(crate) fn command<'a>(alloc: Global) -> Result<Command<'a>, AllocError>
         .after_help(PAPERS_AND_EXAMPLES)
         .subcommand_required(true)
         .arg_required_else_help(true);
-    top.subcommands(subcommands(alloc)?)
+    let with_first = top.subcommands(first_commands(alloc)?)?;
+    with_first.subcommands(other_commands(alloc)?)
 }
 
-fn subcommands<'a>(alloc: Global) -> Result<Vec<Command<'a>>, AllocError>
-    ensures { IfOk result (λ v. map app_of v.items ≡ apps) }
+/// Those with cells that are cut or folded.
+fn first_commands<'a>(alloc: Global) -> Result<Vec<Command<'a>>, AllocError>
+    ensures { IfOk result (λ v. map app_of v.items ≡ first_apps) }
 {
     let nup = nup(alloc)?;
     let booklet = booklet(alloc)?;
+    let zine = zine(alloc)?;
     let cards = cards(alloc)?;
     let stack = stack(alloc)?;
+    Ok(vec![in alloc; nup, booklet, zine, cards, stack]?)
+}
+
+fn other_commands<'a>(alloc: Global) -> Result<Vec<Command<'a>>, AllocError>
+    ensures { IfOk result (λ v. map app_of v.items ≡ other_apps) }
+{
     let notes = notes(alloc)?;
     let poster = poster(alloc)?;
     let select = select(alloc)?;
     let spec = spec(alloc)?;
-    Ok(vec![in alloc; nup, booklet, cards, stack, notes, poster, select, spec]?)
+    Ok(vec![in alloc; notes, poster, select, spec]?)
 }
 
 fn nup<'a>(alloc: Global) -> Result<Command<'a>, AllocError>
@@ -106,6 +118,8 @@ fn notes<'a>(alloc: Global) -> Result<Command<'a>, AllocError>
             "Keep so much free between pages, and before the lines"
         ),
         trim(alloc),
+        numbers(alloc),
+        numbers_from(alloc),
     ]?;
     subcommand(alloc, "notes", about, own, laid_args(alloc)?)
 }
@@ -130,7 +144,19 @@ fn booklet<'a>(alloc: Global) -> Result<Command<'a>, AllocError>
     ensures { IfOk result (λ c. app_of c ≡ booklet_app) }
 {
     let about = "A booklet, to be printed on both sides, folded and stapled";
-    let own = vec![in alloc;
+    subcommand(
+        alloc,
+        "booklet",
+        about,
+        booklet_args(alloc)?,
+        laid_args(alloc)?,
+    )
+}
+
+fn booklet_args<'a>(alloc: Global) -> Result<Vec<Arg<'a>>, AllocError>
+    ensures { IfOk result (λ v. map rule_of v.items ≡ booklet_rules) }
+{
+    let args = vec![in alloc;
         signature(alloc),
         creep(alloc),
         flag(alloc, "long-edge").help("For printers that flip on the long edge"),
@@ -145,16 +171,38 @@ fn booklet<'a>(alloc: Global) -> Result<Command<'a>, AllocError>
             alloc,
             "Draw short lines at the fold (fold), where the margin is cut off (cut), or both (fold,cut)"
         ),
+        numbers(alloc),
+        numbers_from(alloc),
         rtl(alloc, "Bind the booklet at the right"),
     ]?;
-    subcommand(alloc, "booklet", about, own, laid_args(alloc)?)
+    Ok(args)
+}
+
+fn zine<'a>(alloc: Global) -> Result<Command<'a>, AllocError>
+    ensures { IfOk result (λ c. app_of c ≡ zine_app) }
+{
+    let about = "Eight pages on one side of a sheet, to be folded thrice and cut once";
+    let own = vec![in alloc;
+        same_scale(alloc),
+        margin(alloc),
+        gap(
+            alloc,
+            "Keep so much free at the folds, half of it on each side"
+        ),
+        rtl(alloc, "Bind the zine at the right"),
+    ]?;
+    subcommand(alloc, "zine", about, own, laid_args(alloc)?)
 }
 
 fn select<'a>(alloc: Global) -> Result<Command<'a>, AllocError>
     ensures { IfOk result (λ c. app_of c ≡ select_app) }
 {
     let about = "Some pages, in the order in which they are named, each on a sheet of its own";
-    let own = vec![in alloc; required(alloc, "ranges", "RANGES").help(RANGES_HELP)]?;
+    let own = vec![in alloc;
+        required(alloc, "ranges", "RANGES").help(RANGES_HELP),
+        numbers(alloc),
+        numbers_from(alloc),
+    ]?;
     let look = vec![in alloc; plan(alloc), preview(alloc)]?;
     subcommand(alloc, "select", about, own, look)
 }
@@ -195,6 +243,8 @@ fn cell_args<'a>(alloc: Global, help: &'a str) -> Result<Vec<Arg<'a>>, AllocErro
         gap(alloc, "Keep so much free between pages"),
         trim(alloc),
         marks(alloc, "Draw short lines where sheets are cut: cut"),
+        numbers(alloc),
+        numbers_from(alloc),
         rtl(alloc, "From the right to the left"),
     ]?;
     Ok(args)
@@ -259,6 +309,20 @@ fn marks<'a>(alloc: Global, help: &'a str) -> Arg<'a>
     ensures { rule_of result ≡ option_rule (codes "marks") }
 {
     option(alloc, "marks", "MARKS").help(help)
+}
+
+fn numbers<'a>(alloc: Global) -> Arg<'a>
+    ensures { rule_of result ≡ numbers_rule }
+{
+    option(alloc, "numbers", "SIZE").help(
+        "Draw the number of each page at its foot, so large, as 10pt",
+    )
+}
+
+fn numbers_from<'a>(alloc: Global) -> Arg<'a>
+    ensures { rule_of result ≡ first_rule }
+{
+    option(alloc, "numbers-from", "NUMBER").help("The number of the first page [default: 1]")
 }
 
 fn rtl<'a>(alloc: Global, help: &'a str) -> Arg<'a>

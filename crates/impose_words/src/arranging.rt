@@ -2,9 +2,10 @@
 ghost use Rattle.std.specs.Prelude.{◌≡◌, ◌*◌};
 ghost use Rattle.impose_words.specs.Arranging as meaning;
 
+use crate::sizes::length_with_unit;
 use dressing::Marks;
 use layouts::{Cells, Run, Turned};
-use lengths::read_digits;
+use lengths::{Grains, read_digits};
 
 /// How many cells a sheet has at most.
 const MOST_CELLS: u64 = 1_024;
@@ -119,6 +120,7 @@ pub(crate) const NO_MARKS: Marks = Marks {
     fold: false,
     cut: false,
     ruled: false,
+    numbers: None,
 };
 
 /// The marks that the text means on a booklet, which is folded, and may be cut round its halves.
@@ -155,6 +157,21 @@ pub fn cut_marks_named(text: &str) -> Option<Marks>
             cut: true,
             ..NO_MARKS
         })
+    } else {
+        None
+    }
+}
+
+/// How large numbers are at most, in grains: 72 points.
+const LARGEST_NUMBERS: i128 = 9_144_000_000_000;
+
+/// How large the text says that numbers are.
+pub fn number_size_named(text: &str) -> Option<Grains>
+    ensures { result ≡ meaning.number_size_named text.now }
+{
+    let size = length_with_unit(text)?;
+    if 1 <= size.get() && size.get() <= LARGEST_NUMBERS {
+        Some(size)
     } else {
         None
     }

@@ -5,27 +5,28 @@ ghost use Rattle.impose_words.specs.Command.{impose};
 ghost use Rattle.impose_words.specs.Words.{AsksFor, Entered, ReadsSizes, Reads, border_found, file_asked, given, is_outfile};
 ghost use Rattle.impose_words.specs.Words.{ChoosesBy, MakesBy, NamesPicture, SpacesBy, length_found, ranges_id, part_by as of_both};
 ghost use Rattle.impose_words.specs.Words.{cells_in as cells_of_command, command_name, order_found, run_found, scale_found};
+ghost use Rattle.impose_words.specs.Words.{first_found, has_numbers, lines_found, number_size_found, numbers_found};
 ghost use Rattle.impose_words.specs.Words.{marks_found, row_asked, signing_found, size_found, turned_found};
 ghost use Rattle.impose_words.specs.Products.{is_plan, is_specification, lays_rows, picture_in};
 ghost use Rattle.impose_words.specs.Spacings.{keeps_room};
 ghost use Rattle.impose_words.specs.Faults.{NoValue, ParseRefuses, Wrong, Refuses, RefusesFound, Says, wrong_among, wrong_cells, wrong_choice};
 ghost use Rattle.impose_words.specs.Faults.{wrong_for, wrong_layout, wrong_marks, wrong_order, wrong_product, wrong_sizes, wrong_spacing};
-ghost use Rattle.impose_words.specs.Faults.{wrong_specs};
+ghost use Rattle.impose_words.specs.Faults.{wrong_lines, wrong_numbers, wrong_specs};
 ghost use Rattle.impose_words.specs.declared.fault.Opt.TheVariants as opt;
 
 use crate::arguments::command;
 use crate::arranging::{
     NO_MARKS, booklet_marks_named, cells_named, cut_marks_named, exact_cells, noted_cells,
-    run_named, turned_named,
+    number_size_named, run_named, turned_named,
 };
 use crate::fault::{GridCommand, Opt, ProductOption, RequestFault};
 use crate::request::{ImposeRequest, Layout, PageChoice, Product, Spacing};
-use crate::signature::signing_named;
+use crate::signature::{number_in, signing_named};
 use crate::sizes::{border_with_unit, length_with_unit, number_alone, size_named};
 use clap::ArgMatches;
 use clap::error::ErrorKind;
 use command_words::{is_set, owned, text_of};
-use dressing::Marks;
+use dressing::{Marks, Numbering};
 use layouts::{Cells, Order, Run, Turned};
 use lengths::{Grains, Number, Paper, a4};
 use rows::{Part, Signing};
@@ -38,7 +39,7 @@ use std::alloc::Global;
 /// Among words that it takes, the first of these is the fault: a paper that there isn't, after `--paper`, then after
 /// `--sheet`; a border that is no length, or below zero; cells that a sheet doesn't take, or a signature that leaves can't have;
 /// a margin, a gap, a trim, a creep or an overlap that is no length; an order that there isn't, no side after `--turned`, no number after
-/// `--scale`; marks that sheets of the layout don't have; odd and even entries together; an OUTFILE that begins with a minus sign; two of
+/// `--scale`; marks that sheets of the layout don't have; no size after `--numbers`, or no first number; odd and even entries together; an OUTFILE that begins with a minus sign; two of
 /// `--print-spec`, `--plan` and `--preview`; a picture whose file isn't named as an SVG is.
 #[tactic(auto, using(crate::proofs::Commands::impose_is_simple))]
 pub fn read_command(alloc: Global, words: &[String]) -> Result<ImposeRequest, RequestFault>
@@ -220,6 +221,8 @@ fn layout_of(alloc: Global, name: &str, found: &ArgMatches<'_>) -> Result<Layout
         grid_of(alloc, GridCommand::NUp, found)
     } else if name == "booklet" {
         booklet_of(alloc, found)
+    } else if name == "zine" {
+        Ok(Layout::Zine)
     } else if name == "cards" {
         grid_of(alloc, GridCommand::Cards, found)
     } else if name == "stack" {
@@ -442,10 +445,25 @@ fn scale_of(found: &ArgMatches<'_>) -> Option<Option<Number>>
     }
 }
 
-/// The marks that are asked for, of those that sheets of the layout have.
+/// The marks and the numbers that are asked for, of those that sheets of the layout have.
 fn marks_of(layout: &Layout, found: &ArgMatches<'_>) -> Result<Marks, Opt>
     ensures read { IfOk result (λ marks. marks_found layout.now (rows_of (found_of found.now)) ≡ Some marks) }
     ensures refused { IfErr result (λ option. wrong_marks layout.now (rows_of (found_of found.now)) ≡ Some (NoValue option)) }
+{
+    let lines = match lines_of(layout, found) {
+        Ok(lines) => lines,
+        Err(option) => return Err(option),
+    };
+    match numbers_of(layout, found) {
+        Ok(numbers) => Ok(Marks { numbers, ..lines }),
+        Err(option) => Err(option),
+    }
+}
+
+/// The marks alone.
+fn lines_of(layout: &Layout, found: &ArgMatches<'_>) -> Result<Marks, Opt>
+    ensures read { IfOk result (λ marks. lines_found layout.now (rows_of (found_of found.now)) ≡ Some marks) }
+    ensures refused { IfErr result (λ option. wrong_lines layout.now (rows_of (found_of found.now)) ≡ Some (NoValue option)) }
 {
     match (layout, text_of(found, "marks")) {
         (Layout::Booklet { .. }, Some(text)) => {
@@ -459,6 +477,45 @@ fn marks_of(layout: &Layout, found: &ArgMatches<'_>) -> Result<Marks, Opt>
             ..NO_MARKS
         }),
         _ => Ok(NO_MARKS),
+    }
+}
+
+/// The numbers alone.
+fn numbers_of(layout: &Layout, found: &ArgMatches<'_>) -> Result<Option<Numbering>, Opt>
+    ensures read { IfOk result (λ numbers. numbers_found layout.now (rows_of (found_of found.now)) ≡ Some numbers) }
+    ensures refused { IfErr result (λ option.
+        wrong_numbers (has_numbers layout.now) (rows_of (found_of found.now)) ≡ Some (NoValue option)) }
+{
+    if !layout.has_numbers() {
+        return Ok(None);
+    }
+    let Some(size) = number_size_of(found) else {
+        return Err(Opt::Numbers);
+    };
+    match first_of(found) {
+        Some(first) => Ok(size.map(|size| Numbering { size, first })),
+        None => Err(Opt::NumbersFrom),
+    }
+}
+
+/// How large numbers are, if pages have some.
+fn number_size_of(found: &ArgMatches<'_>) -> Option<Option<Grains>>
+    ensures { result ≡ number_size_found (rows_of (found_of found.now)) }
+{
+    match text_of(found, "numbers") {
+        None => Some(None),
+        Some(text) => Some(Some(number_size_named(text)?)),
+    }
+}
+
+/// The first number. Without numbers none is named.
+fn first_of(found: &ArgMatches<'_>) -> Option<u32>
+    ensures { result ≡ first_found (rows_of (found_of found.now)) }
+{
+    match (text_of(found, "numbers"), text_of(found, "numbers-from")) {
+        (_, None) => Some(1),
+        (None, Some(_)) => None,
+        (Some(_), Some(text)) => number_in(text),
     }
 }
 

@@ -33,6 +33,8 @@ pub enum Opt {
     BookletMarks,
     /// `--marks` on other sheets.
     CutMarks,
+    Numbers,
+    NumbersFrom,
     Outfile,
     Preview,
 }
@@ -60,6 +62,8 @@ impl Opt {
             Opt::Turned => "turned",
             Opt::Scale => "scale",
             Opt::BookletMarks | Opt::CutMarks => "marks",
+            Opt::Numbers => "numbers",
+            Opt::NumbersFrom => "numbers-from",
             Opt::Outfile => "outfile",
             Opt::Preview => "preview",
         }

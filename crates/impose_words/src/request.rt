@@ -3,7 +3,8 @@ ghost use Rattle.std.specs.Prelude.{◌≡◌, option_map, string_bytes, true};
 ghost use Rattle.rows.specs.Choices.{choice_of};
 ghost use Rattle.impose_words.specs.Choices.{choice_in, is_whole};
 ghost use Rattle.impose_words.specs.Products.{lays_rows};
-ghost use Rattle.impose_words.specs.Spacings.{arrangement_in, binding_in, keeps_room, notes_in, nothing_kept};
+ghost use Rattle.impose_words.specs.Spacings.{arrangement_in, binding_in, keeps_room, notes_in, nothing_kept, some_gap as some_gap_of, zine_in};
+ghost use Rattle.impose_words.specs.Words.{has_numbers};
 
 use dressing::Marks;
 use layouts::{Arrangement, Binding, Cells, Order, Run, Turned};
@@ -37,6 +38,8 @@ pub enum Layout {
         signing: Signing,
         long_edge: bool,
     },
+    /// Eight pages on one side of a sheet, to be folded thrice and cut once.
+    Zine,
     /// Each page as it is, on a sheet of its own paper.
     Selection,
     /// By a page specification of pstops.
@@ -57,8 +60,20 @@ impl Layout {
         match self {
             Layout::NUp(_) | Layout::Cards(_) | Layout::Stack { .. } | Layout::Booklet { .. } =>
                 true,
-            Layout::Notes { .. } | Layout::Poster { .. } => true,
+            Layout::Notes { .. } | Layout::Poster { .. } | Layout::Zine => true,
             Layout::Selection | Layout::Spec(_) | Layout::SpecRow { .. } => false,
+        }
+    }
+
+    /// Whether its pages can have numbers.
+    pub fn has_numbers(&self) -> bool
+        ensures { result ≡ has_numbers self.now }
+    {
+        match self {
+            Layout::Zine | Layout::Poster { .. } | Layout::Spec(_) | Layout::SpecRow { .. } => {
+                false
+            }
+            _ => true,
         }
     }
 
@@ -145,6 +160,27 @@ impl Spacing {
         }
     }
 
+    /// Two rows of four cells, with this kept free, that one reads from the left, or from the right if that is asked for.
+    pub fn zine(&self) -> Arrangement
+        ensures { result ≡ zine_in self.now }
+    {
+        let cells = Cells::Exactly {
+            columns: 4,
+            rows: 2,
+        };
+        let order = Order {
+            run: Run::Rows,
+            right_to_left: self.order.right_to_left,
+            turned: Turned::Upright,
+        };
+        Arrangement {
+            order,
+            margin: self.margin,
+            gap: some_gap(self.gap),
+            ..Arrangement::plain(cells)
+        }
+    }
+
     /// The halves of a sheet, with this kept free.
     pub fn binding(&self, long_edge: bool) -> Binding
         ensures { result ≡ binding_in self.now long_edge }
@@ -156,6 +192,19 @@ impl Spacing {
             trim: self.trim,
             long_edge,
         }
+    }
+}
+
+/// The gap, or else the least length.
+fn some_gap(gap: Grains) -> Grains
+    ensures { result ≡ some_gap_of gap }
+{
+    if 0 < gap.get() {
+        return gap;
+    }
+    match Grains::new(1) {
+        Some(least) => least,
+        None => unreachable!(),
     }
 }
 
@@ -239,7 +288,7 @@ pub struct ImposeRequest {
     pub sheet_paper: Option<Paper>,
     /// The width of a border round each placed page, if one is asked for.
     pub border: Option<Grains>,
-    /// Which marks are drawn on the sheets.
+    /// Which marks and numbers are drawn on the sheets.
     pub marks: Marks,
     /// Whether the guard is put in.
     pub is_guarded: bool,

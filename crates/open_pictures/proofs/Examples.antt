@@ -4,3 +4,5 @@ pub mod Looking
 pub mod LookingPreamble
 pub mod Binding
 pub mod Freer
+pub mod Applied
+pub mod AppliedOwn

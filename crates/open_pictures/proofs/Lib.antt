@@ -8,5 +8,14 @@ pub mod Sheets
 pub mod Output
 pub mod Own
 pub mod Imposed
+pub mod DocumentRun
 pub mod Operators
+pub mod Sheltering
+pub mod GuardedOperators
+pub mod GuardedPlaced
+pub mod GuardedSheets
+pub mod GuardedImposed
+pub mod States
+pub mod OwnShowpage
+pub mod Silenced
 pub mod Examples

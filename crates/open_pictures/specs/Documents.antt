@@ -14,8 +14,9 @@ use Rattle.pictures.specs.Dictionaries.{userdict}
 use Rattle.pictures.specs.Operators.{Work}
 use Rattle.pictures.specs.Machine.{State, Painting}
 use Rattle.pictures.specs.Scanner.{tokens, IsComplete}
-use Rattle.pictures.specs.Sheets.{IsGround, run_of}
+use Rattle.pictures.specs.Sheets.{IsGround}
 use Rattle.pictures.specs.Documents.{started, OnSheets, all_sheets, sheet_pictures}
+use Rattle.pictures.specs.DocumentRun.{PrintsSheetBy}
 use Rattle.pictures.specs.Kept.{preamble_comments_apart}
 use Rattle.pictures.specs.Unaware.{IsPlainGround, PrintsBy, PagePrintsBy}
 use Rattle.open_pictures.specs.Machine.{Further, open_step, OpenRuns, open_unaware_step}
@@ -46,8 +47,7 @@ OpenPagePrints x us s p picture = PagePrintsBy (open_step x false) (open_unaware
 
 -- from the state s these tokens print one sheet, with this picture, and leave the next one empty
 abbrev pub OpenPrintsSheet : Further → State → List Token → List Painting → Type 0
-OpenPrintsSheet x s ts picture =
-    (t : State) × (OpenRuns x false (run_of ts s) t × (t.left ≡ [])) × (t.painted ≡ []) × (t.sheets ≡ picture ∷ s.sheets)
+OpenPrintsSheet x s ts picture = PrintsSheetBy (OpenRuns x false) s ts picture
 
 -- what a page prints of itself, after the preamble, is what it paints by itself, with any further operators that are
 -- blind: a law

@@ -1,7 +1,14 @@
 -- Read in this order: the machine with further operators; what is asked of these; operators that see no place; pages,
--- sheets and documents.
+-- sheets and documents. Then, of guarded documents: a page by itself; pages, sheets and documents; made sheets; documents with a
+-- showpage of their own, or an empty one.
 pub mod Machine
 pub mod Blindness
 pub mod Operators
 pub mod Sheets
 pub mod Documents
+pub mod DocumentRun
+pub mod Shelter
+pub mod Pages
+pub mod Imposed
+pub mod OwnShowpage
+pub mod Silenced

@@ -1,8 +1,14 @@
 //! Laws of a machine with further operators. The functions do nothing.
 ghost use Rattle.open_pictures.specs.Blindness.{PlacelessRunsPreambles};
 ghost use Rattle.open_pictures.specs.Documents.{OpenMadeSheetsShowThePages, OpenOwnPicture, OpenSheetsShowThePages};
+ghost use Rattle.open_pictures.specs.DocumentRun.{OpenSheetsShowTheDocument};
 ghost use Rattle.open_pictures.specs.Operators.{AnswersAskForNone, TablesAreBlind, TablesArePlaceless};
 ghost use Rattle.open_pictures.specs.Sheets.{OpenPageIsPlaced, OpenPlacingCommutes, OpenSheetsArePrinted};
+ghost use Rattle.open_pictures.specs.Imposed.{OpenMadeDocumentIsShown};
+ghost use Rattle.open_pictures.specs.OwnShowpage.{OpenOwnMadeDocumentIsShown, OpenOwnPageIsPlaced, OpenOwnShowpageIsShown};
+ghost use Rattle.open_pictures.specs.Pages.{OpenGuardedDocumentIsShown, OpenGuardedPageIsPlaced, OpenGuardedSheetsShowThePages};
+ghost use Rattle.open_pictures.specs.Silenced.{OpenSilencedDocumentIsShown, OpenSilencedMadeDocumentIsShown, OpenSilencedPageIsPlaced};
+ghost use Rattle.open_pictures.specs.Shelter.{AnswersSeeNoMatrices, OpenShelterCommutes, TablesArePlacelessThere};
 
 /// With any further operators that are placeless, a machine in a placed state does what it does in the state, placed.
 pub fn open_placing_commutes()
@@ -52,4 +58,76 @@ pub fn open_made_sheets_show_the_pages()
 /// Operators that are placeless may run the preamble too; others may look at where it is.
 pub fn placeless_runs_preambles()
     ensures { PlacelessRunsPreambles }
+{}
+
+/// A document whose pages are independent prints what its output shows, sheet by sheet, placed.
+pub fn open_sheets_show_the_document()
+    ensures { OpenSheetsShowTheDocument }
+{}
+
+// Under the guard.
+
+/// What a page does by itself, with further operators, the free machine does in the page's place.
+pub fn open_shelter_commutes()
+    ensures { OpenShelterCommutes }
+{}
+
+/// Operators of a table that don't look at what matrices hold are placeless under the guard too.
+pub fn tables_are_placeless_there()
+    ensures { TablesArePlacelessThere }
+{}
+
+/// A placed page of a guarded document paints on the sheet what it paints by itself, placed.
+pub fn open_guarded_page_is_placed()
+    ensures { OpenGuardedPageIsPlaced }
+{}
+
+/// A machine prints of an output of a document with the guard in its preamble the pictures of its pages, placed.
+pub fn open_guarded_sheets_show_the_pages()
+    ensures { OpenGuardedSheetsShowThePages }
+{}
+
+/// What impose makes of a document with the guard put in shows the pages of the document, with any further operators that are placeless there.
+pub fn open_guarded_document_is_shown()
+    ensures { OpenGuardedDocumentIsShown }
+{}
+
+/// So does what impose writes of any sheets that are reported as one paper.
+pub fn open_made_document_is_shown()
+    ensures { OpenMadeDocumentIsShown }
+{}
+
+/// An operator that answers by its operands and the settings doesn't look at what matrices hold.
+pub fn answers_see_no_matrices()
+    ensures { AnswersSeeNoMatrices }
+{}
+
+/// A placed page of a document with a showpage of its own paints on the sheet what it paints by itself, placed.
+pub fn open_own_page_is_placed()
+    ensures { OpenOwnPageIsPlaced }
+{}
+
+/// A machine prints of an output of such a document, sheet by sheet, what its pages paint by themselves, placed.
+pub fn open_own_showpage_is_shown()
+    ensures { OpenOwnShowpageIsShown }
+{}
+
+/// So it prints what impose makes of such a document on sheets that are reported as one paper.
+pub fn open_own_made_document_is_shown()
+    ensures { OpenOwnMadeDocumentIsShown }
+{}
+
+/// A placed page of a document that made userdict's `showpage` empty paints on the sheet what it paints by itself, placed.
+pub fn open_silenced_page_is_placed()
+    ensures { OpenSilencedPageIsPlaced }
+{}
+
+/// A machine prints of an output of such a document, sheet by sheet, what its pages paint by themselves, placed.
+pub fn open_silenced_document_is_shown()
+    ensures { OpenSilencedDocumentIsShown }
+{}
+
+/// So it prints what impose makes of such a document on sheets that are reported as one paper.
+pub fn open_silenced_made_document_is_shown()
+    ensures { OpenSilencedMadeDocumentIsShown }
 {}

@@ -13,7 +13,7 @@ no_lines : (k : ℕ) → contents_of k [] ≡ contents_of 0 []
 no_lines zero = refl
 no_lines (suc k) = refl
 
-contents_step : (b : ℕ) (bs : List ℕ) → contents (b ∷ bs) ≡ content_of (b ∷ bs) ∷ contents (drop (line_len (b ∷ bs)) (b ∷ bs))
+pub contents_step : (b : ℕ) (bs : List ℕ) → contents (b ∷ bs) ≡ content_of (b ∷ bs) ∷ contents (drop (line_len (b ∷ bs)) (b ∷ bs))
 contents_step b bs = by_line contents_of (λ b bs rest. content_of (b ∷ bs) ∷ rest) no_lines (λ k b bs. refl) b bs
 
 abbrev choose : (name content : List ℕ) → List (List ℕ) → Bool → List (List (List ℕ))

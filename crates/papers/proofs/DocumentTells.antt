@@ -1,6 +1,6 @@
 -- What a document says.
-use Rattle.std.specs.Prelude.{Option, Some, None, option_map, option_and_then, codes}
-use Rattle.std.proofs.Common.{◌≡◌, ℕ, List, [], ◌∷◌, length, map, replicate, take, refl, ap, sym, ◌∙◌}
+use Rattle.std.specs.Prelude.{Option, Some, None, IfSome, option_map, option_and_then, codes, slice_index_or}
+use Rattle.std.proofs.Common.{arith, suc, ◌<◌, ◌≡◌, ℕ, List, [], ◌∷◌, length, map, replicate, take, refl, ap, sym, ◌∙◌}
 use Rattle.rules.specs.Papers.{Paper}
 use Rattle.rules.specs.Parts.{NestedUnit, bytes_of, pages}
 use Rattle.dsc.specs.Header.{header_len}
@@ -10,7 +10,7 @@ use Rattle.papers.specs.Media.{box_of, box_paper, comment_fields, comment_lines,
 use Rattle.papers.specs.Media as of_document
 use Rattle.papers.specs.declared.media.Comment.{Comment}
 use Rattle.papers.specs.declared.media.Comment.TheVariants.{BoundingBox}
-use Rattle.papers.specs.Comments.{first_named, first_named_in, named_medium, page_head, told_by_document}
+use Rattle.papers.specs.Comments.{first_name, first_named, first_named_in, medium_told, named_medium, page_head, told_by_document}
 use Rattle.papers.specs.Own.{medium_by, or_this, own_paper, own_papers, page_or}
 
 same_name : (fs : List (List ℕ)) → of_document.first_named fs ≡ first_named paper_named fs
@@ -59,25 +59,25 @@ pub none_found : (text : List ℕ) (other : Paper) (r : Option (Paper × Comment
     → other ≡ or_this (told_by_document paper_named other (header text) (trailer_lines (units_of text))) other
 none_found text other r e s = ap (λ t. or_this (paper_told t) other) (sym s ∙ e) ∙ ap (λ o. or_this o other) (document_tells other text)
 
--- two that know the same media give the same papers
-same_medium : (f g : List ℕ → Option Paper) → ((name : List ℕ) → f name ≡ g name) → (fs : Option (List (List ℕ)))
+-- with the same medium for its name a page has the same paper
+same_medium : (f g : List ℕ → Option Paper) (fs : Option (List (List ℕ))) → IfSome (option_and_then first_name fs) (λ at. f at ≡ g at)
     → option_and_then (named_medium f) fs ≡ option_and_then (named_medium g) fs
-same_medium f g same None = refl
-same_medium f g same (Some []) = refl
-same_medium f g same (Some (field ∷ more)) = same (name_in field)
+same_medium f g None same = refl
+same_medium f g (Some []) same = refl
+same_medium f g (Some (field ∷ more)) same = same
 
-same_page : (f g : List ℕ → Option Paper) → ((name : List ℕ) → f name ≡ g name) → (head : List (List ℕ)) (other : Paper)
-    → page_or f head other ≡ page_or g head other
-same_page f g same head other =
+same_page : (f g : List ℕ → Option Paper) (head : List (List ℕ)) (other : Paper) → IfSome (medium_told head) (λ at. f at ≡ g at) → page_or f head other ≡ page_or g head other
+same_page f g head other same =
     ap (λ n. or_this (else_take n (option_and_then (paper_of_box other) (comment_fields (codes "%%PageBoundingBox") head))) other)
-    (same_medium f g same (comment_fields (codes "%%PageMedia") head))
+    (same_medium f g (comment_fields (codes "%%PageMedia") head) same)
 
-pub same_pages : (f g : List ℕ → Option Paper) → ((name : List ℕ) → f name ≡ g name) → (other : Paper) (ps : List (List ℕ))
+pub same_pages : (f g : List ℕ → Option Paper) (other : Paper) (ps : List (List ℕ))
+    → ((k : ℕ) → k < length ps → IfSome (medium_told (page_head (slice_index_or ps k []))) (λ at. f at ≡ g at))
     → map (λ page. page_or f (page_head page) other) ps ≡ map (λ page. page_or g (page_head page) other) ps
-same_pages f g same other [] = refl
-same_pages f g same other (p ∷ ps) =
-    ap (λ q. q ∷ map (λ page. page_or f (page_head page) other) ps) (same_page f g same (page_head p) other)
-    ∙ ap (λ qs. page_or g (page_head p) other ∷ qs) (same_pages f g same other ps)
+same_pages f g other [] same = refl
+same_pages f g other (p ∷ ps) same =
+    ap (λ q. q ∷ map (λ page. page_or f (page_head page) other) ps) (same_page f g (page_head p) other (same 0 (omega arith)))
+    ∙ ap (λ qs. page_or g (page_head p) other ∷ qs) (same_pages f g other ps (λ k less. same (suc k) (omega (arith, less))))
 
 -- what each page says, and else its document, is its own
 pub each_is_own : (us : List NestedUnit) (text head : List ℕ) (n : ℕ) (other home : Paper) → text ≡ bytes_of us → us ≡ units_of text → n ≡ header_len text → head ≡ take n text

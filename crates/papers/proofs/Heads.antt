@@ -14,10 +14,10 @@ no_head : (k : ℕ) → head_of k [] ≡ head_of 0 []
 no_head zero = refl
 no_head (suc k) = refl
 
-abbrev with_content : (content : List ℕ) → List (List ℕ) → Bool → List (List ℕ)
+abbrev pub with_content : (content : List ℕ) → List (List ℕ) → Bool → List (List ℕ)
 with_content content rest test = if test then content ∷ rest else []
 
-head_step : (b : ℕ) (bs : List ℕ) → head (b ∷ bs) ≡ with_content (content_of (b ∷ bs)) (head (drop (line_len (b ∷ bs)) (b ∷ bs))) (is_in_head (content_of (b ∷ bs)))
+pub head_step : (b : ℕ) (bs : List ℕ) → head (b ∷ bs) ≡ with_content (content_of (b ∷ bs)) (head (drop (line_len (b ∷ bs)) (b ∷ bs))) (is_in_head (content_of (b ∷ bs)))
 head_step b bs = by_line head_of (λ b bs rest. with_content (content_of (b ∷ bs)) rest (is_in_head (content_of (b ∷ bs)))) no_head (λ k b bs. refl) b bs
 
 abbrev choose : (name content : List ℕ) → List (List ℕ) → Bool → Option (List (List ℕ))

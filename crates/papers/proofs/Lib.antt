@@ -4,10 +4,13 @@ pub mod Examples
 pub mod Contents
 pub mod DocumentExamples
 pub mod Tame
+pub mod SetSizes
+pub mod PrintedSides
+pub mod ToldMedia
+pub mod OutputHeads
 pub mod Found
 pub mod PageExamples
 pub mod Heads
-pub mod MediaLines
 pub mod KnownNames
 pub mod PageTells
 pub mod DocumentTells

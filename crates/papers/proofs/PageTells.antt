@@ -1,10 +1,11 @@
 -- What a page says in its head.
 use Rattle.std.specs.Prelude.{option_and_then, codes}
-use Rattle.std.proofs.Common.{◌≡◌, ℕ, List, Option, Some, None, drop, ap, sym, ◌∙◌}
+use Rattle.std.proofs.Common.{◌≡◌, ℕ, List, [], ◌∷◌, Option, Some, None, drop, refl, ap, sym, ◌∙◌}
+use Rattle.std.proofs.lemmas.Option.{same_Some}
 use Rattle.rules.specs.Papers.{Paper}
 use Rattle.rules.specs.Units.{line_len}
 use Rattle.papers.specs.Media.{comment_fields, else_take, paper_of_box}
-use Rattle.papers.specs.Comments.{named_medium, page_head, told_by_page}
+use Rattle.papers.specs.Comments.{first_name, named_medium, page_head, told_by_page}
 use Rattle.papers.proofs.Heads.{head, page_head_is}
 
 -- the head of a page, after its first line
@@ -26,3 +27,14 @@ pub by_box : (known : List ℕ → Option Paper) (other : Paper) (page text : Li
 by_box known other page text named boxed at e is b =
     b ∙ ap (λ n. else_take n (option_and_then (paper_of_box other) (comment_fields (codes "%%PageBoundingBox") (head text)))) (sym is ∙ e)
     ∙ told_there known other page text at
+
+-- a page without a medium's name, and one with it
+pub names_none : (known : List ℕ → Option Paper) (fs : Option (List (List ℕ))) → option_and_then first_name fs ≡ None → option_and_then (named_medium known) fs ≡ None
+names_none known None is = refl
+names_none known (Some []) is = refl
+names_none known (Some (field ∷ more)) is = cc
+
+pub names_one : (known : List ℕ → Option Paper) (fs : Option (List (List ℕ))) (name : List ℕ) → option_and_then first_name fs ≡ Some name → option_and_then (named_medium known) fs ≡ known name
+names_one known None name is = cc
+names_one known (Some []) name is = cc
+names_one known (Some (field ∷ more)) name is = ap known (same_Some _ name is)

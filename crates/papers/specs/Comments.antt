@@ -2,7 +2,7 @@
 -- %%PageMedia and %%PageBoundingBox of Page Requirement and General Page Comments; %%DocumentPaperSizes is of DSC 2.1.
 -- Which of them count, and in which order, is this project's own rules.
 use Rattle.std.specs.Prelude.{ℕ, zero, suc, Bool, not, ◌&&◌, ◌||◌, nat_eq, if◌then◌else◌, List, [], ◌∷◌}
-use Rattle.std.specs.Prelude.{length, drop, flat_map, codes, Option, None, option_and_then, option_map}
+use Rattle.std.specs.Prelude.{length, drop, flat_map, codes, Option, Some, None, option_and_then, option_map}
 use Rattle.std.specs.List.{starts_with}
 use Rattle.std.specs.Str.{bytes_eq}
 use Rattle.rules.specs.Papers.{Paper}
@@ -58,6 +58,15 @@ paper_of_medium name (m ∷ ms) = if bytes_eq m.name name then m.paper else pape
 abbrev pub named_medium : (known : List ℕ → Option Paper) → List (List ℕ) → Option Paper
 named_medium known [] = None
 named_medium known (field ∷ more) = known (name_in field)
+
+-- the name in the first field
+abbrev pub first_name : List (List ℕ) → Option (List ℕ)
+first_name [] = None
+first_name (field ∷ more) = Some (name_in field)
+
+-- the medium that a page names in its head
+abbrev pub medium_told : (head : List (List ℕ)) → Option (List ℕ)
+medium_told head = option_and_then first_name (comment_fields (codes "%%PageMedia") head)
 
 -- the paper of a page's medium, if it names one that is known; a page that names its medium has a box of what is
 -- painted. Else the paper of its box, where this paper would be taken without it

@@ -10,6 +10,7 @@ pub mod Media
 pub mod Comments
 pub mod Own
 pub mod Told
+pub mod SetSizes
 pub mod Found
 pub mod Named
 pub mod AsOne

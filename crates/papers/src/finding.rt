@@ -1,20 +1,17 @@
 //! The paper of each page of a document.
-ghost use Rattle.std.specs.Prelude.{◌≡◌, IfOk, None, map, drop, length, replicate, codes, option_and_then};
+ghost use Rattle.std.specs.Prelude.{◌≡◌, IfOk, None, map, length, replicate, codes, option_and_then};
 ghost use Rattle.rules.specs.Parts.{bytes_of, pages};
-ghost use Rattle.rules.specs.Units.{line_len};
 ghost use Rattle.dsc.specs.Units.{units_of};
 ghost use Rattle.papers.specs.Names.{paper_named};
 ghost use Rattle.papers.specs.Media.{comment_fields, contents, header, paper_of_box as paper_of_box_at, trailer_lines};
 ghost use Rattle.papers.specs.Comments.{head_of, named_medium, page_head, told_by_document, told_by_page as told};
 ghost use Rattle.papers.specs.Own.{medium_by, or_this, own_papers as papers_of_pages, page_or};
-ghost use Rattle.dsc.specs.Fields.{fields_in};
 ghost use Rattle.papers.specs.Named.{known_paper};
 
-use crate::fields::name_in;
 use crate::known_media::KnownMedia;
-use crate::page_heads::value_in_head;
+use crate::page_heads::{behind_first_line, medium_name, value_in_head};
 use crate::{document_paper, paper_of_box};
-use dsc::{Document, first_content, header_len, line_end_after, next_field};
+use dsc::{Document, header_len};
 use lengths::Paper;
 use std::alloc::{AllocError, Global};
 
@@ -69,7 +66,7 @@ fn document_or(text: &[u8], other: &Paper) -> Paper
     }
 }
 
-/// What each page says itself, with the media of these header comments, and else this paper.
+/// What each page says itself, with the media of these header comments that pages name, and else this paper.
 fn each_or(
     alloc: Global,
     document: &Document<'_>,
@@ -79,7 +76,7 @@ fn each_or(
     ensures { IfOk result (λ papers. papers.items
         ≡ map (λ page. page_or (medium_by (contents header.now)) (page_head page) other.now) (pages document.now)) }
 {
-    let known = KnownMedia::read(alloc, header)?;
+    let known = KnownMedia::read(alloc, document, header)?;
     each_with(alloc, document, &known, other)
 }
 
@@ -124,19 +121,12 @@ fn told_by_page(known: &KnownMedia, page: &[u8], other: &Paper) -> Option<Paper>
 }
 
 /// The paper of the medium that a page names, in the comments after its first line.
+#[tactic(auto, using(crate::proofs::PageTells::names_none, crate::proofs::PageTells::names_one))]
 fn named_paper(known: &KnownMedia, head: &[u8]) -> Option<Paper>
     ensures { result ≡ option_and_then (named_medium (known_paper known.now))
         (comment_fields (codes "%%PageMedia") (head_of (length head.now) head.now)) }
 {
-    known_medium(known, value_in_head(head, b"%%PageMedia", b"%%PageMedia:")?)
-}
-
-/// The paper of the medium that the first field names.
-fn known_medium(known: &KnownMedia, value: &[u8]) -> Option<Paper>
-    ensures { result ≡ named_medium (known_paper known.now) (fields_in value.now) }
-{
-    let (field, _) = next_field(value)?;
-    known.paper_of(name_in(field))
+    known.paper_of(medium_name(head)?)
 }
 
 /// The paper that a page's box gives, in the comments after its first line, where this one would be taken without it.
@@ -146,13 +136,4 @@ fn boxed_paper(head: &[u8], other: &Paper) -> Option<Paper>
 {
     let value = value_in_head(head, b"%%PageBoundingBox", b"%%PageBoundingBox:")?;
     paper_of_box(other, value)
-}
-
-/// What follows the first line.
-pub(crate) fn behind_first_line(text: &[u8]) -> &[u8]
-    ensures { result.now ≡ drop (line_len text.now) text.now }
-{
-    let content = first_content(text);
-    let (_, behind) = text.split_at(line_end_after(text, content.len()));
-    behind
 }

@@ -1,71 +1,143 @@
-//! Media of header comments.
-ghost use Rattle.std.specs.Prelude.{◌≡◌, ◌++◌, ℕ, List, Some, IfOk, OnOk, flat_map};
+//! Media of header comments that pages name.
+ghost use Rattle.std.specs.Prelude.{◌≡◌, ◌<◌, ℕ, List, [], Some, None, IfOk, OnOk, flat_map, length, option_map, slice_index_or};
 ghost use Rattle.std.specs.Map.{update};
 ghost use Rattle.std.specs.Str.{bytes_eq};
+ghost use Rattle.rules.specs.Parts.{pages};
 ghost use Rattle.dsc.specs.Fields.{fields_in};
 ghost use Rattle.papers.specs.Media.{contents, continued};
 ghost use Rattle.papers.specs.Comments.{media, medium_in};
-ghost use Rattle.papers.specs.Named.{Knows, found_at, known_paper, media_of, medium_of};
+ghost use Rattle.papers.specs.Named.{IsKept, KnowsAll, found_at, is_missing as is_not_found, known_paper, with_media, with_medium};
 
 use crate::fields::name_in;
+use crate::page_heads::{behind_first_line, medium_name};
 use crate::{continuation, first_comment, media_paper};
-use dsc::next_field;
+use dsc::{Document, next_field};
 use lengths::Paper;
 use std::alloc::{AllocError, Global};
 use std::collections::BTreeMap;
 
-/// A medium by its name, and its fields.
-#[derive(Clone, Copy)]
-struct ToldMedium<'t> {
-    name: &'t [u8],
-    fields: &'t [u8],
-}
-
-/// Media by their names: the paper of the first with each name, if its sides may be a paper's.
+/// The media that pages name, by their names. Each has the paper of the first one of the header with its name, if the sides
+/// may be a paper's, once that is found. So they take memory for pages alone, however many media a header has.
 #[derive(Drop)]
 pub(crate) struct KnownMedia {
-    papers: BTreeMap<Vec<u8>, Option<Paper>>,
+    papers: BTreeMap<Vec<u8>, Option<Option<Paper>>>,
 }
 
 impl KnownMedia {
-    /// The media of the first `%%DocumentMedia:` among the comments and of the lines that continue it.
-    pub(crate) fn read(alloc: Global, header: &[u8]) -> Result<KnownMedia, AllocError>
-        ensures { IfOk result (λ known. Knows known (media (contents header.now))) }
+    /// Those of this document's pages, by the first `%%DocumentMedia:` among its header comments and the lines that continue
+    /// it.
+    pub(crate) fn read(
+        alloc: Global,
+        document: &Document<'_>,
+        header: &[u8],
+    ) -> Result<KnownMedia, AllocError>
+        ensures { IfOk result (λ known. KnowsAll known (media (contents header.now)) (pages document.now)) }
     {
-        let told = told_media(alloc, header)?;
-        KnownMedia::of(alloc, told.as_slice())
+        let mut known = KnownMedia::named(alloc, document)?;
+        known.find(alloc, header)?;
+        Ok(known)
     }
 
-    /// These media.
-    fn of(alloc: Global, told: &[ToldMedium<'_>]) -> Result<KnownMedia, AllocError>
-        ensures { IfOk result (λ known. Knows known (media_of told.now)) }
+    /// Their names.
+    fn named(alloc: Global, document: &Document<'_>) -> Result<KnownMedia, AllocError>
+        ensures { IfOk result (λ known. (k : ℕ) → k < length (pages document.now)
+            → IsKept known (slice_index_or (pages document.now) k [])) }
     {
         let mut known = KnownMedia {
             papers: BTreeMap::new(alloc),
         };
-        // The last one of a name that is put is the first one of the header.
-        for behind in 0..told.len() {
-            known.put_medium(alloc, &told[told.len() - 1 - behind])?;
+        for page in 0..document.pages() {
+            known.keep(alloc, document.page(page))?;
         }
         Ok(known)
     }
 
-    /// Puts the paper of a medium at its name, in the place of the one there.
-    fn put_medium(&mut self, alloc: Global, medium: &ToldMedium<'_>) -> Result<(), AllocError>
-        ensures { OnOk result ((at : List ℕ) → found_at self.new at
-            ≡ update bytes_eq (found_at self.old) medium.now.name.now (Some (medium_of medium.now).paper) at) }
+    /// Keeps the name of the medium that a page names.
+    fn keep(&mut self, alloc: Global, page: &[u8]) -> Result<(), AllocError>
+        ensures kept { OnOk result (IsKept self.new page.now) }
+        ensures still { OnOk result ((at : List ℕ) → found_at self.old at ≡ Some None → found_at self.new at ≡ Some None) }
     {
-        let name = Vec::from_slice(alloc, medium.name)?;
-        let paper = media_paper(medium.fields);
-        self.put(name, paper)
+        match medium_name(behind_first_line(page)) {
+            Some(name) => {
+                let kept = Vec::from_slice(alloc, name)?;
+                self.put(kept, None)
+            }
+            None => Ok(()),
+        }
     }
 
-    /// Puts a paper at this name, in the place of the one there.
-    fn put(&mut self, name: Vec<u8>, paper: Option<Paper>) -> Result<(), AllocError>
-        ensures { OnOk result ((at : List ℕ) → found_at self.new at ≡ update bytes_eq (found_at self.old) name.items (Some paper) at) }
+    /// Puts what is found at this name, in the place of what is there.
+    fn put(&mut self, name: Vec<u8>, found: Option<Option<Paper>>) -> Result<(), AllocError>
+        ensures { OnOk result ((at : List ℕ) → found_at self.new at ≡ update bytes_eq (found_at self.old) name.items (Some found) at) }
     {
-        self.papers.insert(name, paper)?;
+        self.papers.insert(name, found)?;
         Ok(())
+    }
+
+    /// Finds their papers.
+    fn find(&mut self, alloc: Global, header: &[u8]) -> Result<(), AllocError>
+        ensures { OnOk result ((at : List ℕ) → found_at self.new at
+            ≡ option_map (λ found. with_media at found (media (contents header.now))) (found_at self.old at)) }
+    {
+        match first_comment(header, b"%%DocumentMedia", b"%%DocumentMedia:") {
+            Some((first, others)) => {
+                self.take(alloc, first)?;
+                self.take_continued(alloc, others)
+            }
+            None => Ok(()),
+        }
+    }
+
+    /// Takes the media of the lines at the front that continue a comment.
+    fn take_continued(&mut self, alloc: Global, text: &[u8]) -> Result<(), AllocError>
+        ensures { OnOk result ((at : List ℕ) → found_at self.new at
+            ≡ option_map (λ found. with_media at found (flat_map medium_in (continued (contents text.now)))) (found_at self.old at)) }
+    {
+        let mut rest = text;
+        while let Some((value, others)) = continuation(rest) {
+            self.take(alloc, value)?;
+            rest = others;
+        }
+        Ok(())
+    }
+
+    /// Takes the medium of these fields, if it is the first one with a name that is kept.
+    fn take(&mut self, alloc: Global, value: &[u8]) -> Result<(), AllocError>
+        ensures { OnOk result ((at : List ℕ) → found_at self.new at
+            ≡ option_map (λ found. with_media at found (medium_in (fields_in value.now))) (found_at self.old at)) }
+    {
+        match next_field(value) {
+            Some((field, _)) => self.take_named(alloc, name_in(field), media_paper(value)),
+            None => Ok(()),
+        }
+    }
+
+    /// Takes the paper of a medium of this name, if it is the first one with a name that is kept.
+    fn take_named(
+        &mut self,
+        alloc: Global,
+        name: &[u8],
+        paper: Option<Paper>,
+    ) -> Result<(), AllocError>
+        ensures { OnOk result ((at : List ℕ) → found_at self.new at
+            ≡ option_map (λ found. with_medium at found (record { name = name.now; paper = paper })) (found_at self.old at)) }
+    {
+        if !self.is_missing(name) {
+            return Ok(());
+        }
+        let name = Vec::from_slice(alloc, name)?;
+        self.put(name, Some(paper))
+    }
+
+    /// Whether this name is kept, and nothing found of it.
+    fn is_missing(&self, name: &[u8]) -> bool
+        ensures { result ≡ is_not_found (found_at self.now name.now) }
+    {
+        match self.papers.get(name) {
+            Some(None) => true,
+            Some(Some(_)) => false,
+            None => false,
+        }
     }
 
     /// The paper of the first medium with this name.
@@ -73,59 +145,9 @@ impl KnownMedia {
         ensures { result ≡ known_paper self.now name.now }
     {
         match self.papers.get(name) {
-            Some(paper) => *paper,
+            Some(Some(paper)) => *paper,
+            Some(None) => None,
             None => None,
         }
     }
-}
-
-/// The media of the first `%%DocumentMedia:` among the comments and of the lines that continue it, in order.
-fn told_media<'t>(alloc: Global, header: &'t [u8]) -> Result<Vec<ToldMedium<'t>>, AllocError>
-    ensures { IfOk result (λ told. media_of told.items ≡ media (contents header.now)) }
-{
-    match first_comment(header, b"%%DocumentMedia", b"%%DocumentMedia:") {
-        Some((first, others)) => media_from(alloc, first, others),
-        None => Ok(Vec::new(alloc)),
-    }
-}
-
-/// The medium of these fields, and those of the lines after it that continue its comment.
-fn media_from<'t>(
-    alloc: Global,
-    first: &'t [u8],
-    others: &'t [u8],
-) -> Result<Vec<ToldMedium<'t>>, AllocError>
-    ensures { IfOk result (λ told. media_of told.items
-        ≡ medium_in (fields_in first.now) ++ flat_map medium_in (continued (contents others.now))) }
-{
-    let mut told = Vec::new(alloc);
-    add(&mut told, first)?;
-    add_continued(&mut told, others)?;
-    Ok(told)
-}
-
-/// Adds the media of the lines at the front that continue a comment.
-fn add_continued<'t>(told: &mut Vec<ToldMedium<'t>>, text: &'t [u8]) -> Result<(), AllocError>
-    ensures { OnOk result (media_of told.new.items
-        ≡ media_of told.old.items ++ flat_map medium_in (continued (contents text.now))) }
-{
-    let mut rest = text;
-    while let Some((value, others)) = continuation(rest) {
-        add(told, value)?;
-        rest = others;
-    }
-    Ok(())
-}
-
-/// Adds the medium of these fields, if there is a field.
-fn add<'t>(told: &mut Vec<ToldMedium<'t>>, value: &'t [u8]) -> Result<(), AllocError>
-    ensures { OnOk result (media_of told.new.items ≡ media_of told.old.items ++ medium_in (fields_in value.now)) }
-{
-    if let Some((field, _)) = next_field(value) {
-        told.push(ToldMedium {
-            name: name_in(field),
-            fields: value,
-        })?;
-    }
-    Ok(())
 }

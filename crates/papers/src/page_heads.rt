@@ -1,11 +1,22 @@
 //! The comments after a page's line.
-ghost use Rattle.std.specs.Prelude.{◌≡◌, ◌++◌, ◌∷◌, [], option_map, length};
+ghost use Rattle.std.specs.Prelude.{◌≡◌, ◌++◌, ◌∷◌, [], option_map, drop, length};
+ghost use Rattle.rules.specs.Units.{line_len};
 ghost use Rattle.rules.specs.Bytes.{colon};
 ghost use Rattle.dsc.specs.Fields.{fields_in};
 ghost use Rattle.papers.specs.Media.{comment_fields};
-ghost use Rattle.papers.specs.Comments.{head_of, is_in_head};
+ghost use Rattle.papers.specs.Comments.{first_name as name_told, head_of, is_in_head, medium_told};
 
-use dsc::{comment_value, first_content, is_header, key_of, line_end_after};
+use crate::fields::name_in;
+use dsc::{comment_value, first_content, is_header, key_of, line_end_after, next_field};
+
+/// What follows the first line.
+pub(crate) fn behind_first_line(text: &[u8]) -> &[u8]
+    ensures { result.now ≡ drop (line_len text.now) text.now }
+{
+    let content = first_content(text);
+    let (_, behind) = text.split_at(line_end_after(text, content.len()));
+    behind
+}
 
 /// What follows the colon of the first comment with this key, in the run of comments at the front.
 pub(crate) fn value_in_head<'t>(text: &'t [u8], key: &[u8], with_colon: &[u8]) -> Option<&'t [u8]>
@@ -26,6 +37,21 @@ pub(crate) fn value_in_head<'t>(text: &'t [u8], key: &[u8], with_colon: &[u8]) -
         rest = others;
     }
     None
+}
+
+/// The name of the medium that the run of comments at the front names.
+pub(crate) fn medium_name(text: &[u8]) -> Option<&[u8]>
+    ensures { option_map (λ name. name.now) result ≡ medium_told (head_of (length text.now) text.now) }
+{
+    first_name(value_in_head(text, b"%%PageMedia", b"%%PageMedia:")?)
+}
+
+/// The name in the first field.
+fn first_name(value: &[u8]) -> Option<&[u8]>
+    ensures { option_map (λ name. name.now) result ≡ name_told (fields_in value.now) }
+{
+    let (field, _) = next_field(value)?;
+    Some(name_in(field))
 }
 
 /// Whether a line with this content goes on with that run: a comment, the one that begins a page's setup too, but none

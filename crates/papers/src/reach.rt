@@ -8,9 +8,8 @@ ghost use Rattle.papers.specs.Reach as meaning;
 
 use crate::boxes::{Edges, edges_of};
 use crate::cuts::is_cut;
-use crate::finding::behind_first_line;
 use crate::media::box_of;
-use crate::page_heads::value_in_head;
+use crate::page_heads::{behind_first_line, value_in_head};
 use dsc::{Document, header_len};
 use lengths::{Grains, Paper};
 use std::alloc::{AllocError, Global};

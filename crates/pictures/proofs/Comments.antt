@@ -45,7 +45,7 @@ nowhere_read (b ∷ bs) e =
     ap (λ t. behind [] (scan_from (if t then Between else InComment) bs)) (not_true (ends_comment b) (first (not (ends_comment b)) (ends_nowhere bs) e))
     ∙ ap (behind []) (nowhere_read bs (second (not (ends_comment b)) (ends_nowhere bs) e))
 
-comment_read : (l : List ℕ) → is_comment_line l ≡ true → Reads Between (line l) [] Between
+pub comment_read : (l : List ℕ) → is_comment_line l ≡ true → Reads Between (line l) [] Between
 comment_read [] e = absurd (true≢false (sym e))
 comment_read (b ∷ bs) e =
     let same : b ≡ percent_sign = eqb-true b percent_sign (first (b == percent_sign) (ends_nowhere bs) e) in

@@ -19,31 +19,35 @@ use Rattle.pictures.specs.Machine.{State, Painting, Runs}
 use Rattle.pictures.specs.Scanner.{Between, ended, tokens, IsComplete}
 use Rattle.pictures.specs.Sheets.{run_of, with_more}
 use Rattle.pictures.specs.Documents.{started, page_of, pages_past, OnSlotsFrom, OnSheetsFrom, OnSheets, all_sheets}
-use Rattle.pictures.specs.DocumentRun.{ComesTo, PrintsSheet, pages_before, PagesAreIndependent, OnPages, page_pictures, PagesArePrinted}
+use Rattle.pictures.specs.DocumentRun.{ComesBy, ComesTo, PrintsSheetBy, pages_before, AreIndependentBy, OnPages, page_pictures, DocumentPrintsBy, PagesArePrinted}
 use Rattle.pictures.specs.Unaware.{PagePrints, SheetsShowTheDocument}
-use Rattle.pictures.proofs.Runs.{runs_join, runs_none}
+use Rattle.pictures.proofs.Runs.{AreRuns, free_are_runs, runs_none}
 use Rattle.pictures.proofs.More.{runs_with_more}
 use Rattle.pictures.proofs.Scanned.{tokens_join}
 use Rattle.pictures.proofs.NumberTokens.{Reads, reads_join}
-use Rattle.pictures.proofs.Output.{complete_read}
+use Rattle.pictures.proofs.Output.{complete_read, RunsOn, free_runs_on}
 use Rattle.pictures.proofs.Kept.{cut_of}
 use Rattle.pictures.proofs.Own.{prints}
 use Rattle.pictures.proofs.Imposed.{sheets_show_the_pages}
 
 -- Runs to an end, one after the other.
 
+-- whatever comes after the tokens that are left, a machine with these runs does the same
+abbrev pub GoOnAlike : (State → State → Type 0) → Type 0
+GoOnAlike R = (more : List Token) (s t : State) → R s t → R (with_more more s) (with_more more t)
+
 pub come_none : (s : State) → ComesTo s [] (run_of [] s)
 come_none s = (runs_none false (run_of [] s), refl)
 
-come_further : (s u t : State) (ts us : List Token) → ComesTo s ts u → Runs false (run_of us u) t → Runs false (run_of (ts ++ us) s) t
-come_further s u t ts us (run, left) more =
-    runs_join false (run_of (ts ++ us) s) (with_more us u) t (runs_with_more us (run_of ts s) u run)
-    (subst (λ l. Runs false (record u { left = l ++ us }) t) (sym left) more)
+come_further : (R : State → State → Type 0) → AreRuns R → GoOnAlike R → (s u t : State) (ts us : List Token) → ComesBy R s ts u → R (run_of us u) t → R (run_of (ts ++ us) s) t
+come_further R m on s u t ts us (run, left) more =
+    m.joined (run_of (ts ++ us) s) (with_more us u) t (on us (run_of ts s) u run)
+    (subst (λ l. R (record u { left = l ++ us }) t) (sym left) more)
 
 -- what has been printed when the document has reached a page
-record Stands (us : List NestedUnit) (s : State) (picture : ℕ → List Painting) (p : ℕ) : Type 0 where
+record Stands (R : State → State → Type 0) (us : List NestedUnit) (s : State) (picture : ℕ → List Painting) (p : ℕ) : Type 0 where
   state : State
-  comes : ComesTo s (pages_before us p) state
+  comes : ComesBy R s (pages_before us p) state
   painted : state.painted ≡ []
   sheets : state.sheets ≡ page_pictures picture p
 
@@ -53,27 +57,27 @@ one_more us p h =
     ap (λ n. pages_before us n) next ∙ ap (flat_map tokens) (take_more (pages us) p [] h) ∙ flat_map-append tokens (take p (pages us)) (page_of us p ∷ [])
     ∙ ap (λ ts. pages_before us p ++ ts) (append-nil (tokens (page_of us p)))
 
-next_stands : (us : List NestedUnit) (s : State) (picture : ℕ → List Painting) (p : ℕ) → p < length (pages us)
-    → (x : Stands us s picture p) → PrintsSheet x.state (tokens (page_of us p)) (picture p) → Stands us s picture (suc p)
-next_stands us s picture p h x (t, (run, left), painted, sheets) = record {
+next_stands : (R : State → State → Type 0) → AreRuns R → GoOnAlike R → (us : List NestedUnit) (s : State) (picture : ℕ → List Painting) (p : ℕ) → p < length (pages us)
+    → (x : Stands R us s picture p) → PrintsSheetBy R x.state (tokens (page_of us p)) (picture p) → Stands R us s picture (suc p)
+next_stands R m on us s picture p h x (t, (run, left), painted, sheets) = record {
   state = t;
   comes = (
-    subst (λ ts. Runs false (run_of ts s) t) (sym (one_more us p h))
-        (come_further s x.state t (pages_before us p) (tokens (page_of us p)) x.comes run),
+    subst (λ ts. R (run_of ts s) t) (sym (one_more us p h))
+        (come_further R m on s x.state t (pages_before us p) (tokens (page_of us p)) x.comes run),
     left,
   );
   painted = painted;
   sheets = sheets ∙ ap (λ xs. picture p ∷ xs) x.sheets;
 }
 
-all_stand : (us : List NestedUnit) (s : State) (picture : ℕ → List Painting) → s.painted ≡ [] → s.sheets ≡ []
-    → OnPages (λ p. IsComplete (page_of us p) × PrintsSheet s (tokens (page_of us p)) (picture p)) us → PagesAreIndependent us s
-    → (p : ℕ) → p ≤ length (pages us) → Stands us s picture p
-all_stand us s picture e f prints same zero h = record { state = run_of [] s; comes = come_none s; painted = e; sheets = f }
-all_stand us s picture e f prints same (suc p) h =
+all_stand : (R : State → State → Type 0) → AreRuns R → GoOnAlike R → (us : List NestedUnit) (s : State) (picture : ℕ → List Painting) → s.painted ≡ [] → s.sheets ≡ []
+    → OnPages (λ p. IsComplete (page_of us p) × PrintsSheetBy R s (tokens (page_of us p)) (picture p)) us → AreIndependentBy R us s
+    → (p : ℕ) → p ≤ length (pages us) → Stands R us s picture p
+all_stand R m on us s picture e f prints same zero h = record { state = run_of [] s; comes = (m.stays (run_of [] s), refl); painted = e; sheets = f }
+all_stand R m on us s picture e f prints same (suc p) h =
     let less : p < length (pages us) = omega (arith, h) in
-    let x : Stands us s picture p = all_stand us s picture e f prints same p (omega (arith, h)) in
-    next_stands us s picture p less x (same p x.state (picture p) less x.comes (prints p less).1)
+    let x : Stands R us s picture p = all_stand R m on us s picture e f prints same p (omega (arith, h)) in
+    next_stands R m on us s picture p less x (same p x.state (picture p) less x.comes (prints p less).1)
 
 -- The document's tokens.
 
@@ -106,22 +110,32 @@ document_tokens text us e complete h =
     ∙ ap (λ us. us ++ tokens last) (ap (λ x. x.0 ++ ended x.1) both ∙ append-nil ts)
     ∙ append_assoc (tokens first) (flat_map tokens (pages us)) (tokens last)
 
-pub pages_are_printed : PagesArePrinted
-pages_are_printed text us picture s e (complete, come, painted, sheets) h same =
+-- any machine with such runs prints a document page after page
+pub document_prints : (R : State → State → Type 0) → AreRuns R → GoOnAlike R → (start : List Token → State) (text : List ℕ) (us : List NestedUnit) (picture : ℕ → List Painting) (s : State)
+    → document_of text ≡ Ok us → RunsOn R start (bytes_of (preamble us)) s → s.painted ≡ [] → s.sheets ≡ []
+    → OnPages (λ p. IsComplete (page_of us p) × PrintsSheetBy R s (tokens (page_of us p)) (picture p)) us → AreIndependentBy R us s
+    → DocumentPrintsBy R start text us picture
+document_prints R m on start text us picture s e (complete, begins) painted sheets h same =
     let n : ℕ = length (pages us) in
     let last : List Token = tokens (bytes_of (trailer us)) in
-    let x : Stands us s picture n = all_stand us s picture painted sheets h same n (omega arith) in
+    let more : List Token = flat_map tokens (pages us) ++ last in
+    let x : Stands R us s picture n = all_stand R m on us s picture painted sheets h same n (omega arith) in
     let end : State = with_more last x.state in
-    let behind : Runs false (run_of (flat_map tokens (pages us) ++ last) s) end =
-    subst (λ ps. Runs false (run_of (flat_map tokens ps ++ last) s) end) (take_all n (pages us) (omega arith))
-    (runs_with_more last (run_of (pages_before us n) s) x.state x.comes.0) in (
+    let behind : R (run_of more s) end =
+    subst (λ ps. R (run_of (flat_map tokens ps ++ last) s) end) (take_all n (pages us) (omega arith))
+    (on last (run_of (pages_before us n) s) x.state x.comes.0) in (
       end,
-      subst (λ ts. Runs false (started ts) end) (sym (document_tokens text us e complete (λ p l. (h p l).0)))
-          (come_further (started []) s end (tokens (bytes_of (preamble us))) (flat_map tokens (pages us) ++ last) come behind),
+      subst (λ ts. R (start ts) end) (sym (document_tokens text us e complete (λ p l. (h p l).0)))
+          (m.joined (start (tokens (bytes_of (preamble us)) ++ more)) (run_of more s) end (begins more) behind),
       ap (λ l. l ++ last) x.comes.1,
       x.painted,
       x.sheets,
     )
+
+pub pages_are_printed : PagesArePrinted
+pages_are_printed text us picture s e (complete, (run, left), painted, sheets) h same =
+    document_prints (Runs false) free_are_runs (λ more u t r. runs_with_more more u t r) started text us picture s e
+    (free_runs_on (bytes_of (preamble us)) s complete run left) painted sheets h same
 
 -- All pages on sheets are pages of the document.
 
@@ -194,7 +208,7 @@ everywhere_on P paper f all =
     of_page None = tt
     of_page (Some p) = f p
 
-on_all_sheets : (P : ℕ → Type 0) (frame : Frame) (sides : Option ℕ) (spec : Spec) (us : List NestedUnit) → OnPages P us → OnSheets (λ own p. P p) (all_sheets frame sides spec us)
+pub on_all_sheets : (P : ℕ → Type 0) (frame : Frame) (sides : Option ℕ) (spec : Spec) (us : List NestedUnit) → OnPages P us → OnSheets (λ own p. P p) (all_sheets frame sides spec us)
 on_all_sheets P frame sides spec us h =
     let n : ℕ = length (pages us) in
     let slot : ℕ → Item → Slot = λ b i. record { page = entry_in sides n (place spec.modulo (row_len sides n) b i); item = i } in

@@ -69,7 +69,7 @@ path_read l r t wl wr wt =
     (add_point a0 l l (codes " moveto ") t0 (Name (codes "moveto") ∷ []) Between refl wl wl (λ acc. refl))
     wr wl (λ acc. refl)) wr wt (λ acc. refl)) wl wt (λ acc. refl)
 
-spaced_read : (number rest : List ℕ) (ts : List Token) (q : Reading) → IsWord number → Reads Between rest ts q → Reads Between (number ++ space ∷ rest) (Number number ∷ ts) q
+pub spaced_read : (number rest : List ℕ) (ts : List Token) (q : Reading) → IsWord number → Reads Between rest ts q → Reads Between (number ++ space ∷ rest) (Number number ∷ ts) q
 spaced_read number rest ts q w e =
     reads_join Between (InWord (onto number [])) q number (space ∷ rest) [] (Number number ∷ ts) (reads_word number w)
     (ap (behind (word (reverse (onto number [])) ∷ [])) e ∙ ap (λ t. (t ∷ ts, q)) (word_is number w))

@@ -24,7 +24,7 @@ use Rattle.pictures.specs.Documents.{numbers_of, started, body_of_page, frame_of
 use Rattle.pictures.specs.Imposed.{IsQuiet}
 use Rattle.pictures.proofs.Runs.{AreRuns, free_are_runs}
 use Rattle.pictures.proofs.More.{runs_with_more}
-use Rattle.pictures.proofs.Sheets.{Places, AllPlace, AllSheetsPlace, Prints, all_sheets_run, still, fresh, ground_prints, page_places}
+use Rattle.pictures.proofs.Sheets.{Places, AllPlace, AllSheetsPlace, Prints, pages_of, all_sheets_run, still, fresh, ground_prints, page_places}
 use Rattle.pictures.proofs.Scanned.{tokens_join}
 use Rattle.pictures.proofs.NumberTokens.{Reads, reads_join}
 use Rattle.pictures.proofs.OpeningTokens.{opening_read}
@@ -38,11 +38,8 @@ complete_read text e =
     let x : List Token × Reading = scan_from Between text in
     ap (λ r. (x.0, r)) e ∙ ap (λ ts. (ts, Between)) (sym (append-nil x.0) ∙ ap (λ r. x.0 ++ Scanner.ended r) (sym e))
 
-abbrev placed_of : List Shown → List Token
-placed_of xs = flat_map placed_tokens (map (λ x. x.placed) xs)
-
 slot_read : (border : Option Border) (us : List NestedUnit) (picture : ℕ → List Painting) (p : ℕ) (item : Item) (paper : Paper) → IsComplete (body_of_page us p)
-    → Reads Between (made_slot_text border (pages us) (Placed p item paper)) (placed_of (shown_slot border us picture (Placed p item paper))) Between
+    → Reads Between (made_slot_text border (pages us) (Placed p item paper)) (pages_of (shown_slot border us picture (Placed p item paper))) Between
 slot_read border us picture p item paper h =
     let frame : Frame = frame_of border paper in
     let body : List Token = tokens (body_of_page us p) in
@@ -54,21 +51,21 @@ slot_read border us picture p item paper h =
     (reads_join Between Between Between (opening_text frame item) (body_of_page us p) (saving_tokens ++ placing) body (opening_read frame item) (complete_read (body_of_page us p) h))
     refl)
 
-placed_append : (xs ys : List Shown) → placed_of (xs ++ ys) ≡ placed_of xs ++ placed_of ys
-placed_append xs ys = ap (flat_map placed_tokens) (map-append (λ x. x.placed) xs ys) ∙ flat_map-append placed_tokens (map (λ x. x.placed) xs) (map (λ x. x.placed) ys)
+pages_append : (xs ys : List Shown) → pages_of (xs ++ ys) ≡ pages_of xs ++ pages_of ys
+pages_append xs ys = ap (flat_map placed_tokens) (map-append (λ x. x.placed) xs ys) ∙ flat_map-append placed_tokens (map (λ x. x.placed) xs) (map (λ x. x.placed) ys)
 
 abbrev pub AreComplete : List NestedUnit → ℕ → Paper → ℕ → Type 0
 AreComplete us k paper p = IsComplete (body_of_page us p)
 
-slots_read : (border : Option Border) (us : List NestedUnit) (picture : ℕ → List Painting) (k : ℕ) (slots : List MadeSlot) → OnSlotsFrom (AreComplete us) k slots
-    → Reads Between (flat_map (made_slot_text border (pages us)) slots) (placed_of (flat_map (shown_slot border us picture) slots)) Between
+pub slots_read : (border : Option Border) (us : List NestedUnit) (picture : ℕ → List Painting) (k : ℕ) (slots : List MadeSlot) → OnSlotsFrom (AreComplete us) k slots
+    → Reads Between (flat_map (made_slot_text border (pages us)) slots) (pages_of (flat_map (shown_slot border us picture) slots)) Between
 slots_read border us picture k [] h = refl
 slots_read border us picture k (Blank ∷ slots) h = slots_read border us picture k slots h
 slots_read border us picture k (Placed p item paper ∷ slots) h =
     let here : List Shown = shown_slot border us picture (Placed p item paper) in
     let more : List Shown = flat_map (shown_slot border us picture) slots in
-    subst (λ ts. Reads Between (flat_map (made_slot_text border (pages us)) (Placed p item paper ∷ slots)) ts Between) (sym (placed_append here more))
-    (reads_join Between Between Between (made_slot_text border (pages us) (Placed p item paper)) (flat_map (made_slot_text border (pages us)) slots) (placed_of here) (placed_of more)
+    subst (λ ts. Reads Between (flat_map (made_slot_text border (pages us)) (Placed p item paper ∷ slots)) ts Between) (sym (pages_append here more))
+    (reads_join Between Between Between (made_slot_text border (pages us) (Placed p item paper)) (flat_map (made_slot_text border (pages us)) slots) (pages_of here) (pages_of more)
     (slot_read border us picture p item paper h.0)
     (slots_read border us picture (suc k) slots h.1))
 
@@ -79,7 +76,7 @@ sheet_read border dress us picture q number k sheet h =
     let start : List ℕ = lines_text (dress.start number sheet.paper) in
     let middle : List ℕ = flat_map (made_slot_text border (pages us)) sheet.slots in
     let finish : List ℕ = lines_text (dress.finish number sheet.paper) in
-    let shown : List Token = placed_of (shown_sheet border us picture sheet) in
+    let shown : List Token = pages_of (shown_sheet border us picture sheet) in
     let begun : Reads Between ((header ++ start) ++ middle) shown Between =
     reads_join Between Between Between (header ++ start) middle [] shown
     (reads_join Between Between Between header start [] [] (page_line (number + 1)) (comments_read (dress.start number sheet.paper) (q.start number sheet.paper)))

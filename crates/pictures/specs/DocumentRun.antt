@@ -9,13 +9,19 @@ use Rattle.pictures.specs.Scanner.{tokens, IsComplete}
 use Rattle.pictures.specs.Sheets.{run_of}
 use Rattle.pictures.specs.Documents.{started, page_of}
 
--- from the state s a machine runs these tokens to their end, and is then in the state t
+-- from the state s a machine whose runs are these runs these tokens to their end, and is then in the state t
+abbrev pub ComesBy : (State → State → Type 0) → State → List Token → State → Type 0
+ComesBy R s ts t = R (run_of ts s) t × (t.left ≡ [])
+
 abbrev pub ComesTo : State → List Token → State → Type 0
-ComesTo s ts t = Runs false (run_of ts s) t × (t.left ≡ [])
+ComesTo s ts t = ComesBy (Runs false) s ts t
 
 -- from the state s these tokens print one sheet, with this picture, and leave the next one empty
+abbrev pub PrintsSheetBy : (State → State → Type 0) → State → List Token → List Painting → Type 0
+PrintsSheetBy R s ts picture = (t : State) × ComesBy R s ts t × (t.painted ≡ []) × (t.sheets ≡ picture ∷ s.sheets)
+
 abbrev pub PrintsSheet : State → List Token → List Painting → Type 0
-PrintsSheet s ts picture = (t : State) × ComesTo s ts t × (t.painted ≡ []) × (t.sheets ≡ picture ∷ s.sheets)
+PrintsSheet s ts picture = PrintsSheetBy (Runs false) s ts picture
 
 -- the pages before this one, one after the other
 abbrev pub pages_before : List NestedUnit → ℕ → List Token
@@ -23,10 +29,13 @@ pages_before us p = flat_map tokens (take p (pages us))
 
 -- Page independence of the Document Structuring Conventions 3.0. Each page, run in the state that the document has
 -- reached, prints the same as when it is run directly after the preamble, in the state s
+abbrev pub AreIndependentBy : (State → State → Type 0) → List NestedUnit → State → Type 0
+AreIndependentBy R us s =
+    (p : ℕ) (u : State) (picture : List Painting) → p < length (pages us) → ComesBy R s (pages_before us p) u
+    → PrintsSheetBy R s (tokens (page_of us p)) picture → PrintsSheetBy R u (tokens (page_of us p)) picture
+
 abbrev pub PagesAreIndependent : List NestedUnit → State → Type 0
-PagesAreIndependent us s =
-    (p : ℕ) (u : State) (picture : List Painting) → p < length (pages us) → ComesTo s (pages_before us p) u
-    → PrintsSheet s (tokens (page_of us p)) picture → PrintsSheet u (tokens (page_of us p)) picture
+PagesAreIndependent us s = AreIndependentBy (Runs false) us s
 
 -- this holds for each page of the document
 abbrev pub OnPages : (ℕ → Type 0) → List NestedUnit → Type 0
@@ -42,11 +51,16 @@ abbrev pub page_pictures : (ℕ → List Painting) → ℕ → List (List Painti
 page_pictures picture zero = []
 page_pictures picture (suc n) = picture n ∷ page_pictures picture n
 
--- a machine runs the document up to its trailer, and has then printed these pictures, one for each page, in order
-abbrev pub DocumentPrints : List ℕ → List NestedUnit → (ℕ → List Painting) → Type 0
-DocumentPrints text us picture =
-    (t : State) × Runs false (started (tokens text)) t × (t.left ≡ tokens (bytes_of (trailer us))) × (t.painted ≡ [])
+-- a machine that begins so runs the document up to its trailer, and has then printed these pictures, one for each page,
+-- in order
+abbrev pub DocumentPrintsBy :
+    (State → State → Type 0) → (start : List Token → State) → List ℕ → List NestedUnit → (ℕ → List Painting) → Type 0
+DocumentPrintsBy R start text us picture =
+    (t : State) × R (start (tokens text)) t × (t.left ≡ tokens (bytes_of (trailer us))) × (t.painted ≡ [])
     × (t.sheets ≡ page_pictures picture (length (pages us)))
+
+abbrev pub DocumentPrints : List ℕ → List NestedUnit → (ℕ → List Painting) → Type 0
+DocumentPrints text us picture = DocumentPrintsBy (Runs false) started text us picture
 
 -- a law: if the pages are independent, the document prints, page after page, what each page prints directly after
 -- the preamble

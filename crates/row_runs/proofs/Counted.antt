@@ -157,7 +157,7 @@ blank_tile p n = record { paper = p.sheet; slots = Blank ∷ [] }
 abbrev page_tile : Poster → List Paper → ℕ → ℕ → MadeSheet
 page_tile p papers page n = record {
   paper = p.sheet;
-  slots = Placed page (tile_item (poster_paper p papers page) p page (n % p.columns) (p.rows - (n / p.columns + 1))) (poster_paper p papers page) ∷ [];
+  slots = Placed page (tile_item (poster_paper p papers page) p (n % p.columns) (p.rows - (n / p.columns + 1))) (poster_paper p papers page) ∷ [];
 }
 
 abbrev tiles_in : Poster → ℕ
@@ -200,6 +200,7 @@ no_plan (laying.Grid setting cells) leaves papers row e may is pages le = absurd
 no_plan (laying.Stack setting cells) leaves papers row e may is pages le = absurd (none-some e is)
 no_plan (laying.Leaves setting) leaves papers row e may is pages le = absurd (none-some e is)
 no_plan (laying.Booklet setting turned_backs creep) leaves papers row e may is pages le = absurd (none-some e is)
+no_plan (laying.Zine setting) leaves papers row e may is pages le = absurd (none-some e is)
 
 few_laid : (l : Laying) (leaves : ℕ) (papers : List Paper) (row : Row) → limit_in l (length row) ≡ None → AreFewAsLaid l (sheets_laid l leaves papers row)
 few_laid (laying.Cards setting cells) leaves papers row is =
@@ -212,6 +213,7 @@ few_laid (laying.Grid setting cells) leaves papers row is = tt
 few_laid (laying.Stack setting cells) leaves papers row is = tt
 few_laid (laying.Leaves setting) leaves papers row is = tt
 few_laid (laying.Booklet setting turned_backs creep) leaves papers row is = tt
+few_laid (laying.Zine setting) leaves papers row is = tt
 
 -- also at one scale
 few_evened : (same_scale : Bool) (l : Laying) (papers : List Paper) (row : Row) (made : List MadeSheet) → AreFewAsLaid (evened_if same_scale l papers row) made → AreFewAsLaid l made
@@ -222,6 +224,7 @@ few_evened true (laying.Cards setting cells) papers row made h = record { sheets
 few_evened true (laying.Stack setting cells) papers row made h = h
 few_evened true (laying.Leaves setting) papers row made h = h
 few_evened true (laying.Booklet setting turned_backs creep) papers row made h = h
+few_evened true (laying.Zine setting) papers row made h = h
 few_evened true (laying.Poster poster) papers row made h = h
 
 pub few_made : (same_scale : Bool) (l even : Laying) (leaves : ℕ) (papers : List Paper) (row : Row) (made : List MadeSheet) → even ≡ evened_if same_scale l papers row → made ≡ sheets_laid even leaves papers row

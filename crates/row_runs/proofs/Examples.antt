@@ -28,7 +28,7 @@ halves = record {
 }
 
 abbrev fold_and_cut : Marks
-fold_and_cut = record { fold = true; cut = true; ruled = false }
+fold_and_cut = record { fold = true; cut = true; ruled = false; numbers = None }
 
 -- a booklet's leaf is folded in the middle, and cut 2 points outside of its halves; it isn't cut at the fold
 booklet_marks : map stroke_line (strokes_in fold_and_cut (laying.Booklet halves false 0))

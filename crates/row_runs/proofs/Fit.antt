@@ -22,6 +22,7 @@ use Rattle.row_sheets.specs.declared.poster.Poster.{Poster}
 use Rattle.row_sheets.proofs.InCells.{filled_stands_in_cells}
 use Rattle.row_sheets.proofs.OnLeaves.{leaves_fold, leaves_stand}
 use Rattle.row_sheets.proofs.Stacking.{leaves_are_read, stack_is_read}
+use Rattle.row_sheets.proofs.Zines.{zine_is_read}
 use Rattle.row_sheets.proofs.Shown.{can_be, poster_has_tiles, row_is_shown}
 use Rattle.dressing.specs.Between.{IsAlong}
 use Rattle.dressing.specs.Strokes.{fold_marks}
@@ -67,6 +68,7 @@ evened_may_be true (laying.Cards setting cells) papers row h = h
 evened_may_be true (laying.Stack setting cells) papers row h = h
 evened_may_be true (laying.Leaves setting) papers row h = h
 evened_may_be true (laying.Booklet setting turned_backs creep) papers row h = h
+evened_may_be true (laying.Zine setting) papers row h = h
 evened_may_be true (laying.Poster poster) papers row h = h
 
 shown_on : (p : Poster) (papers : List Paper) (row : Row) → AllMayBePosters p papers row → (i page : ℕ) → entry_of row i ≡ Some page
@@ -114,6 +116,7 @@ in_places (laying.Leaves t) leaves papers row may fits =
       leaves_are_read (filling t papers) row,
     )
 in_places (laying.Booklet t turned_backs creep) leaves papers row may fits = at_fold (filling t papers) turned_backs creep leaves row may fits
+in_places (laying.Zine t) leaves papers row may fits = zine_is_read (filling t papers) row
 in_places (laying.Poster p) leaves papers row may fits = shown_on p papers row fits
 
 pub asked_stand_in_places : AskedStandInPlaces

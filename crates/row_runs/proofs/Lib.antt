@@ -2,6 +2,7 @@ pub mod Told
 pub mod BySpec
 pub mod Examples
 pub mod Lines
+pub mod Places
 mod Alone
 mod Counted
 mod OneScale
@@ -9,4 +10,3 @@ mod NotLaid
 pub mod Refused
 mod Fit
 mod ReadInOrder
-mod Specified

@@ -82,6 +82,7 @@ laid_none (laying.Stack t cells) leaves papers row fits = ap (option_map error.A
 laid_none (laying.Leaves t) leaves papers row fits = ap (option_map error.Arrangement) (fit_none (filling t papers) row fits)
 laid_none (laying.Booklet t turned_backs creep) leaves papers row fits =
     ap (option_map error.Arrangement) (on_leaves_none (filling t papers) creep leaves row fits)
+laid_none (laying.Zine t) leaves papers row fits = ap (option_map error.Arrangement) (fit_none (filling t papers) row fits)
 laid_none (laying.Poster p) leaves papers row fits = ap (option_map error.Poster) (posters_none p papers row fits)
 
 -- what has space fits
@@ -92,6 +93,7 @@ have_space (laying.Cards setting cells) leaves papers row h = h
 have_space (laying.Stack setting cells) leaves papers row h = absurd h
 have_space (laying.Leaves setting) leaves papers row h = absurd h
 have_space (laying.Booklet setting turned_backs creep) leaves papers row h = absurd h
+have_space (laying.Zine setting) leaves papers row h = absurd h
 have_space (laying.Poster poster) leaves papers row h = h
 
 -- ---- as is asked

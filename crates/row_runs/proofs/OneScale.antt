@@ -18,4 +18,5 @@ evened_stand true (laying.Stack setting cells) papers row made h = h
 evened_stand true (laying.Leaves setting) papers row made h = h
 evened_stand true (laying.Booklet setting turned_backs creep) papers row made h =
     record { twice = h.twice; no_farther = h.no_farther; no_nearer = h.no_nearer; sides = h.sides; apart = h.apart }
+evened_stand true (laying.Zine setting) papers row made h = h
 evened_stand true (laying.Poster poster) papers row made h = h

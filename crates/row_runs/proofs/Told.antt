@@ -18,8 +18,7 @@ use Rattle.sheet_text.specs.Jobs.{JobView, output_of}
 use Rattle.dressing.specs.Dressings.{dressing_of}
 use Rattle.dressing.proofs.Given.{dressing_dresses}
 use Rattle.papers.specs.Told.{telling}
-use Rattle.dressing.specs.Drawn.{marked}
-use Rattle.dressing.specs.declared.strokes.Stroke.{Stroke}
+use Rattle.dressing.specs.Numbered.{Drawn, drawn_on}
 use Rattle.imposer.specs.Gathering.{ReportsOf}
 use Rattle.imposer.specs.declared.outcome.Report.{Report}
 use Rattle.row_runs.specs.SheetsRuns.{ReportsOn, told_output}
@@ -29,18 +28,18 @@ pub each_dressed : (dress : Dressing) (d : Dress) (all : List MadeSheet) → dre
 each_dressed dress d all is = ap (λ (x : Dressing). length x.hems) is ∙ length-map (enumerate_from 0 all) _ ∙ length-enumerate_from 0 all
 
 -- the output
-pub output_told : (border : Option Border) (strokes : List Stroke) (all : List MadeSheet) (us : List NestedUnit) (dress : Dressing) → dress ≡ dressing_of (marked strokes (telling all)) all
-    → dressed_output border dress.header (dressed_by dress.hems all) us ≡ told_output border strokes all us
-output_told border strokes all us dress is =
-    let d = marked strokes (telling all) in
+pub output_told : (border : Option Border) (drawn : Drawn) (all : List MadeSheet) (us : List NestedUnit) (dress : Dressing) → dress ≡ dressing_of (drawn_on drawn (telling all)) all
+    → dressed_output border dress.header (dressed_by dress.hems all) us ≡ told_output border drawn all us
+output_told border drawn all us dress is =
+    let d = drawn_on drawn (telling all) in
     ap (λ (x : Dressing). dressed_output border x.header (dressed_by x.hems all) us) is
     ∙ ap (λ (sheets : List DressedSheet). dressed_output border d.header sheets us) (dressing_dresses d all)
     ∙ dressed_is_made border d all us
 
 -- the report
-pub report_told : (job : JobView) (border : Option Border) (strokes : List Stroke) (all : List MadeSheet) (us : List NestedUnit) (n : ℕ) (report : Report) → job.plan ≡ made_plan n all → n ≡ length (pages us)
-    → layout (made_plan n all) ≡ made_layout n all → output_of job ≡ told_output border strokes all us → ReportsOf job report → ReportsOn border strokes all us report
-report_told job border strokes all us n report plan count laid out told =
+pub report_told : (job : JobView) (border : Option Border) (drawn : Drawn) (all : List MadeSheet) (us : List NestedUnit) (n : ℕ) (report : Report) → job.plan ≡ made_plan n all → n ≡ length (pages us)
+    → layout (made_plan n all) ≡ made_layout n all → output_of job ≡ told_output border drawn all us → ReportsOf job report → ReportsOn border drawn all us report
+report_told job border drawn all us n report plan count laid out told =
     record {
       page_count = told.page_count ∙ ap (λ (p : Plan). p.pages) plan ∙ count;
       sheet_count = told.sheet_count ∙ ap (λ (p : Plan). length p.sheets) plan ∙ length-map all _;

@@ -18,6 +18,7 @@ setting_in (laying.Cards setting cells) = Some setting
 setting_in (laying.Stack setting cells) = Some setting
 setting_in (laying.Leaves setting) = Some setting
 setting_in (laying.Booklet setting turned_backs creep) = Some setting
+setting_in (laying.Zine setting) = Some setting
 setting_in (laying.Poster poster) = None
 
 -- the same in other cells
@@ -28,6 +29,7 @@ with_setting t (laying.Cards setting cells) = laying.Cards t cells
 with_setting t (laying.Stack setting cells) = laying.Stack t cells
 with_setting t (laying.Leaves setting) = laying.Leaves t
 with_setting t (laying.Booklet setting turned_backs creep) = laying.Booklet t turned_backs creep
+with_setting t (laying.Zine setting) = laying.Zine t
 with_setting t (laying.Poster poster) = laying.Poster poster
 
 -- all pages of the row have one scale in the cells; entries that are laid as they are, and posters, keep theirs

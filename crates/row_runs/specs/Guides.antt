@@ -64,7 +64,7 @@ lines_in kind setting = margin_lines setting.room ++ lines_between kind setting.
 abbrev pub tile_room : Poster → Room
 tile_room p = record { paper = p.sheet; edge = p.edge; gap = 0; trim = 0 }
 
--- the lines of a laying: stacks and cards are cut between their cells, booklets are folded
+-- the lines of a laying: stacks and cards are cut between their cells, booklets and zines are folded
 abbrev pub guides_in : Laying → List Guide
 guides_in (laying.AsTheyAre blank) = []
 guides_in (laying.Grid setting cells) = margin_lines setting.room
@@ -72,6 +72,7 @@ guides_in (laying.Cards setting cells) = lines_in Cut setting
 guides_in (laying.Stack setting cells) = lines_in Cut setting
 guides_in (laying.Leaves setting) = lines_in Cut setting
 guides_in (laying.Booklet setting turned_backs creep) = lines_in Fold setting
+guides_in (laying.Zine setting) = lines_in Fold setting
 guides_in (laying.Poster poster) = margin_lines (tile_room poster)
 
 -- the lines for notes that are asked for

@@ -1,5 +1,5 @@
 -- Where the pages of the sheets that are asked for are: what follows as none of them had to be refused.
-use Rattle.std.specs.Prelude.{◌≡◌, ⊤, ℕ, ◌<◌, Bool, true, false, List, All, Some}
+use Rattle.std.specs.Prelude.{◌≡◌, ⊤, ℕ, ◌<◌, Bool, true, false, List, All, None, Some}
 use Rattle.std.specs.List.{AllByRecursion}
 use Rattle.rules.specs.Papers.{Paper}
 use Rattle.rules.specs.Placement.{Point}
@@ -13,6 +13,7 @@ use Rattle.layouts.specs.Cells.{wide}
 use Rattle.row_sheets.specs.Posters.{HasTiles, IsOnTile, poster_paper}
 use Rattle.row_sheets.specs.Stacked.{ArePiled, ArePiledLeaves}
 use Rattle.row_sheets.specs.Standing.{LeavesStand, StandsInCells}
+use Rattle.row_sheets.specs.Zine.{AreReadFolded}
 use Rattle.row_sheets.specs.declared.poster.Poster.{Poster}
 use Rattle.dressing.specs.Between.{IsAlong}
 use Rattle.dressing.specs.declared.strokes.Marks.{Marks}
@@ -30,7 +31,7 @@ pub record IsShownOn (p : Poster) (papers : List Paper) (i page : ℕ) (made : L
 
 -- marks at folds alone
 abbrev pub at_folds : Marks
-at_folds = record { fold = true; cut = false; ruled = false }
+at_folds = record { fold = true; cut = false; ruled = false; numbers = None }
 
 -- on a booklet's sides nothing crosses the fold, and if their halves have room for pages such marks lie on it
 abbrev pub IsMarkedAtFold : Setting → (turned_backs : Bool) → (creep : ℕ) → List MadeSheet → Type 0
@@ -39,7 +40,7 @@ IsMarkedAtFold t turned_backs creep made = (stand : LeavesStand t turned_backs c
     → AllByRecursion (IsAlong t.room stand.twice) (strokes_in at_folds (laying.Booklet t turned_backs creep)))
 
 -- in cells that are filled in turn each page is fitted into its own, and they read in order; a stack's, cut and laid, are
--- the row; booklets are marked at their fold; of a poster's pages each point is shown. How pages lie as they are
+-- the row, and so are a zine's, folded and cut; booklets are marked at their fold; of a poster's pages each point is shown. How pages lie as they are
 -- `StandAsLaid` says alone
 abbrev pub StandInPlaces : Laying → List Paper → Row → List MadeSheet → Type 0
 StandInPlaces (laying.AsTheyAre blank) papers row made = ⊤
@@ -48,6 +49,7 @@ StandInPlaces (laying.Cards setting cells) papers row made = All (StandsInCells 
 StandInPlaces (laying.Stack setting cells) papers row made = All (StandsInCells setting) made × ArePiled cells row made
 StandInPlaces (laying.Leaves setting) papers row made = All (StandsInCells setting) made × ArePiledLeaves setting row made
 StandInPlaces (laying.Booklet setting turned_backs creep) papers row made = IsMarkedAtFold setting turned_backs creep made
+StandInPlaces (laying.Zine setting) papers row made = AreReadFolded row made
 StandInPlaces (laying.Poster p) papers row made = (i page : ℕ) → entry_of row i ≡ Some page → IsShownOn p papers i page made
 
 -- it is so on the sheets that are asked for: a law

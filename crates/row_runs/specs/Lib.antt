@@ -1,6 +1,6 @@
 -- Read in this order: what the errors of a run on made sheets are called, and what its answers mean. Then, of a row: what
--- errors are called; layings with one scale; limits; the sheets that are asked for, how their pages are placed, read and
--- specified, and their marks; what the answers mean, also those of a run by a specification; lines on sheets; how sheets are
+-- errors are called; layings with one scale; limits; the sheets that are asked for, how their pages are placed and
+-- read, their marks and numbers; what the answers mean, also those of a run by a specification; lines on sheets; how sheets are
 -- read; what is shown of them before they are imposed.
 pub mod SheetsRuns
 pub mod Errors
@@ -10,8 +10,8 @@ pub mod Sheets
 pub mod Standing
 pub mod InPlaces
 pub mod ReadAsBound
-pub mod Specified
 pub mod Marked
+pub mod Numbers
 pub mod Runs
 pub mod BySpec
 pub mod Guides

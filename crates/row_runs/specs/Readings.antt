@@ -44,6 +44,7 @@ sides_in (laying.Cards setting cells) = sides.One
 sides_in (laying.Stack setting cells) = sides.One
 sides_in (laying.Leaves setting) = sides.Both (edge_at_side setting)
 sides_in (laying.Booklet setting turned_backs creep) = sides.Both (if turned_backs then Long else Short)
+sides_in (laying.Zine setting) = sides.One
 sides_in (laying.Poster poster) = sides.One
 
 -- ---- places
@@ -63,6 +64,7 @@ places_in (laying.Cards setting cells) = Cells setting.grid setting.order
 places_in (laying.Stack setting cells) = Cells setting.grid setting.order
 places_in (laying.Leaves setting) = Cells setting.grid setting.order
 places_in (laying.Booklet setting turned_backs creep) = Cells setting.grid setting.order
+places_in (laying.Zine setting) = Cells setting.grid setting.order
 places_in (laying.Poster poster) = Tiles (tiles_in poster)
 
 abbrev pub reading_in : Laying → Reading

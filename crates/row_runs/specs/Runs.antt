@@ -11,6 +11,9 @@ use Rattle.row_runs.specs.SheetsRuns.{ReportsOn, told_output}
 use Rattle.row_runs.specs.Sheets.{AreAsked, row_chosen}
 use Rattle.row_runs.specs.Sheets as sheets
 use Rattle.row_runs.specs.Marked.{strokes_in}
+use Rattle.row_runs.specs.Numbers.{numbers_asked}
+use Rattle.dressing.specs.Numbered.{Drawn}
+use Rattle.dressing.specs.declared.numbers.Numbers.{Numbers}
 use Rattle.dressing.specs.declared.strokes.Stroke.{Stroke}
 use Rattle.row_runs.specs.Standing.{StandAsLaid}
 use Rattle.row_runs.specs.declared.run.RowJob.{RowJob}
@@ -31,13 +34,21 @@ pub record ArePlanned (j : RowJob) (made : List MadeSheet) : Type 0 where
 abbrev pub strokes_on : RowJob → List Stroke
 strokes_on j = strokes_in j.marks j.asked.laying
 
+-- and the numbers of their pages
+abbrev pub numbers_on : RowJob → Option Numbers
+numbers_on j = numbers_asked (page_count j) j.papers.now j.asked j.marks.numbers
+
+-- all that is drawn on them
+abbrev pub drawn_of : RowJob → Drawn
+drawn_of j = record { strokes = strokes_on j; numbers = numbers_on j }
+
 -- the border that each page has, if there is one
 abbrev pub border_on : RowJob → Option Border
 border_on j = border_within j.inset j.border
 
 -- the output of such sheets
 abbrev pub output_on : RowJob → List MadeSheet → List ℕ
-output_on j made = told_output (border_on j) (strokes_on j) made j.document.now
+output_on j made = told_output (border_on j) (drawn_of j) made j.document.now
 
 -- exactly the output of the sheets that are asked for was appended, and the report has its numbers: so these pages are
 -- printed in this order, each at its place, and nothing else; but on posters they lie inside and apart
@@ -45,7 +56,7 @@ pub record Imposes (j : RowJob) (old new : Option (List ℕ)) (done : Report) : 
   pub made : List MadeSheet
   pub planned : ArePlanned j made
   pub written : Appends old new (output_on j made)
-  pub report : ReportsOn (border_on j) (strokes_on j) made j.document.now done
+  pub report : ReportsOn (border_on j) (drawn_of j) made j.document.now done
 
 -- a refusal names the first fault: of the row; if there is one, of a page in its cell or as a poster; if its pages have their places, of
 -- the sheets. Out of memory comes after the checks of the row

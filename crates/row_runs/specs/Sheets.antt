@@ -13,11 +13,12 @@ use Rattle.rows.specs.Choices.{choice_of}
 use Rattle.rows.specs.Sewing.{MayBeSewn, signing_of}
 use Rattle.rows.specs.Refusals.{RefusesRow}
 use Rattle.row_sheets.specs.RowSheets.{selected}
-use Rattle.row_sheets.specs.Filled.{card_sheets, duplex_sheets, grid_sheets, stack_sheets}
+use Rattle.row_sheets.specs.Filled.{card_sheets, duplex_sheets, grid_sheets, stack_sheets, zine_sheets}
 use Rattle.row_sheets.specs.Creep.{AreHalves, creeping_sheets, first_over_fold}
 use Rattle.row_sheets.specs.Shapes.{filling, first_refused}
 use Rattle.row_sheets.specs.Posters.{AllMayBePosters, first_no_poster, most_tiles, row_tiles}
 use Rattle.row_sheets.specs.Standing.{AllFit, AllFitOnLeaves}
+use Rattle.row_sheets.specs.Zine.{AreZineCells}
 use Rattle.sheet_plan.specs.MadeRefusals.{RefusesMade}
 use Rattle.sheet_plan.specs.declared.error.MadeError.{MadeError}
 use Rattle.row_runs.specs.Evened.{evened_if, why_not_even_if}
@@ -27,7 +28,7 @@ use Rattle.row_runs.specs.declared.asked.Laying.TheVariants as laying
 use Rattle.row_runs.specs.declared.error.AskedError.{AskedError}
 use Rattle.row_runs.specs.declared.error.AskedError.TheVariants as error
 
--- so many cells are some, and the sheet has them; those of a booklet are its halves; a poster has no more sheets than it may
+-- so many cells are some, and the sheet has them; those of a booklet are its halves, those of a zine two rows of four; a poster has no more sheets than it may
 -- have, and no wider margins
 abbrev pub MayBeLaid : Laying → Type 0
 MayBeLaid (laying.AsTheyAre blank) = ⊤
@@ -36,6 +37,7 @@ MayBeLaid (laying.Cards setting cells) = (0 < cells) × (cells ≤ size setting.
 MayBeLaid (laying.Stack setting cells) = (0 < cells) × (cells ≤ size setting.grid)
 MayBeLaid (laying.Leaves setting) = ⊤
 MayBeLaid (laying.Booklet setting turned_backs creep) = AreHalves setting
+MayBeLaid (laying.Zine setting) = AreZineCells setting
 MayBeLaid (laying.Poster poster) = (poster.rows * poster.columns ≤ most_tiles) × (poster.edge ≤ 10_000_000_000)
 
 -- each page is whole on a sheet
@@ -64,6 +66,7 @@ sheets_laid (laying.Stack setting cells) leaves papers row = stack_sheets (filli
 sheets_laid (laying.Leaves setting) leaves papers row = duplex_sheets (filling setting papers) row
 sheets_laid (laying.Booklet setting turned_backs creep) leaves papers row =
     creeping_sheets (filling setting papers) turned_backs creep leaves row
+sheets_laid (laying.Zine setting) leaves papers row = zine_sheets (filling setting papers) row
 sheets_laid (laying.Poster poster) leaves papers row = row_tiles poster papers row
 
 -- why it can't be laid so: the first page of the row that doesn't fit its cell, or can't be a poster
@@ -75,6 +78,7 @@ why_not_laid (laying.Stack setting cells) leaves papers row = option_map error.A
 why_not_laid (laying.Leaves setting) leaves papers row = option_map error.Arrangement (first_refused (filling setting papers) row)
 why_not_laid (laying.Booklet setting turned_backs creep) leaves papers row =
     option_map error.Arrangement (first_over_fold (filling setting papers) creep leaves row)
+why_not_laid (laying.Zine setting) leaves papers row = option_map error.Arrangement (first_refused (filling setting papers) row)
 why_not_laid (laying.Poster poster) leaves papers row = option_map error.Poster (first_no_poster poster papers row)
 
 -- the cells aren't filled for that reason, or out of memory
@@ -90,6 +94,7 @@ FitAsLaid (laying.Stack setting cells) leaves papers row = AllFit (filling setti
 FitAsLaid (laying.Leaves setting) leaves papers row = AllFit (filling setting papers) row
 FitAsLaid (laying.Booklet setting turned_backs creep) leaves papers row =
     AllFitOnLeaves (filling setting papers) creep leaves row
+FitAsLaid (laying.Zine setting) leaves papers row = AllFit (filling setting papers) row
 FitAsLaid (laying.Poster poster) leaves papers row = AllMayBePosters poster papers row
 
 -- each page of cards has its place, and each of a poster can be one

@@ -5,6 +5,7 @@ use Rattle.made_sheets.specs.Made.{MadeSlot, Blank, Placed, MadeSheet}
 use Rattle.layouts.specs.Placed.{bare}
 use Rattle.row_sheets.specs.RowSheets.{as_it_is}
 use Rattle.row_sheets.specs.Standing.{AllStand, LeavesStand, StandsIn}
+use Rattle.row_sheets.specs.Zine.{closer}
 use Rattle.row_runs.specs.declared.asked.Laying.{Laying}
 use Rattle.row_runs.specs.declared.asked.Laying.TheVariants as laying
 
@@ -22,7 +23,7 @@ pub record StandsAlone (sheet : MadeSheet) : Type 0 where
   pub stands : StandsIn (bare sheet.paper) sheet
 
 -- the sheets of a laying: in cells each page lies on what the margin leaves of its sheet, and each two of a sheet are apart
--- by the gap; on leaves nothing crosses the fold; as they are, each lies alone. What is on the tiles of a poster is
+-- by the gap, on zines to 10^-5 of a point; on leaves nothing crosses the fold; as they are, each lies alone. What is on the tiles of a poster is
 -- said by laws of their own
 abbrev pub StandAsLaid : Laying → List MadeSheet → Type 0
 StandAsLaid (laying.AsTheyAre blank) made = All StandsAlone made
@@ -31,4 +32,5 @@ StandAsLaid (laying.Cards setting cells) made = AllStand setting.room made
 StandAsLaid (laying.Stack setting cells) made = AllStand setting.room made
 StandAsLaid (laying.Leaves setting) made = AllStand setting.room made
 StandAsLaid (laying.Booklet setting turned_backs creep) made = LeavesStand setting turned_backs creep made
+StandAsLaid (laying.Zine setting) made = AllStand (closer setting.room) made
 StandAsLaid (laying.Poster poster) made = ⊤

@@ -19,7 +19,7 @@ use layouts::{ArrangementError, Setting};
 use lengths::Paper;
 use row_sheets::{
     Creep, Poster, PosterError, card_sheets, check_cells, check_posters, creeping_booklet_sheets,
-    grid_sheets, leaf_sheets, poster_row_sheets, select, stack_sheets,
+    grid_sheets, leaf_sheets, poster_row_sheets, select, stack_sheets, zine_sheets,
 };
 use rows::{Choice, RowError, Signing, chosen_row, signed_row};
 use sheet_plan::{MadeError, MadeSheets};
@@ -58,6 +58,11 @@ pub enum Laying {
         setting: Setting,
         turned_backs: bool,
         creep: u64,
+    },
+    /// Eight entries on one side of each sheet, which is folded and cut: in two rows of four cells, the first of which is turned
+    /// by half.
+    Zine {
+        setting: Setting,
     },
     /// Each page over several sheets, one page after the other; a blank leaves as many sheets blank.
     Poster {
@@ -112,7 +117,7 @@ pub fn asked_sheets(
 }
 
 /// How many leaves a signature of the row has; none if it isn't put into signatures.
-fn leaves_in(signing: Option<Signing>, row: &[Option<u32>]) -> u32
+pub(crate) fn leaves_in(signing: Option<Signing>, row: &[Option<u32>]) -> u32
     requires sewn { IfSome signing MayBeSewn }
     requires some { 0 < length row.now }
     requires few { length row.now ≤ most_entries }
@@ -155,7 +160,7 @@ fn poster_error(error: PosterError) -> AskedError
 }
 
 /// The row on sheets; if it is in signatures, each has so many leaves.
-fn laid(
+pub(crate) fn laid(
     alloc: Global,
     laying: &Laying,
     leaves: u32,
@@ -235,6 +240,7 @@ fn laid_whole(
             };
             creeping_booklet_sheets(alloc, setting, papers, *turned_backs, creep, row)
         }
+        Laying::Zine { setting } => zine_sheets(alloc, setting, papers, row),
         Laying::Poster { .. } => unreachable!(),
     }
 }

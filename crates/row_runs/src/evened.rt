@@ -51,7 +51,7 @@ fn evened(
 }
 
 /// The cells into which pages are fitted, if there are some.
-fn setting_in(laying: &Laying) -> Option<Setting>
+pub(crate) fn setting_in(laying: &Laying) -> Option<Setting>
     ensures { result ≡ setting_of laying.now }
 {
     match laying {
@@ -61,6 +61,7 @@ fn setting_in(laying: &Laying) -> Option<Setting>
         Laying::Stack { setting, .. } => Some(*setting),
         Laying::Leaves { setting } => Some(*setting),
         Laying::Booklet { setting, .. } => Some(*setting),
+        Laying::Zine { setting } => Some(*setting),
     }
 }
 
@@ -83,6 +84,7 @@ fn with_setting(laying: &Laying, setting: Setting) -> Laying
             turned_backs,
             creep,
         },
+        Laying::Zine { .. } => Laying::Zine { setting },
         Laying::Poster { poster } => Laying::Poster { poster },
     }
 }

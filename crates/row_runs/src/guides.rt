@@ -17,7 +17,7 @@ use preview::{Guide, GuideKind};
 use row_sheets::Poster;
 use std::alloc::{AllocError, Global};
 
-/// The lines of a laying: its margin, where sheets are cut between their cells, and where the leaves of a booklet are
+/// The lines of a laying: its margin, where sheets are cut between their cells, and where booklets and zines are
 /// folded; and the lines for notes that are asked for.
 pub(crate) fn guides_of(
     alloc: Global,
@@ -44,6 +44,7 @@ fn push_guides(laying: &Laying, guides: &mut Vec<Guide>) -> Result<(), AllocErro
         Laying::Stack { setting, .. } => push_lines(GuideKind::Cut, setting, guides),
         Laying::Leaves { setting } => push_lines(GuideKind::Cut, setting, guides),
         Laying::Booklet { setting, .. } => push_lines(GuideKind::Fold, setting, guides),
+        Laying::Zine { setting } => push_lines(GuideKind::Fold, setting, guides),
         Laying::Poster { poster } => push_margin(&tile_room(poster), guides),
     }
 }
@@ -244,7 +245,7 @@ fn level(kind: GuideKind, paper: &Paper, y: Grains) -> Guide
 }
 
 /// So many grains, which are known to be in range.
-fn grains(count: i128) -> Grains
+pub(crate) fn grains(count: i128) -> Grains
     requires { FitsGrains count }
     ensures { result ≡ count }
 {

@@ -10,6 +10,7 @@ pub mod laws;
 mod limits;
 mod look;
 mod marked;
+mod numbered;
 mod planned;
 mod reading;
 mod run;

@@ -8,7 +8,7 @@ use layouts::Setting;
 use std::alloc::{AllocError, Global};
 
 /// The strokes on each sheet of a laying, of the marks that are asked for. A laying that isn't folded has no fold marks,
-/// and one that isn't cut no cut marks; pages as they are and posters have none. Lines for notes are on sheets whose cells
+/// and one that isn't cut no cut marks; pages as they are, zines and posters have none. Lines for notes are on sheets whose cells
 /// are filled in turn.
 pub(crate) fn strokes_of(
     alloc: Global,
@@ -18,7 +18,9 @@ pub(crate) fn strokes_of(
     ensures { IfOk result (λ strokes. strokes.items ≡ strokes_in marks laying.now) }
 {
     match laying {
-        Laying::AsTheyAre { .. } | Laying::Poster { .. } => Ok(Vec::new(alloc)),
+        Laying::AsTheyAre { .. } | Laying::Zine { .. } | Laying::Poster { .. } => {
+            Ok(Vec::new(alloc))
+        }
         Laying::Grid { setting, .. } => cut_and_ruled(alloc, marks, setting),
         Laying::Cards { setting, .. } => cut_if(alloc, marks.cut, setting),
         Laying::Stack { setting, .. } => cut_if(alloc, marks.cut, setting),

@@ -4,16 +4,16 @@ ghost use Rattle.rules.specs.Parts.{pages};
 ghost use Rattle.rules.specs.Sheets.{layout};
 ghost use Rattle.made_sheets.specs.MadePlans.{made_layout, made_plan_of};
 ghost use Rattle.papers.specs.Told.{telling};
-ghost use Rattle.dressing.specs.Drawn.{marked};
 ghost use Rattle.dressing.specs.Dressings.{dressing_of};
+ghost use Rattle.dressing.specs.Numbered.{drawn_on};
 ghost use Rattle.sheet_plan.specs.OfSheets.{made_plan};
 ghost use Rattle.sheet_text.specs.Jobs.{is_border, output_of};
 ghost use Rattle.imposer.specs.Gathering.{ReportsOf};
 ghost use Rattle.imposer.specs.declared.outcome.Report.{Report};
-ghost use Rattle.row_runs.specs.SheetsRuns.{RefusesSheets, ReportsIn, output_in};
+ghost use Rattle.row_runs.specs.SheetsRuns.{RefusesSheets, ReportsIn, drawn_in, output_in};
 
 use crate::error::{AskedError, plan_error};
-use dressing::{Stroke, dress_of, told_papers};
+use dressing::{Numbers, Stroke, dress_of, told_papers};
 use dsc::Document;
 use lengths::Grains;
 use sheet_plan::{MadeSheets, Plan};
@@ -22,7 +22,7 @@ use std::alloc::{AllocError, Global};
 
 /// The sheets of a document, which was read before: each with its own paper, and with pages that are placed by their own
 /// papers. A border round each page, wider than nothing, if one is asked for, and how far within the page's edges it is
-/// drawn; and strokes that are drawn at the end of each sheet.
+/// drawn; and strokes and numbers that are drawn at the end of each sheet.
 #[derive(Clone, Copy)]
 pub struct SheetJob<'j, 'd> {
     pub document: &'j Document<'d>,
@@ -30,6 +30,7 @@ pub struct SheetJob<'j, 'd> {
     pub border: Option<Grains>,
     pub inset: Grains,
     pub strokes: &'j [Stroke],
+    pub numbers: &'j Option<Numbers>,
 }
 
 /// The sheets of a job with their plan, and the lines that each gets. All that can be refused was checked, so a caller may
@@ -42,7 +43,7 @@ pub struct PlannedSheets<'j, 'd> {
     ghost border: { IsTrue (is_border job.now.border) },
     ghost planned: { plan ≡ made_plan (length (pages job.now.document.now)) job.now.sheets.now },
     ghost laid: { layout plan ≡ made_layout (length (pages job.now.document.now)) job.now.sheets.now },
-    ghost dressed: { dress ≡ dressing_of (marked job.now.strokes.now (telling job.now.sheets.now)) job.now.sheets.now },
+    ghost dressed: { dress ≡ dressing_of (drawn_on (drawn_in job.now) (telling job.now.sheets.now)) job.now.sheets.now },
 }
 
 impl<'j, 'd> PlannedSheets<'j, 'd> {
@@ -62,14 +63,14 @@ impl<'j, 'd> PlannedSheets<'j, 'd> {
             Ok(plan) => plan,
             Err(error) => return Err(plan_error(error)),
         };
-        match dressed(alloc, job.strokes, job.sheets) {
+        match dressed(alloc, job.strokes, job.numbers, job.sheets) {
             Ok(dress) => Ok(PlannedSheets { job, plan, dress }),
             Err(_) => Err(AskedError::NoMemory),
         }
     }
 
-    /// What `run_plan` of imposer takes: it writes the sheets, with the lines that report their papers and the strokes at the
-    /// end of each, and refuses nothing.
+    /// What `run_plan` of imposer takes: it writes the sheets, with the lines that report their papers and what is drawn at
+    /// the end of each, and refuses nothing.
     pub fn as_job(&self) -> Job<'_, 'd>
         ensures output { output_of result ≡ output_in self.now.job.now }
         // Its report has the numbers of the sheets.
@@ -87,11 +88,17 @@ impl<'j, 'd> PlannedSheets<'j, 'd> {
     }
 }
 
-/// The lines that report the papers of sheets, and the strokes at their ends.
-fn dressed(alloc: Global, strokes: &[Stroke], sheets: &MadeSheets) -> Result<Dress, AllocError>
-    ensures { IfOk result (λ dress. dress ≡ dressing_of (marked strokes.now (telling sheets.now)) sheets.now) }
+/// The lines that report the papers of sheets, and what is drawn at their ends.
+fn dressed(
+    alloc: Global,
+    strokes: &[Stroke],
+    numbers: &Option<Numbers>,
+    sheets: &MadeSheets,
+) -> Result<Dress, AllocError>
+    ensures { IfOk result (λ dress. dress
+        ≡ dressing_of (drawn_on (record { strokes = strokes.now; numbers = numbers.now }) (telling sheets.now)) sheets.now) }
 {
     let told = told_papers(alloc, sheets)?;
-    let dress = dress_of(alloc, told.as_slice(), strokes, sheets)?;
+    let dress = dress_of(alloc, told.as_slice(), strokes, numbers, sheets)?;
     Ok(dress)
 }

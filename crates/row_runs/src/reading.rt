@@ -105,6 +105,7 @@ fn places_of(laying: &Laying) -> Places
         Laying::Stack { setting, .. } => cells_of(setting),
         Laying::Leaves { setting } => cells_of(setting),
         Laying::Booklet { setting, .. } => cells_of(setting),
+        Laying::Zine { setting } => cells_of(setting),
         Laying::Poster { poster } => Places::Tiles {
             grid: tiles_of(poster),
         },

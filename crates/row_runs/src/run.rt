@@ -2,12 +2,13 @@
 ghost use Rattle.std.specs.Prelude.{◌≡◌, IfErr, IfOk};
 ghost use Rattle.row_runs.specs.Sheets.{AreAsked, MayBeAsked};
 ghost use Rattle.row_runs.specs.Standing.{StandAsLaid};
-ghost use Rattle.row_runs.specs.Runs.{RefusesRun, page_count, strokes_on};
+ghost use Rattle.row_runs.specs.Runs.{RefusesRun, numbers_on, page_count, strokes_on};
 
 use crate::asked::{Asked, asked_sheets};
 use crate::error::AskedError;
 use crate::marked::strokes_of;
-use dressing::{Marks, Stroke};
+use crate::numbered::numbers_of;
+use dressing::{Marks, Numbers, Stroke};
 use dsc::Document;
 use lengths::{Grains, Paper};
 use sheet_plan::MadeSheets;
@@ -26,11 +27,12 @@ pub struct RowJob<'j, 'd> {
     pub marks: Marks,
 }
 
-/// The sheets on which a row is laid, and the strokes at the end of each.
+/// The sheets on which a row is laid, the strokes at the end of each, and the numbers of its pages.
 #[derive(Drop)]
 pub struct LaidRow {
     pub sheets: MadeSheets,
     pub strokes: Vec<Stroke>,
+    pub numbers: Option<Numbers>,
 }
 
 impl<'j, 'd> RowJob<'j, 'd> {
@@ -41,6 +43,7 @@ impl<'j, 'd> RowJob<'j, 'd> {
         ensures asked { IfOk result (λ row. AreAsked (page_count self.now) self.now.papers.now self.now.asked row.sheets) }
         ensures stands { IfOk result (λ row. StandAsLaid self.now.asked.laying row.sheets) }
         ensures marked { IfOk result (λ row. row.strokes.items ≡ strokes_on self.now) }
+        ensures numbered { IfOk result (λ row. row.numbers ≡ numbers_on self.now) }
         // A refusal names the first fault.
         ensures refused { IfErr result (RefusesRun self.now) }
     {
@@ -49,8 +52,15 @@ impl<'j, 'd> RowJob<'j, 'd> {
             Ok(sheets) => sheets,
             Err(error) => return Err(error),
         };
-        match strokes_of(alloc, self.marks, &self.asked.laying) {
-            Ok(strokes) => Ok(LaidRow { sheets, strokes }),
+        let Ok(strokes) = strokes_of(alloc, self.marks, &self.asked.laying) else {
+            return Err(AskedError::NoMemory);
+        };
+        match numbers_of(alloc, count, self.papers, &self.asked, self.marks.numbers) {
+            Ok(numbers) => Ok(LaidRow {
+                sheets,
+                strokes,
+                numbers,
+            }),
             Err(_) => Err(AskedError::NoMemory),
         }
     }

@@ -9,7 +9,6 @@ use Rattle.rules.specs.Specification.{Item}
 use Rattle.rules.specs.Signatures.{entry_of}
 use Rattle.made_sheets.specs.Made.{MadeSlot}
 use Rattle.made_sheets.specs.Rows.{Row}
-use Rattle.layouts.specs.declared.error.ArrangementError.{ArrangementError}
 use Rattle.layouts.specs.declared.setting.Setting.{Setting}
 use Rattle.layouts.specs.Placed.{Room}
 use Rattle.layouts.specs.Cells.{size, slack, trimmed, whole}

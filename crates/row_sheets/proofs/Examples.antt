@@ -1,10 +1,11 @@
 -- Worked examples.
 use Rattle.std.proofs.Common.{◌≡◌, refl}
-use Rattle.std.specs.Prelude.{ℕ, map, [], ◌∷◌, Some, None}
+use Rattle.std.specs.Prelude.{ℕ, ◌+◌, ◌*◌, map, [], ◌∷◌, Some, None}
 use Rattle.std.specs.List.{range_with_len}
 use Rattle.layouts.specs.declared.arrangement.Run.TheVariants.{Rows, Columns}
 use Rattle.made_sheets.specs.Rows.{all_pages}
-use Rattle.row_sheets.specs.Filled.{stack_entry, duplex_entry, cell_behind, card_entry}
+use Rattle.row_sheets.specs.Filled.{stack_entry, duplex_entry, cell_behind, card_entry, zine_place}
+use Rattle.row_sheets.specs.Zine.{in_hand}
 use Rattle.row_sheets.specs.Creep.{creep_of}
 use Rattle.row_sheets.specs.Posters.{length_of}
 use Rattle.rules.specs.Papers.{points}
@@ -48,3 +49,11 @@ one_leaf = refl
 -- three tiles of 595 pt with margins of 10 pt that overlap by 20 pt
 three_tiles : length_of (nat_abs (points 595 842).width) 1_000_000 2_000_000 3 ≡ 168_500_000
 three_tiles = refl
+
+-- from the left, the upper row of a zine has the pages 5, 4, 3 and 2, the lower one 6, 7, 8 and 1
+zine : map (λ c. zine_place c + 1) (range_with_len 0 8) ≡ 5 ∷ 4 ∷ 3 ∷ 2 ∷ 6 ∷ 7 ∷ 8 ∷ 1 ∷ []
+zine = refl
+
+-- folded and cut, one reads from the right of the lower row to that of the upper one, along that, and along the lower one
+zine_in_hand : map (λ p. p.row * 4 + p.column) in_hand ≡ 7 ∷ 3 ∷ 2 ∷ 1 ∷ 0 ∷ 4 ∷ 5 ∷ 6 ∷ []
+zine_in_hand = refl

@@ -13,10 +13,16 @@ mod Leaves
 mod Creeping
 pub mod Folding
 pub mod Stacking
+pub mod Zines
 mod AtRest
 mod Tiles
 pub mod Shown
 mod OneScale
 mod Examples
 mod Filling
+mod Before
 mod Offsets
+mod Specified
+mod AsPrinted
+mod AsDocument
+mod PrintedBacks

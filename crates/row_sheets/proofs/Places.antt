@@ -11,9 +11,9 @@ use Rattle.made_sheets.specs.Rows.{Row}
 use Rattle.made_sheets.proofs.Auto.{blocks_cover}
 use Rattle.layouts.specs.Cells.{size}
 use Rattle.layouts.specs.declared.setting.Setting.{Setting}
-use Rattle.row_sheets.specs.Filled.{Filling, behind_in, grid_entry}
+use Rattle.row_sheets.specs.Filled.{Filling, behind_in, grid_entry, zine_place}
 use Rattle.row_sheets.specs.Creep.{creep_on}
-use Rattle.row_sheets.specs.Shapes.{cell_on, is_two_sided, place_by, sheet_count}
+use Rattle.row_sheets.specs.Shapes.{cell_on, is_folded, is_two_sided, place_by, sheet_count}
 use Rattle.row_sheets.specs.declared.fill.CellKind.{CellKind}
 use Rattle.row_sheets.specs.declared.fill.CellKind.TheVariants as kind
 use Rattle.row_sheets.specs.Standing.{AllFit, AllFitOnLeaves, EntryCreeps, EntryFits}
@@ -61,19 +61,31 @@ turned_over leaves cells = grind arith
 covering : (cells sheets : ℕ) (row : Row) → 0 < cells → sheets ≡ blocks cells (length row) → length row ≤ sheets * cells
 covering cells sheets row some many = subst (λ n. length row ≤ n * cells) (sym many) (blocks_cover cells (length row) some)
 
+-- which cell of a zine has an entry
+zine_cell : (j : ℕ) → j < 8 → (c : ℕ) × (c < 8) × (zine_place c ≡ j)
+zine_cell zero within = (7, omega arith, refl)
+zine_cell (suc zero) within = (3, omega arith, refl)
+zine_cell (suc (suc zero)) within = (2, omega arith, refl)
+zine_cell (suc (suc (suc zero))) within = (1, omega arith, refl)
+zine_cell (suc (suc (suc (suc zero)))) within = (0, omega arith, refl)
+zine_cell (suc (suc (suc (suc (suc zero))))) within = (4, omega arith, refl)
+zine_cell (suc (suc (suc (suc (suc (suc zero)))))) within = (5, omega arith, refl)
+zine_cell (suc (suc (suc (suc (suc (suc (suc zero))))))) within = (6, omega arith, refl)
+zine_cell (suc (suc (suc (suc (suc (suc (suc (suc j)))))))) within = absurd (omega (arith, within))
+
 pub cells_fit : (way : CellKind) (f : Filling) (cells sheets : ℕ) (row : Row) → 0 < cells → sheets ≡ sheet_count way cells (length row) → (is_two_sided way ≡ true → cells ≡ size f.setting.grid)
-    → ((s c : ℕ) → s < sheets → c < cells → EntryFits f (entry_of row (place_by way f.setting sheets cells s c))) → AllFit f row
-cells_fit kind.Grid f cells sheets row some many all fits = each_entry f row (λ i less.
+    → (is_folded way ≡ true → cells ≡ 8) → ((s c : ℕ) → s < sheets → c < cells → EntryFits f (entry_of row (place_by way f.setting sheets cells s c))) → AllFit f row
+cells_fit kind.Grid f cells sheets row some many all folded fits = each_entry f row (λ i less.
     let at = in_blocks i (length row) cells sheets less (covering cells sheets row some many) in
     subst (λ k. EntryFits f (entry_of row k)) at.is (fits (i / cells) (i % cells) at.block at.place))
-cells_fit kind.Cards f cells sheets row some many all fits = each_entry f row (λ i less.
+cells_fit kind.Cards f cells sheets row some many all folded fits = each_entry f row (λ i less.
     let same : sheets ≡ length row = many in
     fits i 0 (omega (arith, less, same)) some)
-cells_fit kind.Stack f cells sheets row some many all fits = each_entry f row (λ i less.
+cells_fit kind.Stack f cells sheets row some many all folded fits = each_entry f row (λ i less.
     let enough = covering cells sheets row some many in
     let at = in_blocks i (length row) sheets cells less (omega (arith, enough, mul_comm sheets cells)) in
     subst (λ k. EntryFits f (entry_of row k)) at.is (fits (i % sheets) (i / sheets) at.place at.block))
-cells_fit kind.Leaves f cells sheets row some many all fits = each_entry f row (λ i less.
+cells_fit kind.Leaves f cells sheets row some many all folded fits = each_entry f row (λ i less.
     let t = f.setting in
     let leaves = blocks (2 * cells) (length row) in
     let covered : length row ≤ leaves * (2 * cells) = blocks_cover (2 * cells) (length row) (omega (arith, some)) in
@@ -86,6 +98,11 @@ cells_fit kind.Leaves f cells sheets row some many all fits = each_entry f row (
     let within : c < cells = subst (λ n. c < n) (sym (all refl)) both.0 in
     let is : cell_on t s c * sheets + s ≡ i = ap (λ j. j * sheets + s) both.1 ∙ at.is in
     subst (λ j. EntryFits f (entry_of row j)) is (fits s c at.place within))
+cells_fit kind.Zine f cells sheets row some many all folded fits = each_entry f row (λ i less.
+    let at = in_blocks i (length row) cells sheets less (covering cells sheets row some many) in
+    let c = zine_cell (i % cells) (subst (λ n. i % cells < n) (folded refl) at.place) in
+    subst (λ k. EntryFits f (entry_of row k)) (ap (λ j. i / cells * cells + j) c.2 ∙ at.is)
+    (fits (i / cells) c.0 at.block (subst (λ n. c.0 < n) (sym (folded refl)) c.1)))
 
 -- ---- leaves that creep
 

@@ -67,7 +67,7 @@ tile_count : (p : Poster) (papers : List Paper) (entry : Option ℕ) → length 
 tile_count p papers None = length-map-range_with_len (λ n. sheet p.sheet (Blank ∷ [])) 0 (p.rows * p.columns)
 tile_count p papers (Some page) =
     let paper = poster_paper p papers page in
-    length-map-range_with_len (λ n. sheet p.sheet (Placed page (tile_item paper p page (n % p.columns) (p.rows - (n / p.columns + 1))) paper ∷ [])) 0 (p.rows * p.columns)
+    length-map-range_with_len (λ n. sheet p.sheet (Placed page (tile_item paper p (n % p.columns) (p.rows - (n / p.columns + 1))) paper ∷ [])) 0 (p.rows * p.columns)
 
 from_zero : (m n : ℕ) → 0 * m + n ≡ n
 from_zero m n = omega arith
@@ -92,9 +92,9 @@ tile_of : (p : Poster) (papers : List Paper) (row : Row) (i page n : ℕ) → en
 tile_of p papers row i page n is within = in_list (entry_tiles p papers) (p.rows * p.columns) (tile_count p papers) row i page n is within
 
 nth_sheet : (page : Paper) (p : Poster) (k n : ℕ) → n < p.rows * p.columns
-    → slice_get (poster_sheets page p k) n ≡ Some (sheet p.sheet (Placed k (tile_item page p k (n % p.columns) (p.rows - (n / p.columns + 1))) page ∷ []))
+    → slice_get (poster_sheets page p k) n ≡ Some (sheet p.sheet (Placed k (tile_item page p (n % p.columns) (p.rows - (n / p.columns + 1))) page ∷ []))
 nth_sheet page p k n within =
-    let made : ℕ → MadeSheet = λ n. sheet p.sheet (Placed k (tile_item page p k (n % p.columns) (p.rows - (n / p.columns + 1))) page ∷ []) in
+    let made : ℕ → MadeSheet = λ n. sheet p.sheet (Placed k (tile_item page p (n % p.columns) (p.rows - (n / p.columns + 1))) page ∷ []) in
     let all = map made (range_with_len 0 (p.rows * p.columns)) in
     let many = length-map-range_with_len made 0 (p.rows * p.columns) in
     slice_get-get_or all n (made n) (omega (arith, within, many))
@@ -124,8 +124,8 @@ tile_at r c column row in_columns in_rows =
       row_is = from_head r row q ((q * c + column) / c) refl in_rows (div-mul-add q c column in_columns);
     }
 
-same_item : (page : Paper) (p : Poster) (k : ℕ) (c c' r r' : ℕ) → c ≡ c' → r ≡ r' → tile_item page p k c r ≡ tile_item page p k c' r'
-same_item page p k c c' r r' e f = ap (λ x. tile_item page p k x r) e ∙ ap (tile_item page p k c') f
+same_item : (page : Paper) (p : Poster) (c c' r r' : ℕ) → c ≡ c' → r ≡ r' → tile_item page p c r ≡ tile_item page p c' r'
+same_item page p c c' r r' e f = ap (λ x. tile_item page p x r) e ∙ ap (tile_item page p c') f
 
 pub can_be : (p : Poster) (papers : List Paper) (page : ℕ) (entry : Option ℕ) → entry ≡ Some page → EntryMayBePoster p papers entry → EntryMayBePoster p papers (Some page)
 can_be p papers page entry is has = subst (EntryMayBePoster p papers) is has
@@ -134,13 +134,13 @@ pub row_is_shown : RowIsShown
 row_is_shown p papers row i page at fits is of =
     let paper = poster_paper p papers page in
     let has = can_be p papers page (entry_of row i) is (fits i) in
-    let shown = poster_covers paper p page at has.page_is (poster_has_tiles paper p has.fits) of in
+    let shown = poster_covers paper p at has.page_is (poster_has_tiles paper p has.fits) of in
     let one = tile_at p.rows p.columns shown.0 shown.1 shown.2 shown.3 in
-    let item = same_item paper p page (one.n % p.columns) shown.0 (p.rows - (one.n / p.columns + 1)) shown.1 one.column_is one.row_is in
+    let item = same_item paper p (one.n % p.columns) shown.0 (p.rows - (one.n / p.columns + 1)) shown.1 one.column_is one.row_is in
     record {
       n = one.n;
       is_one = one.within;
-      item = tile_item paper p page shown.0 shown.1;
+      item = tile_item paper p shown.0 shown.1;
       sheet = tile_of p papers row i page one.n is one.within
           ∙ (nth_sheet paper p page one.n one.within
           ∙ ap (λ x. Some (sheet p.sheet (Placed page x paper ∷ []))) item);

@@ -16,7 +16,7 @@ use Rattle.row_sheets.proofs.Runs.{duplex_runs_on, part_of_leaf, same_each, stac
 
 -- ---- a sheet shows its entries
 
-shown_is : (f : Filling) (by_half : Bool) (c : ℕ) (entry : Option ℕ) → shown_in (slot_on f by_half c entry) ≡ entry
+pub shown_is : (f : Filling) (by_half : Bool) (c : ℕ) (entry : Option ℕ) → shown_in (slot_on f by_half c entry) ≡ entry
 shown_is f false c None = refl
 shown_is f false c (Some page) = refl
 shown_is f true c None = refl

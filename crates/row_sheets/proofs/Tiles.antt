@@ -40,9 +40,9 @@ along : (length side s a : ℕ) → s ≤ fitting length side → a ≤ side →
 along length side s a fits in_page =
     omega (arith, in_cell length side s (scaled_fits length side s fits), mul-le-mul_left s in_page)
 
-covers_at : (v u : ℕ) (p : Poster) (k : ℕ) (a b : ℤ) → HasTiles p → IsOfPage 0 (of_sides v u) (point a b)
-    → (column row : ℕ) × (column < p.columns) × (row < p.rows) × IsShown p (stands (of_sides v u) (tile_item (of_sides v u) p k column row) (point a b))
-covers_at v u p k (pos a) (pos b) has of =
+covers_at : (v u : ℕ) (p : Poster) (a b : ℤ) → HasTiles p → IsOfPage 0 (of_sides v u) (point a b)
+    → (column row : ℕ) × (column < p.columns) × (row < p.rows) × IsShown p (stands (of_sides v u) (tile_item (of_sides v u) p column row) (point a b))
+covers_at v u p (pos a) (pos b) has of =
     let page = of_sides v u in
     let s = poster_scale page p in
     let w = nat_abs p.sheet.width in
@@ -66,16 +66,16 @@ covers_at v u p k (pos a) (pos b) has of =
         top = omega (arith, ints, top);
       },
     )
-covers_at v u p k (negsuc a) b has of = absurd (let f = of.left in omega (arith, ints))
-covers_at v u p k (pos a) (negsuc b) has of = absurd (let f = of.bottom in omega (arith, ints))
+covers_at v u p (negsuc a) b has of = absurd (let f = of.left in omega (arith, ints))
+covers_at v u p (pos a) (negsuc b) has of = absurd (let f = of.bottom in omega (arith, ints))
 
-abbrev CoversIf : (p : Poster) (k : ℕ) (a b : ℤ) → Paper → Type 0
-CoversIf p k a b o = IsOfPage 0 o (point a b)
-    → (column row : ℕ) × (column < p.columns) × (row < p.rows) × IsShown p (stands o (tile_item o p k column row) (point a b))
+abbrev CoversIf : (p : Poster) (a b : ℤ) → Paper → Type 0
+CoversIf p a b o = IsOfPage 0 o (point a b)
+    → (column row : ℕ) × (column < p.columns) × (row < p.rows) × IsShown p (stands o (tile_item o p column row) (point a b))
 
 pub poster_covers : PosterCovers
-poster_covers page p k at is has of =
-    subst (CoversIf p k at.x at.y) (sym (sides_are page is)) (λ here. covers_at (nat_abs page.width) (nat_abs page.height) p k at.x at.y has here) of
+poster_covers page p at is has of =
+    subst (CoversIf p at.x at.y) (sym (sides_are page is)) (λ here. covers_at (nat_abs page.width) (nat_abs page.height) p at.x at.y has here) of
 
 -- ---- neighbours
 
@@ -86,7 +86,7 @@ next_one n d = omega (arith, ap (λ k. k * d) (plus_one n), suc-mul n d)
     plus_one n = omega arith
 
 pub tiles_overlap : TilesOverlap
-tiles_overlap page p k column row at has =
+tiles_overlap page p column row at has =
     let w = nat_abs p.sheet.width in
     let h = nat_abs p.sheet.height in
     let wide = has.wide in let high = has.high in (

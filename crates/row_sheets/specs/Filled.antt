@@ -1,7 +1,7 @@
 -- Sheets whose cells are filled from a row: grids, cards, stacks. Each page is fitted into its cell by its own paper. All
 -- here is this project's own rules.
 use Rattle.std.specs.Prelude.{◌≡◌, ◌≢◌, ℕ, ◌+◌, ◌-◌, ◌*◌, ◌/◌, ◌%◌, ◌<◌, ◌≤◌, nat_abs, Bool, true, false, ◌&&◌, ◌==◌, if◌then◌else◌, List}
-use Rattle.std.specs.Prelude.{map, flat_map, length, Option, Some, None, ⊤}
+use Rattle.std.specs.Prelude.{map, flat_map, length, nat_lt, Option, Some, None, ⊤}
 use Rattle.std.specs.List.{range_with_len}
 use Rattle.rules.specs.Papers.{Paper}
 use Rattle.rules.specs.Sheets.{blocks}
@@ -98,6 +98,24 @@ duplex_sheets f row = let leaves = blocks (2 * size f.setting.grid) (length row)
 -- the sides of a booklet's leaves, two entries on each: the row is in signature order (RULES, 14.1)
 abbrev pub booklet_sheets : Filling → (turned_backs : Bool) → Row → List MadeSheet
 booklet_sheets f turned_backs row = sides f turned_backs (blocks 2 (length row)) 2 (grid_entry 2 row)
+
+-- a zine: each sheet has two rows of four cells. In the first row are, from its first cell on, the fifth, fourth, third and
+-- second of eight entries, in the second row the sixth, seventh, eighth and first (RULES, 14.4)
+abbrev pub zine_place : (c : ℕ) → ℕ
+zine_place c = if nat_lt c 4 then 4 - c else (c + 1) % 8
+
+abbrev pub zine_entry : Row → (s c : ℕ) → Option ℕ
+zine_entry row s c = entry_of row (s * 8 + zine_place c)
+
+-- what is in the first row lies where it would in the opposite cell, were the sheet turned by half
+abbrev pub zine_slot : Filling → (c : ℕ) → Option ℕ → MadeSlot
+zine_slot f c entry = slot_on f (nat_lt c 4) (if nat_lt c 4 then 7 - c else c) entry
+
+abbrev pub zine_sheets : Filling → Row → List MadeSheet
+zine_sheets f row = map (λ s. record {
+  paper = f.setting.room.paper;
+  slots = map (λ c. zine_slot f c (zine_entry row s c)) (range_with_len 0 8);
+}) (range_with_len 0 (blocks 8 (length row)))
 
 -- ---- laws
 

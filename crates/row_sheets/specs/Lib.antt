@@ -1,6 +1,6 @@
 -- Read in this order: sheets of a row, and those of a specification; sheets whose cells are filled from a row, and how, or
--- which of its pages is refused; one scale for all; leaves that creep; how sheets are laid out, and how booklets and stacks are
--- read; posters.
+-- which of its pages is refused; one scale for all; leaves that creep; how sheets are laid out, and how booklets, stacks and
+-- zines are read; posters; sheets of a specification, as it is printed; rows that are laid as documents.
 pub mod RowSheets
 pub mod BySpec
 pub mod Filled
@@ -11,4 +11,8 @@ pub mod Creep
 pub mod Standing
 pub mod Bound
 pub mod Stacked
+pub mod Zine
 pub mod Posters
+pub mod Specified
+pub mod AsPrinted
+pub mod AsDocument

@@ -45,10 +45,10 @@ poster_scale page p =
 abbrev pub begins_at : (length side scale : ℕ) → ℕ
 begins_at length side scale = slack length side scale
 
--- the page on the tile in this column, and in this row from the foot
-abbrev pub tile_item : (page : Paper) → Poster → (page_number column row : ℕ) → Item
-tile_item page p k column row = let s = poster_scale page p in record {
-  page = k;
+-- the page on the tile in this column, and in this row from the foot: the same for all pages of a paper
+abbrev pub tile_item : (page : Paper) → Poster → (column row : ℕ) → Item
+tile_item page p column row = let s = poster_scale page p in record {
+  page = 0;
   from_end = false;
   turn = Upright;
   scale = pos s;
@@ -62,7 +62,7 @@ tile_item page p k column row = let s = poster_scale page p in record {
 abbrev pub poster_sheets : (page : Paper) → Poster → (page_number : ℕ) → List MadeSheet
 poster_sheets page p k = map (λ n. record {
   paper = p.sheet;
-  slots = Placed k (tile_item page p k (n % p.columns) (p.rows - (n / p.columns + 1))) page ∷ [];
+  slots = Placed k (tile_item page p (n % p.columns) (p.rows - (n / p.columns + 1))) page ∷ [];
 }) (range_with_len 0 (p.rows * p.columns))
 
 -- how many sheets a poster has at most
@@ -130,9 +130,9 @@ laid_of page p = let s = poster_scale page p in record {
   down = stride (nat_abs p.sheet.height) p.edge p.overlap;
 }
 
-abbrev pub laid_item : Laid → (page_number column row : ℕ) → Item
-laid_item l k column row = record {
-  page = k;
+abbrev pub laid_item : Laid → (column row : ℕ) → Item
+laid_item l column row = record {
+  page = 0;
   from_end = false;
   turn = Upright;
   scale = pos l.scale;
@@ -162,18 +162,18 @@ pub record HasTiles (p : Poster) : Type 0 where
 
 -- each point of the page is shown on a tile: a law
 abbrev pub PosterCovers : Type 0
-PosterCovers = (page : Paper) (p : Poster) (k : ℕ) (at : Point) → IsPaper page → HasTiles p → IsOfPage 0 page at
-    → (column row : ℕ) × (column < p.columns) × (row < p.rows) × IsShown p (stands page (tile_item page p k column row) at)
+PosterCovers = (page : Paper) (p : Poster) (at : Point) → IsPaper page → HasTiles p → IsOfPage 0 page at
+    → (column row : ℕ) × (column < p.columns) × (row < p.rows) × IsShown p (stands page (tile_item page p column row) at)
 
 -- what is on one tile is on the next one to the right too, farther to the left by a tile less the overlap: so
 -- neighbours share exactly the overlap. And likewise upward: a law
 abbrev pub TilesOverlap : Type 0
-TilesOverlap = (page : Paper) (p : Poster) (k column row : ℕ) (at : Point) → HasTiles p
-    → ((stands page (tile_item page p k column row) at).x
-    ≡ (stands page (tile_item page p k (column + 1) row) at).x
+TilesOverlap = (page : Paper) (p : Poster) (column row : ℕ) (at : Point) → HasTiles p
+    → ((stands page (tile_item page p column row) at).x
+    ≡ (stands page (tile_item page p (column + 1) row) at).x
     +ℤ (fine (tile (nat_abs p.sheet.width) p.edge) -ℤ fine p.overlap))
-    × ((stands page (tile_item page p k column row) at).y
-    ≡ (stands page (tile_item page p k column (row + 1)) at).y
+    × ((stands page (tile_item page p column row) at).y
+    ≡ (stands page (tile_item page p column (row + 1)) at).y
     +ℤ (fine (tile (nat_abs p.sheet.height) p.edge) -ℤ fine p.overlap))
 
 -- ---- what such sheets rest on

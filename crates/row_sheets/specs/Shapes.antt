@@ -1,9 +1,10 @@
 -- How rows are put into cells, and why they can't be. All here is this project's own rules.
-use Rattle.std.specs.Prelude.{◌≡◌, ◌⊎◌, ℕ, ◌+◌, ◌*◌, ◌%◌, ◌==◌, Bool, true, false, if◌then◌else◌, List, length, slice_index_or, Option, Some, None}
+use Rattle.std.specs.Prelude.{◌≡◌, ◌⊎◌, ℕ, ◌+◌, ◌*◌, ◌%◌, ◌==◌, Bool, true, false, if◌then◌else◌, List, length, map, slice_index_or, Option, Some, None}
+use Rattle.std.specs.List.{range_with_len}
 use Rattle.rules.specs.Papers.{Paper}
 use Rattle.rules.specs.Sheets.{blocks}
 use Rattle.rules.specs.Signatures.{entry_of}
-use Rattle.made_sheets.specs.Made.{MadeSheet}
+use Rattle.made_sheets.specs.Made.{MadeSlot, MadeSheet}
 use Rattle.made_sheets.specs.Rows.{Row}
 use Rattle.layouts.specs.declared.error.ArrangementError.{ArrangementError}
 use Rattle.layouts.specs.declared.error.ArrangementError.TheVariants as why
@@ -12,7 +13,7 @@ use Rattle.layouts.specs.Fitted.{why_not_fitted}
 use Rattle.row_sheets.specs.declared.fill.CellKind.{CellKind}
 use Rattle.row_sheets.specs.declared.fill.CellKind.TheVariants as kind
 use Rattle.row_sheets.specs.declared.fill.Shape.{Shape}
-use Rattle.row_sheets.specs.Filled.{Filling, behind_in, filled}
+use Rattle.row_sheets.specs.Filled.{Filling, behind_in, slot_in, zine_place, zine_slot}
 use Rattle.row_sheets.specs.FirstFault.{first_fault}
 
 -- the cells of a sheet, and the papers of the pages in their order; a page whose paper isn't known has the sheet's
@@ -29,6 +30,7 @@ place_by kind.Grid t sheets cells s c = s * cells + c
 place_by kind.Cards t sheets cells s c = s
 place_by kind.Stack t sheets cells s c = c * sheets + s
 place_by kind.Leaves t sheets cells s c = cell_on t s c * sheets + s
+place_by kind.Zine t sheets cells s c = s * cells + zine_place c
 
 abbrev pub place : Shape → Setting → (s c : ℕ) → ℕ
 place h t s c = place_by h.kind t h.sheets h.cells s c
@@ -41,17 +43,35 @@ abbrev pub is_two_sided : CellKind → Bool
 is_two_sided kind.Leaves = true
 is_two_sided other = false
 
+-- whether they are folded into zines
+abbrev pub is_folded : CellKind → Bool
+is_folded kind.Zine = true
+is_folded other = false
+
 -- how many sheets n entries take
 abbrev pub sheet_count : CellKind → (cells n : ℕ) → ℕ
 sheet_count kind.Grid cells n = blocks cells n
 sheet_count kind.Cards cells n = n
 sheet_count kind.Stack cells n = blocks cells n
 sheet_count kind.Leaves cells n = 2 * blocks (2 * cells) n
+sheet_count kind.Zine cells n = blocks cells n
+
+-- an entry in cell c
+abbrev pub slot_by : CellKind → Filling → (c : ℕ) → Option ℕ → MadeSlot
+slot_by kind.Zine f c entry = zine_slot f c entry
+slot_by other f c entry = slot_in f c entry
+
+-- so many sheets with so many cells each, of which cell c of sheet s has this entry
+abbrev pub filled_by : CellKind → Filling → (sheets cells : ℕ) → (entry : (s c : ℕ) → Option ℕ) → List MadeSheet
+filled_by way f sheets cells entry = map (λ s. record {
+  paper = f.setting.room.paper;
+  slots = map (λ c. slot_by way f c (entry s c)) (range_with_len 0 cells);
+}) (range_with_len 0 sheets)
 
 -- the sheets of a row
 abbrev pub sheets_by : CellKind → Filling → (cells : ℕ) → Row → List MadeSheet
 sheets_by way f cells row = let sheets = sheet_count way cells (length row) in
-    filled f sheets cells (λ s c. entry_of row (place_by way f.setting sheets cells s c))
+    filled_by way f sheets cells (λ s c. entry_of row (place_by way f.setting sheets cells s c))
 
 -- why an entry can't lie in a cell, if it can't
 abbrev pub why_no_place : Filling → (entry : Option ℕ) → Option ArrangementError

@@ -9,10 +9,10 @@ use Rattle.made_sheets.specs.Rows.{Row}
 use Rattle.layouts.specs.declared.setting.Setting.{Setting}
 use Rattle.layouts.specs.Placed.{Room}
 use Rattle.layouts.specs.Cells.{size, whole, run_in}
-use Rattle.layouts.specs.Fitted.{IsFitted, why_not_fitted}
+use Rattle.layouts.specs.Fitted.{IsFitted, fitted, why_not_fitted}
 use Rattle.layouts.specs.Laws.{IsPaper, ComesInRun, ComesInRunBefore}
 use Rattle.row_sheets.specs.Filled.{Filling, SlotIsInside, SlotsAreApart, filled, grid_entry, is_turned}
-use Rattle.row_sheets.specs.Creep.{StaysBefore, StaysBehind, creep_on, why_not_creeping}
+use Rattle.row_sheets.specs.Creep.{StaysBefore, StaysBehind, creep_on, creeping, why_not_creeping}
 
 -- ---- in cells
 
@@ -90,6 +90,16 @@ EntryFits f (Some page) = FitsIn f.setting (f.paper_of page)
 abbrev pub EntryCreeps : Filling → (creep : ℕ) → (entry : Option ℕ) → Type 0
 EntryCreeps f creep None = ⊤
 EntryCreeps f creep (Some page) = FitsOnLeaf f.setting (f.paper_of page) creep
+
+-- a slot has what pages of its paper have in a cell, or is blank
+abbrev pub IsOfCell : Setting → (c : ℕ) → MadeSlot → Type 0
+IsOfCell t c Blank = ⊤
+IsOfCell t c (Placed page item paper) = FitsIn t paper × (item ≡ fitted t paper c)
+
+-- or in half k of a leaf that creeps so far
+abbrev pub IsOfHalf : Setting → (by_half : Bool) → (k creep : ℕ) → MadeSlot → Type 0
+IsOfHalf t by_half k creep Blank = ⊤
+IsOfHalf t by_half k creep (Placed page item paper) = FitsOnLeaf t paper creep × (item ≡ creeping t by_half paper k creep)
 
 -- each page of a row has its place: nothing had to be refused
 abbrev pub AllFit : Filling → Row → Type 0

@@ -1,24 +1,25 @@
 //! Booklets whose leaves creep: in a folded signature the inner leaves stick out, so what is on them is moved towards
 //! the fold.
-ghost use Rattle.std.specs.Prelude.{◌≡◌, ◌+◌, ◌*◌, ◌<◌, ◌≤◌, ◌+ℤ◌, ◌*ℤ◌, pos, nat_abs, IfOk, IfErr, OnOk, Some, nat_le, true};
+ghost use Rattle.std.specs.Prelude.{◌≡◌, ◌+◌, ◌-◌, ◌*◌, ◌<◌, ◌≤◌, ◌+ℤ◌, ◌*ℤ◌, pos, nat_abs, IfOk, IfErr, IfSome, OnOk, Some, length};
+ghost use Rattle.std.specs.Prelude.{nat_le, slice_get, true};
 ghost use Rattle.rules.specs.Numbers.{greatest_number};
 ghost use Rattle.pagespec.specs.Items.{item_of};
 ghost use Rattle.layouts.specs.Cells.{size};
 ghost use Rattle.layouts.specs.Fitted.{scale_on, why_not_fitted};
-ghost use Rattle.sheet_plan.specs.OfSheets.{slot_of};
+ghost use Rattle.sheet_plan.specs.OfSheets.{placed_of, slot_of, slots_at};
 ghost use Rattle.row_sheets.specs.Filled.{is_turned as is_turned_on};
 ghost use Rattle.row_sheets.specs.Shapes.{filling};
 ghost use Rattle.row_sheets.specs.Creep.{creep_on as creep_on_side, up_to_fold, moved_up as moved_up_by};
 ghost use Rattle.row_sheets.specs.Creep.{in_half, creeping, creeping_slot as creeping_slot_of, creeping_sheets as creeping_of};
 ghost use Rattle.row_sheets.specs.Creep.{AreHalves, may_creep, why_no_half, why_not_creeping, IsRefusedCreeping};
-ghost use Rattle.row_sheets.specs.Standing.{AllFitOnLeaves, EntryCreeps, FitsIn, FitsOnLeaf, LeavesStand};
+ghost use Rattle.row_sheets.specs.Standing.{AllFitOnLeaves, EntryCreeps, FitsIn, FitsOnLeaf, IsOfHalf, LeavesStand};
 
-use super::fill::{blocks_of, entry_at};
+use super::fill::{blocks_of, entry_at, same_item};
 use super::selecting::paper_or;
 use layouts::{ArrangementError, Setting};
 use lengths::{Number, Paper, Unit};
 use pagespec::{Item, Measure};
-use sheet_plan::{MadeSheets, MadeSlot};
+use sheet_plan::{MadeSheets, MadeSlot, PlacedSlot};
 use std::alloc::Global;
 
 /// How far the leaves of a signature creep.
@@ -28,6 +29,13 @@ pub struct Creep {
     pub innermost: u64,
     /// How many leaves a signature has.
     pub leaves: u32,
+}
+
+/// A side of a leaf: whether it is turned by half, and how far its pages are moved.
+#[derive(Clone, Copy)]
+struct Side {
+    by_half: bool,
+    creep: u64,
 }
 
 /// The sides of a booklet's leaves, fronts and backs in turn, for a row that is in signature order: two entries on each
@@ -59,14 +67,17 @@ pub fn creeping_booklet_sheets(
     for s in 0..sheets {
         let by_half = is_turned(turned_backs, s);
         let by = creep_on(creep, s);
+        let side = Side { by_half, creep: by };
         let place = 2 * u128::from(s);
         let entry = entry_at(row, place);
-        let first = match creeping_slot(setting, papers, by_half, by, entry, 0) {
+        let before = half_before(&made, creep, s, 0);
+        let first = match creeping_slot(setting, papers, side, before, entry, 0) {
             Ok(slot) => slot,
             Err(error) => return Err(error),
         };
         let next = entry_at(row, place + 1);
-        let second = match creeping_slot(setting, papers, by_half, by, next, 1) {
+        let before_next = half_before(&made, creep, s, 1);
+        let second = match creeping_slot(setting, papers, side, before_next, next, 1) {
             Ok(slot) => slot,
             Err(error) => return Err(error),
         };
@@ -89,35 +100,52 @@ fn is_turned(turned_backs: bool, s: u32) -> bool
 fn creep_on(creep: Creep, s: u32) -> u64
     ensures { result ≡ creep_on_side creep.innermost creep.leaves s }
 {
-    if creep.leaves <= 1 {
+    if creep.leaves <= 1 || creep.innermost == 0 {
         return 0;
     }
     let leaf = s / 2 % creep.leaves;
     (u128::from(leaf) * u128::from(creep.innermost) / u128::from(creep.leaves - 1)) as u64
 }
 
-/// An entry of a row in a half of a leaf that creeps so far.
+/// What is in a half of the same side of the leaf before, if that leaf creeps as far.
+fn half_before(made: &MadeSheets, creep: Creep, s: u32, cell: u32) -> Option<PlacedSlot<'_>>
+    requires sheet { s ≤ length made.now }
+    requires cell { 2 ≤ s → cell < length (slots_at made.now (s - 2)) }
+    ensures { IfSome result (λ placed. (2 ≤ s) × (slice_get (slots_at made.now (s - 2)) cell ≡ Some (placed_of result))
+        × (creep_on_side creep.innermost creep.leaves (s - 2) ≡ creep_on_side creep.innermost creep.leaves s)) }
+{
+    if s < 2 || creep_on(creep, s - 2) != creep_on(creep, s) {
+        return None;
+    }
+    made.placed(s - 2, cell)
+}
+
+/// An entry of a row in a half of a side. A page of the same paper as the one before has the same item.
 fn creeping_slot(
     setting: &Setting,
     papers: &[Paper],
-    by_half: bool,
-    creep: u64,
+    side: Side,
+    before: Option<PlacedSlot<'_>>,
     entry: Option<u32>,
     cell: u32,
 ) -> Result<MadeSlot, ArrangementError>
     requires halves { AreHalves setting.now }
+    requires before { IsOfHalf setting.now side.by_half cell side.creep (placed_of before) }
     requires cell { cell < 2 }
     ensures made { IfOk result (λ slot. slot_of slot
-        ≡ creeping_slot_of (filling setting.now papers.now) by_half cell creep entry) }
-    ensures fits { OnOk result (EntryCreeps (filling setting.now papers.now) creep entry) }
-    ensures refused { IfErr result (λ error. why_no_half (filling setting.now papers.now) creep entry ≡ Some error) }
+        ≡ creeping_slot_of (filling setting.now papers.now) side.by_half cell side.creep entry) }
+    ensures fits { OnOk result (EntryCreeps (filling setting.now papers.now) side.creep entry) }
+    ensures refused { IfErr result (λ error. why_no_half (filling setting.now papers.now) side.creep entry ≡ Some error) }
 {
     let page = match entry {
         Some(page) => page,
         None => return Ok(MadeSlot::Blank),
     };
     let paper = paper_or(papers, page, &setting.room.paper);
-    match creeping_item(setting, &paper, by_half, creep, cell) {
+    if let Some(item) = same_item(before, &paper) {
+        return Ok(MadeSlot::Placed { page, item, paper });
+    }
+    match creeping_item(setting, &paper, side.by_half, side.creep, cell) {
         Ok(item) => Ok(MadeSlot::Placed { page, item, paper }),
         Err(error) => Err(error),
     }

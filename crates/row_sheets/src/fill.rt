@@ -1,23 +1,27 @@
 //! Sheets whose cells are filled from a row.
-ghost use Rattle.std.specs.Prelude.{◌≡◌, ◌<◌, ◌≤◌, ◌*◌, IfOk, IfErr, OnOk, length, map, true, ℕ};
+ghost use Rattle.std.specs.Prelude.{◌≡◌, ◌<◌, ◌≤◌, ◌*◌, ◌-◌, IfOk, IfErr, IfSome, OnOk, Some, false, length, map, slice_get, true, ℕ};
 ghost use Rattle.std.specs.List.{range_with_len};
 ghost use Rattle.rules.specs.Sheets.{blocks};
 ghost use Rattle.rules.specs.Signatures.{entry_of};
 ghost use Rattle.layouts.specs.Cells.{size};
 ghost use Rattle.layouts.specs.declared.error.ArrangementError.TheVariants as why;
-ghost use Rattle.sheet_plan.specs.OfSheets.{slot_of};
-ghost use Rattle.row_sheets.specs.Filled.{behind_in, slot_in as slot_of_cell, filled as filled_of};
+ghost use Rattle.made_sheets.specs.Made.{Placed};
+ghost use Rattle.pagespec.specs.Items.{item_of};
+ghost use Rattle.sheet_plan.specs.OfSheets.{placed_of, slot_of, slots_at};
+ghost use Rattle.row_sheets.specs.Filled.{behind_in, slot_in as slot_of_cell, back_slot_in as back_slot_of_cell};
 ghost use Rattle.row_sheets.specs.Filled.{grid_sheets as grid_of, card_sheets as cards_of, stack_sheets as stack_of};
-ghost use Rattle.row_sheets.specs.Filled.{duplex_sheets as leaves_of};
-ghost use Rattle.row_sheets.specs.Shapes.{filling, is_two_sided, sheets_by, sheet_count, place as place_of, cell_on, entry_in};
-ghost use Rattle.row_sheets.specs.Shapes.{IsRefusedFor};
-ghost use Rattle.row_sheets.specs.Standing.{AllFit, AllStand, EntryFits};
+ghost use Rattle.row_sheets.specs.Filled.{duplex_sheets as leaves_of, zine_place as place_in_zine, zine_sheets as zine_of};
+ghost use Rattle.row_sheets.specs.Shapes.{filling, is_folded, is_two_sided, sheets_by, sheet_count, place as place_of, cell_on};
+ghost use Rattle.row_sheets.specs.Shapes.{entry_in, filled_by, slot_by as slot_made_by, IsRefusedFor};
+ghost use Rattle.row_sheets.specs.Standing.{AllFit, AllStand, EntryFits, IsOfCell};
+ghost use Rattle.row_sheets.specs.Zine.{AreZineCells, closer, kept_by};
 
 use super::checked::check_cells;
 use super::selecting::paper_or;
 use layouts::{ArrangementError, Run, Setting, read_sides};
 use lengths::Paper;
-use sheet_plan::{MadeSheets, MadeSlot};
+use pagespec::Item;
+use sheet_plan::{MadeSheets, MadeSlot, PlacedSlot};
 use std::alloc::Global;
 
 /// In which cells the entries of a row are, one after the other.
@@ -27,6 +31,7 @@ enum CellKind {
     Cards,
     Stack,
     Leaves,
+    Zine,
 }
 
 /// So many sheets, and so many cells of each.
@@ -111,6 +116,23 @@ pub fn leaf_sheets(
     }
 }
 
+/// A zine: eight entries on one side of each sheet, which is folded thrice and cut once. Its first row of cells is turned by
+/// half.
+pub fn zine_sheets(
+    alloc: Global,
+    setting: &Setting,
+    papers: &[Paper],
+    row: &[Option<u32>],
+) -> Result<MadeSheets, ArrangementError>
+    requires { AreZineCells setting.now }
+    ensures made { IfOk result (λ made. made ≡ zine_of (filling setting.now papers.now) row.now) }
+    ensures stands { IfOk result (AllStand (closer setting.now.room)) }
+    ensures fits { OnOk result (AllFit (filling setting.now papers.now) row.now) }
+    ensures refused { IfErr result (IsRefusedFor (filling setting.now papers.now) row.now) }
+{
+    in_cells(alloc, setting, papers, row, CellKind::Zine, 8)
+}
+
 /// The row in so many cells of each sheet.
 fn in_cells(
     alloc: Global,
@@ -123,8 +145,9 @@ fn in_cells(
     requires some { 0 < cells }
     requires cells { cells ≤ size setting.now.grid }
     requires all { is_two_sided kind ≡ true → cells ≡ size setting.now.grid }
+    requires folded { is_folded kind ≡ true → AreZineCells setting.now × (cells ≡ 8) }
     ensures made { IfOk result (λ made. made ≡ sheets_by kind (filling setting.now papers.now) cells row.now) }
-    ensures stands { IfOk result (AllStand setting.now.room) }
+    ensures stands { IfOk result (AllStand (kept_by kind setting.now.room)) }
     ensures fits { OnOk result (AllFit (filling setting.now papers.now) row.now) }
     ensures refused { IfErr result (IsRefusedFor (filling setting.now papers.now) row.now) }
 {
@@ -162,7 +185,7 @@ fn sheets_for(kind: CellKind, cells: u32, row: &[Option<u32>]) -> Result<u32, Ar
     ensures refused { IfErr result (λ error. error ≡ ArrangementError.NoMemory) }
 {
     match kind {
-        CellKind::Grid | CellKind::Stack => blocks_of(row, u64::from(cells)),
+        CellKind::Grid | CellKind::Stack | CellKind::Zine => blocks_of(row, u64::from(cells)),
         CellKind::Cards => blocks_of(row, 1),
         CellKind::Leaves => {
             let leaves = match blocks_of(row, 2 * u64::from(cells)) {
@@ -198,17 +221,18 @@ fn filled(
     row: &[Option<u32>],
     shape: Shape,
 ) -> Result<MadeSheets, ArrangementError>
-    requires { shape.cells ≤ size setting.now.grid }
-    ensures made { IfOk result (λ made. made ≡ filled_of (filling setting.now papers.now) shape.sheets shape.cells
-        (entry_in shape setting.now row.now)) }
-    ensures stands { IfOk result (AllStand setting.now.room) }
+    requires cells { shape.cells ≤ size setting.now.grid }
+    requires folded { is_folded shape.kind ≡ true → AreZineCells setting.now × (shape.cells ≡ 8) }
+    ensures made { IfOk result (λ made. made ≡ filled_by shape.kind (filling setting.now papers.now) shape.sheets
+        shape.cells (entry_in shape setting.now row.now)) }
+    ensures stands { IfOk result (AllStand (kept_by shape.kind setting.now.room)) }
     ensures fits { OnOk result ((s c : ℕ) → s < shape.sheets → c < shape.cells
         → EntryFits (filling setting.now papers.now) (entry_in shape setting.now row.now s c)) }
 {
     let mut made = MadeSheets::new(alloc);
     let mut slots = Vec::new(alloc);
-    for s in 0..shape.sheets {
-        match fill_slots(&mut slots, setting, papers, row, shape, s) {
+    for _ in 0..shape.sheets {
+        match fill_slots(&mut slots, &made, setting, papers, row, shape) {
             Ok(()) => (),
             Err(error) => return Err(error),
         }
@@ -220,26 +244,35 @@ fn filled(
     Ok(made)
 }
 
-/// The slots of one of its sheets, in place of those that were there.
+/// The slots of the sheet after those that are made, in place of those that were there.
 fn fill_slots(
     slots: &mut Vec<MadeSlot>,
+    made: &MadeSheets,
     setting: &Setting,
     papers: &[Paper],
     row: &[Option<u32>],
     shape: Shape,
-    s: u32,
 ) -> Result<(), ArrangementError>
-    requires { shape.cells ≤ size setting.now.grid }
+    requires cells { shape.cells ≤ size setting.now.grid }
+    requires folded { is_folded shape.kind ≡ true → AreZineCells setting.now × (shape.cells ≡ 8) }
+    requires more { length made.now < shape.sheets }
+    requires made { made.now ≡ filled_by shape.kind (filling setting.now papers.now) (length made.now) shape.cells
+        (entry_in shape setting.now row.now) }
+    requires fits { (s c : ℕ) → s < length made.now → c < shape.cells
+        → EntryFits (filling setting.now papers.now) (entry_in shape setting.now row.now s c) }
     ensures made { OnOk result (map slot_of slots.new.items
-        ≡ map (λ c. slot_of_cell (filling setting.now papers.now) c (entry_in shape setting.now row.now s c))
+        ≡ map (λ c. slot_made_by shape.kind (filling setting.now papers.now) c
+        (entry_in shape setting.now row.now (length made.now) c))
         (range_with_len 0 shape.cells)) }
     ensures fits { OnOk result ((c : ℕ) → c < shape.cells
-        → EntryFits (filling setting.now papers.now) (entry_in shape setting.now row.now s c)) }
+        → EntryFits (filling setting.now papers.now) (entry_in shape setting.now row.now (length made.now) c)) }
 {
+    let s = made.len() as u32;
     slots.clear();
     for c in 0..shape.cells {
         let entry = entry_at(row, place(shape, setting, s, c));
-        let slot = match slot_in(setting, papers, entry, c) {
+        let before = placed_before(made, s, c);
+        let slot = match slot_by(setting, papers, shape.kind, before, entry, c) {
             Ok(slot) => slot,
             Err(error) => return Err(error),
         };
@@ -251,14 +284,88 @@ fn fill_slots(
     Ok(())
 }
 
-/// An entry of a row in a cell.
-fn slot_in(
+/// What is in a cell of the sheet before, if there is one.
+fn placed_before(made: &MadeSheets, s: u32, cell: u32) -> Option<PlacedSlot<'_>>
+    requires sheet { s ≤ length made.now }
+    requires cell { 0 < s → cell < length (slots_at made.now (s - 1)) }
+    ensures { IfSome result (λ placed. (0 < s) × (slice_get (slots_at made.now (s - 1)) cell ≡ Some (placed_of result))) }
+{
+    if s == 0 {
+        return None;
+    }
+    made.placed(s - 1, cell)
+}
+
+/// The item of a page that was placed before, if it has this paper.
+pub fn same_item(before: Option<PlacedSlot<'_>>, paper: &Paper) -> Option<Item>
+    ensures { IfSome result (λ item. (page : ℕ) × (placed_of before.entry ≡ Placed page (item_of item) paper.now)) }
+{
+    let placed = before?;
+    if *placed.paper == *paper {
+        Some(*placed.item)
+    } else {
+        None
+    }
+}
+
+/// An entry of a row in a cell that is filled so.
+fn slot_by(
+    setting: &Setting,
+    papers: &[Paper],
+    kind: CellKind,
+    before: Option<PlacedSlot<'_>>,
+    entry: Option<u32>,
+    cell: u32,
+) -> Result<MadeSlot, ArrangementError>
+    requires cell { cell < size setting.now.grid }
+    requires folded { is_folded kind ≡ true → AreZineCells setting.now × (cell < 8) }
+    requires before { is_folded kind ≡ false → IsOfCell setting.now cell (placed_of before) }
+    ensures made { IfOk result (λ slot. slot_of slot ≡ slot_made_by kind (filling setting.now papers.now) cell entry) }
+    ensures fits { OnOk result (EntryFits (filling setting.now papers.now) entry) }
+{
+    match kind {
+        CellKind::Zine => if cell < 4 {
+            back_slot_in(setting, papers, entry, 7 - cell)
+        } else {
+            slot_in(setting, papers, None, entry, cell)
+        },
+        _ => slot_in(setting, papers, before, entry, cell),
+    }
+}
+
+/// An entry of a row in a cell, as it lies if the whole sheet is turned by half.
+fn back_slot_in(
     setting: &Setting,
     papers: &[Paper],
     entry: Option<u32>,
     cell: u32,
 ) -> Result<MadeSlot, ArrangementError>
-    requires { cell < size setting.now.grid }
+    requires cell { cell < size setting.now.grid }
+    requires many { 2 ≤ size setting.now.grid }
+    ensures made { IfOk result (λ slot. slot_of slot ≡ back_slot_of_cell (filling setting.now papers.now) cell entry) }
+    ensures fits { OnOk result (EntryFits (filling setting.now papers.now) entry) }
+{
+    let page = match entry {
+        Some(page) => page,
+        None => return Ok(MadeSlot::Blank),
+    };
+    let paper = paper_or(papers, page, &setting.room.paper);
+    match setting.back_item(&paper, cell) {
+        Ok(item) => Ok(MadeSlot::Placed { page, item, paper }),
+        Err(error) => Err(error),
+    }
+}
+
+/// An entry of a row in a cell. A page of the same paper as the one that was there before has the same item.
+fn slot_in(
+    setting: &Setting,
+    papers: &[Paper],
+    before: Option<PlacedSlot<'_>>,
+    entry: Option<u32>,
+    cell: u32,
+) -> Result<MadeSlot, ArrangementError>
+    requires cell { cell < size setting.now.grid }
+    requires before { IsOfCell setting.now cell (placed_of before) }
     ensures made { IfOk result (λ slot. slot_of slot ≡ slot_of_cell (filling setting.now papers.now) cell entry) }
     ensures fits { OnOk result (EntryFits (filling setting.now papers.now) entry) }
 {
@@ -267,6 +374,9 @@ fn slot_in(
         None => return Ok(MadeSlot::Blank),
     };
     let paper = paper_or(papers, page, &setting.room.paper);
+    if let Some(item) = same_item(before, &paper) {
+        return Ok(MadeSlot::Placed { page, item, paper });
+    }
     match setting.item(&paper, cell) {
         Ok(item) => Ok(MadeSlot::Placed { page, item, paper }),
         Err(error) => Err(error),
@@ -283,7 +393,16 @@ fn place(shape: Shape, setting: &Setting, s: u32, c: u32) -> u128
         CellKind::Cards => sheet,
         CellKind::Stack => cell * u128::from(shape.sheets) + sheet,
         CellKind::Leaves => u128::from(side(setting, s, c)) * u128::from(shape.sheets) + sheet,
+        CellKind::Zine => sheet * u128::from(shape.cells) + zine_place(cell),
     }
+}
+
+/// Which of a zine's eight entries is in this cell of its sheet.
+fn zine_place(cell: u128) -> u128
+    requires { cell < 4_294_967_296 }
+    ensures { result ≡ place_in_zine cell }
+{
+    if cell < 4 { 4 - cell } else { (cell + 1) % 8 }
 }
 
 /// The cell on a front, and on a back the one that is behind it.

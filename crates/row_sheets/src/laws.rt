@@ -1,5 +1,8 @@
 //! Laws of the definitions. The functions do nothing.
+ghost use Rattle.row_sheets.specs.AsDocument.{RowIsDocument};
+ghost use Rattle.row_sheets.specs.AsPrinted.{NothingIsWrittenOfNumbers, PrintedBacksAreImposed, PrintedBookletIsImposed, PrintedIsImposed};
 ghost use Rattle.row_sheets.specs.BySpec.{BySpecOnAll};
+ghost use Rattle.row_sheets.specs.Specified.{GridIsSpecified, BookletIsSpecified};
 ghost use Rattle.row_sheets.specs.Filled.{GridRunsOn, BehindIsMirror};
 ghost use Rattle.row_sheets.specs.Filled.{FilledIsInside, FilledIsApart, SidesAreInside, SidesAreApart, BookletIsGrid, BookletKeepsFold};
 ghost use Rattle.row_sheets.specs.Creep.{CreepMoves, CreepGrows, CreepKeepsSides, NoCreepIsPlain};
@@ -8,6 +11,7 @@ ghost use Rattle.row_sheets.specs.Stacked.{CellsLieBehind, LeavesAreRead, StackI
 ghost use Rattle.row_sheets.specs.Posters.{PosterCovers, PosterHasTiles, RowIsShown, TilesOverlap};
 ghost use Rattle.row_sheets.specs.SameScale.{HaveOneScale, OneScaleStands};
 ghost use Rattle.row_sheets.specs.Standing.{FilledStandsInCells};
+ghost use Rattle.row_sheets.specs.Zine.{ZineIsRead};
 
 /// Of all pages, in signatures or not, the sheets of a specification on their row are those of the rules.
 pub fn by_spec_on_all()
@@ -27,6 +31,11 @@ pub fn stack_is_read()
 /// The leaves of a stack that is printed on both sides, cut and laid, and read front and back, are the row.
 pub fn leaves_are_read()
     ensures { LeavesAreRead }
+{}
+
+/// The sheets of a zine, folded, cut and read leaf by leaf, are the row.
+pub fn zine_is_read()
+    ensures { ZineIsRead }
 {}
 
 /// The parts of a leaf lie back to back: the cell behind a cell covers it, to 10^-5 of a point for each column.
@@ -127,4 +136,39 @@ pub fn have_one_scale()
 /// And each lies in its cell then.
 pub fn one_scale_stands()
     ensures { OneScaleStands }
+{}
+
+/// With pages of one paper, the sheets of a grid are those of the specification that is arranged so.
+pub fn grid_is_specified()
+    ensures { GridIsSpecified }
+{}
+
+/// With pages of one paper, the sides of a booklet of which no back is turned are those of the specification that is bound so.
+pub fn booklet_is_specified()
+    ensures { BookletIsSpecified }
+{}
+
+/// What is read of the specification that is printed for a grid makes the sheets of all pages.
+pub fn printed_is_imposed()
+    ensures { PrintedIsImposed }
+{}
+
+/// So does that of a booklet, flipped on its short edge.
+pub fn printed_booklet_is_imposed()
+    ensures { PrintedBookletIsImposed }
+{}
+
+/// So does that of a booklet whose backs are turned, but for the pages that items name, which nothing is written of.
+pub fn printed_backs_are_imposed()
+    ensures { PrintedBacksAreImposed }
+{}
+
+/// Of a sheet the same is written whichever pages its items name.
+pub fn nothing_is_written_of_numbers()
+    ensures { NothingIsWrittenOfNumbers }
+{}
+
+/// A row of pages is laid as all pages of the document that consists of them, in the same cells.
+pub fn row_is_document()
+    ensures { RowIsDocument }
 {}

@@ -113,7 +113,7 @@ pub(crate) fn push_poster(
         let (column, row) = (n % poster.columns, poster.rows - (n / poster.columns + 1));
         let slots = [MadeSlot::Placed {
             page,
-            item: tile_item(&laid, page, column, row),
+            item: tile_item(&laid, column, row),
             paper: *page_paper,
         }];
         match made.push(&poster.sheet, &slots) {
@@ -200,14 +200,15 @@ fn slack(length: u128, side: u64, scale: u128) -> u64
         / 2_540_000_000_000_000) as u64
 }
 
-/// The page on the tile in this column, and in this row from the foot.
-fn tile_item(laid: &Laid, page: u32, column: u32, row: u32) -> Item
+/// The page on the tile in this column, and in this row from the foot. All pages of one paper have the same item, so that
+/// sheets keep it once.
+fn tile_item(laid: &Laid, column: u32, row: u32) -> Item
     requires near { IsNear laid.now column row }
     requires scale { laid.now.scale ≤ greatest_number }
-    ensures { item_of result ≡ laid_item laid.now page column row }
+    ensures { item_of result ≡ laid_item laid.now column row }
 {
     Item {
-        page,
+        page: 0,
         from_end: false,
         turn: Turn::None,
         scale: number(laid.scale),

@@ -29,7 +29,7 @@ abbrev us : List NestedUnit
 us = units text
 
 -- after the preamble: the dictionary is the fourth thing that was made
-abbrev behind : State
+abbrev pub behind : State
 behind = record (behind_guard paper []) {
   work = record (behind_guard paper []).work {
     dictionaries = 4 ∷ 0 ∷ [];
@@ -40,7 +40,7 @@ behind = record (behind_guard paper []) {
   };
 }
 
-own_behind : HasItsOwn 4 behind
+pub own_behind : HasItsOwn 4 behind
 own_behind = record {
   guard = record { number = 3; save_is = refl; guard_is = refl; clip_is = refl; clip_alone = refl; path_is = refl; names = refl; few_operands = omega arith; operands = refl; dictionaries = refl };
   own_first = refl;

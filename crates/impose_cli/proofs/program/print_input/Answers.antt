@@ -6,4 +6,4 @@ pub returns : goal.returns
 returns g c =
     printed c.args.request.now c.args.input.items (g.W.World.tells c.args.world) c.in-Ok.task c.as_slice.result.now c.write_text.result.outcome
     (is_some c.write_text.result.output) (option_and_then g.W.Output.Write.contents c.write_text.result.output)
-    c.in-Ok.ensures.is_task c.in-Ok.ensures.one_paper c.write_text.ensures
+    c.in-Ok.ensures.is_task c.in-Ok.ensures.accepted c.write_text.ensures

@@ -1,9 +1,8 @@
-use Rattle.std.proofs.Common.{◌≡◌, ◌∙◌, ap, refl, inl, inr, false, length, None, rules}
+use Rattle.std.proofs.Common.{◌≡◌, ◌∙◌, ap, inl, inr, length, None, rules}
 use Rattle.made_sheets.specs.Choice.{imposed_row}
-use Rattle.sheet_text.specs.Jobs.{is_border}
 use Rattle.impose_words.specs.Choices.{choice_in}
 use Rattle.impose_cli.specs.Tasks.{taken_text}
-use Rattle.impose_cli.specs.RowTasks.{IsRowPaper, first_paper, guarded_in}
+use Rattle.impose_cli.specs.RowTasks.{IsRowPaper, first_paper, guarded_in, why_no_row}
 use Rattle.impose_cli.proofs.Rows.{refused_after, refused_found}
 use Rattle.impose_cli.proofs.row_task.row_task.Goals as goal
 
@@ -14,18 +13,13 @@ returns-in-Err-clause-refused c =
 pub returns-in-Err-laying_for-clause-refused : goal.returns-in-Err-laying_for-clause-refused
 returns-in-Err-laying_for-clause-refused c =
     let found : IsRowPaper c.args.request.now c.args.input.items (c.in-Ok.found.page_paper, c.in-Ok.found.origin) = rw c.as_slice.ensures.value at c.in-Ok.ensures.paper in
-    refused_after c.args.request.now c.args.input.items _ _ found (inl (search rules))
+    refused_after c.args.request.now c.args.input.items _ _ found (inl (inr (search rules)))
 
 pub returns-in-Err-signing_for-clause-refused : goal.returns-in-Err-signing_for-clause-refused
 returns-in-Err-signing_for-clause-refused c =
     let found : IsRowPaper c.args.request.now c.args.input.items (c.in-Ok.found.page_paper, c.in-Ok.found.origin) = rw c.as_slice.ensures.value at c.in-Ok.ensures.paper in
-    refused_after c.args.request.now c.args.input.items _ _ found (inr (inl c.in-Err-signing_for.ensures.refused))
-
-pub returns-then-not-is_drawn-clause-refused : goal.returns-then-not-is_drawn-clause-refused
-returns-then-not-is_drawn-clause-refused c =
-    let found : IsRowPaper c.args.request.now c.args.input.items (c.in-Ok.found.page_paper, c.in-Ok.found.origin) = rw c.as_slice.ensures.value at c.in-Ok.ensures.paper in
-    let none : is_border c.args.request.now.border ≡ false = search rules in
-    refused_after c.args.request.now c.args.input.items _ _ found (inr (inr (inl (refl, none))))
+    let possible : why_no_row c.args.request.now c.in-Ok.found.page_paper ≡ None = search rules in
+    refused_after c.args.request.now c.args.input.items _ _ found (inr (possible, c.in-Err-signing_for.ensures.refused))
 
 pub returns-in-Ok-text_to_impose-clause-is_task : goal.returns-in-Ok-text_to_impose-clause-is_task
 returns-in-Ok-text_to_impose-clause-is_task c = record {
@@ -42,15 +36,15 @@ returns-in-Ok-text_to_impose-clause-is_task c = record {
   may_be_laid = search rules;
   signing = c.in-Ok-signing_for.ensures.signing;
   may_be_sewn = c.in-Ok-signing_for.ensures.may_be;
-  border = search rules;
+  border = c.in-Ok-signing_for.ensures.border;
 }
 
 pub returns-in-Err-guarded_paper-clause-refused : goal.returns-in-Err-guarded_paper-clause-refused
 returns-in-Err-guarded_paper-clause-refused c =
     let found : IsRowPaper c.args.request.now c.args.input.items (c.in-Ok.found.page_paper, c.in-Ok.found.origin) = rw c.as_slice.ensures.value at c.in-Ok.ensures.paper in
-    refused_after c.args.request.now c.args.input.items _ _ found (inr (inr (inr c.in-Err-guarded_paper.ensures.refused)))
+    refused_after c.args.request.now c.args.input.items _ _ found (inl (inl c.in-Err-guarded_paper.ensures.refused))
 
 pub returns-in-Err-text_to_impose-clause-refused : goal.returns-in-Err-text_to_impose-clause-refused
 returns-in-Err-text_to_impose-clause-refused c =
     let found : IsRowPaper c.args.request.now c.args.input.items (c.in-Ok.found.page_paper, c.in-Ok.found.origin) = rw c.as_slice.ensures.value at c.in-Ok.ensures.paper in
-    refused_after c.args.request.now c.args.input.items _ _ found (inr (inr (inr c.no_memory.ensures)))
+    refused_after c.args.request.now c.args.input.items _ _ found (inl (inl c.no_memory.ensures))

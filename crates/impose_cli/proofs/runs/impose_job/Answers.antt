@@ -2,7 +2,7 @@ use Rattle.std.proofs.Common.{◌∙◌, is_some, option_and_then, option_map}
 use Rattle.row_runs.specs.Runs.{Imposes}
 use Rattle.impose_cli.specs.Endings.{RefusesRowJob}
 use Rattle.impose_cli.proofs.Coming.{comes_refused}
-use Rattle.impose_cli.proofs.Rows.{made_comes}
+use Rattle.impose_cli.proofs.Rows.{both_drawn, made_comes}
 use Rattle.impose_cli.proofs.runs.impose_job.Goals as goal
 
 pub returns-in-Err : goal.returns-in-Err
@@ -13,6 +13,6 @@ returns-in-Err g c =
 
 pub returns : goal.returns
 returns g c =
-    made_comes c.args.job.now c.in-Ok.row.sheets c.as_slice.result.now (option_map (λ n. n.now) c.args.name) (g.W.World.tells c.args.world)
+    made_comes c.args.job.now c.in-Ok.row.sheets _ (option_map (λ n. n.now) c.args.name) (g.W.World.tells c.args.world)
     c.write_sheets.result.outcome (is_some c.write_sheets.result.output) (option_and_then g.W.Output.Write.contents c.write_sheets.result.output)
-    c.in-Ok.ensures.asked c.in-Ok.ensures.stands (c.as_slice.ensures.value ∙ c.in-Ok.ensures.marked) c.write_sheets.ensures
+    c.in-Ok.ensures.asked c.in-Ok.ensures.stands (both_drawn (c.as_slice.ensures.value ∙ c.in-Ok.ensures.marked) c.in-Ok.ensures.numbered) c.write_sheets.ensures

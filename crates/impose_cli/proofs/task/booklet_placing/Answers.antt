@@ -8,7 +8,7 @@ use Rattle.impose_said.specs.Faults.{without_memory}
 use Rattle.impose_cli.specs.Tasks.{IsWritten}
 use Rattle.impose_said.specs.declared.fault.ImposeFault.{ImposeFault}
 use Rattle.impose_said.specs.declared.fault.ImposeFault.TheVariants as fault
-use Rattle.impose_cli.proofs.Placing.{ok_both, refuses_layout}
+use Rattle.impose_cli.proofs.Placing.{if_there, ok_both, refuses_layout}
 use Rattle.impose_cli.proofs.task.booklet_placing.Goals as goal
 
 pub returns-in-Err-clause-refused : goal.returns-in-Err-clause-refused
@@ -16,6 +16,9 @@ returns-in-Err-clause-refused c =
     let why = why_not_bound c.args.papers.now.page c.args.papers.now.sheet c.args.binding.now in
     subst (λ (f : ImposeFault). (f ≡ without_memory) ⊎ ((e : ArrangementError) × (f ≡ fault.Layout e) × (why ≡ Some e))) (sym c.from.ensures)
     (refuses_layout why c.in-Err.error c.in-Err.ensures.refused)
+
+pub returns-in-Ok-clause-possible : goal.returns-in-Ok-clause-possible
+returns-in-Ok-clause-possible c = if_there c.written.result _ c.in-Ok.ensures.possible
 
 pub returns-in-Ok-clause-placed : goal.returns-in-Ok-clause-placed
 returns-in-Ok-clause-placed c =

@@ -1,8 +1,7 @@
 use Rattle.std.proofs.Common.{rules, string_bytes}
-use Rattle.std.specs.Prelude.{decimal}
 use Rattle.impose_said.proofs.Lines.{reach_told}
 use Rattle.impose_said.proofs.reports.reach_text.Goals as goal
 
 pub returns : goal.returns
-returns c = reach_told c.args.done.now.reach c.in-Some.reach (decimal c.saturating_add-page.result) c.as_str-edges.result.now c.as_str-placed.result.now
-    c.as_str-others.result.now (string_bytes c.in_ok-format.field-0) (search rules) (search rules) (search rules)
+returns c = reach_told c.args.done.now.reach c.in-Some.reach c.page_number-page.result c.as_str-edges.result.now c.as_str-placed.result.now
+    c.as_str-others.result.now (string_bytes c.in_ok-format.field-0) (search rules) c.page_number-page.ensures (search rules) (search rules) (search rules) (search rules)

@@ -8,4 +8,4 @@ use Rattle.papers.proofs.finding.each_or.Goals as goal
 
 pub returns : goal.returns
 returns c =
-    if_ok c.each_with.result (λ papers e. e ∙ same_pages _ (medium_by (contents c.args.header.now)) c.in_ok-known.ensures c.args.other.now (pages c.args.document.now)) c.each_with.ensures
+    if_ok c.each_with.result (λ papers e. e ∙ same_pages _ (medium_by (contents c.args.header.now)) c.args.other.now (pages c.args.document.now) c.in_ok-known.ensures) c.each_with.ensures

@@ -35,3 +35,9 @@ returns-in-Booklet-clause-refused c =
     let row = c.args.row.now in
     cells_told c.creeping_booklet_sheets.result c.args.laying.now c.args.leaves papers row (first_over_fold (filling c.in-Booklet.setting papers) c.in-Booklet.creep c.args.leaves row)
     (ap (λ l. why_not_laid l c.args.leaves papers row) c.in-Booklet.is) c.creeping_booklet_sheets.ensures.refused
+
+pub returns-in-Zine-clause-refused : goal.returns-in-Zine-clause-refused
+returns-in-Zine-clause-refused c =
+    let papers = c.args.papers.now in
+    let row = c.args.row.now in
+    cells_told c.zine_sheets.result c.args.laying.now c.args.leaves papers row (first_refused (filling c.in-Zine.setting papers) row) (ap (λ l. why_not_laid l c.args.leaves papers row) c.in-Zine.is) c.zine_sheets.ensures.refused

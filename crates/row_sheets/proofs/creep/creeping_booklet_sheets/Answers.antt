@@ -7,12 +7,47 @@ use Rattle.row_sheets.specs.Filled.{is_turned, grid_entry}
 use Rattle.row_sheets.specs.Shapes.{filling}
 use Rattle.row_sheets.specs.Creep.{creep_on, creeping_slot}
 use Rattle.row_sheets.specs.Standing.{EntryCreeps, LeavesStand}
+use Rattle.row_sheets.proofs.Before.{half_before, has_half, sides_count}
 use Rattle.row_sheets.proofs.Filling.{sheet, sheet_more, one_more}
 use Rattle.row_sheets.proofs.OnLeaves.{leaves_stand}
 use Rattle.row_sheets.proofs.Places.{creeping_fit}
 use Rattle.row_sheets.proofs.Creeping.{both_slots, both_creep, entry_creeps, entry_is}
 use Rattle.row_sheets.proofs.Refused.{first_half, second_half, sides_none}
 use Rattle.row_sheets.proofs.creep.creeping_booklet_sheets.Goals as goal
+
+pub half_before-before-requires-clause-sheet : goal.half_before-before-requires-clause-sheet
+half_before-before-requires-clause-sheet c =
+    let f = filling c.args.setting.now c.args.papers.now in
+    let many = sides_count f c.args.turned_backs c.args.creep.innermost c.args.creep.leaves c.args.row.now c.loop-s.made c.loop-s.s c.loop-s.invariant.made in
+    omega (arith, many)
+
+pub half_before-before-requires-clause-cell : goal.half_before-before-requires-clause-cell
+half_before-before-requires-clause-cell c =
+    let f = filling c.args.setting.now c.args.papers.now in
+    has_half f c.args.turned_backs c.args.creep.innermost c.args.creep.leaves c.args.row.now c.loop-s.made c.loop-s.s _ c.loop-s.invariant.made (omega arith)
+
+pub creeping_slot-requires-clause-before : goal.creeping_slot-requires-clause-before
+creeping_slot-requires-clause-before c =
+    let f = filling c.args.setting.now c.args.papers.now in
+    half_before f c.args.turned_backs c.args.creep.innermost c.args.creep.leaves c.args.row.now c.loop-s.made c.loop-s.s _ c.is_turned-by_half.result c.creep_on-by.result c.half_before-before.result c.loop-s.invariant.made
+    c.loop-s.invariant.fits (omega arith) c.is_turned-by_half.ensures c.creep_on-by.ensures c.half_before-before.ensures
+
+pub half_before-before_next-requires-clause-sheet : goal.half_before-before_next-requires-clause-sheet
+half_before-before_next-requires-clause-sheet c =
+    let f = filling c.args.setting.now c.args.papers.now in
+    let many = sides_count f c.args.turned_backs c.args.creep.innermost c.args.creep.leaves c.args.row.now c.loop-s.made c.loop-s.s c.loop-s.invariant.made in
+    omega (arith, many)
+
+pub half_before-before_next-requires-clause-cell : goal.half_before-before_next-requires-clause-cell
+half_before-before_next-requires-clause-cell c =
+    let f = filling c.args.setting.now c.args.papers.now in
+    has_half f c.args.turned_backs c.args.creep.innermost c.args.creep.leaves c.args.row.now c.loop-s.made c.loop-s.s _ c.loop-s.invariant.made (omega arith)
+
+pub creeping_slot-requires-in-loop-s-clause-before : goal.creeping_slot-requires-in-loop-s-clause-before
+creeping_slot-requires-in-loop-s-clause-before c =
+    let f = filling c.args.setting.now c.args.papers.now in
+    half_before f c.args.turned_backs c.args.creep.innermost c.args.creep.leaves c.args.row.now c.loop-s.made c.loop-s.s _ c.is_turned-by_half.result c.creep_on-by.result c.half_before-before_next.result c.loop-s.invariant.made
+    c.loop-s.invariant.fits (omega arith) c.is_turned-by_half.ensures c.creep_on-by.ensures c.half_before-before_next.ensures
 
 pub returns-in-Err-creeping_slot-clause-refused : goal.returns-in-Err-creeping_slot-clause-refused
 returns-in-Err-creeping_slot-clause-refused c =

@@ -1,14 +1,13 @@
-use Rattle.std.proofs.Common.{◌≡◌, ℕ, ◌<◌}
+use Rattle.std.proofs.Common.{◌≡◌, ℕ, ◌<◌, length}
 use Rattle.std.specs.Prelude.{map}
 use Rattle.std.specs.List.{range_with_len}
 use Rattle.sheet_plan.specs.OfSheets.{slot_of}
-use Rattle.row_sheets.specs.Filled.{slot_in}
-use Rattle.row_sheets.specs.Shapes.{filling, entry_in}
+use Rattle.row_sheets.specs.Shapes.{filling, entry_in, slot_by}
 use Rattle.row_sheets.specs.Standing.{EntryFits}
 use Rattle.row_sheets.proofs.fill.fill_slots.Given as goal
 
 abbrev pub invariant-loop-c : goal.invariant-loop-c
 invariant-loop-c l = record {
-  filled : map slot_of l.slots.items ≡ map (λ c. slot_in (filling l.setting l.papers) c (entry_in l.shape l.setting l.row l.s c)) (range_with_len 0 l.c);
-  fits : (c : ℕ) → c < l.c → EntryFits (filling l.setting l.papers) (entry_in l.shape l.setting l.row l.s c);
+  filled : map slot_of l.slots.items ≡ map (λ c. slot_by l.shape.kind (filling l.setting l.papers) c (entry_in l.shape l.setting l.row (length l.made) c)) (range_with_len 0 l.c);
+  fits : (c : ℕ) → c < l.c → EntryFits (filling l.setting l.papers) (entry_in l.shape l.setting l.row (length l.made) c);
 }

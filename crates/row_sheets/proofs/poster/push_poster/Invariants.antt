@@ -8,4 +8,4 @@ use Rattle.row_sheets.proofs.poster.push_poster.Given as goal
 
 abbrev pub invariant-loop-n : goal.invariant-loop-n
 invariant-loop-n l =
-    l.made ≡ l.initial.made ++ map (λ n. sheet l.poster.sheet (Placed l.page (tile_item l.page_paper l.poster l.page (n % l.poster.columns) (l.poster.rows - (n / l.poster.columns + 1))) l.page_paper ∷ [])) (range_with_len 0 l.n)
+    l.made ≡ l.initial.made ++ map (λ n. sheet l.poster.sheet (Placed l.page (tile_item l.page_paper l.poster (n % l.poster.columns) (l.poster.rows - (n / l.poster.columns + 1))) l.page_paper ∷ [])) (range_with_len 0 l.n)

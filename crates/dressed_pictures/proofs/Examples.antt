@@ -1,0 +1,3 @@
+-- Worked examples.
+pub mod Applied
+pub mod Plain

@@ -1,5 +1,0 @@
-use Rattle.open_guarded_pictures.proofs.Imposed.{open_guarded_document_is_shown}
-use Rattle.open_guarded_pictures.proofs.laws.open_guarded_document_is_shown.Goals as goal
-
-pub returns : goal.returns
-returns c = open_guarded_document_is_shown

@@ -1,5 +1,0 @@
-use Rattle.open_guarded_pictures.proofs.Imposed.{open_guarded_sheets_show_the_pages}
-use Rattle.open_guarded_pictures.proofs.laws.open_guarded_sheets_show_the_pages.Goals as goal
-
-pub returns : goal.returns
-returns c = open_guarded_sheets_show_the_pages

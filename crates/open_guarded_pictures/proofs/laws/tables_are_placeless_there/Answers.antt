@@ -1,5 +1,0 @@
-use Rattle.open_guarded_pictures.proofs.Operators.{tables_are_placeless_there}
-use Rattle.open_guarded_pictures.proofs.laws.tables_are_placeless_there.Goals as goal
-
-pub returns : goal.returns
-returns c = tables_are_placeless_there

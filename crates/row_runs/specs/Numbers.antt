@@ -1,0 +1,61 @@
+-- The numbers of the pages on the sheets that are asked for.
+use Rattle.std.specs.Prelude.{ℕ, ◌+◌, ◌*◌, ℤ, pos, List, [], ◌∷◌, map, Option, Some, None, option_map, Result, Ok, Err}
+use Rattle.rules.specs.Papers.{Paper}
+use Rattle.made_sheets.specs.Choice.{RowFault, signed}
+use Rattle.made_sheets.specs.Made.{MadeSheet}
+use Rattle.made_sheets.specs.Rows.{Row}
+use Rattle.layouts.specs.Cells.{high}
+use Rattle.row_sheets.specs.RowSheets.{paper_of}
+use Rattle.dressing.specs.declared.numbers.Numbering.{Numbering}
+use Rattle.dressing.specs.declared.numbers.Numbers.{Numbers}
+use Rattle.row_runs.specs.Evened.{setting_in}
+use Rattle.row_runs.specs.Sheets.{laying_for, leaves_in, row_chosen, sewn, sheets_laid}
+use Rattle.row_runs.specs.declared.asked.Asked.{Asked}
+use Rattle.row_runs.specs.declared.asked.Laying.{Laying}
+use Rattle.row_runs.specs.declared.asked.Laying.TheVariants as laying
+
+-- an entry of which the page is named by this place
+abbrev pub named : (place : ℕ) → Option ℕ → Option ℕ
+named place entry = option_map (λ page. place) entry
+
+-- a row of which each page is named by its place in it, counted from this one
+abbrev pub places_from : (place : ℕ) → Row → Row
+places_from place [] = []
+places_from place (entry ∷ row) = named place entry ∷ places_from (place + 1) row
+
+-- the paper of sheets, which pages have whose own isn't known, and which blanks are given here
+abbrev pub sheet_paper : Laying → Paper
+sheet_paper (laying.AsTheyAre blank) = blank
+sheet_paper (laying.Grid setting cells) = setting.room.paper
+sheet_paper (laying.Cards setting cells) = setting.room.paper
+sheet_paper (laying.Stack setting cells) = setting.room.paper
+sheet_paper (laying.Leaves setting) = setting.room.paper
+sheet_paper (laying.Zine setting) = setting.room.paper
+sheet_paper (laying.Booklet setting turned_backs creep) = setting.room.paper
+sheet_paper (laying.Poster poster) = poster.sheet
+
+abbrev pub paper_in : List Paper → (other : Paper) → Option ℕ → Paper
+paper_in papers other None = other
+paper_in papers other (Some page) = paper_of papers other page
+
+-- the sheets that are asked for, with each page named by its place in the row, by which its paper is found too
+abbrev pub places_on : List Paper → Asked → Row → List MadeSheet
+places_on papers a row = sheets_laid (laying_for a papers row) (leaves_in (sewn a) row)
+    (map (paper_in papers (sheet_paper a.laying)) row) (signed (sewn a) (places_from 0 row))
+
+abbrev pub places_by : List Paper → Asked → Result Row RowFault → List MadeSheet
+places_by papers a (Ok row) = places_on papers a row
+places_by papers a (Err fault) = []
+
+-- how far the foot of a cell is below the middle of its page, in grains: half of the cell's height. Pages that are as they are,
+-- and posters, are their own cells
+abbrev pub below_middle : Laying → Option ℤ
+below_middle l = option_map (λ t. pos (635_000 * high t.room t.grid)) (setting_in l)
+
+-- the numbers that are asked for of a document with so many pages, if any are (RULES, 15)
+abbrev pub numbers_asked : (pages : ℕ) → List Paper → Asked → Option Numbering → Option Numbers
+numbers_asked pages papers a asked = option_map (λ how. record {
+  how = how;
+  places = places_by papers a (row_chosen pages a);
+  below = below_middle a.laying;
+}) asked

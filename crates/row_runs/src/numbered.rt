@@ -1,0 +1,136 @@
+//! The numbers on sheets.
+ghost use Rattle.std.specs.Prelude.{◌≡◌, ◌≤◌, ◌<◌, ℕ, IfOk, Option, Some, length, map, slice_get};
+ghost use Rattle.made_sheets.specs.Choice.{most_entries};
+ghost use Rattle.row_runs.specs.Numbers.{below_middle as below_of, named, numbers_asked, paper_in as paper_of_entry, places_by};
+ghost use Rattle.row_runs.specs.Numbers.{places_from, sheet_paper as sheet_paper_of};
+ghost use Rattle.row_runs.specs.Sheets.{MayBeAsked, row_chosen};
+
+use crate::asked::{Asked, Laying, laid, leaves_in};
+use crate::evened::{evened_if, setting_in};
+use crate::guides::grains;
+use dressing::{Numbering, Numbers, cell_height};
+use lengths::{Grains, Paper};
+use rows::{chosen_row, signed_row};
+use sheet_plan::MadeSheets;
+use std::alloc::{AllocError, Global};
+
+/// The numbers that are asked for of a document with so many pages, if any are.
+pub(crate) fn numbers_of(
+    alloc: Global,
+    pages: u32,
+    papers: &[Paper],
+    asked: &Asked<'_>,
+    how: Option<Numbering>,
+) -> Result<Option<Numbers>, AllocError>
+    requires pages { pages ≤ most_entries }
+    requires asked { MayBeAsked asked.now }
+    ensures { IfOk result (λ numbers. numbers ≡ numbers_asked pages papers.now asked.now how) }
+{
+    let Some(how) = how else {
+        return Ok(None);
+    };
+    Ok(Some(Numbers {
+        how,
+        places: places_of(alloc, pages, papers, asked)?,
+        below: below_middle(&asked.laying),
+    }))
+}
+
+/// The sheets that are asked for, with each page named by its place in the row.
+fn places_of(
+    alloc: Global,
+    pages: u32,
+    papers: &[Paper],
+    asked: &Asked<'_>,
+) -> Result<MadeSheets, AllocError>
+    requires pages { pages ≤ most_entries }
+    requires asked { MayBeAsked asked.now }
+    ensures { IfOk result (λ made. made ≡ places_by papers.now asked.now (row_chosen pages asked.now)) }
+{
+    let Ok(row) = chosen_row(alloc, pages, &asked.choice) else {
+        return Err(AllocError);
+    };
+    let leaves = leaves_in(asked.signing, row.as_slice());
+    let own = own_papers(alloc, papers, sheet_paper(&asked.laying), row.as_slice())?;
+    let places = signed_row(alloc, named_places(alloc, row.as_slice())?, asked.signing)?;
+    let printed = signed_row(alloc, row, asked.signing)?;
+    let Ok(laying) = evened_if(asked.same_scale, &asked.laying, papers, printed.as_slice()) else {
+        return Err(AllocError);
+    };
+    match laid(alloc, &laying, leaves, own.as_slice(), places.as_slice()) {
+        Ok(sheets) => Ok(sheets),
+        Err(_) => Err(AllocError),
+    }
+}
+
+/// The row with each page named by its place in it.
+fn named_places(alloc: Global, row: &[Option<u32>]) -> Result<Vec<Option<u32>>, AllocError>
+    requires { length row.now ≤ most_entries }
+    ensures { IfOk result (λ places. places.items ≡ places_from 0 row.now) }
+{
+    let mut places = Vec::new(alloc);
+    for place in 0..row.len() as u32 {
+        places.push(named_at(row, place))?;
+    }
+    Ok(places)
+}
+
+/// An entry of the row with its page named so.
+fn named_at(row: &[Option<u32>], place: u32) -> Option<u32>
+    requires { place < length row.now }
+    ensures { (entry : Option ℕ) → slice_get row.now place ≡ Some entry → result ≡ named place entry }
+{
+    match row[place as usize] {
+        Some(_) => Some(place),
+        None => None,
+    }
+}
+
+/// The papers of its pages, in their order.
+fn own_papers(
+    alloc: Global,
+    papers: &[Paper],
+    other: &Paper,
+    row: &[Option<u32>],
+) -> Result<Vec<Paper>, AllocError>
+    ensures { IfOk result (λ own. own.items ≡ map (paper_of_entry papers.now other.now) row.now) }
+{
+    let mut own = Vec::new(alloc);
+    for entry in row {
+        own.push(paper_in(papers, other, *entry))?;
+    }
+    Ok(own)
+}
+
+fn paper_in(papers: &[Paper], other: &Paper, entry: Option<u32>) -> Paper
+    ensures { result ≡ paper_of_entry papers.now other.now entry }
+{
+    match entry {
+        Some(page) if (page as usize) < papers.len() => papers[page as usize],
+        _ => *other,
+    }
+}
+
+/// The paper of sheets, which pages have whose own isn't known.
+fn sheet_paper(laying: &Laying) -> &Paper
+    ensures { result.now ≡ sheet_paper_of laying.now }
+{
+    match laying {
+        Laying::AsTheyAre { blank } => blank,
+        Laying::Grid { setting, .. } => &setting.room.paper,
+        Laying::Cards { setting, .. } => &setting.room.paper,
+        Laying::Stack { setting, .. } => &setting.room.paper,
+        Laying::Leaves { setting } => &setting.room.paper,
+        Laying::Zine { setting } => &setting.room.paper,
+        Laying::Booklet { setting, .. } => &setting.room.paper,
+        Laying::Poster { poster } => &poster.sheet,
+    }
+}
+
+/// How far the foot of a cell is below the middle of its page; none where pages are their own cells.
+fn below_middle(laying: &Laying) -> Option<Grains>
+    ensures { result ≡ below_of laying.now }
+{
+    let setting = setting_in(laying)?;
+    Some(grains((635_000 * cell_height(&setting.room, setting.grid)) as i128))
+}

@@ -1,0 +1,216 @@
+-- What is made of a row depends on its pages' papers alone.
+use Rattle.std.specs.Prelude.{ℤ, pos, flat_map, option_map, fold, slice_index_or}
+use Rattle.std.specs.List.{AllByRecursion, range_with_len}
+use Rattle.std.proofs.Common.{arith, ◌≡◌, ◌∙◌, ℕ, zero, suc, ◌+◌, ◌*◌, ◌<◌, Bool, true, false, List, [], ◌∷◌, ◌++◌, Option, Some, None, length, map, get_or, refl, sym, ap, subst}
+use Rattle.std.proofs.lemmas.List.{length-map}
+use Rattle.rules.specs.Papers.{Paper}
+use Rattle.rules.specs.Sheets.{blocks}
+use Rattle.rules.specs.Signatures.{entry_of, page_in_signature}
+use Rattle.made_sheets.specs.Made.{MadeSheet, MadeSlot, Placed}
+use Rattle.made_sheets.specs.Rows.{Row, all_pages, in_order_of, in_signatures}
+use Rattle.layouts.specs.Cells.{size}
+use Rattle.layouts.specs.Fitted.{fitted, fitted_back, scale_on}
+use Rattle.layouts.specs.declared.setting.Setting.{Setting}
+use Rattle.row_sheets.specs.Creep.{creep_on, creeping, creeping_sheets, creeping_sides, creeping_slot}
+use Rattle.row_sheets.specs.Filled.{behind_in, card_entry, card_sheets, duplex_entry, duplex_sheets, filled, grid_entry, grid_sheets, is_turned, sides, slot_on, stack_entry, stack_sheets}
+use Rattle.row_sheets.specs.RowSheets.{as_it_is, selected, selected_sheet}
+use Rattle.row_sheets.specs.SameScale.{least_with, lesser}
+use Rattle.row_sheets.specs.Shapes.{filling}
+use Rattle.row_sheets.specs.AsDocument.{AreLaidAlike, RowIsDocument, chosen_page, papers_at, renamed, renamed_slot}
+use Rattle.row_sheets.proofs.Specified.{same_map, twice_mapped}
+
+-- ---- rows
+abbrev with_numbers : (ℕ → ℕ) → Row → Row
+with_numbers r row = map (option_map r) row
+
+entry_named : (r : ℕ → ℕ) (row : Row) (i : ℕ) → entry_of (with_numbers r row) i ≡ option_map r (entry_of row i)
+entry_named r [] zero = refl
+entry_named r [] (suc i) = refl
+entry_named r (x ∷ row) zero = refl
+entry_named r (x ∷ row) (suc i) = entry_named r row i
+
+pub map_joined : {X Y : Type 0} (f : X → Y) (xs ys : List X) → map f (xs ++ ys) ≡ map f xs ++ map f ys
+map_joined f [] ys = refl
+map_joined f (x ∷ xs) ys = ap (λ zs. f x ∷ zs) (map_joined f xs ys)
+
+blocks_named : (r : ℕ → ℕ) (h k : ℕ → Row) → ((b : ℕ) → h b ≡ with_numbers r (k b)) → (bs : List ℕ) → flat_map h bs ≡ with_numbers r (flat_map k bs)
+blocks_named r h k e [] = refl
+blocks_named r h k e (b ∷ bs) =
+    ap (λ xs. xs ++ flat_map h bs) (e b) ∙ ap (λ ys. with_numbers r (k b) ++ ys) (blocks_named r h k e bs)
+    ∙ sym (map_joined (option_map r) (k b) (flat_map k bs))
+
+signatures_named : (r : ℕ → ℕ) (s : ℕ) (row : Row) → in_signatures s (with_numbers r row) ≡ with_numbers r (in_signatures s row)
+signatures_named r s row =
+    let at : ℕ → ℕ → ℕ = λ b i. b * s + page_in_signature s i in
+    let new : ℕ → Row = λ b. map (λ i. entry_of (with_numbers r row) (at b i)) (range_with_len 0 s) in
+    let old : ℕ → Row = λ b. map (λ i. entry_of row (at b i)) (range_with_len 0 s) in
+    ap (λ n. flat_map new (range_with_len 0 (blocks s n))) (length-map row (option_map r))
+    ∙ blocks_named r new old (λ b.
+    same_map (λ i. entry_of (with_numbers r row) (at b i)) (λ i. option_map r (entry_of row (at b i))) (λ i. entry_named r row (at b i)) (range_with_len 0 s)
+    ∙ sym (twice_mapped (λ i. entry_of row (at b i)) (option_map r) (range_with_len 0 s))) (range_with_len 0 (blocks s (length row)))
+
+ordered_named : (sides : Option ℕ) (r : ℕ → ℕ) (row : Row) → in_order_of sides (with_numbers r row) ≡ with_numbers r (in_order_of sides row)
+ordered_named None r row = refl
+ordered_named (Some s) r row = signatures_named r s row
+
+-- ---- sheets, if each page has the paper of the page that it stands for
+abbrev AreSame : (r : ℕ → ℕ) → (papers others : List Paper) → Type 0
+AreSame r papers others = (d : Paper) (k : ℕ) → slice_index_or papers (r k) d ≡ slice_index_or others k d
+
+slot_named : (t : Setting) (r : ℕ → ℕ) (papers others : List Paper) → AreSame r papers others → (by_half : Bool) (c : ℕ) (entry : Option ℕ)
+    → slot_on (filling t papers) by_half c (option_map r entry) ≡ renamed_slot r (slot_on (filling t others) by_half c entry)
+slot_named t r papers others same false c None = refl
+slot_named t r papers others same true c None = refl
+slot_named t r papers others same false c (Some k) = ap (λ q. Placed (r k) (fitted t q c) q) (same t.room.paper k)
+slot_named t r papers others same true c (Some k) = ap (λ q. Placed (r k) (fitted_back t q c) q) (same t.room.paper k)
+
+abbrev sheet_of : Paper → List MadeSlot → MadeSheet
+sheet_of paper slots = record { paper = paper; slots = slots }
+
+-- sheets of one paper, slot by slot
+sheets_named : (paper : Paper) (r : ℕ → ℕ) (n m : ℕ) (f g : ℕ → ℕ → MadeSlot) → ((s c : ℕ) → f s c ≡ renamed_slot r (g s c))
+    → map (λ s. sheet_of paper (map (f s) (range_with_len 0 m))) (range_with_len 0 n)
+    ≡ map (renamed r) (map (λ s. sheet_of paper (map (g s) (range_with_len 0 m))) (range_with_len 0 n))
+sheets_named paper r n m f g e =
+    let cells : List ℕ = range_with_len 0 m in
+    let each : (s : ℕ) → sheet_of paper (map (f s) cells) ≡ renamed r (sheet_of paper (map (g s) cells)) =
+    λ s. ap (sheet_of paper) (same_map (f s) (λ c. renamed_slot r (g s c)) (e s) cells ∙ sym (twice_mapped (g s) (renamed_slot r) cells)) in
+    same_map (λ s. sheet_of paper (map (f s) cells)) (λ s. renamed r (sheet_of paper (map (g s) cells))) each (range_with_len 0 n)
+    ∙ sym (twice_mapped (λ s. sheet_of paper (map (g s) cells)) (renamed r) (range_with_len 0 n))
+
+sides_named : (t : Setting) (r : ℕ → ℕ) (papers others : List Paper) → AreSame r papers others → (n m : ℕ) (new old : ℕ → ℕ → Option ℕ)
+    → ((s c : ℕ) → new s c ≡ option_map r (old s c))
+    → filled (filling t papers) n m new ≡ map (renamed r) (filled (filling t others) n m old)
+sides_named t r papers others same n m new old e =
+    sheets_named t.room.paper r n m (λ s c. slot_on (filling t papers) false c (new s c)) (λ s c. slot_on (filling t others) false c (old s c))
+    (λ s c. ap (slot_on (filling t papers) false c) (e s c) ∙ slot_named t r papers others same false c (old s c))
+
+grid_named : (t : Setting) (r : ℕ → ℕ) (papers others : List Paper) → AreSame r papers others → (cells : ℕ) (row : Row)
+    → grid_sheets (filling t papers) cells (with_numbers r row) ≡ map (renamed r) (grid_sheets (filling t others) cells row)
+grid_named t r papers others same cells row =
+    let new : Row = with_numbers r row in
+    ap (λ n. filled (filling t papers) (blocks cells n) cells (grid_entry cells new)) (length-map row (option_map r))
+    ∙ sides_named t r papers others same (blocks cells (length row)) cells (grid_entry cells new) (grid_entry cells row) (λ s c. entry_named r row (s * cells + c))
+
+cards_named : (t : Setting) (r : ℕ → ℕ) (papers others : List Paper) → AreSame r papers others → (cells : ℕ) (row : Row)
+    → card_sheets (filling t papers) cells (with_numbers r row) ≡ map (renamed r) (card_sheets (filling t others) cells row)
+cards_named t r papers others same cells row =
+    let new : Row = with_numbers r row in
+    ap (λ n. filled (filling t papers) n cells (card_entry new)) (length-map row (option_map r))
+    ∙ sides_named t r papers others same (length row) cells (card_entry new) (card_entry row) (λ s c. entry_named r row s)
+
+stack_named : (t : Setting) (r : ℕ → ℕ) (papers others : List Paper) → AreSame r papers others → (cells : ℕ) (row : Row)
+    → stack_sheets (filling t papers) cells (with_numbers r row) ≡ map (renamed r) (stack_sheets (filling t others) cells row)
+stack_named t r papers others same cells row =
+    let new : Row = with_numbers r row in
+    let sheets : ℕ = blocks cells (length row) in
+    ap (λ n. filled (filling t papers) (blocks cells n) cells (stack_entry (blocks cells n) new)) (length-map row (option_map r))
+    ∙ sides_named t r papers others same sheets cells (stack_entry sheets new) (stack_entry sheets row) (λ s c. entry_named r row (c * sheets + s))
+
+leaves_filled : (t : Setting) (r : ℕ → ℕ) (papers others : List Paper) → AreSame r papers others → (row : Row)
+    → duplex_sheets (filling t papers) (with_numbers r row) ≡ map (renamed r) (duplex_sheets (filling t others) row)
+leaves_filled t r papers others same row =
+    let new : Row = with_numbers r row in
+    let cells : ℕ = size t.grid in
+    let leaves : ℕ = blocks (2 * cells) (length row) in
+    ap (λ n. filled (filling t papers) (2 * blocks (2 * cells) n) cells (duplex_entry (blocks (2 * cells) n) (behind_in t) new)) (length-map row (option_map r))
+    ∙ sides_named t r papers others same (2 * leaves) cells (duplex_entry leaves (behind_in t) new) (duplex_entry leaves (behind_in t) row)
+    (λ s c. entry_named r row _)
+
+half_named : (t : Setting) (r : ℕ → ℕ) (papers others : List Paper) → AreSame r papers others → (by_half : Bool) (k creep : ℕ) (entry : Option ℕ)
+    → creeping_slot (filling t papers) by_half k creep (option_map r entry) ≡ renamed_slot r (creeping_slot (filling t others) by_half k creep entry)
+half_named t r papers others same by_half k creep None = refl
+half_named t r papers others same by_half k creep (Some p) = ap (λ q. Placed (r p) (creeping t by_half q k creep) q) (same t.room.paper p)
+
+booklet_named : (t : Setting) (r : ℕ → ℕ) (papers others : List Paper) → AreSame r papers others → (turned_backs : Bool) (creep leaves : ℕ) (row : Row)
+    → creeping_sheets (filling t papers) turned_backs creep leaves (with_numbers r row)
+    ≡ map (renamed r) (creeping_sheets (filling t others) turned_backs creep leaves row)
+booklet_named t r papers others same turned_backs creep leaves row =
+    let new : Row = with_numbers r row in
+    ap (λ n. creeping_sides (filling t papers) turned_backs creep leaves (blocks 2 n) new) (length-map row (option_map r))
+    ∙ sheets_named t.room.paper r (blocks 2 (length row)) 2
+    (λ s k. creeping_slot (filling t papers) (is_turned turned_backs s) k (creep_on creep leaves s) (grid_entry 2 new s k))
+    (λ s k. creeping_slot (filling t others) (is_turned turned_backs s) k (creep_on creep leaves s) (grid_entry 2 row s k))
+    (λ s k. ap (creeping_slot (filling t papers) (is_turned turned_backs s) k (creep_on creep leaves s)) (entry_named r row (s * 2 + k))
+    ∙ half_named t r papers others same (is_turned turned_backs s) k (creep_on creep leaves s) (grid_entry 2 row s k))
+
+alone_named : (r : ℕ → ℕ) (papers others : List Paper) → AreSame r papers others → (blank : Paper) (entry : Option ℕ)
+    → selected_sheet papers blank (option_map r entry) ≡ renamed r (selected_sheet others blank entry)
+alone_named r papers others same blank None = refl
+alone_named r papers others same blank (Some k) = ap (λ q. sheet_of q (Placed (r k) as_it_is q ∷ [])) (same blank k)
+
+selected_named : (r : ℕ → ℕ) (papers others : List Paper) → AreSame r papers others → (blank : Paper) (row : Row)
+    → selected papers blank (with_numbers r row) ≡ map (renamed r) (selected others blank row)
+selected_named r papers others same blank row =
+    twice_mapped (option_map r) (selected_sheet papers blank) row
+    ∙ same_map (λ e. selected_sheet papers blank (option_map r e)) (λ e. renamed r (selected_sheet others blank e)) (alone_named r papers others same blank) row
+    ∙ sym (twice_mapped (selected_sheet others blank) (renamed r) row)
+
+-- ---- one scale for all pages
+least_more : (t : Setting) (r : ℕ → ℕ) (papers others : List Paper) → AreSame r papers others → (least : Option ℤ) (entry : Option ℕ)
+    → least_with (filling t papers) least (option_map r entry) ≡ least_with (filling t others) least entry
+least_more t r papers others same None None = refl
+least_more t r papers others same (Some z) None = refl
+least_more t r papers others same None (Some k) = ap (λ q. Some (pos (scale_on t q))) (same t.room.paper k)
+least_more t r papers others same (Some z) (Some k) = ap (λ q. Some (lesser z (pos (scale_on t q)))) (same t.room.paper k)
+
+least_named : (t : Setting) (r : ℕ → ℕ) (papers others : List Paper) → AreSame r papers others → (least : Option ℤ) (row : Row)
+    → fold (least_with (filling t papers)) least (with_numbers r row) ≡ fold (least_with (filling t others)) least row
+least_named t r papers others same least [] = refl
+least_named t r papers others same least (e ∷ row) =
+    ap (λ z. fold (least_with (filling t papers)) z (with_numbers r row)) (least_more t r papers others same least e)
+    ∙ least_named t r papers others same (least_with (filling t others) least e) row
+
+alike : (t : Setting) (r : ℕ → ℕ) (papers others : List Paper) → AreSame r papers others → (row : Row)
+    → AreLaidAlike r t papers others (with_numbers r row) row
+alike t r papers others same row = record {
+  grid = λ cells. grid_named t r papers others same cells row;
+  cards = λ cells. cards_named t r papers others same cells row;
+  stack = λ cells. stack_named t r papers others same cells row;
+  leaves = leaves_filled t r papers others same row;
+  booklet = λ turned_backs creep leaves. booklet_named t r papers others same turned_backs creep leaves row;
+  alone = λ blank. selected_named r papers others same blank row;
+  one_scale = ap (λ z. record { room = t.room; grid = t.grid; order = t.order; scale = z }) (least_named t r papers others same None row);
+}
+
+-- ---- the pages of a row, by their places in it
+past_end : (papers : List Paper) (d : Paper) → get_or papers (length papers) d ≡ d
+past_end [] d = refl
+past_end (p ∷ papers) d = past_end papers d
+
+either_default : (papers : List Paper) (k : ℕ) (d e : Paper) → k < length papers → get_or papers k d ≡ get_or papers k e
+either_default [] k d e lt = absurd (omega (arith, lt))
+either_default (p ∷ papers) zero d e lt = refl
+either_default (p ∷ papers) (suc k) d e lt = either_default papers k d e (omega (arith, lt))
+
+same_papers : (papers : List Paper) (other : Paper) (pages : List ℕ) → AllByRecursion (λ p. p < length papers) pages
+    → AreSame (chosen_page papers pages) papers (papers_at papers other pages)
+same_papers papers other [] few d zero = past_end papers d
+same_papers papers other [] few d (suc k) = past_end papers d
+same_papers papers other (p ∷ pages) few d zero = either_default papers p d other few.0
+same_papers papers other (p ∷ pages) few d (suc k) = same_papers papers other pages few.1 d k
+
+numbered : (f : ℕ → ℕ) (d a : ℕ) (pages : List ℕ) → ((k : ℕ) → k < length pages → f (a + k) ≡ get_or pages k d)
+    → map (λ k. Some (f k)) (range_with_len a (length pages)) ≡ map Some pages
+numbered f d a [] e = refl
+numbered f d a (p ∷ pages) e =
+    let here : a ≡ a + 0 = omega arith in
+    let next : (k : ℕ) → (a + 1) + k ≡ a + suc k = λ k. omega arith in
+    ap (λ x. Some x ∷ map (λ k. Some (f k)) (range_with_len (a + 1) (length pages))) (ap f here ∙ e 0 (omega arith))
+    ∙ ap (λ xs. Some p ∷ xs) (numbered f d (a + 1) pages (λ k lt. ap f (next k) ∙ e (suc k) (omega (arith, lt))))
+
+all_named : (papers : List Paper) (pages : List ℕ) → with_numbers (chosen_page papers pages) (all_pages (length pages)) ≡ map Some pages
+all_named papers pages =
+    let r : ℕ → ℕ = chosen_page papers pages in
+    twice_mapped Some (option_map r) (range_with_len 0 (length pages))
+    ∙ numbered r (length papers) 0 pages (λ k lt. let e : 0 + k ≡ k = omega arith in ap r e)
+
+pub row_is_document : RowIsDocument
+row_is_document t sides papers other pages few =
+    let r : ℕ → ℕ = chosen_page papers pages in
+    let others : List Paper = papers_at papers other pages in
+    let all : Row = all_pages (length pages) in
+    let same : with_numbers r (in_order_of sides all) ≡ in_order_of sides (map Some pages) =
+    sym (ordered_named sides r all) ∙ ap (in_order_of sides) (all_named papers pages) in
+    subst (λ row. AreLaidAlike r t papers others row (in_order_of sides all)) same
+    (alike t r papers others (same_papers papers other pages few) (in_order_of sides all))

@@ -1,0 +1,72 @@
+-- Zines: the cells of their sheets, and how these are read once they are folded and cut. All here is this project's own rules.
+use Rattle.std.specs.Prelude.{◌≡◌, ℕ, zero, suc, ◌+◌, ◌-◌, ◌*◌, ◌%◌, ◌<◌, Bool, ◌||◌, ◌==◌, if◌then◌else◌, List, [], ◌∷◌, map, flat_map, length}
+use Rattle.std.specs.List.{range_with_len}
+use Rattle.rules.specs.Sheets.{blocks}
+use Rattle.rules.specs.Signatures.{entry_of}
+use Rattle.made_sheets.specs.Made.{MadeSheet}
+use Rattle.made_sheets.specs.Rows.{Row}
+use Rattle.layouts.specs.Placed.{Room}
+use Rattle.layouts.specs.Cells.{Grid}
+use Rattle.layouts.specs.Grids.{leaf_order}
+use Rattle.layouts.specs.declared.setting.Setting.{Setting}
+use Rattle.row_sheets.specs.declared.fill.CellKind.{CellKind}
+use Rattle.row_sheets.specs.declared.fill.CellKind.TheVariants as kind
+use Rattle.row_sheets.specs.Filled.{Filling, zine_sheets}
+use Rattle.row_sheets.specs.Stacked.{shown_at}
+
+-- ---- folded and cut
+
+-- a part of the sheet, as one holds it: in which of two rows, from the top, and in which of four columns
+pub record Part : Type 0 where
+  pub row : ℕ
+  pub column : ℕ
+
+-- folded along the middle of its height, with the blank side inside, and cut there between the two inner columns. So the two
+-- parts of an outer column are the two sides of a leaf, and so are the two inner parts of a row, which are pushed together
+abbrev pub other_side : Part → Part
+other_side p = if p.column == 1 || p.column == 2 then record { row = p.row; column = 3 - p.column }
+    else record { row = 1 - p.row; column = p.column }
+
+-- at the folds between outer and inner columns a part faces the one beside it
+abbrev pub facing : Part → Part
+facing p = record { row = p.row; column = if p.column % 2 == 0 then p.column + 1 else p.column - 1 }
+
+-- so many leaves, the first from this side of it on: its two sides, and then the leaf that faces it
+abbrev pub leaves_from : (leaves : ℕ) → Part → List Part
+leaves_from zero p = []
+leaves_from (suc n) p = p ∷ other_side p ∷ leaves_from n (facing (other_side p))
+
+-- the four leaves, from the last part of the second row on
+abbrev pub in_hand : List Part
+in_hand = leaves_from 4 (record { row = 1; column = 3 })
+
+-- what a sheet shows there, one after the other
+abbrev pub read_folded : MadeSheet → Row
+read_folded sheet = map (λ p. shown_at sheet (p.row * 4 + p.column)) in_hand
+
+-- sheet by sheet, that is the row; after its end are blanks
+abbrev pub AreReadFolded : Row → List MadeSheet → Type 0
+AreReadFolded row made = flat_map read_folded made ≡ map (entry_of row) (range_with_len 0 (blocks 8 (length row) * 8))
+
+-- so it is of a zine: a law
+abbrev pub ZineIsRead : Type 0
+ZineIsRead = (f : Filling) (row : Row) → AreReadFolded row (zine_sheets f row)
+
+-- ---- its cells
+
+-- two rows of four cells
+abbrev pub zine_grid : Bool → Grid
+zine_grid turned = record { rows = 2; columns = 4; turned = turned }
+
+-- they are filled along rows with upright pages, of which nothing is trimmed, and there is a gap
+abbrev pub AreZineCells : Setting → Type 0
+AreZineCells t = (t.grid ≡ zine_grid t.grid.turned) × (t.order ≡ leaf_order t.order.right_to_left) × (t.room.trim ≡ 0) × (0 < t.room.gap)
+
+-- the gap that a zine keeps: less by 10^-5 of a point, as its first row is rounded as the second, but turned by half
+abbrev pub closer : Room → Room
+closer room = record room { gap = room.gap - 1 }
+
+-- what is kept free on sheets whose cells are filled so
+abbrev pub kept_by : CellKind → Room → Room
+kept_by kind.Zine room = closer room
+kept_by other room = room
