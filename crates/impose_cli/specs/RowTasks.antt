@@ -1,5 +1,5 @@
 -- What is imposed of a row of pages, and how: a request for a document, if its layout lays rows on sheets.
-use Rattle.std.specs.Prelude.{◌≡◌, ⊤, ℕ, ◌+◌, Bool, true, false, ◌&&◌, if◌then◌else◌, List, [], ◌∷◌, length, Option, Some, None, Result, Ok, Err, IfSome, option_map}
+use Rattle.std.specs.Prelude.{◌≡◌, ⊤, ℕ, ◌+◌, Bool, true, false, ◌&&◌, if◌then◌else◌, List, [], ◌∷◌, length, Option, Some, None, Result, Ok, Err, IfSome, option_map, option_and_then, slice_get}
 use Rattle.std.specs.List.{list_all}
 use Rattle.rules.specs.Papers.{Paper}
 use Rattle.rules.specs.Parts.{NestedUnit, pages}
@@ -143,25 +143,52 @@ text_for r papers page_paper input = taken_text r.is_guarded (guarded_paper r pa
 abbrev pub own_in : ImposeRequest → (input : List ℕ) → List NestedUnit → List Paper
 own_in r input us = own_papers r.page_paper paper_named r.home_paper input us
 
+-- the row that is imposed, before it is sewn: none of its pages if there is no such row, which the run says
+abbrev pub row_or_none : Result Row RowFault → Row
+row_or_none (Ok row) = row
+row_or_none (Err fault) = []
+
+abbrev pub row_in : ImposeRequest → List NestedUnit → Row
+row_in r us = row_or_none (imposed_row (length (pages us)) (choice_in r.choice) None)
+
+abbrev pub or_without : Option Paper → List Paper → List Paper
+or_without None papers = papers
+or_without (Some paper) papers = paper ∷ papers
+
+-- the papers of a row's pages, in its order
+abbrev pub row_papers : Row → (own : List Paper) → List Paper
+row_papers [] own = []
+row_papers (entry ∷ row) own = or_without (option_and_then (slice_get own) entry) (row_papers row own)
+
 -- what is taken for the document's paper, if it is that of no page: the first page's
 abbrev pub or_first : Paper × PaperOrigin → Option Paper → Paper × PaperOrigin
 or_first found None = found
 or_first found (Some first) = (first, FirstPage)
 
-abbrev pub paper_for : Paper × PaperOrigin → (own : List Paper) → Paper × PaperOrigin
-paper_for found own = or_first found (first_instead_of found.0 own)
+abbrev pub paper_for : Paper × PaperOrigin → (taken : List Paper) → Paper × PaperOrigin
+paper_for found taken = or_first found (first_instead_of found.0 taken)
 
--- the paper for which sheets and cells are made, and where it was found: the document's, if a page has it or one that
--- counts as the same, and else the first page's own (RULES, 12.5)
+-- the paper for which sheets and cells are made, and where it was found: the document's, if a page of the row has it or one
+-- near to it, and else that of the row's first page (RULES, 12.5)
 abbrev pub row_paper : ImposeRequest → (input : List ℕ) → List NestedUnit → Paper × PaperOrigin
-row_paper r input us = paper_for (page_paper_found r.page_paper r.home_paper input) (own_in r input us)
+row_paper r input us =
+    paper_for (page_paper_found r.page_paper r.home_paper input) (row_papers (row_in r us) (own_in r input us))
 
 abbrev pub IsRowPaper : ImposeRequest → (input : List ℕ) → Paper × PaperOrigin → Type 0
 IsRowPaper r input found = (us : List NestedUnit) × (document_of input ≡ Ok us) × (found ≡ row_paper r input us)
 
--- the papers by which the pages are placed: with those that count as one taken as one (RULES, 12.4)
+-- papers of pages from this number on, with another one for each page that the row doesn't take
+abbrev pub taken_from : Row → (other : Paper) → (first : ℕ) → (own : List Paper) → List Paper
+taken_from row other n [] = []
+taken_from row other n (p ∷ ps) = (if takes row n then p else other) ∷ taken_from row other (n + 1) ps
+
+-- the papers by which pages are placed: each its own. A selection puts pages whose papers count as one on one (RULES, 12.4)
+abbrev pub placed_in : Layout → Row → (page_paper : Paper) → (own : List Paper) → List Paper
+placed_in layout.Selection row page_paper own = as_one page_paper (taken_from row page_paper 0 own)
+placed_in other row page_paper own = own
+
 abbrev pub papers_in : ImposeRequest → (input : List ℕ) → List NestedUnit → List Paper
-papers_in r input us = as_one (row_paper r input us).0 (own_in r input us)
+papers_in r input us = placed_in r.layout (row_in r us) (row_paper r input us).0 (own_in r input us)
 
 -- a specification is made for the layout
 abbrev pub has_specification : Layout → Bool
@@ -178,24 +205,18 @@ is_of_one_paper r input us paper = is_same (row_paper r input us).0 paper && lis
 abbrev pub TellsOnePaper : ImposeRequest → (input : List ℕ) → Paper → Bool → Type 0
 TellsOnePaper r input paper is = (us : List NestedUnit) × (document_of input ≡ Ok us) × (is ≡ is_of_one_paper r input us paper)
 
--- papers of pages from this number on, with another one for each page that the row doesn't take
-abbrev pub taken_from : Row → (other : Paper) → (first : ℕ) → (own : List Paper) → List Paper
-taken_from row other n [] = []
-taken_from row other n (p ∷ ps) = (if takes row n then p else other) ∷ taken_from row other (n + 1) ps
-
--- the pages of a row that a paper cuts; without a row there are none
-abbrev pub cut_on : Result Row RowFault → (paper : Paper) → (own : List Paper) → Option Cut
-cut_on (Ok row) paper own = cut_of paper (taken_from row paper 0 own)
-cut_on (Err fault) paper own = None
+-- the pages of a row that a paper cuts
+abbrev pub cut_on : Row → (paper : Paper) → (own : List Paper) → Option Cut
+cut_on row paper own = cut_of paper (taken_from row paper 0 own)
 
 -- the pages that the named paper cuts, of those that are taken: one that names no paper has the named one
-abbrev pub cut_by_named : Option Paper → Result Row RowFault → (input : List ℕ) → List NestedUnit → Option Cut
+abbrev pub cut_by_named : Option Paper → Row → (input : List ℕ) → List NestedUnit → Option Cut
 cut_by_named None row input us = None
 cut_by_named (Some named) row input us = cut_on row named (own_papers None paper_named named input us)
 
 -- RULES, 17
 abbrev pub cut_in : ImposeRequest → (input : List ℕ) → List NestedUnit → Option Cut
-cut_in r input us = cut_by_named r.page_paper (imposed_row (length (pages us)) (choice_in r.choice) None) input us
+cut_in r input us = cut_by_named r.page_paper (row_in r us) input us
 
 -- the document is accepted, and its pages have these papers, of which the named one cuts these
 pub record ArePapersOf (r : ImposeRequest) (input : List ℕ) (papers : List Paper) (cut : Option Cut) : Type 0 where

@@ -16,7 +16,7 @@ ghost use Rattle.impose_cli.specs.RowTasks.{ArePapersOf, ImposesTask, IsRowPaper
 ghost use Rattle.std.specs.List.{list_all};
 ghost use Rattle.impose_cli.specs.RowTasks.{TellsOnePaper};
 ghost use Rattle.impose_said.specs.Said.{is_same as are_same};
-ghost use Rattle.impose_cli.specs.RowTasks.{cut_in, cut_on, paper_for, papers_in as papers_found, row_paper};
+ghost use Rattle.impose_cli.specs.RowTasks.{cut_by_named, cut_in, paper_for, papers_in as papers_found, placed_in, row_paper};
 ghost use Rattle.impose_cli.specs.Reaches.{HasReach, reach_in};
 ghost use Rattle.impose_cli.specs.Refusals.{RefusesDocument, RefusesRowTask};
 ghost use Rattle.impose_cli.specs.Tasks.{HasBehind, HasPages, page_paper_found};
@@ -27,7 +27,7 @@ use crate::left::{Left, stopped};
 use crate::reach::reach_of_pages;
 use crate::roomy_text::RoomyText;
 use crate::runs::impose_job;
-use crate::taken::papers_taken;
+use crate::taken::{papers_on_row, papers_taken, row_of_choice};
 use crate::task::{of_document, paper_of_pages, text_to_impose};
 use command_words::name_of;
 use dsc::Document;
@@ -209,9 +209,11 @@ fn papers_in(
     ensures few { IfOk result (λ found. found.pages ≤ most_pages) }
 {
     let own = own_papers(alloc, document, request.page_paper, &request.home_paper)?;
-    let (page_paper, origin) = paper_of_row(request, document.text(), own.as_slice());
-    let papers = as_one(alloc, &page_paper, own.as_slice())?;
-    let cut = cut_pages(alloc, request, document)?;
+    let row = row_of_choice(alloc, document.pages(), &request.choice)?;
+    let taken = papers_on_row(alloc, row.as_slice(), own.as_slice())?;
+    let (page_paper, origin) = paper_of_row(request, document.text(), taken.as_slice());
+    let papers = papers_placed(alloc, &request.layout, row.as_slice(), &page_paper, own)?;
+    let cut = cut_pages(alloc, request, document, row.as_slice())?;
     let reach = reach_of_pages(alloc, request, document, papers.as_slice(), true)?;
     Ok(FoundPapers {
         pages: document.pages(),
@@ -224,49 +226,53 @@ fn papers_in(
     })
 }
 
-/// The paper for which sheets and cells are made: that of the pages, if a page has it or one that counts as the same,
-/// and else the first page's own.
-fn paper_of_row(request: &ImposeRequest, input: &[u8], own: &[Paper]) -> (Paper, PaperOrigin)
-    ensures { result ≡ paper_for (page_paper_found request.now.page_paper request.now.home_paper input.now) own.now }
+/// The paper for which sheets and cells are made: the document's, if a page that is taken has it or one near to it, and else
+/// that of the first one taken.
+fn paper_of_row(request: &ImposeRequest, input: &[u8], taken: &[Paper]) -> (Paper, PaperOrigin)
+    ensures { result ≡ paper_for (page_paper_found request.now.page_paper request.now.home_paper input.now) taken.now }
 {
     let (page_paper, origin) = paper_of_pages(request, input);
-    match first_instead_of(&page_paper, own) {
+    match first_instead_of(&page_paper, taken) {
         Some(first) => (first, PaperOrigin::FirstPage),
         None => (page_paper, origin),
     }
 }
 
-/// The pages that the paper cuts which is named for them, of those that are taken.
+/// The papers by which pages are placed: each its own. A selection puts pages whose papers count as one on one.
+fn papers_placed(
+    alloc: Global,
+    layout: &Layout,
+    row: &[Option<u32>],
+    page_paper: &Paper,
+    own: Vec<Paper>,
+) -> Result<Vec<Paper>, AllocError>
+    ensures { IfOk result (λ papers. papers.items ≡ placed_in layout.now row.now page_paper.now own.items) }
+{
+    match layout {
+        Layout::Selection => {
+            let taken = papers_taken(alloc, row, own.as_slice(), page_paper)?;
+            as_one(alloc, page_paper, taken.as_slice())
+        }
+        _ => Ok(own),
+    }
+}
+
+/// The pages that the paper cuts which is named for them, of those that the row takes.
 fn cut_pages(
     alloc: Global,
     request: &ImposeRequest,
     document: &Document<'_>,
+    row: &[Option<u32>],
 ) -> Result<Option<Cut>, AllocError>
-    ensures { IfOk result (λ cut. cut ≡ cut_in request.now (bytes_of document.now) document.now) }
+    ensures { IfOk result (λ cut. cut ≡ cut_by_named request.now.page_paper row.now (bytes_of document.now) document.now) }
 {
     let Some(named) = request.page_paper else {
         return Ok(None);
     };
     // A page that names no paper has the one that is named, which doesn't cut it.
     let own = own_papers(alloc, document, None, &named)?;
-    match imposed_row(alloc, document.pages(), &request.choice.as_choice(), None) {
-        Ok(row) => cut_on_row(alloc, row.as_slice(), own.as_slice(), &named),
-        Err(RowError::NoMemory) => Err(AllocError),
-        // There is no such row, which the run will say.
-        Err(_) => Ok(None),
-    }
-}
-
-fn cut_on_row(
-    alloc: Global,
-    row: &[Option<u32>],
-    own: &[Paper],
-    named: &Paper,
-) -> Result<Option<Cut>, AllocError>
-    ensures { IfOk result (λ cut. cut ≡ cut_on (Ok row.now) named.now own.now) }
-{
-    let taken = papers_taken(alloc, row, own, named)?;
-    Ok(cut_by(named, taken.as_slice()))
+    let taken = papers_taken(alloc, row, own.as_slice(), &named)?;
+    Ok(cut_by(&named, taken.as_slice()))
 }
 
 /// The paper for which the guard sets the page size: that of the sheets, and of a selection that of its first sheet.
