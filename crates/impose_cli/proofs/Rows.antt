@@ -1,5 +1,5 @@
 -- What comes of a task with a row, and of a request.
-use Rattle.std.proofs.Common.{◌≡◌, ◌⊎◌, ◌∙◌, ap, sym, subst, refl, inl, inr, Bool, true, false, [], ◌∷◌, List, ℕ, suc, ◌+◌, Option, Some, None, Result, Ok, Err, ap₂}
+use Rattle.std.proofs.Common.{◌≡◌, ◌⊎◌, ◌∙◌, ap, sym, subst, refl, inl, inr, Bool, true, false, ◌∷◌, List, ℕ, Option, Some, None, Result, Ok, Err, ap₂}
 use Rattle.std.specs.Prelude.{IfSome, length, option_map, string_bytes}
 use Rattle.std.specs.Io.KnownBytes.{Appends}
 use Rattle.made_sheets.specs.Made.{MadeSheet}
@@ -26,8 +26,7 @@ use Rattle.impose_cli.specs.Abouts.{reported_by}
 use Rattle.impose_cli.specs.Endings.{Comes, IsImposed, RefusesImposing, RefusesRow, RefusesRowJob, RefusesRowTaskRun, Runs}
 use Rattle.impose_cli.specs.declared.runs.About.{About}
 use Rattle.impose_cli.proofs.Coming.{RefusesThese, WritesThese, comes_as, comes_refused, comes_reported}
-use Rattle.papers.specs.AsOne.{kinds, paper_among}
-use Rattle.made_sheets.specs.Rows.{Row}
+use Rattle.papers.specs.AsOne.{kinds, most_kinds, paper_among}
 use Rattle.papers.specs.declared.cuts.Cut.{Cut}
 use Rattle.papers.specs.Names.{paper_named}
 use Rattle.impose_said.specs.Faults.{without_memory}
@@ -38,7 +37,7 @@ use Rattle.impose_cli.specs.Tasks.{HasBehind, HasPages}
 use Rattle.impose_cli.specs.Refusals.{RefusesDocument, RefusesFor, RefusesOptions, RefusesRowTask}
 use Rattle.impose_cli.specs.Reaches.{HasReach, HasReachOver, reach_in, reach_over}
 use Rattle.papers.specs.declared.reach.Reach.{Reach}
-use Rattle.impose_cli.specs.RowTasks.{ArePapersOf, cut_in, papers_in, placed_in, row_paper, taken_from, text_for, why_no_row, FinishesRow, ImposesTask, IsJobOf, IsRowJob, IsRowPaper, IsRowTask, LaysRows}
+use Rattle.impose_cli.specs.RowTasks.{ArePapersOf, cut_in, papers_in, placed_in, row_paper, text_for, why_no_row, FinishesRow, ImposesTask, IsJobOf, IsRowJob, IsRowPaper, IsRowTask, LaysRows}
 use Rattle.impose_said.specs.declared.fault.ImposeFault.{ImposeFault}
 use Rattle.impose_words.specs.declared.request.Layout.{Layout}
 use Rattle.impose_words.specs.declared.request.Layout.TheVariants as layout
@@ -93,27 +92,22 @@ pub papers_len : (named : Option Paper) (names : List ℕ → Option Paper) (hom
 papers_len (Some paper) names home text us = length-map (pages us) (λ page. paper)
 papers_len None names home text us = length-map (pages us) (own_paper names home (header text) (trailer_lines us))
 
-taken_len : (row : Row) (other : Paper) (n : ℕ) (own : List Paper) → length (taken_from row other n own) ≡ length own
-taken_len row other n [] = refl
-taken_len row other n (p ∷ ps) = ap suc (taken_len row other (n + 1) ps)
+placed_len : (l : Layout) (taken own : List Paper) → length (placed_in l taken own) ≡ length own
+placed_len layout.Selection taken own = length-map own (paper_among (kinds most_kinds taken))
+placed_len (layout.NUp cells) taken own = refl
+placed_len (layout.Cards cells) taken own = refl
+placed_len (layout.Stack cells duplex) taken own = refl
+placed_len (layout.Booklet signing long_edge) taken own = refl
+placed_len (layout.Notes n) taken own = refl
+placed_len (layout.Poster columns rows) taken own = refl
+placed_len layout.Zine taken own = refl
+placed_len (layout.Spec specs) taken own = refl
+placed_len (layout.SpecRow specs signing) taken own = refl
 
-placed_len : (l : Layout) (row : Row) (paper : Paper) (own : List Paper) → length (placed_in l row paper own) ≡ length own
-placed_len layout.Selection row paper own = let taken = taken_from row paper 0 own in
-    length-map taken (paper_among (kinds (paper ∷ taken))) ∙ taken_len row paper 0 own
-placed_len (layout.NUp cells) row paper own = refl
-placed_len (layout.Cards cells) row paper own = refl
-placed_len (layout.Stack cells duplex) row paper own = refl
-placed_len (layout.Booklet signing long_edge) row paper own = refl
-placed_len (layout.Notes n) row paper own = refl
-placed_len (layout.Poster columns rows) row paper own = refl
-placed_len layout.Zine row paper own = refl
-placed_len (layout.Spec specs) row paper own = refl
-placed_len (layout.SpecRow specs signing) row paper own = refl
-
-pub as_many : (r : ImposeRequest) (us : List NestedUnit) (row : Row) (paper : Paper) (own papers : List Paper) (n : ℕ) → n ≡ length (pages us)
-    → own ≡ own_papers r.page_paper paper_named r.home_paper (bytes_of us) us → papers ≡ placed_in r.layout row paper own → n ≡ length papers
-as_many r us row paper own papers n count is placed = count
-    ∙ sym (ap length placed ∙ placed_len r.layout row paper own ∙ ap length is ∙ papers_len r.page_paper paper_named r.home_paper (bytes_of us) us)
+pub as_many : (r : ImposeRequest) (us : List NestedUnit) (taken own papers : List Paper) (n : ℕ) → n ≡ length (pages us)
+    → own ≡ own_papers r.page_paper paper_named r.home_paper (bytes_of us) us → papers ≡ placed_in r.layout taken own → n ≡ length papers
+as_many r us taken own papers n count is placed = count
+    ∙ sym (ap length placed ∙ placed_len r.layout taken own ∙ ap length is ∙ papers_len r.page_paper paper_named r.home_paper (bytes_of us) us)
 
 -- why there is no task for a document that is accepted, with sheets and cells for this paper
 abbrev pub RefusesAccepted : ImposeRequest → (page_paper : Paper) → ImposeFault → Type 0

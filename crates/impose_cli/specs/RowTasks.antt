@@ -177,18 +177,13 @@ row_paper r input us =
 abbrev pub IsRowPaper : ImposeRequest → (input : List ℕ) → Paper × PaperOrigin → Type 0
 IsRowPaper r input found = (us : List NestedUnit) × (document_of input ≡ Ok us) × (found ≡ row_paper r input us)
 
--- papers of pages from this number on, with another one for each page that the row doesn't take
-abbrev pub taken_from : Row → (other : Paper) → (first : ℕ) → (own : List Paper) → List Paper
-taken_from row other n [] = []
-taken_from row other n (p ∷ ps) = (if takes row n then p else other) ∷ taken_from row other (n + 1) ps
-
 -- the papers by which pages are placed: each its own. A selection puts pages whose papers count as one on one (RULES, 12.4)
-abbrev pub placed_in : Layout → Row → (page_paper : Paper) → (own : List Paper) → List Paper
-placed_in layout.Selection row page_paper own = as_one page_paper (taken_from row page_paper 0 own)
-placed_in other row page_paper own = own
+abbrev pub placed_in : Layout → (taken own : List Paper) → List Paper
+placed_in layout.Selection taken own = as_one taken own
+placed_in other taken own = own
 
 abbrev pub papers_in : ImposeRequest → (input : List ℕ) → List NestedUnit → List Paper
-papers_in r input us = placed_in r.layout (row_in r us) (row_paper r input us).0 (own_in r input us)
+papers_in r input us = let own = own_in r input us in placed_in r.layout (row_papers (row_in r us) own) own
 
 -- a specification is made for the layout
 abbrev pub has_specification : Layout → Bool
@@ -204,6 +199,11 @@ is_of_one_paper r input us paper = is_same (row_paper r input us).0 paper && lis
 -- the document is accepted, and this says whether all of its pages have that paper
 abbrev pub TellsOnePaper : ImposeRequest → (input : List ℕ) → Paper → Bool → Type 0
 TellsOnePaper r input paper is = (us : List NestedUnit) × (document_of input ≡ Ok us) × (is ≡ is_of_one_paper r input us paper)
+
+-- papers of pages from this number on, with another one for each page that the row doesn't take
+abbrev pub taken_from : Row → (other : Paper) → (first : ℕ) → (own : List Paper) → List Paper
+taken_from row other n [] = []
+taken_from row other n (p ∷ ps) = (if takes row n then p else other) ∷ taken_from row other (n + 1) ps
 
 -- the pages of a row that a paper cuts
 abbrev pub cut_on : Row → (paper : Paper) → (own : List Paper) → Option Cut

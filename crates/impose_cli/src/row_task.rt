@@ -212,7 +212,7 @@ fn papers_in(
     let row = row_of_choice(alloc, document.pages(), &request.choice)?;
     let taken = papers_on_row(alloc, row.as_slice(), own.as_slice())?;
     let (page_paper, origin) = paper_of_row(request, document.text(), taken.as_slice());
-    let papers = papers_placed(alloc, &request.layout, row.as_slice(), &page_paper, own)?;
+    let papers = papers_placed(alloc, &request.layout, taken.as_slice(), own)?;
     let cut = cut_pages(alloc, request, document, row.as_slice())?;
     let reach = reach_of_pages(alloc, request, document, papers.as_slice(), true)?;
     Ok(FoundPapers {
@@ -242,17 +242,13 @@ fn paper_of_row(request: &ImposeRequest, input: &[u8], taken: &[Paper]) -> (Pape
 fn papers_placed(
     alloc: Global,
     layout: &Layout,
-    row: &[Option<u32>],
-    page_paper: &Paper,
+    taken: &[Paper],
     own: Vec<Paper>,
 ) -> Result<Vec<Paper>, AllocError>
-    ensures { IfOk result (λ papers. papers.items ≡ placed_in layout.now row.now page_paper.now own.items) }
+    ensures { IfOk result (λ papers. papers.items ≡ placed_in layout.now taken.now own.items) }
 {
     match layout {
-        Layout::Selection => {
-            let taken = papers_taken(alloc, row, own.as_slice(), page_paper)?;
-            as_one(alloc, page_paper, taken.as_slice())
-        }
+        Layout::Selection => as_one(alloc, taken, own.as_slice()),
         _ => Ok(own),
     }
 }

@@ -41,7 +41,7 @@ origin_text (origin.ByComment comment.DocumentMedia) = codes "by its %%DocumentM
 origin_text (origin.ByComment comment.DocumentPaperSizes) = codes "by its %%DocumentPaperSizes"
 origin_text (origin.ByComment comment.BoundingBox) = codes "by its %%BoundingBox"
 origin_text origin.AtHome = codes "the usual one here, as the document names none"
-origin_text origin.FirstPage = codes "that of page 1, as no page has the document's"
+origin_text origin.FirstPage = codes "that of the first page taken, as none has the document's"
 
 -- both sides of a paper, and how far something reaches, in points
 abbrev pub sides_text : (width height : ℤ) → List ℕ

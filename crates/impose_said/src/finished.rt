@@ -12,7 +12,7 @@ pub enum PaperOrigin {
     ByComment(Comment),
     /// Nothing names it, and so it is the paper at home.
     AtHome,
-    /// It is the first page's own, as no page has the document's.
+    /// It is that of the first page that is taken, as none has the document's.
     FirstPage,
 }
 

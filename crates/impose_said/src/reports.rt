@@ -365,6 +365,6 @@ fn origin_text(origin: PaperOrigin) -> &'static str
         PaperOrigin::ByComment(Comment::DocumentPaperSizes) => "by its %%DocumentPaperSizes",
         PaperOrigin::ByComment(Comment::BoundingBox) => "by its %%BoundingBox",
         PaperOrigin::AtHome => "the usual one here, as the document names none",
-        PaperOrigin::FirstPage => "that of page 1, as no page has the document's",
+        PaperOrigin::FirstPage => "that of the first page taken, as none has the document's",
     }
 }
