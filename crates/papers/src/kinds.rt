@@ -1,7 +1,7 @@
 //! Papers that count as one, since programs round the sizes of one paper differently.
 ghost use Rattle.std.specs.Prelude.{◌≡◌, ℕ, suc, ◌++◌, IfOk, OnOk};
 ghost use Rattle.papers.specs.AsOne.{as_one as counted_as_one, first_instead_of as first_instead, is_used as is_paper_used};
-ghost use Rattle.papers.specs.AsOne.{is_larger as is_larger_than, kind_of as kind_made, kinds as kinds_with, largest_of};
+ghost use Rattle.papers.specs.AsOne.{apart_from, is_larger as is_larger_than, kind_of as kind_made, kinds as kinds_with, largest_of};
 ghost use Rattle.papers.specs.AsOne.{paper_among as paper_in};
 
 use crate::covering;
@@ -74,8 +74,15 @@ fn take_kind(kinds: &mut Vec<PaperKind>, rest: &mut Vec<Paper>) -> Result<(), Al
         return Ok(());
     };
     kinds.push(kind_of(&first, rest.as_slice()))?;
-    rest.retain(|paper| !is_near(paper, &first));
+    keep_apart(rest, &first);
     Ok(())
+}
+
+/// Keeps those that aren't near to this one.
+fn keep_apart(papers: &mut Vec<Paper>, first: &Paper)
+    ensures { papers.new.items ≡ apart_from first.now papers.old.items }
+{
+    papers.retain(|paper| !is_near(paper, first));
 }
 
 /// The largest of these papers, if there is one.
