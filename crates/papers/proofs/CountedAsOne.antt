@@ -1,5 +1,5 @@
 -- Papers that count as one: as the code finds them, and what holds of them.
-use Rattle.std.proofs.Common.{arith, ◌≡◌, ◌⊎◌, ⊥, inl, inr, ℕ, zero, suc, ◌<◌, ◌-◌, List, [], ◌∷◌, ◌++◌, Bool, true, false, refl, sym, ap, ap₂, ◌∙◌, subst, true≢false, Some, None, is_some, length, get_or, cond}
+use Rattle.std.proofs.Common.{arith, ◌≡◌, ◌⊎◌, inl, inr, ℕ, zero, suc, ◌+◌, ◌<◌, ◌-◌, List, [], ◌∷◌, ◌++◌, Bool, true, false, refl, sym, ap, ap₂, ◌∙◌, subst, true≢false, Some, None, is_some, length, get_or, cond}
 use Rattle.std.specs.Prelude.{not, if◌then◌else◌, fold}
 use Rattle.std.specs.List.{Contains}
 use Rattle.std.proofs.lemmas.List.{append_assoc, get_or-map}
@@ -38,11 +38,10 @@ kind_taken old new k ps rest f e made is left room =
     ∙ ap (λ ks. old ++ ks) (sym (first_kind ps f room e))
 
 -- one turn of many
-pub one_turn : (room n : ℕ) (ks old : List PaperKind) (ps : List Paper) → n < room
-    → ks ++ kinds (room - (n + 1)) ps ≡ old ++ kinds (suc (room - (n + 1))) ps
-    → ks ++ kinds (room - (n + 1)) ps ≡ old ++ kinds (room - n) ps
-one_turn room n ks old ps less e = let same : suc (room - (n + 1)) ≡ room - n = omega (arith, less) in
-    e ∙ ap (λ m. old ++ kinds m ps) same
+pub one_turn : (room n : ℕ) (ks old : List PaperKind) (ps qs : List Paper) → n < room
+    → ((m : ℕ) → ks ++ kinds m ps ≡ old ++ kinds (suc m) qs) → ks ++ kinds (room - (n + 1)) ps ≡ old ++ kinds (room - n) qs
+one_turn room n ks old ps qs less took = let same : suc (room - (n + 1)) ≡ room - n = omega (arith, less) in
+    took (room - (n + 1)) ∙ ap (λ m. old ++ kinds m qs) same
 
 -- ---- nothing is cut
 
