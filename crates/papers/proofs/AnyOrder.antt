@@ -110,6 +110,7 @@ larger_once a b e = by_test (int_lt b.width a.width)
     first_of : (x y : Bool) → (x && y) ≡ true → x ≡ true
     first_of true y t = refl
     first_of false y t = t
+
     second_of : (x y : Bool) → (x && y) ≡ true → y ≡ true
     second_of true y t = t
     second_of false y t = absurd (true≢false (sym t))
@@ -136,16 +137,17 @@ none_larger : (p : Paper) (ps : List Paper) (q : Paper) → In q (p ∷ ps) → 
 none_larger p [] q (inl same) = ap (λ r. is_larger r p) same ∙ not_larger_itself p
 none_larger p [] q (inr has) = absurd has
 none_larger p (x ∷ xs) q has = by_test (is_larger x p)
-    (λ is. subst (λ b. is_larger q (fold larger_of (if b then x else p) xs) ≡ false) (sym is) (taken is has))
-    (λ isnt. subst (λ b. is_larger q (fold larger_of (if b then x else p) xs) ≡ false) (sym isnt) (kept isnt has))
+    (λ is. subst (λ b. is_larger q (fold larger_of (if b then x else p) xs) ≡ false) (sym is) (taken (λ r. none_larger x xs r) is has))
+    (λ isnt. subst (λ b. is_larger q (fold larger_of (if b then x else p) xs) ≡ false) (sym isnt) (kept (λ r. none_larger p xs r) isnt has))
   where
-    taken : is_larger x p ≡ true → In q (p ∷ x ∷ xs) → is_larger q (fold larger_of x xs) ≡ false
-    taken is (inl same) = ap (λ r. is_larger r (fold larger_of x xs)) same ∙ through p x (fold larger_of x xs) (larger_once x p is) (none_larger x xs x (inl refl))
-    taken is (inr more) = none_larger x xs q more
-    kept : is_larger x p ≡ false → In q (p ∷ x ∷ xs) → is_larger q (fold larger_of p xs) ≡ false
-    kept isnt (inl same) = none_larger p xs q (inl same)
-    kept isnt (inr (inl same)) = ap (λ r. is_larger r (fold larger_of p xs)) same ∙ through x p (fold larger_of p xs) isnt (none_larger p xs p (inl refl))
-    kept isnt (inr (inr more)) = none_larger p xs q (inr more)
+    taken : ((r : Paper) → In r (x ∷ xs) → is_larger r (fold larger_of x xs) ≡ false) → is_larger x p ≡ true → In q (p ∷ x ∷ xs) → is_larger q (fold larger_of x xs) ≡ false
+    taken none is (inl same) = ap (λ r. is_larger r (fold larger_of x xs)) same ∙ through p x (fold larger_of x xs) (larger_once x p is) (none x (inl refl))
+    taken none is (inr more) = none q more
+
+    kept : ((r : Paper) → In r (p ∷ xs) → is_larger r (fold larger_of p xs) ≡ false) → is_larger x p ≡ false → In q (p ∷ x ∷ xs) → is_larger q (fold larger_of p xs) ≡ false
+    kept none isnt (inl same) = none q (inl same)
+    kept none isnt (inr (inl same)) = ap (λ r. is_larger r (fold larger_of p xs)) same ∙ through x p (fold larger_of p xs) isnt (none p (inl refl))
+    kept none isnt (inr (inr more)) = none q (inr more)
 
 -- ---- the same papers
 

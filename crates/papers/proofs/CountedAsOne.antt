@@ -113,6 +113,6 @@ of_largest room p ps q near =
 pub near_are_one : NearAreOne
 near_are_one p ps own j k d less_j less_k near_j near_k =
     let of : (i : ℕ) → i < length own → is_near (get_or own i d) (fold larger_of p ps) ≡ true
-        → get_or (as_one (p ∷ ps) own) i d ≡ (kind_of (fold larger_of p ps) (p ∷ ps)).paper =
+    → get_or (as_one (p ∷ ps) own) i d ≡ (kind_of (fold larger_of p ps) (p ∷ ps)).paper =
     λ i less near. get_or-map (paper_among (kinds most_kinds (p ∷ ps))) own i d d less ∙ of_largest 63 p ps (get_or own i d) near in
     of j less_j near_j ∙ sym (of k less_k near_k)

@@ -104,7 +104,8 @@ fn is_larger(paper: &Paper, other: &Paper) -> bool
     ensures { result ≡ is_larger_than paper.now other.now }
 {
     other.width().get() < paper.width().get()
-        || (paper.width().get() == other.width().get() && other.height().get() < paper.height().get())
+        || (paper.width().get() == other.width().get()
+            && other.height().get() < paper.height().get())
 }
 
 /// The kind of those near to this one.
