@@ -24,7 +24,7 @@ ghost use Rattle.dsc.specs.PagesBehind.{pages_behind};
 
 use crate::laying::{laying_for, papers_for, signing_for};
 use crate::left::{Left, stopped};
-use crate::reach::reach_of_pages;
+use crate::reach::reach_of_row;
 use crate::roomy_text::RoomyText;
 use crate::runs::impose_job;
 use crate::taken::papers_taken;
@@ -212,7 +212,7 @@ fn papers_in(
     let (page_paper, origin) = paper_of_row(request, document.text(), own.as_slice());
     let papers = as_one(alloc, &page_paper, own.as_slice())?;
     let cut = cut_pages(alloc, request, document)?;
-    let reach = reach_of_pages(alloc, request, document, papers.as_slice(), true)?;
+    let reach = reach_of_row(alloc, request, document, papers.as_slice(), own.as_slice())?;
     Ok(FoundPapers {
         pages: document.pages(),
         page_paper,

@@ -25,7 +25,7 @@ pub(crate) fn value_in_head<'t>(text: &'t [u8], key: &[u8], with_colon: &[u8]) -
         ≡ comment_fields key.now (head_of (length text.now) text.now) }
 {
     let mut rest = text;
-    while !rest.is_empty() {
+    while rest.starts_with(b"%") {
         let content = first_content(rest);
         if !is_in_head(content) {
             return None;
