@@ -10,7 +10,6 @@ use Rattle.papers.specs.declared.media.Comment.TheVariants.{DocumentMedia}
 use Rattle.impose_said.specs.declared.finished.PaperOrigin.TheVariants.{Named, ByComment, AtHome}
 use Rattle.impose_said.specs.declared.fault.ImposeFault.TheVariants as fault
 use Rattle.impose_said.specs.declared.fault.Packing.TheVariants.{Gzip, Bzip2, Xz, Zip}
-use Rattle.impose_cli.specs.ToldPages.{told_pages}
 use Rattle.impose_cli.specs.Tasks.{own_or_home, page_paper_found, sheet_paper_found, taken_text}
 use Rattle.impose_cli.specs.Faults.{of_document}
 
@@ -91,18 +90,3 @@ no_pages = refl
 
 no_memory : of_document NoMemory (codes "%!") ≡ fault.Run (run.NoMemory 0)
 no_memory = refl
-
--- The number of pages that a document says.
-
-told : told_pages (codes "%!\n%%Pages: 4 1\n%%EndComments\n%%Pages: 5\n") ≡ Some 4
-told = refl
-
-told_at_the_end : told_pages (codes "%!\n%%Pages: (atend)\n%%Page: 1 1\n%%Pages: 9\n%%Trailer\n%%Pages: 4\n%%EOF\n") ≡ Some 4
-told_at_the_end = refl
-
--- without a trailer nothing is told at the end
-told_at_no_end : told_pages (codes "%!\n%%Pages: (atend)\n%%Page: 1 1\n%%Pages: 9\n") ≡ None
-told_at_no_end = refl
-
-told_by_no_number : map told_pages (codes "%!\n" ∷ codes "%!\n%%Pages:\n" ∷ codes "%!\n%%Pages: -1\n" ∷ codes "%!\n%%Pages: 4x\n" ∷ codes "%!\n\n%%Pages: 4\n" ∷ []) ≡ None ∷ None ∷ None ∷ None ∷ None ∷ []
-told_by_no_number = refl

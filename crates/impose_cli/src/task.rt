@@ -22,10 +22,10 @@ ghost use Rattle.impose_said.specs.declared.fault.ImposeFault.TheVariants as fau
 
 use crate::laying::{laying_for, papers_for};
 use crate::reach::reach_over;
-use crate::roomy_text::RoomyText;
 use crate::row_task::has_one_paper;
 use dressing::Marks;
 use dsc::{Document, DscError};
+use guard::RoomyText;
 use impose_said::{ImposeFault, Packing, PaperOrigin};
 use impose_words::{ImposeRequest, Layout, PageChoice, Spacing};
 use imposer::{Options, RunError, Workers};

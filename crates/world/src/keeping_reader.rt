@@ -4,7 +4,7 @@ use std::io::Read;
 
 /// A reader that keeps its last error.
 #[derive(Drop)]
-pub(crate) struct KeepingReader<T> {
+pub struct KeepingReader<T> {
     reader: T,
     cause: Option<io::Error>,
 }
@@ -12,7 +12,8 @@ pub(crate) struct KeepingReader<T> {
 impl<T: Read + Drop> KeepingReader<T> {
     ghost use Rattle.std.specs.Prelude.{◌≡◌};
 
-    pub(crate) fn new(reader: T) -> KeepingReader<T>
+    /// One with no error yet.
+    pub fn new(reader: T) -> KeepingReader<T>
         ensures { ⟦<KeepingReader<T> as Read>⟧.remaining result ≡ T.remaining reader }
     {
         KeepingReader {
@@ -22,7 +23,7 @@ impl<T: Read + Drop> KeepingReader<T> {
     }
 
     /// Why the last read failed, if one did.
-    pub(crate) fn into_cause(self) -> Option<io::Error> {
+    pub fn into_cause(self) -> Option<io::Error> {
         self.cause
     }
 }

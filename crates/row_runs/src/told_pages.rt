@@ -3,14 +3,14 @@ ghost use Rattle.std.specs.Prelude.{◌≡◌, if◌then◌else◌, option_map};
 ghost use Rattle.dsc.specs.Fields.{fields_in};
 ghost use Rattle.papers.specs.Media.{comment_fields, contents};
 ghost use Rattle.std.specs.Prelude.{codes};
-ghost use Rattle.impose_cli.specs.ToldPages as meaning;
+ghost use Rattle.row_runs.specs.ToldPages as meaning;
 
 use dsc::{first_content, header_len, key_of, line_end_after, next_field};
 use papers::first_comment;
 
 /// How many pages a document says that it has, by the first `%%Pages:` of its header; if that is `(atend)`, by the first one
 /// after the last `%%Trailer` (DSC 3.0, 5.1).
-pub(crate) fn told_pages(text: &[u8]) -> Option<usize>
+pub fn told_pages(text: &[u8]) -> Option<usize>
     ensures { result ≡ meaning.told_pages text.now }
 {
     let (header, _) = text.split_at(header_len(text));

@@ -4,7 +4,7 @@ use Rattle.std.proofs.Common.{Bool, true, false, ◌≡◌, ◌∙◌, ℕ, zero
 use Rattle.rules.specs.Units.{content_of, line_len}
 use Rattle.dsc.proofs.LineByLine.{by_line}
 use Rattle.papers.specs.Media.{contents, contents_of}
-use Rattle.impose_cli.specs.ToldPages.{begins_trailer, behind_trailer}
+use Rattle.row_runs.specs.ToldPages.{begins_trailer, behind_trailer}
 
 no_lines : (k : ℕ) → contents_of k [] ≡ contents_of 0 []
 no_lines zero = refl

@@ -2,7 +2,7 @@
 ghost use Rattle.std.specs.Prelude.{◌≡◌, ◌≤◌, drop, vec_len, option_map, OnErr, OnOk};
 ghost use Rattle.guard.specs.Guard.{guarded};
 
-use guard::put_guard_before;
+use crate::text::put_guard_before;
 use lengths::Paper;
 use std::alloc::AllocError;
 use std::marker::Model;
@@ -17,7 +17,7 @@ pub struct RoomyText {
 
 impl Model for RoomyText {
     ghost use Rattle.std.specs.Prelude.{◌≤◌, drop, vec_len};
-    ghost use Rattle.impose_cli.specs.Texts.{TextView};
+    ghost use Rattle.guard.specs.Texts.{TextView};
 
     ghost Value = { TextView };
 
