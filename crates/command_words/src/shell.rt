@@ -10,7 +10,11 @@ use std::alloc::AllocError;
 pub fn append_if(said: bool, text: &[u8], out: &mut Vec<u8>) -> Result<(), AllocError>
     ensures { OnOk result (out.new.items ≡ out.old.items ++ meaning.text_if said text.now) }
 {
-    if said { out.extend_from_slice(text) } else { Ok(()) }
+    if said {
+        out.extend_from_slice(text)
+    } else {
+        Ok(())
+    }
 }
 
 /// Whether a command could take a word for an option.

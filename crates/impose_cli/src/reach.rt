@@ -100,5 +100,12 @@ pub(crate) fn reach_over(
 {
     let papers = own_papers(alloc, document, Some(*paper), paper)?;
     let told = told_own(alloc, request, document)?;
-    reach_of_pages(alloc, request, document, papers.as_slice(), told.as_slice(), false)
+    reach_of_pages(
+        alloc,
+        request,
+        document,
+        papers.as_slice(),
+        told.as_slice(),
+        false,
+    )
 }
