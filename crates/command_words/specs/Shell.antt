@@ -1,5 +1,5 @@
--- Words of a command line as they are written for a shell.
-use Rattle.std.specs.Prelude.{◌++◌, ◌==◌, ◌/◌, ◌%◌, ℕ, ℤ, pos, int_lt, nat_abs, nat_eq, nat_lt, if◌then◌else◌, Bool, List, [], ◌∷◌, flat_map, Option, Some, None, codes}
+-- Words of a command line of pstops as they are written for a shell.
+use Rattle.std.specs.Prelude.{◌++◌, ◌==◌, ◌/◌, ◌%◌, ℕ, ℤ, pos, int_lt, nat_abs, nat_eq, nat_lt, if◌then◌else◌, Bool, List, [], ◌∷◌, flat_map, Option, Some, None, codes, decimal}
 use Rattle.std.specs.List.{starts_with}
 use Rattle.rules.specs.Numbers.{greatest_number, number_text}
 
@@ -38,3 +38,18 @@ quoted_byte b = if b == 39 then 39 ∷ 92 ∷ 39 ∷ 39 ∷ [] else b ∷ []
 -- a file's name in quotes, after a blank, which isn't to be taken for an option
 abbrev pub file_text : (name : List ℕ) → List ℕ
 file_text name = codes " '" ++ text_if (begins_with_minus name) (codes "./") ++ flat_map quoted_byte name ++ codes "'"
+
+-- pstops has no word for standard input but a file of the system's
+abbrev pub files_text : (infile outfile : Option (List ℕ)) → List ℕ
+files_text None None = []
+files_text (Some infile) None = file_text infile
+files_text None (Some outfile) = file_text (codes "/dev/stdin") ++ file_text outfile
+files_text (Some infile) (Some outfile) = file_text infile ++ file_text outfile
+
+abbrev pub sides_text : Option ℕ → List ℕ
+sides_text None = []
+sides_text (Some sides) = codes " -s " ++ decimal sides
+
+abbrev pub border_text : Option ℤ → List ℕ
+border_text None = []
+border_text (Some width) = codes " -d " ++ length_text width

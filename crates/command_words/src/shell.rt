@@ -1,5 +1,5 @@
-//! Words of a command line as they are written for a shell.
-ghost use Rattle.std.specs.Prelude.{◌≡◌, ◌++◌, ◌<◌, OnOk, flat_map};
+//! Words of a command line of pstops as they are written for a shell.
+ghost use Rattle.std.specs.Prelude.{◌≡◌, ◌++◌, ◌<◌, OnOk, flat_map, option_map};
 ghost use Rattle.rules.specs.Numbers.{number_text};
 ghost use Rattle.command_words.specs.Shell as meaning;
 
@@ -70,8 +70,59 @@ fn number_in(length: Grains, grains: u128) -> Option<Number>
     Number::new(billionths as i64)
 }
 
+/// Appends the option for so many sides of a signature, if there are signatures.
+pub fn append_sides(sides: Option<u32>, out: &mut Vec<u8>) -> Result<(), AllocError>
+    ensures { OnOk result (out.new.items ≡ out.old.items ++ meaning.sides_text sides) }
+{
+    match sides {
+        Some(sides) => {
+            let alloc = *out.allocator();
+            let text = format!(in alloc; " -s {sides}")?;
+            out.extend_from_slice(text.as_str().as_bytes())
+        }
+        None => Ok(()),
+    }
+}
+
+/// Appends the option for a border of this width, if there is one.
+pub fn append_border(border: Option<Grains>, out: &mut Vec<u8>) -> Result<(), AllocError>
+    ensures { OnOk result (out.new.items ≡ out.old.items ++ meaning.border_text border) }
+{
+    match border {
+        Some(width) => {
+            out.extend_from_slice(b" -d ")?;
+            append_length(width, out)
+        }
+        None => Ok(()),
+    }
+}
+
+/// Appends the names of the files that are read and written; standard streams have none.
+pub fn append_files(
+    infile: Option<&str>,
+    outfile: Option<&str>,
+    out: &mut Vec<u8>,
+) -> Result<(), AllocError>
+    ensures { OnOk result (out.new.items ≡ out.old.items
+        ++ meaning.files_text (option_map (λ n. n.now) infile.entry) (option_map (λ n. n.now) outfile.entry)) }
+{
+    match (infile, outfile) {
+        (None, None) => Ok(()),
+        (Some(infile), None) => append_file(infile, out),
+        // pstops has no word for standard input but a file of the system's.
+        (None, Some(outfile)) => {
+            append_file("/dev/stdin", out)?;
+            append_file(outfile, out)
+        }
+        (Some(infile), Some(outfile)) => {
+            append_file(infile, out)?;
+            append_file(outfile, out)
+        }
+    }
+}
+
 /// Appends a file's name in quotes, after a blank. One that begins with a minus sign isn't to be taken for an option.
-pub fn append_file(name: &str, out: &mut Vec<u8>) -> Result<(), AllocError>
+fn append_file(name: &str, out: &mut Vec<u8>) -> Result<(), AllocError>
     ensures { OnOk result (out.new.items ≡ out.old.items ++ meaning.file_text name.now) }
 {
     out.extend_from_slice(b" '")?;

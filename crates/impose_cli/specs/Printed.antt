@@ -1,7 +1,7 @@
 -- What `--print-spec` prints: the specification, the command line of pstops that imposes by it, and what that doesn't do.
-use Rattle.std.specs.Prelude.{◌++◌, ◌&&◌, ℕ, ℤ, pos, not, is_some, List, [], Option, Some, None, codes, decimal, option_map, string_bytes}
+use Rattle.std.specs.Prelude.{◌++◌, ◌&&◌, ℕ, pos, not, is_some, List, codes, option_map, string_bytes}
 use Rattle.std.specs.Ordering.{int_eq}
-use Rattle.command_words.specs.Shell.{begins_with_minus, file_text, length_text, text_if}
+use Rattle.command_words.specs.Shell.{begins_with_minus, border_text, files_text, length_text, sides_text, text_if}
 use Rattle.imposer.specs.declared.options.Options.{Options}
 use Rattle.impose_words.specs.declared.request.ImposeRequest.{ImposeRequest}
 use Rattle.impose_cli.specs.declared.task.Task.{Task}
@@ -12,21 +12,6 @@ use Rattle.impose_cli.specs.declared.task.Task.{Task}
 -- option
 abbrev pub spec_text : (spec : List ℕ) → List ℕ
 spec_text spec = text_if (begins_with_minus spec) (codes "1:") ++ spec
-
--- pstops has no word for standard input but a file of the system's
-abbrev pub files_text : (infile outfile : Option (List ℕ)) → List ℕ
-files_text None None = []
-files_text (Some infile) None = file_text infile
-files_text None (Some outfile) = file_text (codes "/dev/stdin") ++ file_text outfile
-files_text (Some infile) (Some outfile) = file_text infile ++ file_text outfile
-
-abbrev pub sides_text : Option ℕ → List ℕ
-sides_text None = []
-sides_text (Some sides) = codes " -s " ++ decimal sides
-
-abbrev pub border_text : Option ℤ → List ℕ
-border_text None = []
-border_text (Some width) = codes " -d " ++ length_text width
 
 abbrev pub options_text : Options → List ℕ
 options_text o = sides_text o.sides ++ codes " -w " ++ length_text o.paper.width ++ codes " -h " ++ length_text o.paper.height

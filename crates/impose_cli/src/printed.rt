@@ -1,13 +1,13 @@
 //! The specification of a task as it is printed, with the line of pstops that does the same.
-ghost use Rattle.std.specs.Prelude.{◌≡◌, ◌++◌, IfOk, OnOk, option_map, string_bytes};
-ghost use Rattle.impose_cli.specs.Printed.{border_text, command_text, comments_text, files_text, options_text};
-ghost use Rattle.impose_cli.specs.Printed.{printed_text, sides_text, spec_text};
+ghost use Rattle.std.specs.Prelude.{◌≡◌, ◌++◌, IfOk, OnOk};
+ghost use Rattle.impose_cli.specs.Printed.{command_text, comments_text, options_text, printed_text, spec_text};
 
 use crate::task::Task;
-use command_words::{append_file, append_if, append_length, begins_with_minus};
+use command_words::{
+    append_border, append_files, append_if, append_length, append_sides, begins_with_minus, name_of,
+};
 use impose_words::ImposeRequest;
 use imposer::Options;
-use lengths::Grains;
 use std::alloc::{AllocError, Global};
 
 /// The specification on a line, on a second one the command line of pstops that imposes by it with these options, and
@@ -37,7 +37,7 @@ fn append_command(request: &ImposeRequest, task: &Task, out: &mut Vec<u8>) -> Re
     out.extend_from_slice(b" '")?;
     append_spec(task.spec.as_str(), out)?;
     out.extend_from_slice(b"'")?;
-    append_files(request, out)
+    append_files(name_of(&request.infile), name_of(&request.outfile), out)
 }
 
 fn append_comments(
@@ -76,48 +76,4 @@ fn append_options(options: &Options, out: &mut Vec<u8>) -> Result<(), AllocError
     out.extend_from_slice(b" -h ")?;
     append_length(options.paper.height(), out)?;
     append_border(options.border, out)
-}
-
-fn append_sides(sides: Option<u32>, out: &mut Vec<u8>) -> Result<(), AllocError>
-    ensures { OnOk result (out.new.items ≡ out.old.items ++ sides_text sides) }
-{
-    match sides {
-        Some(sides) => {
-            let alloc = *out.allocator();
-            let text = format!(in alloc; " -s {sides}")?;
-            out.extend_from_slice(text.as_str().as_bytes())
-        }
-        None => Ok(()),
-    }
-}
-
-fn append_border(border: Option<Grains>, out: &mut Vec<u8>) -> Result<(), AllocError>
-    ensures { OnOk result (out.new.items ≡ out.old.items ++ border_text border) }
-{
-    match border {
-        Some(width) => {
-            out.extend_from_slice(b" -d ")?;
-            append_length(width, out)
-        }
-        None => Ok(()),
-    }
-}
-
-fn append_files(request: &ImposeRequest, out: &mut Vec<u8>) -> Result<(), AllocError>
-    ensures { OnOk result (out.new.items ≡ out.old.items
-        ++ files_text (option_map string_bytes request.now.infile) (option_map string_bytes request.now.outfile)) }
-{
-    match (&request.infile, &request.outfile) {
-        (None, None) => Ok(()),
-        (Some(infile), None) => append_file(infile.as_str(), out),
-        // pstops has no word for standard input but a file of the system's.
-        (None, Some(outfile)) => {
-            append_file("/dev/stdin", out)?;
-            append_file(outfile.as_str(), out)
-        }
-        (Some(infile), Some(outfile)) => {
-            append_file(infile.as_str(), out)?;
-            append_file(outfile.as_str(), out)
-        }
-    }
 }

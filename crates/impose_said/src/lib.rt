@@ -1,7 +1,6 @@
 //! What impose says of how it ended, and with which exit status.
 #![tactic(auto)]
 
-mod caret;
 mod fault;
 mod finished;
 mod messages;

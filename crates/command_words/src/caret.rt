@@ -8,7 +8,7 @@ const SHOWN_BEHIND: usize = 20;
 
 /// Two lines after a line end: the text round the place, and a caret below it. Two dots are in place of what is cut off, and
 /// a question mark for a control character. Nothing if the text ends before the place.
-pub(crate) fn caret_below(alloc: Global, text: &str, place: usize) -> Result<String, AllocError> {
+pub fn caret_below(alloc: Global, text: &str, place: usize) -> Result<String, AllocError> {
     if place > text.len() {
         return Ok(String::new(alloc));
     }
@@ -36,7 +36,7 @@ pub(crate) fn caret_below(alloc: Global, text: &str, place: usize) -> Result<Str
 }
 
 /// Where a text can't go on that is to be a range from this byte on.
-pub(crate) fn range_place(text: &str, start: usize) -> usize {
+pub fn range_place(text: &str, start: usize) -> usize {
     let Some((_, range)) = text.split_at_checked(start) else {
         return start;
     };
@@ -69,12 +69,12 @@ fn is_place(text: &str, left: &str) -> bool {
 }
 
 /// Where an item of a specification is, counted from 0 over the whole text.
-pub(crate) fn item_place(text: &str, item: u32) -> usize {
+pub fn item_place(text: &str, item: u32) -> usize {
     place_behind(text.as_bytes(), item, true)
 }
 
 /// Where a group of a specification is, counted from 0.
-pub(crate) fn group_place(text: &str, group: u32) -> usize {
+pub fn group_place(text: &str, group: u32) -> usize {
     place_behind(text.as_bytes(), group, false)
 }
 
@@ -103,7 +103,7 @@ fn place_behind(text: &[u8], count: u32, of_items: bool) -> usize {
 
 /// Where the first number over 99,999 is in a specification: a sixth digit shows it, of those that aren't decimals
 /// or zeros in front.
-pub(crate) fn large_place(text: &str) -> usize {
+pub fn large_place(text: &str) -> usize {
     let mut start = 0usize;
     let mut digits = 0u32;
     let mut is_decimal = false;
