@@ -1,6 +1,7 @@
 //! The specification of a task as it is printed, with the line of pstops that does the same.
 ghost use Rattle.std.specs.Prelude.{◌≡◌, ◌++◌, IfOk, OnOk};
-ghost use Rattle.impose_cli.specs.Printed.{command_text, comments_text, options_text, printed_text, spec_text};
+ghost use Rattle.impose_cli.specs.Printed.{call_text, command_text, comments_text, is_border_trimmed};
+ghost use Rattle.impose_cli.specs.Printed.{options_text, printed_text, spec_text};
 
 use crate::task::Task;
 use command_words::{
@@ -31,13 +32,24 @@ pub fn printed_task(
 fn append_command(request: &ImposeRequest, task: &Task, out: &mut Vec<u8>) -> Result<(), AllocError>
     ensures { OnOk result (out.new.items ≡ out.old.items ++ command_text request.now task.now) }
 {
-    out.extend_from_slice(b"pstops")?;
-    append_if(request.is_quiet, b" -q", out)?;
-    append_options(&task.options, out)?;
+    append_call(request, &task.options, out)?;
     out.extend_from_slice(b" '")?;
     append_spec(task.spec.as_str(), out)?;
     out.extend_from_slice(b"'")?;
     append_files(name_of(&request.infile), name_of(&request.outfile), out)
+}
+
+/// The command with its options.
+fn append_call(
+    request: &ImposeRequest,
+    options: &Options,
+    out: &mut Vec<u8>,
+) -> Result<(), AllocError>
+    ensures { OnOk result (out.new.items ≡ out.old.items ++ call_text request.now options.now) }
+{
+    out.extend_from_slice(b"pstops")?;
+    append_if(request.is_quiet, b" -q", out)?;
+    append_options(options, out)
 }
 
 fn append_comments(
@@ -47,9 +59,15 @@ fn append_comments(
 ) -> Result<(), AllocError>
     ensures { OnOk result (out.new.items ≡ out.old.items ++ comments_text request.now task.now) }
 {
-    let is_trimmed = task.options.border.is_some() && request.spacing.trim.get() != 0;
-    append_if(is_trimmed, TRIM_COMMENT, out)?;
+    append_if(has_trimmed_border(request, task), TRIM_COMMENT, out)?;
     append_if(request.is_guarded, GUARD_COMMENT, out)
+}
+
+/// Whether a border is drawn round pages that are trimmed.
+fn has_trimmed_border(request: &ImposeRequest, task: &Task) -> bool
+    ensures { result ≡ is_border_trimmed request.now task.now }
+{
+    task.options.border.is_some() && request.spacing.trim.get() != 0
 }
 
 const TRIM_COMMENT: &[u8] =
