@@ -13,6 +13,5 @@ pub mod Again
 pub mod Examples
 pub mod Programs
 pub mod Ranges
-pub mod TrailerLines
 pub mod TakenPages
 pub mod ReachingTaken

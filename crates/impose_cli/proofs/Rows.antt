@@ -32,7 +32,7 @@ use Rattle.papers.specs.Names.{paper_named}
 use Rattle.impose_said.specs.Faults.{without_memory}
 use Rattle.dsc.specs.PagesBehind.{pages_behind}
 use Rattle.impose_said.specs.declared.finished.PaperOrigin.{PaperOrigin}
-use Rattle.impose_cli.specs.ToldPages.{told_pages}
+use Rattle.row_runs.specs.ToldPages.{told_pages}
 use Rattle.impose_cli.specs.Tasks.{HasBehind, HasPages}
 use Rattle.impose_cli.specs.Refusals.{RefusesDocument, RefusesFor, RefusesOptions, RefusesRowTask}
 use Rattle.impose_cli.specs.Reaches.{HasReach, HasReachOver, reach_in, reach_over}

@@ -13,7 +13,7 @@ use Rattle.impose_cli.specs.Abouts.{reported_by}
 use Rattle.impose_cli.specs.Endings.{Comes, IsImposed, RefusesImposing, Runs}
 use Rattle.impose_cli.specs.SpecRows.{FinishesSpecRow, ImposesSpecTask, IsSpecJobOf, IsSpecRowTask, LaysSpecRow, TakesNamed, RefusesSpecRowJob, RefusesSpecRowRun, RefusesSpecRowTask, RefusesSpecTaskRun}
 use Rattle.impose_cli.specs.declared.runs.About.{About}
-use Rattle.impose_cli.specs.ToldPages.{told_pages}
+use Rattle.row_runs.specs.ToldPages.{told_pages}
 use Rattle.impose_cli.specs.Tasks.{taken_text}
 use Rattle.impose_said.specs.declared.fault.ImposeFault.{ImposeFault}
 use Rattle.impose_words.specs.declared.request.Layout.{Layout}

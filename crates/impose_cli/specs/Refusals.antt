@@ -9,7 +9,7 @@ use Rattle.dsc.specs.declared.errors.DscError.{DscError}
 use Rattle.dsc.specs.Faults as dsc
 use Rattle.imposer.specs.Outcomes.{of_document as of_read}
 use Rattle.impose_said.specs.Faults.{without_memory}
-use Rattle.impose_cli.specs.Faults.{of_document}
+use Rattle.impose_said.specs.Inputs.{of_document}
 use Rattle.impose_words.specs.Choices.{is_said}
 use Rattle.impose_cli.specs.RowTasks.{HasOptions, IsRowPaper, TellsOnePaper, has_specification, is_of_one_paper, why_no_row, why_not_laid}
 use Rattle.impose_cli.specs.Tasks.{page_paper_found, sheet_paper_found}

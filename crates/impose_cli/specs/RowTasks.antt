@@ -32,7 +32,7 @@ use Rattle.row_sheets.specs.Posters.{why_no_poster}
 use Rattle.row_sheets.specs.declared.poster.Poster.{Poster}
 use Rattle.impose_words.specs.Spacings.{arrangement_in, binding_in, notes_in, zine_in}
 use Rattle.impose_words.specs.declared.request.Spacing.{Spacing}
-use Rattle.impose_cli.specs.ToldPages.{told_pages}
+use Rattle.row_runs.specs.ToldPages.{told_pages}
 use Rattle.impose_cli.specs.Reaches.{HasReach, takes}
 use Rattle.impose_cli.specs.Tasks.{HasBehind, page_paper_found, sheet_paper_found, taken_text}
 use Rattle.impose_said.specs.Said.{is_same}

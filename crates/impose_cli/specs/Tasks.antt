@@ -8,7 +8,7 @@ use Rattle.rules.specs.Parts.{NestedUnit, pages}
 use Rattle.rules.specs.Run.{document_of, plan_in}
 use Rattle.rules.specs.Sheets.{sheets}
 use Rattle.dsc.specs.PagesBehind.{pages_behind}
-use Rattle.impose_cli.specs.ToldPages.{told_pages}
+use Rattle.row_runs.specs.ToldPages.{told_pages}
 use Rattle.impose_cli.specs.Reaches.{HasReachOver}
 use Rattle.made_sheets.specs.Choice.{sides_for}
 use Rattle.rows.specs.Sewing.{signing_of}

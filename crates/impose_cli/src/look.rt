@@ -7,9 +7,9 @@ ghost use Rattle.impose_cli.specs.Endings.{RefusesRow, RefusesRowTaskRun};
 ghost use Rattle.impose_cli.specs.Looks.{Tells, TellsRow, TellsTask};
 ghost use Rattle.impose_cli.specs.RowTasks.{LaysRows};
 
-use crate::roomy_text::RoomyText;
 use crate::row_task::{RowTask, asked_fault_of, row_task};
 use dsc::Document;
+use guard::RoomyText;
 use impose_said::ImposeFault;
 use impose_words::ImposeRequest;
 use imposer::RunError;

@@ -24,14 +24,14 @@ ghost use Rattle.dsc.specs.PagesBehind.{pages_behind};
 
 use crate::laying::{laying_for, papers_for, signing_for};
 use crate::left::{Left, stopped};
-use crate::reach::reach_of_pages;
-use crate::roomy_text::RoomyText;
+use crate::reach::reach_of_row;
 use crate::runs::impose_job;
 use crate::taken::{papers_on_row, papers_taken, row_of_choice};
-use crate::task::{of_document, paper_of_pages, text_to_impose};
+use crate::task::{paper_of_pages, text_to_impose};
 use command_words::name_of;
 use dsc::Document;
-use impose_said::{ImposeFault, PaperOrigin};
+use guard::RoomyText;
+use impose_said::{ImposeFault, PaperOrigin, of_document};
 use impose_words::{ImposeRequest, Layout, PageChoice};
 use imposer::{Report, RunError};
 use lengths::Paper;
@@ -212,9 +212,9 @@ fn papers_in(
     let row = row_of_choice(alloc, document.pages(), &request.choice)?;
     let taken = papers_on_row(alloc, row.as_slice(), own.as_slice())?;
     let (page_paper, origin) = paper_of_row(request, document.text(), taken.as_slice());
-    let papers = papers_placed(alloc, &request.layout, taken.as_slice(), own)?;
+    let papers = papers_placed(alloc, &request.layout, taken.as_slice(), own.as_slice())?;
     let cut = cut_pages(alloc, request, document, row.as_slice())?;
-    let reach = reach_of_pages(alloc, request, document, papers.as_slice(), true)?;
+    let reach = reach_of_row(alloc, request, document, papers.as_slice(), own.as_slice())?;
     Ok(FoundPapers {
         pages: document.pages(),
         page_paper,
@@ -243,13 +243,17 @@ fn papers_placed(
     alloc: Global,
     layout: &Layout,
     taken: &[Paper],
-    own: Vec<Paper>,
+    own: &[Paper],
 ) -> Result<Vec<Paper>, AllocError>
-    ensures { IfOk result (λ papers. papers.items ≡ placed_in layout.now taken.now own.items) }
+    ensures { IfOk result (λ papers. papers.items ≡ placed_in layout.now taken.now own.now) }
 {
     match layout {
-        Layout::Selection => as_one(alloc, taken, own.as_slice()),
-        _ => Ok(own),
+        Layout::Selection => as_one(alloc, taken, own),
+        _ => {
+            let mut papers = Vec::new(alloc);
+            papers.extend_from_slice(own)?;
+            Ok(papers)
+        }
     }
 }
 

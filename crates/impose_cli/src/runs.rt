@@ -20,20 +20,19 @@ ghost use Rattle.impose_said.specs.declared.fault.ImposeFault.TheVariants as fau
 
 use crate::laying::is_drawn;
 use crate::left::{Left, closed, stopped};
-use crate::roomy_text::RoomyText;
 use crate::row_task::{asked_fault_of, impose_task, row_task};
 use crate::spec_row::{impose_spec_task, spec_row_task};
 use crate::task::{Task, WORKERS, task_for};
-use crate::told_pages::told_pages;
 use command_words::name_of;
 use dsc::Document;
+use guard::RoomyText;
 use impose_said::{Done, Finished, ImposeFault, PaperOrigin};
 use impose_words::{ImposeRequest, Layout};
 use imposer::{Job, Open, Options, Report, RunError, run_plan};
 use lengths::{Grains, Paper};
 use pagespec::{Spec, read_spec};
 use papers::{Cut, Reach};
-use row_runs::{PlannedSheets, RowJob, SheetJob, SpecJob};
+use row_runs::{PlannedSheets, RowJob, SheetJob, SpecJob, told_pages};
 use sheet_plan::Plan;
 use std::alloc::Global;
 use std::io::ErrorKind;

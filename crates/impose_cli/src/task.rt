@@ -9,7 +9,6 @@ ghost use Rattle.layouts.specs.Laws.{IsBound};
 ghost use Rattle.layouts.specs.Refusals.{why_not_bound};
 ghost use Rattle.layouts.specs.declared.error.ArrangementError.{ArrangementError};
 ghost use Rattle.impose_said.specs.Faults.{without_memory};
-ghost use Rattle.impose_cli.specs.Faults.{of_document as document_fault, of_other_input, of_unpacked, packing_of as packed_by};
 ghost use Rattle.impose_cli.specs.RowTasks.{has_specification as is_made_for};
 ghost use Rattle.impose_cli.specs.Tasks.{HasBehind, HasPages, IsPlaced, IsTask, IsWritten, page_paper_found};
 ghost use Rattle.impose_cli.specs.Tasks.{sheet_paper_found, taken_text};
@@ -22,11 +21,11 @@ ghost use Rattle.impose_said.specs.declared.fault.ImposeFault.TheVariants as fau
 
 use crate::laying::{laying_for, papers_for};
 use crate::reach::reach_over;
-use crate::roomy_text::RoomyText;
 use crate::row_task::has_one_paper;
 use dressing::Marks;
-use dsc::{Document, DscError};
-use impose_said::{ImposeFault, Packing, PaperOrigin};
+use dsc::Document;
+use guard::RoomyText;
+use impose_said::{ImposeFault, PaperOrigin, of_document};
 use impose_words::{ImposeRequest, Layout, PageChoice, Spacing};
 use imposer::{Options, RunError, Workers};
 use layouts::{Binding, Cells, Papers, arrange, bind};
@@ -257,65 +256,6 @@ pub(crate) fn pages_of(
             reach,
         }),
         Err(_) => Err(ImposeFault::no_memory()),
-    }
-}
-
-/// A document's refusal. What is empty, a PDF, compressed or a job for a printer is called so; and what is too long by
-/// itself, as a guard may make it so later.
-pub(crate) fn of_document(error: DscError, input: &[u8]) -> ImposeFault
-    ensures { result ≡ document_fault error input.now }
-{
-    match error {
-        DscError::NotPostScript => not_postscript(input),
-        DscError::TooLong => ImposeFault::TooLong,
-        error => ImposeFault::Run(RunError::from(error)),
-    }
-}
-
-fn not_postscript(input: &[u8]) -> ImposeFault
-    ensures { result ≡ of_other_input input.now }
-{
-    if input.is_empty() {
-        ImposeFault::NoInput
-    } else if input.starts_with(b"%PDF-") {
-        ImposeFault::Pdf
-    } else {
-        match packing_of(input) {
-            Some(packing) => ImposeFault::Compressed(packing),
-            None => unpacked_fault(input),
-        }
-    }
-}
-
-/// The same of one that is neither empty, a PDF nor compressed.
-fn unpacked_fault(input: &[u8]) -> ImposeFault
-    ensures { result ≡ of_unpacked input.now }
-{
-    if input.starts_with(b"\x1b%-12345X") {
-        ImposeFault::JobLanguage
-    } else if input.starts_with(b"\xc5\xd0\xd3\xc6") {
-        ImposeFault::DosEps
-    } else if input.starts_with(b"\xff\xfe") || input.starts_with(b"\xfe\xff") {
-        ImposeFault::Utf16
-    } else {
-        ImposeFault::Run(RunError::Document(DscError::NotPostScript))
-    }
-}
-
-/// By what an input is compressed, as its first bytes show.
-fn packing_of(input: &[u8]) -> Option<Packing>
-    ensures { result ≡ packed_by input.now }
-{
-    if input.starts_with(b"\x1f\x8b") {
-        Some(Packing::Gzip)
-    } else if input.starts_with(b"BZh") {
-        Some(Packing::Bzip2)
-    } else if input.starts_with(b"\xfd7zXZ\0") {
-        Some(Packing::Xz)
-    } else if input.starts_with(b"PK\x03\x04") {
-        Some(Packing::Zip)
-    } else {
-        None
     }
 }
 

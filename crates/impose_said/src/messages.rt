@@ -2,12 +2,11 @@
 ghost use Rattle.std.specs.Prelude.{◌≡◌};
 ghost use Rattle.impose_said.specs.Statuses.{fault_status as status_of_fault, words_status as status_of_words};
 
-use crate::caret::{caret_below, group_place, item_place, large_place, range_place};
 use crate::fault::{IdleOption, ImposeFault, Packing};
 use crate::mistakes::looks_like_file;
 use crate::shown::shown_word;
 use clap::error::ErrorKind;
-use command_words::name_of;
+use command_words::{caret_below, group_place, item_place, large_place, name_of, range_place};
 use dsc::DscError;
 use impose_words::{
     GridCommand, ImposeRequest, Layout, Opt, PageChoice, Product, ProductOption, RequestFault,

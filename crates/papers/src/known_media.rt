@@ -1,5 +1,5 @@
 //! Media of header comments that pages name.
-ghost use Rattle.std.specs.Prelude.{◌≡◌, ◌<◌, ℕ, List, [], Some, None, IfOk, OnOk, flat_map, length, option_map, slice_index_or};
+ghost use Rattle.std.specs.Prelude.{◌≡◌, ◌<◌, ℕ, List, [], ◌∷◌, Some, None, IfOk, OnOk, flat_map, length, option_map, slice_index_or};
 ghost use Rattle.std.specs.Map.{update};
 ghost use Rattle.std.specs.Str.{bytes_eq};
 ghost use Rattle.rules.specs.Parts.{pages};
@@ -33,9 +33,16 @@ impl KnownMedia {
     ) -> Result<KnownMedia, AllocError>
         ensures { IfOk result (λ known. KnowsAll known (media (contents header.now)) (pages document.now)) }
     {
-        let mut known = KnownMedia::named(alloc, document)?;
-        known.find(alloc, header)?;
-        Ok(known)
+        match first_comment(header, b"%%DocumentMedia", b"%%DocumentMedia:") {
+            Some((first, others)) => {
+                let mut known = KnownMedia::named(alloc, document)?;
+                known.find(alloc, first, others)?;
+                Ok(known)
+            }
+            None => Ok(KnownMedia {
+                papers: BTreeMap::new(alloc),
+            }),
+        }
     }
 
     /// Their names.
@@ -74,18 +81,14 @@ impl KnownMedia {
         Ok(())
     }
 
-    /// Finds their papers.
-    fn find(&mut self, alloc: Global, header: &[u8]) -> Result<(), AllocError>
+    /// Finds their papers: among the first medium, and those of the lines after it that continue it.
+    fn find(&mut self, alloc: Global, first: &[u8], others: &[u8]) -> Result<(), AllocError>
         ensures { OnOk result ((at : List ℕ) → found_at self.new at
-            ≡ option_map (λ found. with_media at found (media (contents header.now))) (found_at self.old at)) }
+            ≡ option_map (λ found. with_media at found (flat_map medium_in (fields_in first.now ∷ continued (contents others.now))))
+            (found_at self.old at)) }
     {
-        match first_comment(header, b"%%DocumentMedia", b"%%DocumentMedia:") {
-            Some((first, others)) => {
-                self.take(alloc, first)?;
-                self.take_continued(alloc, others)
-            }
-            None => Ok(()),
-        }
+        self.take(alloc, first)?;
+        self.take_continued(alloc, others)
     }
 
     /// Takes the media of the lines at the front that continue a comment.

@@ -1,6 +1,6 @@
 //! The comments after a page's line.
 ghost use Rattle.std.specs.Prelude.{◌≡◌, ◌++◌, ◌∷◌, [], option_map, drop, length};
-ghost use Rattle.rules.specs.Units.{line_len};
+ghost use Rattle.rules.specs.Units.{content_of, line_len};
 ghost use Rattle.rules.specs.Bytes.{colon};
 ghost use Rattle.dsc.specs.Fields.{fields_in};
 ghost use Rattle.papers.specs.Media.{comment_fields};
@@ -13,9 +13,17 @@ use dsc::{comment_value, first_content, is_header, key_of, line_end_after, next_
 pub(crate) fn behind_first_line(text: &[u8]) -> &[u8]
     ensures { result.now ≡ drop (line_len text.now) text.now }
 {
-    let content = first_content(text);
-    let (_, behind) = text.split_at(line_end_after(text, content.len()));
+    let (_, behind) = text.split_at(line_end_after(text, first_line_len(text)));
     behind
+}
+
+/// The length of the content of the first line, which is short in a page.
+fn first_line_len(text: &[u8]) -> usize
+    ensures { result ≡ length (content_of text.now) }
+{
+    text.iter()
+        .take_while(|b| !(**b == b'\r' || **b == b'\n'))
+        .count()
 }
 
 /// What follows the colon of the first comment with this key, in the run of comments at the front.
@@ -25,7 +33,7 @@ pub(crate) fn value_in_head<'t>(text: &'t [u8], key: &[u8], with_colon: &[u8]) -
         ≡ comment_fields key.now (head_of (length text.now) text.now) }
 {
     let mut rest = text;
-    while !rest.is_empty() {
+    while rest.starts_with(b"%") {
         let content = first_content(rest);
         if !is_in_head(content) {
             return None;

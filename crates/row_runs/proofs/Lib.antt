@@ -3,6 +3,7 @@ pub mod BySpec
 pub mod Examples
 pub mod Lines
 pub mod Places
+mod TrailerLines
 mod Alone
 mod Counted
 mod OneScale

@@ -1,5 +1,5 @@
 -- What a refusal says of what was asked for, of a run, and of its sheets.
-use Rattle.std.proofs.Common.{◌≡◌, ℕ, List, inl, inr, refl, sym, subst}
+use Rattle.std.proofs.Common.{◌≡◌, ℕ, List, refl, sym, subst}
 use Rattle.std.specs.Prelude.{IsOk}
 use Rattle.made_sheets.specs.Choice.{signed}
 use Rattle.row_runs.specs.declared.error.AskedError.{AskedError}
@@ -7,7 +7,7 @@ use Rattle.row_runs.specs.declared.error.AskedError.TheVariants as error
 use Rattle.row_runs.specs.declared.run.RowJob.{RowJob}
 use Rattle.row_runs.specs.SheetsRuns.{RefusesSheets}
 use Rattle.row_runs.specs.Runs.{RefusesRun, page_count}
-use Rattle.row_runs.specs.BySpec.{AreBySpec, RefusesBySpec, RefusesSheetsBySpec, pages_of}
+use Rattle.row_runs.specs.BySpec.{AreBySpec, RefusesBySpec, pages_of}
 use Rattle.row_runs.specs.declared.by_spec.SpecJob.{SpecJob}
 use Rattle.made_sheets.specs.Made.{MadeSheet}
 use Rattle.row_runs.specs.Sheets.{AreAsked, RefusesAsked, laying_for, leaves_in, sewn, sheets_laid}
@@ -33,17 +33,10 @@ sheets_refused j made (error.Row e) asked h = absurd h
 sheets_refused j made (error.Arrangement e) asked h = absurd h
 sheets_refused j made (error.Poster e) asked h = absurd h
 
--- the same of sheets of a specification on a row, and a row without such sheets
+-- the same of sheets of a specification on a row
 pub spec_refused : (j : SpecJob) (made : List MadeSheet) (e : AskedError) → AreBySpec j made → RefusesSheets (pages_of j) made e → RefusesBySpec j e
-spec_refused j made (error.Sheets e) are h = (made, are, inl h)
+spec_refused j made (error.Sheets e) are h = (made, are, h)
 spec_refused j made error.NoMemory are h = subst IsOk (sym are.is_chosen) refl
 spec_refused j made (error.Row e) are h = absurd h
 spec_refused j made (error.Arrangement e) are h = absurd h
 spec_refused j made (error.Poster e) are h = absurd h
-
-pub spec_unmade : (j : SpecJob) (e : AskedError) → RefusesSheetsBySpec j e → RefusesBySpec j e
-spec_unmade j (error.Sheets e) h = (h.0, h.1, inr h.2)
-spec_unmade j error.NoMemory h = h
-spec_unmade j (error.Row e) h = h
-spec_unmade j (error.Arrangement e) h = absurd h
-spec_unmade j (error.Poster e) h = absurd h
