@@ -2,6 +2,7 @@
 -- what its run leaves; what a look shows; what is checked unread; laws; the whole program.
 pub mod Texts
 pub mod ToldPages
+pub mod Claims
 pub mod Reaches
 pub mod Faults
 pub mod Tasks

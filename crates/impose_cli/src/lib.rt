@@ -1,6 +1,7 @@
 //! The command of impose: its words are read, and what they ask for is made of a document and written.
 #![tactic(auto)]
 
+mod claims;
 mod keeping_reader;
 pub mod laws;
 mod laying;
@@ -19,7 +20,7 @@ mod told_pages;
 mod unread;
 
 pub use impose_said::{
-    Done, Finished, IdleOption, ImposeFault, Packing, PaperOrigin, behind_text, command_text,
+    Done, Finished, IdleOption, ImposeFault, Packing, PaperOrigin, Told, behind_text, command_text,
     cut_text, fault_status, fault_text, note_text, report_text, text_said, told_text, words_text,
 };
 pub use impose_words::{

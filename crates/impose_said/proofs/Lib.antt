@@ -1,3 +1,4 @@
 pub mod Lines
 pub mod Points
+pub mod Names
 pub mod Examples
