@@ -7,7 +7,7 @@ use Rattle.rules.specs.Bytes.{line}
 use Rattle.rules.specs.Output.{Border}
 use Rattle.rules.specs.Papers.{Paper}
 use Rattle.rules.specs.Parts.{pages}
-use Rattle.rules.specs.Units.{content_of, fields, is_comment, line_len}
+use Rattle.rules.specs.Units.{content_of, is_comment, line_len}
 use Rattle.dsc.specs.Units.{units_of}
 use Rattle.made_sheets.specs.Dress.{lines_text}
 use Rattle.made_sheets.specs.Made.{Blank, MadeSheet, MadeSlot, Placed}
@@ -16,9 +16,9 @@ use Rattle.imposed_again.specs.MadeAgain.{IsTameDress, made_texts}
 use Rattle.imposed_again.proofs.MadeAgain.{made_is_document}
 use Rattle.seams.specs.Seams.{no_ends}
 use Rattle.seams.proofs.Plainly.{no_ends_append, no_ends_decimal}
-use Rattle.papers.specs.Comments.{first_named_in, is_in_head, medium_in, named_medium, page_head, paper_of_medium, told_by_document, told_by_page}
+use Rattle.papers.specs.Comments.{first_named_in, is_in_head, medium_in, page_head, paper_of_medium, told_by_document, told_by_page}
 use Rattle.papers.specs.Found.{AreQuiet, Finish, IsTellablePaper, PapersAreFound, as_printed, telling_and}
-use Rattle.papers.specs.Media.{box_of, box_paper, comment_fields, comment_lines, continued, else_take, header, lying_as, media_paper, paper_of_box, trailer_lines}
+use Rattle.papers.specs.Media.{box_of, box_paper, comment_fields, comment_value, comment_values, continued, else_take, header, lying_as, media_paper, paper_of_box, trailer_lines, value_of}
 use Rattle.papers.specs.Own.{covering, medium_by, or_this, own_paper, page_or}
 use Rattle.papers.specs.Told.{box_line, different_from, in_print, is_told_alike, medium_line, page_size_lines, papers_told, sheet_lines, size_name, telling_of}
 use Rattle.papers.proofs.Covered.{by_test}
@@ -26,7 +26,7 @@ use Rattle.papers.proofs.Heads.{head, head_step, page_head_is, with_content}
 use Rattle.papers.proofs.OutputHeads.{AreContinued, Continues, IsHeaded, behind_line, content_is, headed}
 use Rattle.papers.proofs.SetSizes.{alike_sides, is_told}
 use Rattle.papers.proofs.Tame as tame
-use Rattle.papers.proofs.ToldMedia.{found_by_name, media_told, medium_read, name_is, page_medium}
+use Rattle.papers.proofs.ToldMedia.{found_by_name, media_told, medium_read, page_medium}
 
 -- ---- the head of a page
 head_goes : (c rest : List ℕ) → no_ends c ≡ true → is_in_head c ≡ true → head (line c ++ rest) ≡ c ∷ head rest
@@ -122,12 +122,12 @@ sized_alike p q e =
 
 -- one paper is the document's
 document_medium : (p : Paper) (first count : List ℕ) (more : List (List ℕ)) → is_comment medium_comment first ≡ false → is_comment medium_comment count ≡ false
-    → comment_fields medium_comment (first ∷ count ∷ ((telling_of (p ∷ [])).header ++ more))
-    ≡ Some (fields (medium_line (codes "%%DocumentMedia: ") (codes "Plain") p))
+    → comment_value medium_comment (first ∷ count ∷ ((telling_of (p ∷ [])).header ++ more))
+    ≡ Some (value_of (medium_line (codes "%%DocumentMedia: ") (codes "Plain") p))
 document_medium p first count more e f =
     let rest : List (List ℕ) = (telling_of (p ∷ [])).header ++ more in
-    ap (λ t. if t then Some (fields first) else comment_fields medium_comment (count ∷ rest)) e
-    ∙ ap (λ t. if t then Some (fields count) else comment_fields medium_comment rest) f
+    ap (λ t. if t then Some (value_of first) else comment_value medium_comment (count ∷ rest)) e
+    ∙ ap (λ t. if t then Some (value_of count) else comment_value medium_comment rest) f
 
 one_found : (named : List ℕ → Option Paper) (home : Paper) (first count : List ℕ) (more trailer : List (List ℕ)) (page : List ℕ) (p : Paper)
     → is_comment medium_comment first ≡ false → is_comment medium_comment count ≡ false → IsTellablePaper p → page_head page ≡ []
@@ -136,7 +136,7 @@ one_found named home first count more trailer page p e f t silent =
     let hs : List (List ℕ) = first ∷ count ∷ ((telling_of (p ∷ [])).header ++ more) in
     let box : Option (List (List ℕ)) = box_of hs trailer in
     let others : Option Paper =
-    else_take (option_map (lying_as (option_and_then box_paper box)) (first_named_in named (comment_lines (codes "%%DocumentPaperSizes") hs)))
+    else_take (option_map (lying_as (option_and_then box_paper box)) (first_named_in named (comment_values (codes "%%DocumentPaperSizes") hs)))
     (option_and_then (paper_of_box home) box) in
     ap (λ head. page_or (medium_by hs) head (or_this (told_by_document named home hs trailer) home)) silent
     ∙ ap (λ o. or_this (else_take (option_and_then media_paper o) others) home) (document_medium p first count more e f)
@@ -146,7 +146,7 @@ one_found named home first count more trailer page p e f t silent =
 told_by_name : (known : List ℕ → Option Paper) (other : Paper) (p q : Paper) → IsTellablePaper p → known (size_name p) ≡ Some q → told_by_page known other (named_line p ∷ []) ≡ Some q
 told_by_name known other p q t e =
     let box : Option Paper = option_and_then (paper_of_box other) (comment_fields (codes "%%PageBoundingBox") (named_line p ∷ [])) in
-    ap (λ o. else_take o box) (ap (named_medium known) (page_medium p t) ∙ ap known (name_is p t) ∙ e)
+    ap (λ o. else_take o box) (ap (option_and_then known) (page_medium p t) ∙ e)
 
 -- of several each sheet names its own
 several_found : (named : List ℕ → Option Paper) (home : Paper) (first count : List ℕ) (more trailer : List (List ℕ)) (page : List ℕ) (p r : Paper) (told : List Paper) (q : Paper)

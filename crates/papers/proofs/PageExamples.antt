@@ -33,6 +33,12 @@ named_in_parentheses : own (codes "%!PS\n%%DocumentMedia: (A) 595 842 0 () ()\n%
 unfolding number_at
 named_in_parentheses = refl
 
+-- with blanks in them
+named_with_blanks : own (codes "%!PS\n%%DocumentMedia: (US letter) 612 792 0 () ()\n%%+ (US legal) 612 1008 0 () ()\n%%Page: 1 1\n%%PageMedia: (US legal)\nx\n")
+    ≡ Ok (points 612 1_008 ∷ [])
+unfolding number_at
+named_with_blanks = refl
+
 -- as cairo writes it: in the page's setup, with a box of what is painted, which may begin at 0 0
 painted_box : own (codes "%!PS\n%%DocumentMedia: A 595 842 0 () ()\n%%Page: 1 1\n%%BeginPageSetup\n%%PageMedia: A\n%%PageBoundingBox: 0 0 72 71\n%%EndPageSetup\nx\n")
     ≡ Ok (points 595 842 ∷ [])
