@@ -6,7 +6,7 @@ use Rattle.rules.specs.Papers.{Paper}
 use Rattle.made_sheets.specs.Made.{MadeSheet}
 use Rattle.made_sheets.specs.Dress.{Dress}
 use Rattle.made_sheets.specs.Dressed.{dressed_in}
-use Rattle.papers.specs.Told.{box_line, medium_line, sheet_lines, size_name, telling_of}
+use Rattle.papers.specs.Told.{box_lines, medium_line, sheet_lines, size_name, telling_of}
 use Rattle.sheet_text.specs.Dressings.{Dressing, Hem, dressed_by}
 use Rattle.dressing.specs.Drawn.{mark_lines, marked}
 use Rattle.dressing.specs.declared.strokes.Stroke.{Stroke}
@@ -15,7 +15,7 @@ use Rattle.dressing.specs.Dressings.{DressingDresses, NoMarksAreTelling, dressin
 -- the header of several papers, of which the first was reported and so many more
 abbrev pub header_so_far : (large first : Paper) → List Paper → List (List ℕ)
 header_so_far large first told =
-    box_line large ∷ medium_line (codes "%%DocumentMedia: ") (size_name first) first ∷ map (λ r. medium_line (codes "%%+ ") (size_name r) r) told
+    box_lines large ++ medium_line (codes "%%DocumentMedia: ") (size_name first) first ∷ map (λ r. medium_line (codes "%%+ ") (size_name r) r) told
 
 -- one sheet more of that kind
 pub plain_more : (f : List (List ℕ)) (n : ℕ) → plain_hems f n ++ plain_hem f ∷ [] ≡ plain_hems f (n + 1)

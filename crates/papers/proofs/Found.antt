@@ -20,7 +20,7 @@ use Rattle.papers.specs.Comments.{first_named_in, is_in_head, medium_in, page_he
 use Rattle.papers.specs.Found.{AreQuiet, Finish, IsTellablePaper, PapersAreFound, as_printed, telling_and}
 use Rattle.papers.specs.Media.{box_of, box_paper, comment_fields, comment_value, comment_values, continued, else_take, header, lying_as, media_paper, paper_of_box, trailer_lines, value_of}
 use Rattle.papers.specs.Own.{covering, medium_by, or_this, own_paper, page_or}
-use Rattle.papers.specs.Told.{box_line, different_from, in_print, is_told_alike, medium_line, page_size_lines, papers_told, sheet_lines, size_name, telling_of}
+use Rattle.papers.specs.Told.{box_line, box_lines, different_from, exact_box_line, in_print, is_told_alike, is_whole, medium_line, page_size_lines, papers_told, sheet_lines, size_name, telling_of, whole_paper}
 use Rattle.papers.proofs.Covered.{by_test}
 use Rattle.papers.proofs.Heads.{head, head_step, page_head_is, with_content}
 use Rattle.papers.proofs.OutputHeads.{AreContinued, Continues, IsHeaded, behind_line, content_is, headed}
@@ -120,6 +120,12 @@ sized_alike p q e =
     let same = alike_sides p q e in
     ap (λ x. of_print x (in_print p.height)) same.0 ∙ ap (λ y. of_print (in_print q.width) y) same.1
 
+-- a box is no medium
+past_exact : (b : Bool) (p : Paper) (lines more : List (List ℕ))
+    → comment_value medium_comment (((if b then [] else exact_box_line p ∷ []) ++ lines) ++ more) ≡ comment_value medium_comment (lines ++ more)
+past_exact true p lines more = refl
+past_exact false p lines more = refl
+
 -- one paper is the document's
 document_medium : (p : Paper) (first count : List ℕ) (more : List (List ℕ)) → is_comment medium_comment first ≡ false → is_comment medium_comment count ≡ false
     → comment_value medium_comment (first ∷ count ∷ ((telling_of (p ∷ [])).header ++ more))
@@ -128,6 +134,7 @@ document_medium p first count more e f =
     let rest : List (List ℕ) = (telling_of (p ∷ [])).header ++ more in
     ap (λ t. if t then Some (value_of first) else comment_value medium_comment (count ∷ rest)) e
     ∙ ap (λ t. if t then Some (value_of count) else comment_value medium_comment rest) f
+    ∙ past_exact (is_whole p) p (medium_line (codes "%%DocumentMedia: ") (codes "Plain") p ∷ []) more
 
 one_found : (named : List ℕ → Option Paper) (home : Paper) (first count : List ℕ) (more trailer : List (List ℕ)) (page : List ℕ) (p : Paper)
     → is_comment medium_comment first ≡ false → is_comment medium_comment count ≡ false → IsTellablePaper p → page_head page ≡ []
@@ -201,17 +208,25 @@ papers_tellable (x ∷ all) h = (h.0, papers_tellable all h.1)
 continued_box : (p : Paper) → Continues (box_line p)
 continued_box p = record { whole = (tame.box p).whole; goes = refl; not_last = refl }
 
+continued_exact_box : (p : Paper) → Continues (exact_box_line p)
+continued_exact_box p = record { whole = (tame.exact_box p).whole; goes = refl; not_last = refl }
+
+continued_exact : (b : Bool) (p : Paper) (rest : List (List ℕ)) → AreContinued rest → AreContinued ((if b then [] else exact_box_line p ∷ []) ++ rest)
+continued_exact true p rest h = h
+continued_exact false p rest h = (continued_exact_box p, h)
+
+continued_boxes : (p : Paper) (rest : List (List ℕ)) → AreContinued rest → AreContinued (box_lines p ++ rest)
+continued_boxes p rest h = (continued_box (whole_paper p), continued_exact (is_whole p) p rest h)
+
 continued_more : (ps : List Paper) → AreContinued (map (λ r. medium_line (codes "%%+ ") (size_name r) r) ps)
 continued_more [] = tt
 continued_more (p ∷ ps) = (record { whole = (tame.one_more p).whole; goes = refl; not_last = refl }, continued_more ps)
 
 header_continues : (told : List Paper) → AreContinued (telling_of told).header
 header_continues [] = tt
-header_continues (p ∷ []) = (continued_box p, (record { whole = (tame.medium (codes "Plain") p refl).whole; goes = refl; not_last = refl }, tt))
-header_continues (p ∷ q ∷ ps) = (
-  continued_box (fold covering p (q ∷ ps)),
-  (record { whole = (tame.medium (size_name p) p (tame.whole_name p)).whole; goes = refl; not_last = refl }, continued_more (q ∷ ps)),
-)
+header_continues (p ∷ []) = continued_boxes p _ (record { whole = (tame.medium (codes "Plain") p refl).whole; goes = refl; not_last = refl }, tt)
+header_continues (p ∷ q ∷ ps) = continued_boxes (fold covering p (q ∷ ps)) _
+    (record { whole = (tame.medium (size_name p) p (tame.whole_name p)).whole; goes = refl; not_last = refl }, continued_more (q ∷ ps))
 
 tame_and : (finish : Finish) (all : List MadeSheet) → AreQuiet finish → IsTameDress (telling_and finish all)
 tame_and finish all quiet = record {

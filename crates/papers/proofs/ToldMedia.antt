@@ -1,5 +1,5 @@
 -- Media that sheets report are known by their names.
-use Rattle.std.specs.Prelude.{codes, filter, flat_map, map, nat_lt, nat_le, not, option_and_then, option_map, slice_index, slice_range, ℤ, Option, Some, if◌then◌else◌, ◌==◌, ◌&&◌, ◌||◌}
+use Rattle.std.specs.Prelude.{codes, filter, flat_map, fold, map, nat_lt, nat_le, not, option_and_then, option_map, slice_index, slice_range, ℤ, Option, Some, if◌then◌else◌, ◌==◌, ◌&&◌, ◌||◌}
 use Rattle.std.specs.List.{All, AllByRecursion, list_any, prefix_len, slice_split}
 use Rattle.std.specs.Char.{is_ascii_digit}
 use Rattle.std.specs.Str.{bytes_eq}
@@ -13,10 +13,11 @@ use Rattle.rules.specs.Papers.{Paper}
 use Rattle.rules.specs.Units.{is_blank, is_comment}
 use Rattle.dsc.specs.Fields.{fields_in}
 use Rattle.papers.specs.Comments.{Medium, first_name, media, medium_in, medium_of, paper_of_medium}
+use Rattle.papers.specs.Own.{covering}
 use Rattle.papers.specs.Found.{IsTellable, IsTellablePaper, as_printed}
 use Rattle.papers.specs.Media.{comment_values, continued, is_enclosed, is_opened, media_paper, name_and_rest, name_in, paper_of, plain_len, points_of}
 use Rattle.papers.specs.Media.{sides_paper, split_name, value_of}
-use Rattle.papers.specs.Told.{is_told_alike, medium_line, several_header, size_name, size_text}
+use Rattle.papers.specs.Told.{exact_box_line, is_told_alike, is_whole, medium_line, several_header, size_name, size_text}
 use Rattle.papers.proofs.Covered.{by_test}
 use Rattle.papers.proofs.PrintedSides.{paper_read, side_all, side_some}
 use Rattle.papers.proofs.SetSizes.{alike_sides}
@@ -237,6 +238,12 @@ more_media (p ∷ ps) more h =
 abbrev medium_comment : List ℕ
 medium_comment = codes "%%DocumentMedia"
 
+-- a box is no medium
+past_exact : (b : Bool) (p : Paper) (lines more : List (List ℕ))
+    → comment_values medium_comment (((if b then [] else exact_box_line p ∷ []) ++ lines) ++ more) ≡ comment_values medium_comment (lines ++ more)
+past_exact true p lines more = refl
+past_exact false p lines more = refl
+
 pub media_told : (p : Paper) (ps : List Paper) (first count : List ℕ) (more : List (List ℕ))
     → is_comment medium_comment first ≡ false → is_comment medium_comment count ≡ false → IsTellablePaper p → AllByRecursion IsTellablePaper ps
     → media (first ∷ count ∷ (several_header p ps ++ more)) ≡ map medium_told (p ∷ ps) ++ flat_map medium_in (continued more)
@@ -244,6 +251,7 @@ media_told p ps first count more e f t ts =
     let rest : List (List ℕ) = several_header p ps ++ more in
     ap (λ b. flat_map medium_in (if b then value_of first ∷ continued (count ∷ rest) else comment_values medium_comment (count ∷ rest))) e
     ∙ ap (λ b. flat_map medium_in (if b then value_of count ∷ continued rest else comment_values medium_comment rest)) f
+    ∙ ap (flat_map medium_in) (past_exact (is_whole (fold covering p ps)) (fold covering p ps) (medium_line (codes "%%DocumentMedia: ") (size_name p) p ∷ map line_of ps) more)
     ∙ ap (λ ms. ms ++ flat_map medium_in (continued (map line_of ps ++ more))) (named_medium_read p t)
     ∙ ap (λ ms. medium_told p ∷ ms) (more_media ps more ts)
 
