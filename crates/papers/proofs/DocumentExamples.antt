@@ -156,7 +156,7 @@ one_point : box_paper (words (codes "0011")) ≡ Some (points 1 1)
 unfolding number_at
 one_point = refl
 
-medium_too_low : media_paper (codes "a" ∷ codes "595" ∷ codes "0.5" ∷ []) ≡ None
+medium_too_low : media_paper (codes "a 595 0.5") ≡ None
 unfolding number_at
 medium_too_low = refl
 
