@@ -2,12 +2,13 @@
 -- (DSC 2.1, %%DocumentPaperSizes).
 use Rattle.std.specs.Prelude.{◌≡◌, ◌⊎◌, ℕ, Bool, true, false, if◌then◌else◌, List, Option, Some, None, codes, option_and_then, option_map}
 use Rattle.rules.specs.Papers.{Paper}
-use Rattle.papers.specs.Media.{comment_fields, document_paper, header}
+use Rattle.papers.specs.Comments.{first_name}
+use Rattle.papers.specs.Media.{comment_value, document_paper, header}
 use Rattle.papers.specs.declared.media.Comment.{Comment}
 use Rattle.papers.specs.declared.media.Comment.TheVariants.{BoundingBox}
 use Rattle.impose_words.specs.declared.request.ImposeRequest.{ImposeRequest}
 use Rattle.impose_said.specs.declared.finished.Told.{Told}
-use Rattle.impose_cli.specs.ToldPages.{first_field, told_pages}
+use Rattle.impose_cli.specs.ToldPages.{told_pages}
 
 -- a paper was found by a name
 abbrev pub is_by_name : Option (Paper × Comment) → Bool
@@ -18,7 +19,7 @@ is_by_name (Some (paper, other)) = true
 -- the first name in a document's %%DocumentPaperSizes, if none gives its paper
 abbrev pub unknown_name : (usual : Paper) → (text : List ℕ) → Option (List ℕ)
 unknown_name usual text = if is_by_name (document_paper usual text) then None
-    else first_field (comment_fields (codes "%%DocumentPaperSizes") (header text))
+    else option_and_then first_name (comment_value (codes "%%DocumentPaperSizes") (header text))
 
 -- the one that is reported: none, if a paper is named for the pages (RULES, 17)
 abbrev pub unknown_paper : (named : Option Paper) → (usual : Paper) → (text : List ℕ) → Option (List ℕ)

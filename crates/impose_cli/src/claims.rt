@@ -1,15 +1,14 @@
 //! What a document says of itself.
 ghost use Rattle.std.specs.Prelude.{◌≡◌, codes, option_map};
-ghost use Rattle.dsc.specs.Fields.{fields_in};
-ghost use Rattle.papers.specs.Media.{comment_fields, contents};
+ghost use Rattle.papers.specs.Media.{comment_value, contents};
 ghost use Rattle.impose_cli.specs.Claims as meaning;
 
-use crate::told_pages::{first_field, told_pages};
+use crate::told_pages::told_pages;
 use dsc::header_len;
 use impose_said::Told;
 use impose_words::ImposeRequest;
 use lengths::Paper;
-use papers::{Comment, document_paper, first_comment};
+use papers::{Comment, document_paper, first_comment, first_name};
 use std::alloc::Global;
 
 /// What a document says of itself, as far as it is reported. Without memory for a name it has none.
@@ -46,7 +45,7 @@ fn unknown_name<'t>(usual: &Paper, input: &'t [u8]) -> Option<&'t [u8]>
         return None;
     }
     let (header, _) = input.split_at(header_len(input));
-    first_field(names_value(header)?)
+    first_name(names_value(header)?)
 }
 
 fn is_by_name(found: Option<(Paper, Comment)>) -> bool
@@ -60,8 +59,7 @@ fn is_by_name(found: Option<(Paper, Comment)>) -> bool
 
 /// What comes after the colon of the first `%%DocumentPaperSizes:` among these lines.
 fn names_value(lines: &[u8]) -> Option<&[u8]>
-    ensures { option_map (λ value. fields_in value.now) result
-        ≡ comment_fields (codes "%%DocumentPaperSizes") (contents lines.now) }
+    ensures { option_map (λ value. value.now) result ≡ comment_value (codes "%%DocumentPaperSizes") (contents lines.now) }
 {
     match first_comment(lines, b"%%DocumentPaperSizes", b"%%DocumentPaperSizes:") {
         Some((value, _)) => Some(value),

@@ -35,7 +35,7 @@ fn pages_field(lines: &[u8]) -> Option<&[u8]>
     first_field(pages_value(lines)?)
 }
 
-pub(crate) fn first_field(value: &[u8]) -> Option<&[u8]>
+fn first_field(value: &[u8]) -> Option<&[u8]>
     ensures { option_map (λ field. field.now) result ≡ meaning.first_field (Some (fields_in value.now)) }
 {
     let (field, _) = next_field(value)?;
