@@ -1,6 +1,7 @@
 //! Lines that report a paper.
 ghost use Rattle.std.specs.Prelude.{◌≡◌, ◌++◌, ◌∷◌, [], codes, fold, map, nat_abs, IfOk, IsTrue, OnOk, ◌≤◌, ◌*◌, ◌^◌, ℕ};
 ghost use Rattle.papers.specs.Own.{covering as covering_paper};
+ghost use Rattle.rules.specs.Numbers.{points_text};
 ghost use Rattle.rules.specs.Papers.{is_side};
 ghost use Rattle.papers.specs.Told.{box_line, box_lines, exact_box_line, is_whole as whole, whole_paper, whole_up as up_to_whole};
 ghost use Rattle.papers.specs.Told.{medium_line, medium_text, one_header, page_size_lines as size_lines};
@@ -93,9 +94,7 @@ fn push_box(alloc: Global, lines: &mut Lines, paper: &Paper) -> Result<(), Alloc
 {
     let mut line = Vec::new(alloc);
     line.extend_from_slice(b"%%BoundingBox: 0 0 ")?;
-    print_grains(whole_up(paper.width()), &mut line)?;
-    line.extend_from_slice(b" ")?;
-    print_grains(whole_up(paper.height()), &mut line)?;
+    append_whole_size(&mut line, paper)?;
     lines.push(line.as_slice())?;
     Ok(())
 }
@@ -220,6 +219,23 @@ fn append_size(line: &mut Vec<u8>, paper: &Paper) -> Result<(), AllocError>
     line.extend_from_slice(b" ")?;
     print_points(paper.height(), line)?;
     Ok(())
+}
+
+/// Both sides in whole points, rounded up.
+fn append_whole_size(line: &mut Vec<u8>, paper: &Paper) -> Result<(), AllocError>
+    ensures { OnOk result (line.new.items ≡ line.old.items ++ size_text (whole_paper paper.now)) }
+{
+    append_whole(line, paper.width())?;
+    line.extend_from_slice(b" ")?;
+    append_whole(line, paper.height())?;
+    Ok(())
+}
+
+fn append_whole(line: &mut Vec<u8>, side: Grains) -> Result<(), AllocError>
+    requires { IsTrue (is_side side) }
+    ensures { OnOk result (line.new.items ≡ line.old.items ++ points_text (up_to_whole side)) }
+{
+    print_grains(whole_up(side), line)
 }
 
 /// The name of a medium that is named after its sides.

@@ -10,11 +10,15 @@ use Rattle.impose_words.specs.declared.request.ImposeRequest.{ImposeRequest}
 use Rattle.impose_said.specs.declared.finished.Told.{Told}
 use Rattle.impose_cli.specs.ToldPages.{told_pages}
 
+-- a comment names papers or media
+abbrev pub is_name : Comment → Bool
+is_name BoundingBox = false
+is_name other = true
+
 -- a paper was found by a name
 abbrev pub is_by_name : Option (Paper × Comment) → Bool
 is_by_name None = false
-is_by_name (Some (paper, BoundingBox)) = false
-is_by_name (Some (paper, other)) = true
+is_by_name (Some found) = is_name found.1
 
 -- the first name in a document's %%DocumentPaperSizes, if none gives its paper
 abbrev pub unknown_name : (usual : Paper) → (text : List ℕ) → Option (List ℕ)

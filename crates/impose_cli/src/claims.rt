@@ -23,7 +23,10 @@ pub(crate) fn told_by(alloc: Global, request: &ImposeRequest, input: &[u8]) -> T
 fn kept(alloc: Global, name: Option<&[u8]>) -> Option<Vec<u8>>
     ensures { meaning.IsKept (option_map (λ n. n.now) name.entry) (option_map (λ n. n.items) result) }
 {
-    Vec::from_slice(alloc, name?).ok()
+    match Vec::from_slice(alloc, name?) {
+        Ok(kept) => Some(kept),
+        Err(_) => None,
+    }
 }
 
 /// The name of the document's paper, if it isn't known, and no paper is named for the pages.
@@ -52,8 +55,18 @@ fn is_by_name(found: Option<(Paper, Comment)>) -> bool
     ensures { result ≡ meaning.is_by_name found }
 {
     match found {
-        Some((_, Comment::DocumentMedia | Comment::DocumentPaperSizes)) => true,
-        _ => false,
+        Some((_, comment)) => is_name(comment),
+        None => false,
+    }
+}
+
+/// Whether a comment names papers or media.
+fn is_name(comment: Comment) -> bool
+    ensures { result ≡ meaning.is_name comment }
+{
+    match comment {
+        Comment::BoundingBox => false,
+        _ => true,
     }
 }
 
