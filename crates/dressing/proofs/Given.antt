@@ -1,12 +1,12 @@
 -- What is made so far: lines of a header, and sheets with their lines.
-use Rattle.std.proofs.Common.{ℕ, zero, suc, ◌+◌, ◌<◌, ◌≤◌, ◌≡◌, ◌∙◌, refl, ap, arith, [], ◌∷◌, ◌++◌, List, Some, length, map, take, codes}
-use Rattle.std.specs.Prelude.{slice_get}
+use Rattle.std.proofs.Common.{ℕ, append_assoc, false, sym, zero, suc, ◌+◌, ◌<◌, ◌≤◌, ◌≡◌, ◌∙◌, refl, ap, arith, [], ◌∷◌, ◌++◌, List, Some, length, map, take, codes}
+use Rattle.std.specs.Prelude.{if◌then◌else◌, slice_get}
 use Rattle.std.specs.List.{enumerate_from}
 use Rattle.rules.specs.Papers.{Paper}
 use Rattle.made_sheets.specs.Made.{MadeSheet}
 use Rattle.made_sheets.specs.Dress.{Dress}
 use Rattle.made_sheets.specs.Dressed.{dressed_in}
-use Rattle.papers.specs.Told.{box_line, medium_line, sheet_lines, size_name, telling_of}
+use Rattle.papers.specs.Told.{box_line, box_lines, exact_box_line, is_whole, whole_paper, medium_line, sheet_lines, size_name, telling_of}
 use Rattle.sheet_text.specs.Dressings.{Dressing, Hem, dressed_by}
 use Rattle.dressing.specs.Drawn.{mark_lines, marked}
 use Rattle.dressing.specs.declared.strokes.Stroke.{Stroke}
@@ -15,7 +15,14 @@ use Rattle.dressing.specs.Dressings.{DressingDresses, NoMarksAreTelling, dressin
 -- the header of several papers, of which the first was reported and so many more
 abbrev pub header_so_far : (large first : Paper) → List Paper → List (List ℕ)
 header_so_far large first told =
-    box_line large ∷ medium_line (codes "%%DocumentMedia: ") (size_name first) first ∷ map (λ r. medium_line (codes "%%+ ") (size_name r) r) told
+    box_lines large ++ medium_line (codes "%%DocumentMedia: ") (size_name first) first ∷ map (λ r. medium_line (codes "%%+ ") (size_name r) r) told
+
+-- the box, and after it the exact one
+pub both_boxes : (p : Paper) (old mid new : List (List ℕ)) → mid ≡ old ++ box_line (whole_paper p) ∷ [] → is_whole p ≡ false → new ≡ mid ++ exact_box_line p ∷ []
+    → new ≡ old ++ box_lines p
+both_boxes p old mid new first isnt e =
+    e ∙ ap (λ (t : List (List ℕ)). t ++ exact_box_line p ∷ []) first ∙ append_assoc old (box_line (whole_paper p) ∷ []) (exact_box_line p ∷ [])
+    ∙ ap (λ b. old ++ box_line (whole_paper p) ∷ (if b then [] else exact_box_line p ∷ [])) (sym isnt)
 
 -- one sheet more of that kind
 pub plain_more : (f : List (List ℕ)) (n : ℕ) → plain_hems f n ++ plain_hem f ∷ [] ≡ plain_hems f (n + 1)

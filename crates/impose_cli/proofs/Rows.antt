@@ -33,6 +33,8 @@ use Rattle.impose_said.specs.Faults.{without_memory}
 use Rattle.dsc.specs.PagesBehind.{pages_behind}
 use Rattle.impose_said.specs.declared.finished.PaperOrigin.{PaperOrigin}
 use Rattle.row_runs.specs.ToldPages.{told_pages}
+use Rattle.impose_cli.specs.Claims.{IsToldBy}
+use Rattle.impose_said.specs.declared.finished.Told.{Told}
 use Rattle.impose_cli.specs.Tasks.{HasBehind, HasPages}
 use Rattle.impose_cli.specs.Refusals.{RefusesDocument, RefusesFor, RefusesOptions, RefusesRowTask}
 use Rattle.impose_cli.specs.Reaches.{HasReach, HasReachOver, reach_in, reach_over}
@@ -124,7 +126,7 @@ refused_found r input f h = elim h [
   | inr spent ↦ let us = spent.1.0 in refused_after r input (row_paper r input us) f (us, spent.1.1, refl) (inl (inl spent.2))
 ]
 
-pub finishes_row : (r : ImposeRequest) (input : List ℕ) (t : RowTask) (told : Option ℕ) (old new : Option (List ℕ)) (report : Report) → IsRowTask r input t → told ≡ told_pages input → ImposesTask r t old new report
+pub finishes_row : (r : ImposeRequest) (input : List ℕ) (t : RowTask) (told : Told) (old new : Option (List ℕ)) (report : Report) → IsRowTask r input t → IsToldBy r input told → ImposesTask r t old new report
     → FinishesRow r input old new (record { report = report; page_paper = t.page_paper; origin = t.origin; cut = t.cut; reach = t.reach; behind = t.behind; told = told })
 finishes_row r input t told old new report is tells h = record {
   page_paper = is.page_paper;
@@ -157,12 +159,12 @@ row_stops r input tells f outcome has_output written rows is none why =
     comes_refused (RefusesImposing r.layout r input) (IsImposed r input) _ tells f outcome has_output written is none (on_row r.layout r input f rows (inl why))
 
 -- what is reported of a task with a row
-abbrev pub about_row : RowTask → (told : Option ℕ) → About
+abbrev pub about_row : RowTask → (told : Told) → About
 about_row t told = record { page_paper = t.page_paper; origin = t.origin; cut = t.cut; reach = t.reach; behind = t.behind; told = told }
 
 -- what comes of its run comes of the request
-pub row_runs : (r : ImposeRequest) (input : List ℕ) (t : RowTask) (told : Option ℕ) (tells : Bool) (outcome : Result Done ImposeFault) (left : Result Report ImposeFault) (has_output : Bool) (written : Option (List ℕ))
-    → LaysRows r.layout → IsRowTask r input t → told ≡ told_pages input → outcome ≡ reported_by (about_row t told) left
+pub row_runs : (r : ImposeRequest) (input : List ℕ) (t : RowTask) (told : Told) (tells : Bool) (outcome : Result Done ImposeFault) (left : Result Report ImposeFault) (has_output : Bool) (written : Option (List ℕ))
+    → LaysRows r.layout → IsRowTask r input t → IsToldBy r input told → outcome ≡ reported_by (about_row t told) left
     → Comes (RefusesRowTaskRun r t) (ImposesTask r t) (option_map string_bytes r.outfile) tells left has_output written → Runs r input tells outcome has_output written
 row_runs r input t told tells outcome left has_output written rows is tells_it reports h =
     subst (λ o. Runs r input tells o has_output written) (sym reports)

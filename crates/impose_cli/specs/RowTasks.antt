@@ -33,6 +33,7 @@ use Rattle.row_sheets.specs.declared.poster.Poster.{Poster}
 use Rattle.impose_words.specs.Spacings.{arrangement_in, binding_in, notes_in, zine_in}
 use Rattle.impose_words.specs.declared.request.Spacing.{Spacing}
 use Rattle.row_runs.specs.ToldPages.{told_pages}
+use Rattle.impose_cli.specs.Claims.{IsToldBy}
 use Rattle.impose_cli.specs.Reaches.{HasReach, takes}
 use Rattle.impose_cli.specs.Tasks.{HasBehind, page_paper_found, sheet_paper_found, taken_text}
 use Rattle.impose_said.specs.Said.{is_same}
@@ -279,7 +280,7 @@ pub record IsRowJob (r : ImposeRequest) (input : List ℕ) (page_paper : Paper) 
 pub record FinishesRow (r : ImposeRequest) (input : List ℕ) (old new : Option (List ℕ)) (done : Finished) : Type 0 where
   pub page_paper : IsRowPaper r input (done.page_paper, done.origin)
   pub behind : HasBehind input done.behind
-  pub told : done.told ≡ told_pages input
+  pub told : IsToldBy r input done.told
   pub job : RowJob
   pub papers : ArePapersOf r input job.papers.now done.cut
   pub reach : HasReach r input job.papers.now done.reach

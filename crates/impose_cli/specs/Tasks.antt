@@ -9,6 +9,7 @@ use Rattle.rules.specs.Run.{document_of, plan_in}
 use Rattle.rules.specs.Sheets.{sheets}
 use Rattle.dsc.specs.PagesBehind.{pages_behind}
 use Rattle.row_runs.specs.ToldPages.{told_pages}
+use Rattle.impose_cli.specs.Claims.{IsToldBy}
 use Rattle.impose_cli.specs.Reaches.{HasReachOver}
 use Rattle.made_sheets.specs.Choice.{sides_for}
 use Rattle.rows.specs.Sewing.{signing_of}
@@ -131,7 +132,7 @@ pub record FinishesSpec (r : ImposeRequest) (input : List ℕ) (old new : Option
   pub cut : done.cut ≡ None
   pub reach : HasReachOver r input done.page_paper done.reach
   pub behind : HasBehind input done.behind
-  pub told : done.told ≡ told_pages input
+  pub told : IsToldBy r input done.told
   pub plan : plan_in None spec (length (pages units)) ≡ Ok (sheets spec (length (pages units)))
   pub written : Appends old new (output (frame_used r done) None spec units)
   pub report : Reports (frame_used r done) None spec units done.report

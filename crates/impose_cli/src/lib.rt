@@ -1,6 +1,7 @@
 //! The command of impose: its words are read, and what they ask for is made of a document and written.
 #![tactic(auto)]
 
+mod claims;
 pub mod laws;
 mod laying;
 mod left;
@@ -17,7 +18,7 @@ mod unread;
 
 pub use guard::RoomyText;
 pub use impose_said::{
-    Done, Finished, IdleOption, ImposeFault, Packing, PaperOrigin, behind_text, command_text,
+    Done, Finished, IdleOption, ImposeFault, Packing, PaperOrigin, Told, behind_text, command_text,
     cut_text, fault_status, fault_text, note_text, report_text, text_said, told_text, words_text,
 };
 pub use impose_words::{

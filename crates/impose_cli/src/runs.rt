@@ -18,6 +18,7 @@ ghost use Rattle.impose_cli.specs.Endings.{IsSaidOf, WritesJob, WritesSheets, Wr
 ghost use Rattle.impose_cli.specs.Abouts.{reported_by};
 ghost use Rattle.impose_said.specs.declared.fault.ImposeFault.TheVariants as faults;
 
+use crate::claims::told_by;
 use crate::laying::is_drawn;
 use crate::left::{Left, closed, stopped};
 use crate::row_task::{asked_fault_of, impose_task, row_task};
@@ -26,7 +27,7 @@ use crate::task::{Task, WORKERS, task_for};
 use command_words::name_of;
 use dsc::Document;
 use guard::RoomyText;
-use impose_said::{Done, Finished, ImposeFault, PaperOrigin};
+use impose_said::{Done, Finished, ImposeFault, PaperOrigin, Told};
 use impose_words::{ImposeRequest, Layout};
 use imposer::{Job, Open, Options, Report, RunError, run_plan};
 use lengths::{Grains, Paper};
@@ -73,7 +74,7 @@ fn run_row<R: Threads + Wait + Sync, W: World>(
     ensures { Runs request.now input.items (W.tells world) result.outcome
         (is_some result.output) (option_and_then W.Output.contents result.output) }
 {
-    let told = told_pages(input.as_slice());
+    let told = told_by(alloc, request, input.as_slice());
     let task = match row_task(alloc, request, input) {
         Ok(task) => task,
         Err(fault) => return stopped(fault, world),
@@ -132,7 +133,7 @@ fn run_spec_row<R: Threads + Wait + Sync, W: World>(
     ensures { Runs request.now input.items (W.tells world) result.outcome
         (is_some result.output) (option_and_then W.Output.contents result.output) }
 {
-    let told = told_pages(input.as_slice());
+    let told = told_by(alloc, request, input.as_slice());
     let task = match spec_row_task(alloc, request, input) {
         Ok(task) => task,
         Err(fault) => return stopped(fault, world),
@@ -191,7 +192,7 @@ fn run_spec<R: Threads + Wait + Sync, W: World>(
     ensures { Runs request.now input.items (W.tells world) result.outcome
         (is_some result.output) (option_and_then W.Output.contents result.output) }
 {
-    let told = told_pages(input.as_slice());
+    let told = told_by(alloc, request, input.as_slice());
     let task = match task_for(alloc, request, input) {
         Ok(task) => task,
         Err(fault) => return stopped(fault, world),
@@ -265,7 +266,7 @@ struct About {
     cut: Option<Cut>,
     reach: Option<Reach>,
     behind: usize,
-    told: Option<usize>,
+    told: Told,
 }
 
 /// What came of a run, with what is reported of it.

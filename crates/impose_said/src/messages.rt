@@ -143,7 +143,7 @@ fn unread_text(
             "{name} is empty; name a file with a PostScript document, or pipe one in"
         ),
         ImposeFault::Pdf => format!(in alloc;
-            "{name} is a PDF, not PostScript; use: pdftops in.pdf - | impose .. -"
+            "{name} is a PDF, not PostScript; use: impose-pdf .. in.pdf out.pdf, or pdftops in.pdf - | impose .. -"
         ),
         ImposeFault::Compressed(packing) => {
             let unpacked = unpacked_by(*packing);

@@ -28,7 +28,7 @@ Examples:
   impose poster 2x2 in.ps out.ps      each page over four sheets, to be glued together
   impose select 9-3,12- in.ps out.ps  pages 9 down to 3, then 12 to the last
   impose booklet --pages 3-14 in.ps out.ps
-  pdftops in.pdf - | impose nup 4 --sheet a3 - | ps2pdf - out.pdf";
+  impose-pdf booklet in.pdf out.pdf   a booklet of a PDF";
 
 /// The command with its subcommands.
 pub(crate) fn command<'a>(alloc: Global) -> Result<Command<'a>, AllocError>

@@ -3,15 +3,15 @@ ghost use Rattle.std.specs.Prelude.{◌≡◌, ◌<◌, ℕ, List, [], ◌∷◌
 ghost use Rattle.std.specs.Map.{update};
 ghost use Rattle.std.specs.Str.{bytes_eq};
 ghost use Rattle.rules.specs.Parts.{pages};
-ghost use Rattle.dsc.specs.Fields.{fields_in};
 ghost use Rattle.papers.specs.Media.{contents, continued};
 ghost use Rattle.papers.specs.Comments.{media, medium_in};
 ghost use Rattle.papers.specs.Named.{IsKept, KnowsAll, found_at, is_missing as is_not_found, known_paper, with_media, with_medium};
 
-use crate::fields::name_in;
+use crate::fields::name_and_rest;
+use crate::media::sides_paper;
 use crate::page_heads::{behind_first_line, medium_name};
-use crate::{continuation, first_comment, media_paper};
-use dsc::{Document, next_field};
+use crate::{continuation, first_comment};
+use dsc::Document;
 use lengths::Paper;
 use std::alloc::{AllocError, Global};
 use std::collections::BTreeMap;
@@ -104,13 +104,13 @@ impl KnownMedia {
         Ok(())
     }
 
-    /// Takes the medium of these fields, if it is the first one with a name that is kept.
+    /// Takes the medium of this value, if it is the first one with a name that is kept.
     fn take(&mut self, alloc: Global, value: &[u8]) -> Result<(), AllocError>
         ensures { OnOk result ((at : List ℕ) → found_at self.new at
-            ≡ option_map (λ found. with_media at found (medium_in (fields_in value.now))) (found_at self.old at)) }
+            ≡ option_map (λ found. with_media at found (medium_in value.now)) (found_at self.old at)) }
     {
-        match next_field(value) {
-            Some((field, _)) => self.take_named(alloc, name_in(field), media_paper(value)),
+        match name_and_rest(value) {
+            Some((name, rest)) => self.take_named(alloc, name, sides_paper(rest)),
             None => Ok(()),
         }
     }
