@@ -13,7 +13,7 @@ mod told;
 
 pub use dress::dress_of;
 pub use lines::mark_lines;
-pub use numbers::{Numbering, Numbers};
+pub use numbers::Numbering;
 pub use places::gap_at;
 pub use ruled::{cell_height, note_lines};
 pub use strokes::{Marks, Stroke, cut_marks, fold_marks, outer_cut_marks};
