@@ -1,4 +1,4 @@
-//! What sheets get besides their pages: lines that report their paper, marks for folds and cuts, lines for notes, numbers of pages.
+//! What sheets get besides their pages: papers that they report, marks for folds and cuts, lines for notes, numbers of pages.
 #![tactic(auto)]
 
 mod dress;

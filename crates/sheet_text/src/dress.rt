@@ -97,11 +97,7 @@ impl<'n> Dress<'n> {
     }
 
     /// Appends the lines at the end of a sheet. What all sheets have isn't copied if it has 4,096 bytes or more.
-    pub(crate) fn append_finish(
-        &'n self,
-        sheet: u32,
-        text: &mut Rope<'n>,
-    ) -> Result<(), AllocError>
+    pub(crate) fn append_finish(&'n self, sheet: u32, text: &mut Rope<'n>) -> Result<(), AllocError>
         ensures { OnOk result (text.new ≡ text.old ++ lines_text (with_numbers self.now.numbers.now self.now.finish sheet)) }
     {
         text.append_borrowed(self.finish.text())?;
