@@ -5,6 +5,6 @@ pub mod Dressed
 pub mod Opened
 pub mod Ropes
 pub mod LineEnds
-pub mod PageNumbers
+pub mod Appended
 pub mod Rooming
 pub mod TextsBehind

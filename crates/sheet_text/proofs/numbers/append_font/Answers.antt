@@ -1,6 +1,6 @@
 use Rattle.std.specs.Prelude.{codes}
 use Rattle.rules.specs.Numbers.{points_text}
-use Rattle.sheet_text.proofs.PageNumbers.{three}
+use Rattle.sheet_text.proofs.Appended.{three}
 use Rattle.sheet_text.proofs.numbers.append_font.Goals as goal
 
 pub returns : goal.returns

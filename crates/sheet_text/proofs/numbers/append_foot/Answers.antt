@@ -2,7 +2,7 @@ use Rattle.std.proofs.Common.{rules, ap, ◌≡◌, ◌++◌}
 use Rattle.std.specs.Prelude.{codes, pos}
 use Rattle.rules.specs.Numbers.{points_text}
 use Rattle.sheet_text.specs.PageNumbers.{middle}
-use Rattle.sheet_text.proofs.PageNumbers.{point_and}
+use Rattle.sheet_text.proofs.Appended.{point_and}
 use Rattle.sheet_text.proofs.numbers.append_foot.Goals as goal
 
 pub returns : goal.returns

@@ -1,7 +1,7 @@
 use Rattle.std.proofs.Common.{rules, ◌≡◌, ◌∙◌, ◌+◌, ap, ◌++◌}
 use Rattle.pagespec.specs.Items.{item_of}
 use Rattle.sheet_text.specs.PageNumbers.{corner_text, font_text, foot_text, shown_text}
-use Rattle.sheet_text.proofs.PageNumbers.{line_of}
+use Rattle.sheet_text.proofs.Appended.{line_of}
 use Rattle.sheet_text.proofs.numbers.append_number.Goals as goal
 
 pub returns : goal.returns

@@ -1,6 +1,6 @@
 use Rattle.sheet_plan.specs.OfSheets.{slots_at}
 use Rattle.sheet_text.specs.PageNumbers.{slot_lines}
-use Rattle.sheet_text.proofs.PageNumbers.{slot_more}
+use Rattle.sheet_text.proofs.Appended.{slot_more}
 use Rattle.sheet_text.proofs.numbers.append_numbers.Goals as goal
 
 pub loop-slot-preserved : goal.loop-slot-preserved

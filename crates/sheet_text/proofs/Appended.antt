@@ -1,4 +1,4 @@
--- What is made of numbers so far: a line in its pieces, and the lines of a sheet.
+-- Texts that are put after others, piece by piece: a line, the lines that report a paper, and those of a sheet's numbers.
 use Rattle.std.proofs.Common.{ℕ, zero, suc, ◌+◌, ◌≡◌, ◌∙◌, ap, ap₂, sym, arith, [], ◌∷◌, ◌++◌, List, Some, take, append_assoc, append-nil}
 use Rattle.std.specs.Prelude.{ℤ, codes, flat_map, slice_get}
 use Rattle.std.proofs.lemmas.Grind.{flat_map-append}
@@ -15,6 +15,14 @@ three o a p b l m text one two more =
     ∙ ap (λ (t : List ℕ). t ++ b) (two ∙ ap (λ (t : List ℕ). t ++ p) one)
     ∙ append_assoc (o ++ a) p b
     ∙ append_assoc o a (p ++ b)
+
+-- four texts after a text
+pub four : (o a b c d l m n text : List ℕ) → l ≡ o ++ a → m ≡ l ++ b → n ≡ m ++ c → text ≡ n ++ d → text ≡ o ++ (a ++ (b ++ (c ++ (d ++ []))))
+four o a b c d l m n text one two next last =
+    last
+    ∙ ap (λ (t : List ℕ). t ++ d) (three o a b c l m n one two next)
+    ∙ append_assoc o (a ++ (b ++ c)) d
+    ∙ ap (λ (t : List ℕ). o ++ t) (append_assoc a (b ++ c) d ∙ ap (λ (t : List ℕ). a ++ t) (append_assoc b c d ∙ ap (λ (t : List ℕ). b ++ (c ++ t)) (sym (append-nil d))))
 
 -- a line of four pieces after a text
 pub line_of : (o a b c d l m n q text : List ℕ) → l ≡ o ++ a → m ≡ l ++ b → n ≡ m ++ c → q ≡ n ++ d → text ≡ q ++ 10 ∷ [] → text ≡ o ++ lines_text ((a ++ (b ++ (c ++ d))) ∷ [])
