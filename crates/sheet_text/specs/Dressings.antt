@@ -1,26 +1,11 @@
--- The lines of a dress, as they are kept.
-use Rattle.std.specs.Prelude.{ℕ, ◌==◌, Bool, true, false, not, ◌&&◌, if◌then◌else◌, List, [], ◌∷◌, ◌++◌, Option, Some, None}
+-- The dress of an output, as it is kept.
+use Rattle.std.specs.Prelude.{ℕ, Bool, true, false, List, [], ◌++◌, Option, Some, None}
 use Rattle.rules.specs.Papers.{Paper}
 use Rattle.made_sheets.specs.Dress.{Dress}
 use Rattle.papers.specs.Told.{sheet_lines}
 use Rattle.sheet_text.specs.PageNumbers.{number_lines}
 use Rattle.sheet_text.specs.declared.dress.Dress as code
 use Rattle.sheet_text.specs.declared.numbers.Numbers.{Numbers}
-
--- no byte is a line feed, so it is one line
-abbrev pub is_line : List ℕ → Bool
-is_line [] = true
-is_line (b ∷ bs) = not (b == 10) && is_line bs
-
--- a byte before the first of these lines
-abbrev pub put_before : ℕ → List (List ℕ) → List (List ℕ)
-put_before b [] = (b ∷ []) ∷ []
-put_before b (row ∷ rows) = (b ∷ row) ∷ rows
-
--- the lines of a text, without their line ends
-abbrev pub lines_in : List ℕ → List (List ℕ)
-lines_in [] = []
-lines_in (b ∷ bs) = if b == 10 then [] ∷ lines_in bs else put_before b (lines_in bs)
 
 -- at the start of a sheet of this paper: the lines that report it, if sheets are to
 abbrev pub told_if : Bool → Paper → List (List ℕ)

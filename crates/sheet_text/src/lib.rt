@@ -4,6 +4,7 @@
 
 mod dress;
 mod job;
+mod lines;
 mod numbers;
 mod openings;
 mod rope;
@@ -12,8 +13,9 @@ mod sheet_papers;
 mod texts;
 mod told;
 
-pub use dress::{Dress, Lines};
+pub use dress::Dress;
 pub use job::Job;
+pub use lines::Lines;
 pub use numbers::Numbers;
 pub use openings::Openings;
 pub use rope::{Pieces, Rope};

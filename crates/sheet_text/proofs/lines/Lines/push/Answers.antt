@@ -1,8 +1,8 @@
 use Rattle.std.proofs.Common.{ap, sym, subst, [], ◌∷◌, ◌++◌, ◌≡◌, ◌∙◌}
 use Rattle.made_sheets.specs.Dress.{lines_text}
-use Rattle.sheet_text.specs.Dressings.{lines_in}
+use Rattle.sheet_text.specs.LinesIn.{lines_in}
 use Rattle.sheet_text.proofs.LineEnds.{line_more, text_more}
-use Rattle.sheet_text.proofs.dress.Lines.push.Goals as goal
+use Rattle.sheet_text.proofs.lines.Lines.push.Goals as goal
 
 pub invariant_of-self : goal.invariant_of-self
 invariant_of-self c =
