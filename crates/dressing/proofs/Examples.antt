@@ -6,13 +6,13 @@ use Rattle.rules.specs.Papers.{Pt, points}
 use Rattle.rules.specs.Specification.{Item, Turn, Upright, Left, Half}
 use Rattle.made_sheets.specs.Dress.{undressed}
 use Rattle.made_sheets.specs.Made.{Blank}
+use Rattle.sheet_text.specs.PageNumbers.{foot_text, number_line, slot_lines}
+use Rattle.sheet_text.specs.declared.numbers.Numbers.{Numbers}
 use Rattle.layouts.specs.Placed.{Room}
 use Rattle.layouts.specs.Cells.{Grid}
 use Rattle.dressing.specs.Strokes.{cut_marks, fold_marks, outer_cut_marks}
 use Rattle.dressing.specs.Ruled.{note_lines}
 use Rattle.dressing.specs.Drawn.{mark_lines, marked, stroke_line}
-use Rattle.dressing.specs.Numbered.{foot_text, number_line, slot_lines}
-use Rattle.dressing.specs.declared.numbers.Numbers.{Numbers}
 
 -- a sheet of 100 by 200 points with a margin of 10 points and a gap of 4, in two columns
 abbrev small : Room
@@ -131,7 +131,7 @@ no_marks = refl
 
 -- numbers of 10 points, from 3 on, in cells of 100 points: the middle of their feet is 50 points below the middle of their pages
 abbrev tens : Numbers
-tens = record { how = record { size = pos 1_270_000_000_000; first = 3 }; places = []; below = Some (pos 6_350_000_000_000) }
+tens = record { size = pos 1_270_000_000_000; first = 3; places = []; below = Some (pos 6_350_000_000_000) }
 
 -- the fifth page of a row, which has 100 by 200 points, half as large and turned so about its corner, which is in the middle of a
 -- sheet of 200 by 250

@@ -1,11 +1,11 @@
-//! Lines that report a paper.
-ghost use Rattle.std.specs.Prelude.{◌≡◌, ◌++◌, ◌∷◌, [], codes, fold, map, nat_abs, IfOk, IsTrue, OnOk, ◌≤◌, ◌*◌, ◌^◌, ℕ};
+//! The header's lines that report papers.
+ghost use Rattle.std.specs.Prelude.{◌≡◌, ◌++◌, ◌∷◌, [], codes, fold, nat_abs, IfOk, IsTrue, OnOk, ◌≤◌, ◌*◌, ◌^◌};
 ghost use Rattle.papers.specs.Own.{covering as covering_paper};
 ghost use Rattle.rules.specs.Numbers.{points_text};
 ghost use Rattle.rules.specs.Papers.{is_side};
 ghost use Rattle.papers.specs.Told.{box_line, box_lines, exact_box_line, is_whole as whole, whole_paper, whole_up as up_to_whole};
-ghost use Rattle.papers.specs.Told.{medium_line, medium_text, one_header, page_size_lines as size_lines};
-ghost use Rattle.papers.specs.Told.{several_header, sheet_lines as lines_of_sheet, setting_line, size_name, size_text, telling_of};
+ghost use Rattle.papers.specs.Told.{medium_line, medium_text, one_header};
+ghost use Rattle.papers.specs.Told.{several_header, size_name, size_text, telling_of};
 
 use crate::told::printed_parts;
 use lengths::{Grains, Paper, print_grains, print_points};
@@ -55,26 +55,6 @@ fn covering_all(first: &Paper, others: &[Paper]) -> Paper
         large = covering(&large, paper);
     }
     large
-}
-
-/// The lines at the start of a sheet of this paper: none, unless sheets have several.
-pub(crate) fn start_lines(alloc: Global, told: &[Paper], paper: &Paper) -> Result<Lines, AllocError>
-    ensures { IfOk result (λ lines. (sheet : ℕ) → lines ≡ (telling_of told.now).start sheet paper.now) }
-{
-    match told {
-        [] | [_] => Ok(Lines::new(alloc)),
-        [_, _, ..] => sheet_lines(alloc, paper),
-    }
-}
-
-/// The lines of a sheet of this paper, if sheets have several.
-pub(crate) fn sheet_lines(alloc: Global, paper: &Paper) -> Result<Lines, AllocError>
-    ensures { IfOk result (λ lines. lines ≡ lines_of_sheet paper.now) }
-{
-    let mut lines = Lines::new(alloc);
-    push_page_medium(alloc, &mut lines, paper)?;
-    push_page_size(alloc, &mut lines, paper)?;
-    Ok(lines)
 }
 
 /// The box of a paper, in whole numbers, and after it as it is, if its sides aren't whole.
@@ -161,42 +141,6 @@ fn push_continued(alloc: Global, lines: &mut Lines, paper: &Paper) -> Result<(),
     line.extend_from_slice(b"%%+ ")?;
     append_name(&mut line, paper)?;
     append_medium(&mut line, paper)?;
-    lines.push(line.as_slice())?;
-    Ok(())
-}
-
-/// The medium of a sheet.
-fn push_page_medium(alloc: Global, lines: &mut Lines, paper: &Paper) -> Result<(), AllocError>
-    ensures { OnOk result (lines.new
-        ≡ lines.old ++ (codes "%%PageMedia: " ++ size_name paper.now) ∷ []) }
-{
-    let mut line = Vec::new(alloc);
-    line.extend_from_slice(b"%%PageMedia: ")?;
-    append_name(&mut line, paper)?;
-    lines.push(line.as_slice())?;
-    Ok(())
-}
-
-/// The lines that set the device's page size.
-fn push_page_size(alloc: Global, lines: &mut Lines, paper: &Paper) -> Result<(), AllocError>
-    ensures { OnOk result (lines.new ≡ lines.old ++ size_lines paper.now) }
-{
-    lines.push(b"/PStoPSenablepage where {pop PStoPSenablepage}")?;
-    lines.push(
-        b"{userdict /showpage 2 copy known {get dup type /operatortype eq {pop true} {length 0 ne} ifelse} {pop pop true} ifelse} ifelse",
-    )?;
-    push_size_if_shown(alloc, lines, paper)?;
-    Ok(())
-}
-
-/// The last of them, which sets it.
-fn push_size_if_shown(alloc: Global, lines: &mut Lines, paper: &Paper) -> Result<(), AllocError>
-    ensures { OnOk result (lines.new ≡ lines.old ++ setting_line paper.now ∷ []) }
-{
-    let mut line = Vec::new(alloc);
-    line.extend_from_slice(b"systemdict /setpagedevice known and {1 dict dup /PageSize [")?;
-    append_size(&mut line, paper)?;
-    line.extend_from_slice(b"] put systemdict /setpagedevice get exec} if")?;
     lines.push(line.as_slice())?;
     Ok(())
 }

@@ -11,9 +11,9 @@ use std::collections::BTreeSet;
 
 /// The sides of a paper as they are printed, in whole 10^-5 points.
 #[derive(Clone, Copy, Debug, PartialEq, Eq, PartialOrd, Ord)]
-pub(crate) struct Size {
-    pub(crate) width: i128,
-    pub(crate) height: i128,
+struct Size {
+    width: i128,
+    height: i128,
 }
 
 /// The papers that sheets report: each that is printed otherwise than all before it. Refused for memory alone, and if there
@@ -48,7 +48,7 @@ fn note(told: &mut Vec<Paper>, sizes: &mut BTreeSet<Size>, paper: &Paper) -> Res
 }
 
 /// The sides of a paper as they are printed.
-pub(crate) fn size_in_print(paper: &Paper) -> Size
+fn size_in_print(paper: &Paper) -> Size
     ensures { result ≡ size_of paper.now }
 {
     Size {

@@ -4,7 +4,7 @@ use Rattle.std.specs.Prelude.{IfSome, length, option_map, string_bytes}
 use Rattle.std.specs.Io.KnownBytes.{Appends}
 use Rattle.made_sheets.specs.Made.{MadeSheet}
 use Rattle.dressing.specs.Numbered.{Drawn}
-use Rattle.dressing.specs.declared.numbers.Numbers.{Numbers}
+use Rattle.sheet_text.specs.declared.numbers.Numbers.{Numbers}
 use Rattle.dressing.specs.declared.strokes.Stroke.{Stroke}
 use Rattle.rules.specs.Papers.{Paper}
 use Rattle.std.proofs.lemmas.List.{length-map}

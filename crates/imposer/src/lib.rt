@@ -26,7 +26,7 @@ pub use options::{Options, Workers};
 pub use outcome::{Report, RunError};
 pub use run_steps::{DeliverError, Delivered, ImposeError, Imposed, deliver, impose, laws};
 pub use runs::{GatheredPlan, gather_plan, run, run_plan};
-pub use sheet_text::{Dress, Job, Lines, SheetLines, sheet_text};
+pub use sheet_text::{Dress, Job, Lines, Numbers, sheet_text};
 pub use sheet_writer::{MemorySink, Sink, SinkFault, WriteSink};
 pub use statuses::run_status;
 pub use std::alloc::AllocError as NoMemory;

@@ -13,7 +13,7 @@ use Rattle.row_runs.specs.Sheets as sheets
 use Rattle.row_runs.specs.Marked.{strokes_in}
 use Rattle.row_runs.specs.Numbers.{numbers_asked}
 use Rattle.dressing.specs.Numbered.{Drawn}
-use Rattle.dressing.specs.declared.numbers.Numbers.{Numbers}
+use Rattle.sheet_text.specs.declared.numbers.Numbers.{Numbers}
 use Rattle.dressing.specs.declared.strokes.Stroke.{Stroke}
 use Rattle.row_runs.specs.Standing.{StandAsLaid}
 use Rattle.row_runs.specs.declared.run.RowJob.{RowJob}

@@ -8,10 +8,11 @@ use crate::asked::{Asked, asked_sheets};
 use crate::error::AskedError;
 use crate::marked::strokes_of;
 use crate::numbered::numbers_of;
-use dressing::{Marks, Numbers, Stroke};
+use dressing::{Marks, Stroke};
 use dsc::Document;
 use lengths::{Grains, Paper};
 use sheet_plan::MadeSheets;
+use sheet_text::Numbers;
 use std::alloc::Global;
 
 /// What is imposed of a document, which was read before; the papers of its pages in their order, where those that
