@@ -35,7 +35,7 @@ turned_back : (room : Room) (x y x' y' : ℤ) → IsEven room → LiesIn room (r
     → y' ≡ (pos 1_270_000_000_000_000 *ℤ pos (whole (nat_abs room.paper.height))) -ℤ y → LiesIn room (record { x = x'; y = y' })
 turned_back room x y x' y' even lies across up =
     let left = lies.left in let right = lies.right in let bottom = lies.bottom in let top = lies.top in
-    let beside = even.0 in let above = even.1 in
+    let beside = even.across in let above = even.up in
     record {
       left = omega (arith, ints, right, across, beside);
       right = omega (arith, ints, left, across, beside);

@@ -465,7 +465,7 @@ one_fold page sheet b h =
     let has : (o : Paper) → why_no_scale_on t o ≡ None → HasPlace o room (beside true) (scale_on t o) = λ o e. (has_scale t o e).place in
     let some = (fits page room (beside true) (scale_on t page) (has page (halves_fit page sheet b h))).some_wide in
     let a = along_height room in
-    let even = (leaves_even page sheet b h).1 in
+    let even = (leaves_even page sheet b h).up in
     let middle = fold_in_middle a side even some in
     let on = fold_on_sheet a side even some in
     record {

@@ -126,7 +126,7 @@ leaf_at : (v u : ℕ) (room : Room) (b : Bool) (s : ℕ) → IsEven room → Has
 leaf_at v u room false s even place =
     let has = has_cell v u room s place in
     let h = nat_abs room.paper.height in
-    let middle = in_middle (along_height room) h even.1 has.some in
+    let middle = in_middle (along_height room) h even.up has.some in
     record {
       twice = fold (along_height room) h;
       no_farther = middle.0;
@@ -137,7 +137,7 @@ leaf_at v u room false s even place =
 leaf_at v u room true s even place =
     let has = has_cell v u room s place in
     let h = nat_abs room.paper.height in
-    let middle = in_middle (along_height room) h even.1 has.some in
+    let middle = in_middle (along_height room) h even.up has.some in
     record {
       twice = fold (along_height room) h;
       no_farther = middle.0;

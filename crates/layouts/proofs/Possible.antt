@@ -230,7 +230,7 @@ uneven page sheet b room good e not =
 pub even_room : (room : Room) → is_even room ≡ true → IsEven room
 even_room room h =
     let both = both_true (room.left == room.right) (room.bottom == room.top) h in
-    (same_byte room.left room.right both.0, same_byte room.bottom room.top both.1)
+    record { across = same_byte room.left room.right both.0; up = same_byte room.bottom room.top both.1 }
 
 no_wider : (w h : ℕ) → IsTrue (nat_le w h) → w ≤ h
 no_wider w h e = search (rules, e)

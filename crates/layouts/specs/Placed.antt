@@ -54,8 +54,9 @@ bare sheet =
     record { paper = sheet; left = 0; right = 0; bottom = 0; top = 0; gap_across = 0; gap_up = 0; trim = 0 }
 
 -- as much is kept free along opposite edges
-abbrev pub IsEven : Room → Type 0
-IsEven room = (room.left ≡ room.right) × (room.bottom ≡ room.top)
+pub record IsEven (room : Room) : Type 0 where
+  pub across : room.left ≡ room.right
+  pub up : room.bottom ≡ room.top
 
 -- the sheet has this point, in 10^-9 of a grain, at least so far from each edge
 pub record LiesWithin (room : Room) (p : Point) : Type 0 where
