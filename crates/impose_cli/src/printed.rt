@@ -24,7 +24,7 @@ pub fn printed_task(
     out.push(b'\'')?;
     append_files(request, &mut out)?;
     out.push(b'\n')?;
-    if task.options.border.is_some() && request.spacing.trim.get() != 0 {
+    if task.options.border.is_some() && request.spacing.free.trim.get() != 0 {
         out.extend_from_slice(TRIM_COMMENT)?;
     }
     if request.is_guarded {
