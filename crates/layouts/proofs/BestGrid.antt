@@ -10,7 +10,7 @@ use Rattle.layouts.specs.declared.arrangement.Turned.TheVariants as sideways
 use Rattle.layouts.specs.Placed.{Room}
 use Rattle.layouts.specs.Cells.{Along, Grid, cell, fitting, held_across, held_down, held_width, held_height, left_free, kept, step, wide, high, counted, exact_along, exact_scale, scale_in, size}
 use Rattle.layouts.specs.Grids.{grid, is_better, better, best_of, best_grid, formed, best_formed}
-use Rattle.layouts.specs.Laws.{IsAsGood, BestIsBest, BestHasCells, BestIsLarge, Allows, IsNotTiny}
+use Rattle.layouts.specs.Laws.{IsAsGood, BestIsBest, BestHasCells, BestIsLarge, Allows, AllowsAlong, IsNotTiny}
 use Rattle.layouts.proofs.InGrid.{cells, room_in}
 
 -- fewer parts are no smaller
@@ -211,7 +211,7 @@ best_has_cells page room n some = either_enough n (best_of page room false n n) 
 
 -- one side: what an exact part allows is little more than what fits its cell
 nearly : (a : Along) (side parts page t : ℕ) → 1_397_000_000_000 ≤ page → 0 < parts
-    → t * page * parts + 1_270_000_000_000_000 * (kept a.trim a.gap * parts) ≤ 1_000_000_000 * left_free a side + 1_270_000_000_000_000 * kept a.trim a.gap
+    → AllowsAlong a side parts page t
     → t < fitting (cell a side parts) page + 1_000
 nearly a side parts page t large some allows =
     let p = step a side parts in
@@ -260,7 +260,7 @@ near_exact page room g sides rows columns =
     omega (arith, near_along (held_across g.turned room) (held_width g.turned room.paper) g.columns (counted room page.width) sides.0 columns, near_along (held_down g.turned room) (held_height g.turned room.paper) g.rows (counted room page.height) sides.1 rows)
 
 within_along : (a : Along) (side parts page t : ℕ) → 1_397_000_000_000 ≤ page → 0 < parts
-    → t * page * parts + 1_270_000_000_000_000 * (kept a.trim a.gap * parts) ≤ 1_000_000_000 * left_free a side + 1_270_000_000_000_000 * kept a.trim a.gap
+    → AllowsAlong a side parts page t
     → t ≤ exact_along a side parts page
 within_along a side parts page t large some allows =
     le-div t (1_000_000_000 * left_free a side + 1_270_000_000_000_000 * kept a.trim a.gap - 1_270_000_000_000_000 * (kept a.trim a.gap * parts)) (page * parts)

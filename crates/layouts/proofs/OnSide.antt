@@ -1,7 +1,7 @@
 -- One side of a sheet with w grains, cut into c cells, and a page in cell j, of whose side with v grains something may be
 -- trimmed. Its scale is s. On a side that counts from its start a page is moved by `from_start`, less what is trimmed;
 -- a turned page stands on a side that counts from its cell's other end, `from_end`, and is moved on by what is trimmed.
-use Rattle.std.proofs.Common.{arith, ◌≡◌, ℕ, ◌+◌, ◌-◌, ◌*◌, ◌<◌, ◌≤◌, subst}
+use Rattle.std.proofs.Common.{arith, ◌≡◌, ℕ, ◌+◌, ◌-◌, ◌*◌, ◌/◌, ◌<◌, ◌≤◌, subst}
 use Rattle.std.specs.Prelude.{pos, ◌≤ℤ◌, ◌+ℤ◌, ◌-ℤ◌}
 use Rattle.std.proofs.lemmas.Int.{ints}
 use Rattle.layouts.specs.Placed.{fine}

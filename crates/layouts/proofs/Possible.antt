@@ -227,6 +227,12 @@ pub uneven : (page sheet : Paper) (b : Binding) (room : Room) → why_no_sheet p
 uneven page sheet b room good e not =
     leaves_reasons page sheet b good ∙ either_way (is_even (room_of sheet b.free)) _ _ (ap is_even (sym e) ∙ not)
 
+pub long_fold : (page sheet : Paper) (b : Binding) (room : Room) → why_no_sheet page sheet b.free None ≡ None → room ≡ room_of sheet b.free → is_even room ≡ true → folds_short page room ≡ false
+    → why_not_bound page sheet b ≡ Some why.FoldOnLongEdge
+long_fold page sheet b room good e even not =
+    leaves_reasons page sheet b good
+    ∙ (one_way (is_even (room_of sheet b.free)) _ _ (ap is_even (sym e) ∙ even) ∙ either_way (folds_short page (room_of sheet b.free)) _ _ (ap (folds_short page) (sym e) ∙ not))
+
 pub even_room : (room : Room) → is_even room ≡ true → IsEven room
 even_room room h =
     let both = both_true (room.left == room.right) (room.bottom == room.top) h in

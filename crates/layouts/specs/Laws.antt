@@ -15,7 +15,7 @@ use Rattle.layouts.specs.declared.arrangement.Run.TheVariants.{Rows, Columns}
 use Rattle.layouts.specs.declared.arrangement.Turned.{Turned}
 use Rattle.layouts.specs.declared.arrangement.Order.{Order}
 use Rattle.layouts.specs.Placed.{IsEven, Room, stands, fine, IsOfPage, IsInside, AreApart, IsLeftOf, IsAbove}
-use Rattle.layouts.specs.Cells.{Grid, size, held_width, held_height, held_across, held_down, left_free, step_across, step_down, wide, high, kept, counted}
+use Rattle.layouts.specs.Cells.{Along, Grid, size, held_width, held_height, held_across, held_down, left_free, step_across, step_down, wide, high, kept, counted}
 use Rattle.layouts.specs.Cells.{exact_scale, scale_in, item_in, back_in, run_in, read_columns, read_rows, row_of, column_of}
 use Rattle.layouts.specs.Cells.{whole}
 use Rattle.layouts.specs.Grids.{best_grid, formed, count_of, room_of, scale_for}
@@ -68,16 +68,15 @@ GridIsInOrder =
     × (k / run_in o.run o.turned g < l / run_in o.run o.turned g
     → ComesInRunBefore o.run room o.turned o.right_to_left page (item_in page room g o s k) page' (item_in page' room g o s' l))
 
--- exact parts of what the margins and the gaps leave have room for pages of this scale, in 10^-9
+-- exact parts of what the margins and the gaps leave of a side have room for pages of this scale, in 10^-9, of which so much
+-- counts
+abbrev pub AllowsAlong : Along → (side parts page scale : ℕ) → Type 0
+AllowsAlong a side parts page scale = scale * page * parts + 1_270_000_000_000_000 * (kept a.trim a.gap * parts)
+    ≤ 1_000_000_000 * left_free a side + 1_270_000_000_000_000 * kept a.trim a.gap
+
 pub record Allows (page : Paper) (room : Room) (g : Grid) (scale : ℕ) : Type 0 where
-  pub wide : scale * counted room page.width * g.columns
-      + 1_270_000_000_000_000 * (kept room.trim (held_across g.turned room).gap * g.columns)
-      ≤ 1_000_000_000 * left_free (held_across g.turned room) (held_width g.turned room.paper)
-      + 1_270_000_000_000_000 * kept room.trim (held_across g.turned room).gap
-  pub high : scale * counted room page.height * g.rows
-      + 1_270_000_000_000_000 * (kept room.trim (held_down g.turned room).gap * g.rows)
-      ≤ 1_000_000_000 * left_free (held_down g.turned room) (held_height g.turned room.paper)
-      + 1_270_000_000_000_000 * kept room.trim (held_down g.turned room).gap
+  pub wide : AllowsAlong (held_across g.turned room) (held_width g.turned room.paper) g.columns (counted room page.width) scale
+  pub high : AllowsAlong (held_down g.turned room) (held_height g.turned room.paper) g.rows (counted room page.height) scale
 
 -- the sides that count are 11 points or more
 abbrev pub IsNotTiny : (page : Paper) → Room → Type 0
