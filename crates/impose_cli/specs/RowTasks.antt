@@ -1,6 +1,7 @@
 -- What is imposed of a row of pages, and how: a request for a document, if its layout lays rows on sheets.
-use Rattle.std.specs.Prelude.{◌≡◌, ⊤, ℕ, ◌+◌, Bool, true, false, ◌&&◌, if◌then◌else◌, List, [], ◌∷◌, length, Option, Some, None, Result, Ok, Err, IfSome, option_map, option_and_then, slice_get}
+use Rattle.std.specs.Prelude.{◌≡◌, ⊤, ℕ, ◌+◌, Bool, true, false, ◌&&◌, if◌then◌else◌, List, [], ◌∷◌, length, Option, Some, None, Result, Ok, Err, IfSome, option_map, option_and_then, slice_get, ◌||◌, not}
 use Rattle.std.specs.List.{list_all}
+use Rattle.std.specs.Ordering.{int_eq}
 use Rattle.rules.specs.Papers.{Paper}
 use Rattle.rules.specs.Parts.{NestedUnit, pages}
 use Rattle.rules.specs.Run.{document_of}
@@ -13,6 +14,7 @@ use Rattle.rows.specs.declared.sewing.Signing.{Signing}
 use Rattle.layouts.specs.Fitted.{binding_setting_of, setting_of}
 use Rattle.layouts.specs.Grids.{count_of, rounded_down, rounded_up}
 use Rattle.layouts.specs.Refusals.{first_of, is_length, why_not_arranged, why_not_bound}
+use Rattle.layouts.specs.declared.arrangement.Free.{Free}
 use Rattle.layouts.specs.declared.setting.Setting.{Setting}
 use Rattle.layouts.specs.declared.error.ArrangementError.TheVariants as why
 use Rattle.papers.specs.Names.{paper_named}
@@ -67,13 +69,13 @@ abbrev pub stacked : (duplex : Bool) → Setting → (cells : ℕ) → Laying
 stacked false t cells = laying.Stack t cells
 stacked true t cells = laying.Leaves t
 
--- so many columns and rows of sheets of a paper: of margin and overlap none is lost
+-- so many columns and rows of sheets of a paper, with one margin along all edges: of it and of the overlap none is lost
 abbrev pub poster_in : Spacing → (columns rows : ℕ) → (sheet : Paper) → Poster
 poster_in s columns rows sheet = record {
   sheet = sheet;
   columns = columns;
   rows = rows;
-  edge = rounded_up s.margin;
+  edge = rounded_up s.free.left;
   overlap = rounded_up s.overlap;
 }
 
@@ -96,22 +98,34 @@ laying_in layout.Selection s page_paper sheet_paper = Some (laying.AsTheyAre she
 laying_in (layout.Spec specs) s page_paper sheet_paper = None
 laying_in (layout.SpecRow specs signing) s page_paper sheet_paper = None
 
--- the fault that says why it can't (RULES, 16, step 9)
+-- as much is kept free along opposite edges, or along all
+abbrev pub has_even_margins : Free → Bool
+has_even_margins f = int_eq f.left f.right && int_eq f.bottom f.top
+
+abbrev pub has_one_margin : Free → Bool
+has_one_margin f = has_even_margins f && int_eq f.left f.bottom
+
+-- the fault that says why it can't: what is behind a part of a sheet, or turned by half, needs even margins
+-- (RULES, 16, step 9)
 abbrev pub why_not_laid : Layout → Spacing → (page_paper sheet_paper : Paper) → Option ImposeFault
 why_not_laid (layout.NUp cells) s page_paper sheet_paper =
     option_map fault.Layout (why_not_arranged page_paper sheet_paper (arrangement_in s cells))
 why_not_laid (layout.Cards cells) s page_paper sheet_paper =
     option_map fault.Layout (why_not_arranged page_paper sheet_paper (arrangement_in s cells))
-why_not_laid (layout.Stack cells duplex) s page_paper sheet_paper =
-    option_map fault.Layout (why_not_arranged page_paper sheet_paper (arrangement_in s cells))
+why_not_laid (layout.Stack cells duplex) s page_paper sheet_paper = option_map fault.Layout
+    (first_of (not duplex || has_even_margins s.free) why.UnevenMargins
+    (why_not_arranged page_paper sheet_paper (arrangement_in s cells)))
 why_not_laid (layout.Booklet signing long_edge) s page_paper sheet_paper = option_map fault.Layout
     (first_of (is_length s.creep) why.LengthOutOfRange (why_not_bound page_paper sheet_paper (binding_in s long_edge)))
 why_not_laid (layout.Notes pages) s page_paper sheet_paper =
     option_map fault.Layout (why_not_arranged page_paper sheet_paper (notes_in s pages))
-why_not_laid (layout.Poster columns rows) s page_paper sheet_paper = if is_length s.margin && is_length s.overlap
+why_not_laid (layout.Poster columns rows) s page_paper sheet_paper = if has_one_margin s.free
+    then (if is_length s.free.left && is_length s.overlap
     then option_map fault.Poster (why_no_poster page_paper (poster_in s columns rows sheet_paper))
-    else Some (fault.Layout why.LengthOutOfRange)
-why_not_laid layout.Zine s page_paper sheet_paper = option_map fault.Layout (why_not_arranged page_paper sheet_paper (zine_in s))
+    else Some (fault.Layout why.LengthOutOfRange))
+    else Some (fault.Layout why.UnevenMargins)
+why_not_laid layout.Zine s page_paper sheet_paper = option_map fault.Layout
+    (first_of (has_even_margins s.free) why.UnevenMargins (why_not_arranged page_paper sheet_paper (zine_in s)))
 why_not_laid layout.Selection s page_paper sheet_paper = None
 why_not_laid (layout.Spec specs) s page_paper sheet_paper = None
 why_not_laid (layout.SpecRow specs signing) s page_paper sheet_paper = None
@@ -255,7 +269,7 @@ pub record IsJobOf (r : ImposeRequest) (t : RowTask) (job : RowJob) : Type 0 whe
   pub laying : job.asked.laying ≡ t.laying
   pub same_scale : job.asked.same_scale ≡ r.spacing.same_scale
   pub border : job.border ≡ r.border
-  pub inset : job.inset ≡ r.spacing.trim
+  pub inset : job.inset ≡ r.spacing.free.trim
   pub marks : job.marks ≡ r.marks
 
 abbrev pub ImposesTask : ImposeRequest → RowTask → (old new : Option (List ℕ)) → Report → Type 0
@@ -272,7 +286,7 @@ pub record IsRowJob (r : ImposeRequest) (input : List ℕ) (page_paper : Paper) 
   pub options : HasOptions r
   pub same_scale : job.asked.same_scale ≡ r.spacing.same_scale
   pub border : job.border ≡ r.border
-  pub inset : job.inset ≡ r.spacing.trim
+  pub inset : job.inset ≡ r.spacing.free.trim
   pub marks : job.marks ≡ r.marks
 
 -- The request was carried out for this document: exactly the output was appended of the sheets on which its layout lays

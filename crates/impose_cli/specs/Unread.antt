@@ -19,6 +19,7 @@ use Rattle.impose_words.specs.declared.request.Product.{Product}
 use Rattle.impose_words.specs.declared.request.Product.TheVariants as product
 use Rattle.impose_words.specs.declared.request.ImposeRequest.{ImposeRequest}
 use Rattle.layouts.specs.Grids.{count_of}
+use Rattle.layouts.specs.declared.arrangement.Free.{Free}
 use Rattle.impose_said.specs.declared.fault.IdleOption.{IdleOption}
 use Rattle.impose_said.specs.declared.fault.IdleOption.TheVariants.{Sheet, CutMarks}
 use Rattle.impose_said.specs.declared.fault.ImposeFault.{ImposeFault}
@@ -73,14 +74,18 @@ is_cut_outside (layout.Booklet signing long_edge) = true
 is_cut_outside other = false
 
 -- there is a margin, of half the gap at least
-abbrev pub has_margin : Spacing → Bool
-has_margin s = int_lt (pos 0) s.margin && int_le s.gap (s.margin +ℤ s.margin)
+abbrev pub has_room : (margin gap : ℤ) → Bool
+has_room margin gap = int_lt (pos 0) margin && int_le gap (margin +ℤ margin)
+
+-- along all edges
+abbrev pub has_margins : Free → Bool
+has_margins f = (has_room f.left f.across && has_room f.right f.across) && (has_room f.bottom f.up && has_room f.top f.up)
 
 -- the first such option: a paper for sheets that keep their own, and marks outside of pages that have no room for them
 -- (RULES, 16, step 4)
 abbrev pub idle_option : ImposeRequest → Option IdleOption
 idle_option r = if keeps_papers r.layout && is_some r.sheet_paper then Some Sheet
-    else (if r.marks.cut && (is_cut_outside r.layout && not (has_margin r.spacing)) then Some CutMarks else None)
+    else (if r.marks.cut && (is_cut_outside r.layout && not (has_margins r.spacing.free)) then Some CutMarks else None)
 
 -- ---- a file that is read and written
 

@@ -77,7 +77,7 @@ fn task_text(
             same_scale: request.spacing.same_scale,
         },
         border: request.border,
-        inset: request.spacing.trim,
+        inset: request.spacing.free.trim,
         marks: request.marks,
     };
     match job_text(alloc, &job, look) {

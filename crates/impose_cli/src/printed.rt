@@ -67,7 +67,7 @@ fn append_comments(
 fn has_trimmed_border(request: &ImposeRequest, task: &Task) -> bool
     ensures { result ≡ is_border_trimmed request.now task.now }
 {
-    task.options.border.is_some() && request.spacing.trim.get() != 0
+    task.options.border.is_some() && request.spacing.free.trim.get() != 0
 }
 
 const TRIM_COMMENT: &[u8] =

@@ -357,7 +357,7 @@ pub(crate) fn impose_task<R: Threads + Wait + Sync, W: World>(
             same_scale: request.spacing.same_scale,
         },
         border: request.border,
-        inset: request.spacing.trim,
+        inset: request.spacing.free.trim,
         marks: request.marks,
     };
     impose_job(rt, alloc, &job, name_of(&request.outfile), world)

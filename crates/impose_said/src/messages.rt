@@ -274,9 +274,16 @@ fn value_text(alloc: Global, option: Opt, text: &str) -> Result<String, AllocErr
     match option {
         Opt::Paper | Opt::Sheet => paper_text(alloc, option.id(), text),
         Opt::Border => length_text(alloc, option.id(), text, "1pt, .5mm or .02in"),
-        Opt::Margin | Opt::Gap | Opt::Trim | Opt::Creep | Opt::Overlap => {
+        Opt::Trim | Opt::Creep | Opt::Overlap => {
             length_text(alloc, option.id(), text, "5mm, .2in or 14pt")
         }
+        Opt::Margin => length_text(
+            alloc,
+            option.id(),
+            text,
+            "5mm, SIDES,ENDS, TOP,RIGHT,BOTTOM,LEFT, or left=2cm,top=1cm",
+        ),
+        Opt::Gap => length_text(alloc, option.id(), text, "5mm, or 5mm,1cm"),
         Opt::Numbers => length_text(alloc, option.id(), text, "10pt or 4mm, up to 72pt"),
         Opt::Count(command) => cells_text(alloc, command, text),
         Opt::Signature => signature_text(alloc, text),
@@ -588,6 +595,9 @@ fn layout_message(error: &ArrangementError) -> &'static str {
         }
         ArrangementError::NothingLeftOfPage =>
             "nothing is left of a page that is trimmed so: trim less",
+        ArrangementError::UnevenMargins => {
+            "margins are alike along opposite edges of what is folded or printed on both sides, and along all edges of a poster"
+        }
         ArrangementError::FoldOnLongEdge => fold_message(None),
         ArrangementError::NoRoom => "margins and gaps leave no room for pages: take smaller ones",
         ArrangementError::ScaleOutOfRange => {

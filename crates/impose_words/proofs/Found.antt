@@ -11,7 +11,9 @@ use Rattle.impose_words.specs.Faults.{wrong_lines, wrong_numbers, wrong_order, w
 use Rattle.impose_words.specs.Words.{ChoosesBy, Entered, Enters, Reads, ReadsSizes, SpacesBy, file_asked, given, has_flag, is_outfile}
 use Rattle.impose_words.specs.Arranging.{numbering, with_numbers}
 use Rattle.impose_words.specs.Words.{first_found, has_numbers, lines_found, number_size_found, numbers_found}
-use Rattle.impose_words.specs.Words.{length_found, marks_found, order_by, order_found, run_found, scale_found, turned_found}
+use Rattle.impose_words.specs.Words.{gaps_found, length_found, margins_found, marks_found, order_by, order_found, run_found, scale_found, turned_found}
+use Rattle.impose_words.specs.declared.edges.Gaps.{Gaps}
+use Rattle.impose_words.specs.declared.edges.Margins.{Margins}
 use Rattle.impose_words.specs.declared.request.Layout.{Layout}
 use Rattle.impose_words.specs.declared.request.Layout.TheVariants as layout
 use Rattle.impose_words.specs.declared.request.PageChoice.{PageChoice}
@@ -128,12 +130,12 @@ spacing_right true found s k =
     next (past _ k.0 (past _ k.1 (past _ k.2 (past _ k.3 (past _ k.4 refl))))) (next (order_right found s.order k.5) (past _ k.6 refl))
 
 -- the scale alone is wrong
-pub scale_wrong : (keeps : Bool) (found : List Row) (margin gap trim creep overlap : ℤ) (order : Order) → true ≡ keeps
-    → length_found opt.Margin found ≡ Some margin → length_found opt.Gap found ≡ Some gap → length_found opt.Trim found ≡ Some trim
+pub scale_wrong : (keeps : Bool) (found : List Row) (margins : Margins) (gaps : Gaps) (trim creep overlap : ℤ) (order : Order) → true ≡ keeps
+    → margins_found found ≡ Some margins → gaps_found found ≡ Some gaps → length_found opt.Trim found ≡ Some trim
     → length_found opt.Creep found ≡ Some creep → length_found opt.Overlap found ≡ Some overlap → order_found found ≡ Some order → scale_found found ≡ None
     → wrong_spacing keeps found ≡ Some (NoValue opt.Scale)
-scale_wrong false found margin gap trim creep overlap order keeps m g t c o r s = absurd (true≢false keeps)
-scale_wrong true found margin gap trim creep overlap order keeps m g t c o r s =
+scale_wrong false found margins gaps trim creep overlap order keeps m g t c o r s = absurd (true≢false keeps)
+scale_wrong true found margins gaps trim creep overlap order keeps m g t c o r s =
     next (past _ m (past _ g (past _ t (past _ c (past _ o refl))))) (next (order_right found order r) (stop _ _ s))
 
 pub lines_right : (l : Layout) (found : List Row) (marks : Marks) → lines_found l found ≡ Some marks → wrong_lines l found ≡ None

@@ -8,7 +8,7 @@ use Rattle.impose_words.specs.Command.{impose}
 use Rattle.impose_words.specs.Products.{is_picture_file, lays_rows}
 use Rattle.impose_words.specs.Spacings.{keeps_room}
 use Rattle.impose_words.specs.Words.{AsksFor, Entered, asked, border_found, cells_found, file_asked, first_found, given, has_numbers}
-use Rattle.impose_words.specs.Words.{is_outfile, length_found, number_size_found, part_found, picture_found, ranges_id, row_asked, run_found, scale_found, signing_found, size_found}
+use Rattle.impose_words.specs.Words.{gaps_found, is_outfile, margins_found, length_found, number_size_found, part_found, picture_found, ranges_id, row_asked, run_found, scale_found, signing_found, size_found}
 use Rattle.impose_words.specs.Words.{turned_found, two_found}
 use Rattle.impose_words.specs.declared.fault.RequestFault.{RequestFault}
 use Rattle.impose_words.specs.declared.fault.RequestFault.TheVariants as fault
@@ -47,8 +47,8 @@ is_value opt.Sheet found = is_some (size_found opt.Sheet found)
 is_value opt.Border found = is_some (border_found found)
 is_value (opt.Count command) found = is_some (cells_found command found)
 is_value opt.Signature found = is_some (signing_found found)
-is_value opt.Margin found = is_some (length_found opt.Margin found)
-is_value opt.Gap found = is_some (length_found opt.Gap found)
+is_value opt.Margin found = is_some (margins_found found)
+is_value opt.Gap found = is_some (gaps_found found)
 is_value opt.Trim found = is_some (length_found opt.Trim found)
 is_value opt.Creep found = is_some (length_found opt.Creep found)
 is_value opt.Overlap found = is_some (length_found opt.Overlap found)

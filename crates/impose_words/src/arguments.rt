@@ -240,7 +240,10 @@ fn cell_args<'a>(alloc: Global, help: &'a str) -> Result<Vec<Arg<'a>>, AllocErro
         ),
         same_scale(alloc),
         margin(alloc),
-        gap(alloc, "Keep so much free between pages"),
+        gap(
+            alloc,
+            "Keep so much free between pages, as 5mm, or 5mm,1cm side by side and one above another"
+        ),
         trim(alloc),
         marks(alloc, "Draw short lines where sheets are cut: cut"),
         numbers(alloc),
@@ -288,13 +291,15 @@ fn creep<'a>(alloc: Global) -> Arg<'a>
 fn margin<'a>(alloc: Global) -> Arg<'a>
     ensures { rule_of result ≡ option_rule (codes "margin") }
 {
-    option(alloc, "margin", "LENGTH").help("Keep so much free along each edge of a sheet, as 5mm")
+    option(alloc, "margin", "LENGTHS").help(
+        "Keep so much free along the edges of a sheet: 5mm, SIDES,ENDS, TOP,RIGHT,BOTTOM,LEFT, or left=2cm"
+    )
 }
 
 fn gap<'a>(alloc: Global, help: &'a str) -> Arg<'a>
     ensures { rule_of result ≡ option_rule (codes "gap") }
 {
-    option(alloc, "gap", "LENGTH").help(help)
+    option(alloc, "gap", "LENGTHS").help(help)
 }
 
 fn trim<'a>(alloc: Global) -> Arg<'a>

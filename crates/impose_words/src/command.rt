@@ -3,6 +3,8 @@ ghost use Rattle.std.specs.Prelude.{◌≡◌, [], ◌∷◌, IfOk, IfErr, None,
 ghost use Rattle.clap.specs.Words.{Text, fault_of, first_of, found_of, is_simple, rows_of, subcommand_of, subcommand_rows_of};
 ghost use Rattle.impose_words.specs.Command.{impose};
 ghost use Rattle.impose_words.specs.Words.{AsksFor, Entered, ReadsSizes, Reads, border_found, file_asked, given, is_outfile};
+ghost use Rattle.impose_words.specs.Edges.{gaps_in, margins_in};
+ghost use Rattle.impose_words.specs.Words.{gaps_found, margins_found};
 ghost use Rattle.impose_words.specs.Words.{ChoosesBy, MakesBy, NamesPicture, SpacesBy, length_found, ranges_id, part_by as of_both};
 ghost use Rattle.impose_words.specs.Words.{cells_in as cells_of_command, command_name, order_found, run_found, scale_found};
 ghost use Rattle.impose_words.specs.Words.{first_found, has_numbers, lines_found, number_size_found, numbers_found};
@@ -19,6 +21,7 @@ use crate::arranging::{
     NO_MARKS, booklet_marks_named, cells_named, cut_marks_named, exact_cells, noted_cells,
     number_size_named, run_named, turned_named,
 };
+use crate::edges::{Gaps, Margins, gaps_named, margins_named};
 use crate::fault::{GridCommand, Opt, ProductOption, RequestFault};
 use crate::request::{ImposeRequest, Layout, PageChoice, Product, Spacing};
 use crate::signature::{number_in, signing_named};
@@ -27,7 +30,7 @@ use clap::ArgMatches;
 use clap::error::ErrorKind;
 use command_words::{is_set, owned, text_of};
 use dressing::{Marks, Numbering};
-use layouts::{Cells, Order, Run, Turned};
+use layouts::{Cells, Free, Order, Run, Turned};
 use lengths::{Grains, Number, Paper, a4};
 use rows::{Part, Signing};
 use std::alloc::Global;
@@ -38,7 +41,7 @@ use std::alloc::Global;
 /// Words that the command doesn't take are `Words`, with clap's message, and so is a call for help or for the version.
 /// Among words that it takes, the first of these is the fault: a paper that there isn't, after `--paper`, then after
 /// `--sheet`; a border that is no length, or below zero; cells that a sheet doesn't take, or a signature that leaves can't have;
-/// a margin, a gap, a trim, a creep or an overlap that is no length; an order that there isn't, no side after `--turned`, no number after
+/// margins or gaps that aren't lengths as these options take them; a trim, a creep or an overlap that is no length; an order that there isn't, no side after `--turned`, no number after
 /// `--scale`; marks that sheets of the layout don't have; no size after `--numbers`, or no first number; odd and even entries together; an OUTFILE that begins with a minus sign; two of
 /// `--print-spec`, `--plan` and `--preview`; a picture whose file isn't named as an SVG is.
 #[tactic(auto, using(crate::proofs::Commands::impose_is_simple))]
@@ -353,10 +356,10 @@ fn spacing_of(layout: &Layout, found: &ArgMatches<'_>) -> Result<Spacing, Opt>
     if !layout.keeps_room() {
         return Ok(Spacing::none());
     }
-    let Some(margin) = length_of(found, Opt::Margin) else {
+    let Some(margins) = margins_of(found) else {
         return Err(Opt::Margin);
     };
-    let Some(gap) = length_of(found, Opt::Gap) else {
+    let Some(gaps) = gaps_of(found) else {
         return Err(Opt::Gap);
     };
     let Some(trim) = length_of(found, Opt::Trim) else {
@@ -376,9 +379,7 @@ fn spacing_of(layout: &Layout, found: &ArgMatches<'_>) -> Result<Spacing, Opt>
         return Err(Opt::Scale);
     };
     Ok(Spacing {
-        margin,
-        gap,
-        trim,
+        free: free_of(margins, gaps, trim),
         creep,
         overlap,
         order,
@@ -387,12 +388,48 @@ fn spacing_of(layout: &Layout, found: &ArgMatches<'_>) -> Result<Spacing, Opt>
     })
 }
 
+fn free_of(margins: Margins, gaps: Gaps, trim: Grains) -> Free
+    ensures margins { margins_in result ≡ margins }
+    ensures gaps { gaps_in result ≡ gaps }
+    ensures trim { result.trim ≡ trim }
+{
+    Free {
+        left: margins.left,
+        right: margins.right,
+        bottom: margins.bottom,
+        top: margins.top,
+        across: gaps.across,
+        up: gaps.up,
+        trim,
+    }
+}
+
+/// What is kept free along the edges of a sheet; nothing if `--margin` isn't there.
+fn margins_of(found: &ArgMatches<'_>) -> Option<Margins>
+    ensures { result ≡ margins_found (rows_of (found_of found.now)) }
+{
+    match text_of(found, Opt::Margin.id()) {
+        None => Some(Margins::none()),
+        Some(text) => margins_named(text),
+    }
+}
+
+/// What is kept free between cells; nothing if `--gap` isn't there.
+fn gaps_of(found: &ArgMatches<'_>) -> Option<Gaps>
+    ensures { result ≡ gaps_found (rows_of (found_of found.now)) }
+{
+    match text_of(found, Opt::Gap.id()) {
+        None => Some(Gaps::none()),
+        Some(text) => gaps_named(text),
+    }
+}
+
 /// The length that an option names; 0 if it isn't there.
 fn length_of(found: &ArgMatches<'_>, option: Opt) -> Option<Grains>
     ensures { result ≡ length_found option (rows_of (found_of found.now)) }
 {
     match text_of(found, option.id()) {
-        None => Some(Spacing::none().margin),
+        None => Some(Free::none().trim),
         Some(text) => length_with_unit(text),
     }
 }

@@ -22,7 +22,16 @@ use Rattle.row_runs.specs.ToldPages.{told_pages}
 -- a sheet of 100 by 200 points with a margin of 10 points and a gap of 4, in two columns
 abbrev halves : Setting
 halves = record {
-  room = record { paper = points 100 200; edge = 1_000_000; gap = 400_000; trim = 0 };
+  room = record {
+    paper = points 100 200;
+    left = 1_000_000;
+    right = 1_000_000;
+    bottom = 1_000_000;
+    top = 1_000_000;
+    gap_across = 400_000;
+    gap_up = 400_000;
+    trim = 0;
+  };
   grid = record { rows = 1; columns = 2; turned = false };
   order = plain_order;
   scale = None;
