@@ -36,7 +36,10 @@ use Rattle.impose_words.specs.Spacings.{arrangement_in, binding_in, notes_in, zi
 use Rattle.impose_words.specs.declared.request.Spacing.{Spacing}
 use Rattle.row_runs.specs.ToldPages.{told_pages}
 use Rattle.impose_cli.specs.Claims.{IsToldBy}
-use Rattle.impose_cli.specs.Reaches.{HasReach, takes}
+use Rattle.impose_cli.specs.Reaches.{reach_in, takes}
+use Rattle.pagespec.specs.Items.{turn_of}
+use Rattle.row_sheets.specs.Turning.{turned_paper}
+use Rattle.papers.specs.declared.reach.Reach.{Reach}
 use Rattle.impose_cli.specs.Tasks.{HasBehind, page_paper_found, sheet_paper_found, taken_text}
 use Rattle.impose_said.specs.Said.{is_same}
 use Rattle.impose_said.specs.declared.fault.ImposeFault.{ImposeFault}
@@ -130,9 +133,19 @@ why_not_laid layout.Selection s page_paper sheet_paper = None
 why_not_laid (layout.Spec specs) s page_paper sheet_paper = None
 why_not_laid (layout.SpecRow specs signing) s page_paper sheet_paper = None
 
--- why a request can't lay pages of this paper on its sheets
+-- the paper of the pages once they are turned
+abbrev pub cells_paper : ImposeRequest → (page_paper : Paper) → Paper
+cells_paper r page_paper = turned_paper (turn_of r.turn) page_paper
+
+-- how a request lays pages of this paper on its sheets, if it does
+abbrev pub laying_by : ImposeRequest → (page_paper : Paper) → Option Laying
+laying_by r page_paper = let paper = cells_paper r page_paper in
+    laying_in r.layout r.spacing paper (sheet_paper_in r.layout r.sheet_paper paper)
+
+-- and why it can't
 abbrev pub why_no_row : ImposeRequest → (page_paper : Paper) → Option ImposeFault
-why_no_row r page_paper = why_not_laid r.layout r.spacing page_paper (sheet_paper_in r.layout r.sheet_paper page_paper)
+why_no_row r page_paper = let paper = cells_paper r page_paper in
+    why_not_laid r.layout r.spacing paper (sheet_paper_in r.layout r.sheet_paper paper)
 
 -- the paper of a selection's first sheet; blank sheets have this one
 abbrev pub first_paper : Result Row RowFault → (papers : List Paper) → (blank : Paper) → Paper
@@ -147,7 +160,7 @@ guarded_in other first sheet_paper = sheet_paper
 -- the paper for which the guard sets the page size: that of the sheets, and of a selection that of its first sheet, since
 -- sheets of several papers set their own (RULES, 15)
 abbrev pub guarded_paper : ImposeRequest → (papers : List Paper) → (page_paper : Paper) → Paper
-guarded_paper r papers page_paper = let sheet_paper = sheet_paper_in r.layout r.sheet_paper page_paper in
+guarded_paper r papers page_paper = let sheet_paper = sheet_paper_in r.layout r.sheet_paper (cells_paper r page_paper) in
     guarded_in r.layout (first_paper (imposed_row (length papers) (choice_in r.choice) None) papers sheet_paper) sheet_paper
 
 -- the document, with the guard in it if it is asked for
@@ -192,13 +205,22 @@ row_paper r input us =
 abbrev pub IsRowPaper : ImposeRequest → (input : List ℕ) → Paper × PaperOrigin → Type 0
 IsRowPaper r input found = (us : List NestedUnit) × (document_of input ≡ Ok us) × (found ≡ row_paper r input us)
 
--- the papers by which pages are placed: each its own. A selection puts pages whose papers count as one on one (RULES, 12.4)
+-- the papers of the pages: each its own. A selection puts pages whose papers count as one on one (RULES, 12.4)
 abbrev pub placed_in : Layout → (taken own : List Paper) → List Paper
 placed_in layout.Selection taken own = as_one taken own
 placed_in other taken own = own
 
+abbrev pub counted_in : ImposeRequest → (input : List ℕ) → List NestedUnit → List Paper
+counted_in r input us = let own = own_in r input us in placed_in r.layout (row_papers (row_in r us) own) own
+
+-- by which the pages are placed, once they are turned
 abbrev pub papers_in : ImposeRequest → (input : List ℕ) → List NestedUnit → List Paper
-papers_in r input us = let own = own_in r input us in placed_in r.layout (row_papers (row_in r us) own) own
+papers_in r input us = map (cells_paper r) (counted_in r input us)
+
+-- the document is accepted, and these of its pages reach beyond their papers
+abbrev pub HasReach : ImposeRequest → (input : List ℕ) → Option Reach → Type 0
+HasReach r input reach =
+    (us : List NestedUnit) × (document_of input ≡ Ok us) × (reach ≡ reach_in true r (counted_in r input us) input us)
 
 -- a specification is made for the layout
 abbrev pub has_specification : Layout → Bool
@@ -249,11 +271,11 @@ LaysRows other = ⊤
 -- the task is what the request asks for with this document
 pub record IsRowTask (r : ImposeRequest) (input : List ℕ) (t : RowTask) : Type 0 where
   pub papers : ArePapersOf r input t.papers.items t.cut
-  pub reach : HasReach r input t.papers.items t.reach
+  pub reach : HasReach r input t.reach
   pub page_paper : IsRowPaper r input (t.page_paper, t.origin)
   pub behind : HasBehind input t.behind
   pub text : t.text.items ≡ text_for r t.papers.items t.page_paper input
-  pub laying : laying_in r.layout r.spacing t.page_paper (sheet_paper_in r.layout r.sheet_paper t.page_paper) ≡ Some t.laying
+  pub laying : laying_by r t.page_paper ≡ Some t.laying
   pub possible : why_no_row r t.page_paper ≡ None
   pub may_be_laid : MayBeLaid t.laying
   pub signing : t.signing ≡ signing_in r.layout
@@ -263,6 +285,7 @@ pub record IsRowTask (r : ImposeRequest) (input : List ℕ) (t : RowTask) : Type
 -- the job is the run of such a task
 pub record IsJobOf (r : ImposeRequest) (t : RowTask) (job : RowJob) : Type 0 where
   pub document : document_of t.text.items ≡ Ok job.document.now
+  pub turn : job.turn ≡ r.turn
   pub papers : job.papers.now ≡ t.papers.items
   pub choice : choice_of job.asked.choice ≡ choice_in r.choice
   pub signing : job.asked.signing ≡ t.signing
@@ -279,9 +302,10 @@ ImposesTask r t old new report = (job : RowJob) × IsJobOf r t job × Imposes jo
 -- its cells, these papers and its options it had to be refused
 pub record IsRowJob (r : ImposeRequest) (input : List ℕ) (page_paper : Paper) (job : RowJob) : Type 0 where
   pub document : document_of (text_for r job.papers.now page_paper input) ≡ Ok job.document.now
+  pub turn : job.turn ≡ r.turn
   pub choice : choice_of job.asked.choice ≡ choice_in r.choice
   pub signing : job.asked.signing ≡ signing_in r.layout
-  pub laying : laying_in r.layout r.spacing page_paper (sheet_paper_in r.layout r.sheet_paper page_paper) ≡ Some job.asked.laying
+  pub laying : laying_by r page_paper ≡ Some job.asked.laying
   pub possible : why_no_row r page_paper ≡ None
   pub options : HasOptions r
   pub same_scale : job.asked.same_scale ≡ r.spacing.same_scale
@@ -297,6 +321,6 @@ pub record FinishesRow (r : ImposeRequest) (input : List ℕ) (old new : Option 
   pub told : IsToldBy r input done.told
   pub job : RowJob
   pub papers : ArePapersOf r input job.papers.now done.cut
-  pub reach : HasReach r input job.papers.now done.reach
+  pub reach : HasReach r input done.reach
   pub is_job : IsRowJob r input done.page_paper job
   pub imposes : Imposes job old new done.report

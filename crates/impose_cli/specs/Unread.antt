@@ -9,7 +9,7 @@ use Rattle.rows.specs.declared.error.RowError.TheVariants as row
 use Rattle.pagespec.specs.Refusals.{IsPlaced, IsRefusal}
 use Rattle.pagespec.specs.declared.error.SpecError.{SpecError}
 use Rattle.imposer.specs.Outcomes.{of_spec}
-use Rattle.impose_cli.specs.RowTasks.{sheet_paper_in, why_not_laid}
+use Rattle.impose_cli.specs.RowTasks.{cells_paper, sheet_paper_in, why_not_laid}
 use Rattle.impose_cli.specs.Refusals.{RefusesLaying}
 use Rattle.impose_words.specs.declared.request.Spacing.{Spacing}
 use Rattle.impose_words.specs.declared.request.Layout.{Layout}
@@ -104,15 +104,19 @@ abbrev pub option_fault : ImposeRequest → Option ImposeFault
 option_fault r = if is_drawn_over r.product (option_map string_bytes r.infile) then Some fault.OverInput
     else option_map fault.Idle (idle_option r)
 
+-- the paper that is named for pages, as they are turned
+abbrev pub cells_named : ImposeRequest → Option Paper
+cells_named r = option_map (cells_paper r) r.page_paper
+
 -- the request is none that can be refused unread
 pub record MayBeRead (r : ImposeRequest) : Type 0 where
   pub options : option_fault r ≡ None
-  pub layout : IsPossible r.layout r.spacing r.page_paper r.sheet_paper
+  pub layout : IsPossible r.layout r.spacing (cells_named r) r.sheet_paper
   pub ranges : AreRanges r.choice
 
 -- its options are refused; or they aren't, and its layout is; or it isn't, and its ranges are
 -- (RULES, 16, steps 4 and 5)
 abbrev pub RefusesRequest : ImposeRequest → ImposeFault → Type 0
 RefusesRequest r f = (option_fault r ≡ Some f)
-    ⊎ ((option_fault r ≡ None) × (RefusesUnread r.layout r.spacing r.page_paper r.sheet_paper f
-    ⊎ (IsPossible r.layout r.spacing r.page_paper r.sheet_paper × RefusesRanges r.choice f)))
+    ⊎ ((option_fault r ≡ None) × (RefusesUnread r.layout r.spacing (cells_named r) r.sheet_paper f
+    ⊎ (IsPossible r.layout r.spacing (cells_named r) r.sheet_paper × RefusesRanges r.choice f)))

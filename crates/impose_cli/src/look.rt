@@ -69,6 +69,7 @@ fn task_text(
     let pages = document.pages();
     let job = RowJob {
         document: &document,
+        turn: request.turn,
         papers: task.papers.as_slice(),
         asked: Asked {
             choice: request.choice.as_choice(),

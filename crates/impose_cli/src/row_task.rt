@@ -12,12 +12,12 @@ ghost use Rattle.rules.specs.Run.{most_pages};
 ghost use Rattle.made_sheets.specs.Choice.{imposed_row as row_of};
 ghost use Rattle.impose_words.specs.Choices.{choice_in};
 ghost use Rattle.impose_cli.specs.RowTasks.{guarded_in, first_paper as first_paper_of};
-ghost use Rattle.impose_cli.specs.RowTasks.{ArePapersOf, ImposesTask, IsRowPaper, IsRowTask, LaysRows};
+ghost use Rattle.impose_cli.specs.RowTasks.{ArePapersOf, HasReach, ImposesTask, IsRowPaper, IsRowTask, LaysRows, counted_in};
 ghost use Rattle.std.specs.List.{list_all};
 ghost use Rattle.impose_cli.specs.RowTasks.{TellsOnePaper};
 ghost use Rattle.impose_said.specs.Said.{is_same as are_same};
 ghost use Rattle.impose_cli.specs.RowTasks.{cut_by_named, cut_in, paper_for, papers_in as papers_found, placed_in, row_paper};
-ghost use Rattle.impose_cli.specs.Reaches.{HasReach, reach_in};
+ghost use Rattle.impose_cli.specs.Reaches.{reach_in};
 ghost use Rattle.impose_cli.specs.Refusals.{RefusesDocument, RefusesRowTask};
 ghost use Rattle.impose_cli.specs.Tasks.{HasBehind, HasPages, page_paper_found};
 ghost use Rattle.dsc.specs.PagesBehind.{pages_behind};
@@ -37,6 +37,7 @@ use imposer::{Report, RunError};
 use lengths::Paper;
 use papers::{Cut, Reach, as_one, cut_by, first_instead_of, own_papers};
 use row_runs::{Asked, AskedError, Laying, RowJob};
+use row_sheets::{turned_paper, turned_papers};
 use rows::{RowError, Signing, imposed_row};
 use std::alloc::{AllocError, Global};
 use std::sync::Wait;
@@ -50,7 +51,7 @@ pub struct RowTask {
     pub(crate) text: RoomyText,
     pub(crate) page_paper: Paper,
     pub(crate) origin: PaperOrigin,
-    /// The papers of its pages.
+    /// The papers of its pages, once they are turned.
     pub(crate) papers: Vec<Paper>,
     /// The pages that the paper cuts which is named for them.
     pub(crate) cut: Option<Cut>,
@@ -77,7 +78,8 @@ pub(crate) fn row_task(
         Ok(found) => found,
         Err(fault) => return Err(fault),
     };
-    let papers = papers_for(&request.layout, request.sheet_paper, found.page_paper);
+    let cells_paper = turned_paper(request.turn, &found.page_paper);
+    let papers = papers_for(&request.layout, request.sheet_paper, cells_paper);
     let laying = match laying_for(&request.layout, &request.spacing, &papers) {
         Ok(Some(laying)) => laying,
         Ok(None) => unreachable!(),
@@ -116,7 +118,7 @@ struct FoundPapers {
     page_paper: Paper,
     /// Where that was found.
     origin: PaperOrigin,
-    /// The papers by which the pages are placed.
+    /// The papers by which the pages are placed, once they are turned.
     papers: Vec<Paper>,
     /// The pages that the paper cuts which is named for them.
     cut: Option<Cut>,
@@ -134,7 +136,7 @@ fn papers_of(
 ) -> Result<FoundPapers, ImposeFault>
     ensures found { IfOk result (λ found. ArePapersOf request.now input.now found.papers.items found.cut) }
     ensures paper { IfOk result (λ found. IsRowPaper request.now input.now (found.page_paper, found.origin)) }
-    ensures reach { IfOk result (λ found. HasReach request.now input.now found.papers.items found.reach) }
+    ensures reach { IfOk result (λ found. HasReach request.now input.now found.reach) }
     ensures behind { IfOk result (λ found. HasBehind input.now found.behind) }
     ensures count { IfOk result (λ found. found.pages ≡ length found.papers.items) }
     ensures few { IfOk result (λ found. found.pages ≤ most_pages) }
@@ -203,7 +205,8 @@ fn papers_in(
     ensures cut { IfOk result (λ found.
         found.cut ≡ cut_in request.now (bytes_of document.now) document.now) }
     ensures reach { IfOk result (λ found.
-        found.reach ≡ reach_in true request.now found.papers.items (bytes_of document.now) document.now) }
+        found.reach ≡ reach_in true request.now (counted_in request.now (bytes_of document.now) document.now)
+        (bytes_of document.now) document.now) }
     ensures behind { IfOk result (λ found. found.behind ≡ pages_behind document.now) }
     ensures count { IfOk result (λ found. found.pages ≡ length found.papers.items) }
     ensures few { IfOk result (λ found. found.pages ≤ most_pages) }
@@ -212,9 +215,10 @@ fn papers_in(
     let row = row_of_choice(alloc, document.pages(), &request.choice)?;
     let taken = papers_on_row(alloc, row.as_slice(), own.as_slice())?;
     let (page_paper, origin) = paper_of_row(request, document.text(), taken.as_slice());
-    let papers = papers_placed(alloc, &request.layout, taken.as_slice(), own.as_slice())?;
+    let counted = papers_placed(alloc, &request.layout, taken.as_slice(), own.as_slice())?;
     let cut = cut_pages(alloc, request, document, row.as_slice())?;
-    let reach = reach_of_row(alloc, request, document, papers.as_slice(), own.as_slice())?;
+    let reach = reach_of_row(alloc, request, document, counted.as_slice(), own.as_slice())?;
+    let papers = turned_papers(alloc, request.turn, counted)?;
     Ok(FoundPapers {
         pages: document.pages(),
         page_paper,
@@ -349,6 +353,7 @@ pub(crate) fn impose_task<R: Threads + Wait + Sync, W: World>(
     };
     let job = RowJob {
         document: &document,
+        turn: request.turn,
         papers: task.papers.as_slice(),
         asked: Asked {
             choice: request.choice.as_choice(),

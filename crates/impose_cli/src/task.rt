@@ -15,7 +15,7 @@ ghost use Rattle.impose_cli.specs.Tasks.{sheet_paper_found, taken_text};
 ghost use Rattle.impose_cli.specs.Reaches.{HasReachOver};
 ghost use Rattle.impose_cli.specs.Refusals.{HasNoFault, HasOnePaper, HasOtherPapers, RefusesDocument, RefusesFor, RefusesTask, why_not_specified};
 ghost use Rattle.impose_words.specs.Choices.{is_said as says};
-ghost use Rattle.impose_cli.specs.Unread.{IsPossible, IsSpecification, RefusesSpecification, RefusesUnread};
+ghost use Rattle.impose_cli.specs.Unread.{IsPossible, IsSpecification, RefusesSpecification, RefusesUnread, cells_named};
 ghost use Rattle.impose_words.specs.declared.request.Layout.TheVariants as layout;
 ghost use Rattle.impose_said.specs.declared.fault.ImposeFault.TheVariants as faults;
 
@@ -30,8 +30,9 @@ use impose_words::{ImposeRequest, Layout, PageChoice, Spacing};
 use imposer::{Options, RunError, Workers};
 use layouts::{Binding, Cells, Papers, arrange, bind};
 use lengths::Paper;
-use pagespec::{Spec, read_spec, write_spec};
+use pagespec::{Spec, Turn, read_spec, write_spec};
 use papers::{Reach, document_paper};
+use row_sheets::turned_paper;
 use rows::{Signing, auto_sides};
 use std::alloc::{AllocError, Global};
 
@@ -70,16 +71,17 @@ pub(crate) const WORKERS: Workers = Workers {
 /// specification, and if the paper of the pages is named those of pages on sheets.
 pub fn check_layout(alloc: Global, request: &ImposeRequest) -> Result<(), ImposeFault>
     ensures possible { OnOk result
-        (IsPossible request.now.layout request.now.spacing request.now.page_paper request.now.sheet_paper) }
+        (IsPossible request.now.layout request.now.spacing (cells_named request.now) request.now.sheet_paper) }
     ensures refused { IfErr result
-        (RefusesUnread request.now.layout request.now.spacing request.now.page_paper request.now.sheet_paper) }
+        (RefusesUnread request.now.layout request.now.spacing (cells_named request.now) request.now.sheet_paper) }
 {
     match (&request.layout, &request.page_paper) {
         (Layout::Spec(specs), _) => check_spec(alloc, specs.as_str()),
         (Layout::SpecRow { specs, .. }, _) => check_spec(alloc, specs.as_str()),
         (_, None) => Ok(()),
         (layout, Some(page_paper)) => {
-            let papers = papers_for(layout, request.sheet_paper, *page_paper);
+            let page_paper = turned_paper(request.turn, page_paper);
+            let papers = papers_for(layout, request.sheet_paper, page_paper);
             match laying_for(layout, &request.spacing, &papers) {
                 Ok(_) => Ok(()),
                 Err(fault) => Err(fault),
@@ -98,15 +100,17 @@ fn check_spec(alloc: Global, specs: &str) -> Result<(), ImposeFault>
     }
 }
 
-/// Whether a specification says which pages there are, and with which marks.
-fn is_said(choice: &PageChoice, marks: Marks) -> bool
-    ensures { result ≡ says choice.now marks }
+/// Whether a specification says which pages there are, how they are turned, and with which marks.
+fn is_said(choice: &PageChoice, turn: Turn, marks: Marks) -> bool
+    ensures { result ≡ says choice.now turn marks }
 {
-    choice.is_whole() && !(marks.fold || marks.cut || marks.ruled || marks.numbers.is_some())
+    choice.is_whole()
+        && turn == Turn::None
+        && !(marks.fold || marks.cut || marks.ruled || marks.numbers.is_some())
 }
 
 /// The specification that says what a request asks for, with what a run by it takes; and the fault if there is none: a
-/// document that is refused, then pages that are chosen or marks, then pages of other papers than the specification would
+/// document that is refused, then pages that are chosen or turned, or marks, then pages of other papers than the specification would
 /// have, then a layout that there isn't, or that no specification says.
 pub fn task_for(
     alloc: Global,
@@ -123,7 +127,7 @@ pub fn task_for(
         Ok(counted) => counted,
         Err(fault) => return Err(fault),
     };
-    if !is_said(&request.choice, request.marks) {
+    if !is_said(&request.choice, request.turn, request.marks) {
         return Err(ImposeFault::NoSpecification);
     }
     let sheet_paper = *paper_of_sheets(&request.sheet_paper, &page_paper);

@@ -111,7 +111,7 @@ pub fn fault_text(
 
 const NO_SPECIFICATION: &str =
     "--print-spec: no specification says a selection, a zine, cards, a stack, notes or a poster, nor --pages, --odd, --even, --reverse, \
-    --creep, --marks or --numbers; leave it out";
+    --turn, --creep, --marks or --numbers; leave it out";
 
 const SEVERAL_PAPERS: &str =
     "--print-spec: a specification has one paper, and not all pages have the document's: name one by --paper, or leave \
@@ -290,7 +290,7 @@ fn value_text(alloc: Global, option: Opt, text: &str) -> Result<String, AllocErr
         Opt::Order | Opt::Turned | Opt::Scale | Opt::BookletMarks | Opt::CutMarks => {
             word_text(alloc, option, text)
         }
-        Opt::NumbersFrom => word_text(alloc, option, text),
+        Opt::Turn | Opt::NumbersFrom => word_text(alloc, option, text),
         Opt::Outfile => outfile_text(alloc, text),
         Opt::Preview => picture_text(alloc, text),
     }
@@ -415,6 +415,9 @@ fn word_text(alloc: Global, option: Opt, text: &str) -> Result<String, AllocErro
     match option {
         Opt::Order => format!(in alloc;
             "unknown order '{text}' after --order: give right-down, down-right, left-down or down-left"
+        ),
+        Opt::Turn => format!(in alloc;
+            "unknown turn '{text}' after --turn: give left, right or half"
         ),
         Opt::Turned => format!(in alloc;
             "unknown side '{text}' after --turned: give left or right"

@@ -19,6 +19,7 @@ use Rattle.impose_words.specs.declared.request.Layout.TheVariants as layout
 use Rattle.impose_words.specs.declared.request.PageChoice.{PageChoice}
 use Rattle.impose_words.specs.declared.request.ImposeRequest.{ImposeRequest}
 use Rattle.impose_words.specs.declared.request.Spacing.{Spacing}
+use Rattle.pagespec.specs.declared.item.Turn.{Turn}
 use Rattle.dressing.specs.declared.numbers.Numbering.{Numbering}
 use Rattle.dressing.specs.declared.strokes.Marks.{Marks}
 use Rattle.layouts.specs.declared.arrangement.Order.{Order}
@@ -111,8 +112,8 @@ says_next found f a b is h = subst (λ o. Says found f (first o b)) (sym is) h
 
 -- ---- nothing is wrong with what was read
 
-pub sizes_right : (found : List Row) (page_paper sheet_paper : Option Paper) (border : Option ℤ) → ReadsSizes found page_paper sheet_paper border → wrong_sizes found ≡ None
-sizes_right found page_paper sheet_paper border r = past _ r.page_paper_is (past _ r.sheet_paper_is (past _ r.border_is refl))
+pub sizes_right : (found : List Row) (page_paper sheet_paper : Option Paper) (border : Option ℤ) (turn : Turn) → ReadsSizes found page_paper sheet_paper border turn → wrong_sizes found ≡ None
+sizes_right found page_paper sheet_paper border turn r = past _ r.page_paper_is (past _ r.sheet_paper_is (past _ r.border_is (past _ r.turn_is refl)))
 
 -- an order that is read has parts that are
 order_parts : (run : Option (Run × Bool)) (rtl : Bool) (turned : Option Turned) (order : Order) (w v : Wrong) → order_by run rtl turned ≡ Some order
@@ -201,6 +202,7 @@ reads_at_home name found r home h = record {
   page_paper = h.page_paper;
   sheet_paper = h.sheet_paper;
   border = h.border;
+  turn = h.turn;
   marks = h.marks;
   guarded = h.guarded;
   product = h.product;

@@ -101,7 +101,7 @@ fn stack<'a>(alloc: Global) -> Result<Command<'a>, AllocError>
         "Several pages on each sheet: cut the pile, lay its parts on one another, and the pages run on";
     let help = "How many pages, from 1 to 1024, or columns and rows, as 2x4";
     let duplex = flag(alloc, "duplex").help("For sheets that are printed on both sides");
-    let laid = vec![in alloc; duplex, plan(alloc), preview(alloc), pages(alloc)]?;
+    let laid = vec![in alloc; duplex, turn(alloc), plan(alloc), preview(alloc), pages(alloc)]?;
     subcommand(alloc, "stack", about, cell_args(alloc, help)?, laid)
 }
 
@@ -203,7 +203,7 @@ fn select<'a>(alloc: Global) -> Result<Command<'a>, AllocError>
         numbers(alloc),
         numbers_from(alloc),
     ]?;
-    let look = vec![in alloc; plan(alloc), preview(alloc)]?;
+    let look = vec![in alloc; turn(alloc), plan(alloc), preview(alloc)]?;
     subcommand(alloc, "select", about, own, look)
 }
 
@@ -257,7 +257,7 @@ fn cell_args<'a>(alloc: Global, help: &'a str) -> Result<Vec<Arg<'a>>, AllocErro
 fn laid_args<'a>(alloc: Global) -> Result<Vec<Arg<'a>>, AllocError>
     ensures { IfOk result (λ v. map rule_of v.items ≡ laid_rules) }
 {
-    Ok(vec![in alloc; plan(alloc), preview(alloc), pages(alloc)]?)
+    Ok(vec![in alloc; turn(alloc), plan(alloc), preview(alloc), pages(alloc)]?)
 }
 
 fn count<'a>(alloc: Global, help: &'a str) -> Arg<'a>
@@ -352,6 +352,14 @@ fn reverse<'a>(alloc: Global) -> Arg<'a>
     ensures { rule_of result ≡ flag_rule (codes "reverse") }
 {
     flag(alloc, "reverse").help("The last of these first")
+}
+
+fn turn<'a>(alloc: Global) -> Arg<'a>
+    ensures { rule_of result ≡ option_rule (codes "turn") }
+{
+    option(alloc, "turn", "SIDE").help(
+        "Turn each page before it is placed: to the left, to the right, or by half",
+    )
 }
 
 fn plan<'a>(alloc: Global) -> Arg<'a>

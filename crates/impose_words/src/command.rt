@@ -8,7 +8,7 @@ ghost use Rattle.impose_words.specs.Words.{gaps_found, margins_found};
 ghost use Rattle.impose_words.specs.Words.{ChoosesBy, MakesBy, NamesPicture, SpacesBy, length_found, ranges_id, part_by as of_both};
 ghost use Rattle.impose_words.specs.Words.{cells_in as cells_of_command, command_name, order_found, run_found, scale_found};
 ghost use Rattle.impose_words.specs.Words.{first_found, has_numbers, lines_found, number_size_found, numbers_found};
-ghost use Rattle.impose_words.specs.Words.{marks_found, row_asked, signing_found, size_found, turned_found};
+ghost use Rattle.impose_words.specs.Words.{marks_found, row_asked, signing_found, size_found, turn_found, turned_found};
 ghost use Rattle.impose_words.specs.Products.{is_plan, is_specification, lays_rows, picture_in};
 ghost use Rattle.impose_words.specs.Spacings.{keeps_room};
 ghost use Rattle.impose_words.specs.Faults.{NoValue, ParseRefuses, Wrong, Refuses, RefusesFound, Says, wrong_among, wrong_cells, wrong_choice};
@@ -19,7 +19,7 @@ ghost use Rattle.impose_words.specs.declared.fault.Opt.TheVariants as opt;
 use crate::arguments::command;
 use crate::arranging::{
     NO_MARKS, booklet_marks_named, cells_named, cut_marks_named, exact_cells, noted_cells,
-    number_size_named, run_named, turned_named,
+    number_size_named, run_named, turn_named, turned_named,
 };
 use crate::edges::{Gaps, Margins, gaps_named, margins_named};
 use crate::fault::{GridCommand, Opt, ProductOption, RequestFault};
@@ -32,6 +32,7 @@ use command_words::{is_set, owned, text_of};
 use dressing::{Marks, Numbering};
 use layouts::{Cells, Free, Order, Run, Turned};
 use lengths::{Grains, Number, Paper, a4};
+use pagespec::Turn;
 use rows::{Part, Signing};
 use std::alloc::Global;
 
@@ -40,7 +41,7 @@ use std::alloc::Global;
 ///
 /// Words that the command doesn't take are `Words`, with clap's message, and so is a call for help or for the version.
 /// Among words that it takes, the first of these is the fault: a paper that there isn't, after `--paper`, then after
-/// `--sheet`; a border that is no length, or below zero; cells that a sheet doesn't take, or a signature that leaves can't have;
+/// `--sheet`; a border that is no length, or below zero; a turn that there isn't; cells that a sheet doesn't take, or a signature that leaves can't have;
 /// margins or gaps that aren't lengths as these options take them; a trim, a creep or an overlap that is no length; an order that there isn't, no side after `--turned`, no number after
 /// `--scale`; marks that sheets of the layout don't have; no size after `--numbers`, or no first number; odd and even entries together; an OUTFILE that begins with a minus sign; two of
 /// `--print-spec`, `--plan` and `--preview`; a picture whose file isn't named as an SVG is.
@@ -109,7 +110,7 @@ fn request_for(
     layout: Layout,
     found: &ArgMatches<'_>,
 ) -> Result<ImposeRequest, RequestFault>
-    requires sizes { ReadsSizes (rows_of (found_of found.now)) sizes.page_paper sizes.sheet_paper sizes.border }
+    requires sizes { ReadsSizes (rows_of (found_of found.now)) sizes.page_paper sizes.sheet_paper sizes.border sizes.turn }
     ensures read { (name : Text) → AsksFor name (rows_of (found_of found.now)) layout
         → IfOk result (Reads name (rows_of (found_of found.now))) }
     ensures refused { IfErr result (λ f. Says (rows_of (found_of found.now)) f (wrong_for layout (rows_of (found_of found.now)))) }
@@ -139,6 +140,7 @@ fn request_for(
         layout,
         spacing,
         choice,
+        turn: sizes.turn,
         page_paper: sizes.page_paper,
         home_paper: a4(),
         sheet_paper: sizes.sheet_paper,
@@ -152,18 +154,19 @@ fn request_for(
     })
 }
 
-/// The papers and the border that are asked for.
+/// The papers, the border and the turn that are asked for.
 #[derive(Clone, Copy, Drop)]
 struct Sizes {
     page_paper: Option<Paper>,
     sheet_paper: Option<Paper>,
     border: Option<Grains>,
+    turn: Turn,
 }
 
 /// The first of them that names none is at fault.
 fn sizes_of(found: &ArgMatches<'_>) -> Result<Sizes, Opt>
     ensures read { IfOk result (λ sizes.
-        ReadsSizes (rows_of (found_of found.now)) sizes.page_paper sizes.sheet_paper sizes.border) }
+        ReadsSizes (rows_of (found_of found.now)) sizes.page_paper sizes.sheet_paper sizes.border sizes.turn) }
     ensures refused { IfErr result (λ option. wrong_sizes (rows_of (found_of found.now)) ≡ Some (NoValue option)) }
 {
     let Some(page_paper) = paper_of(found, Opt::Paper) else {
@@ -175,10 +178,14 @@ fn sizes_of(found: &ArgMatches<'_>) -> Result<Sizes, Opt>
     let Some(border) = border_of(found) else {
         return Err(Opt::Border);
     };
+    let Some(turn) = turn_of(found) else {
+        return Err(Opt::Turn);
+    };
     Ok(Sizes {
         page_paper,
         sheet_paper,
         border,
+        turn,
     })
 }
 
@@ -199,6 +206,16 @@ fn border_of(found: &ArgMatches<'_>) -> Option<Option<Grains>>
     match text_of(found, "border") {
         None => Some(None),
         Some(text) => border_with_unit(text),
+    }
+}
+
+/// How pages are turned.
+fn turn_of(found: &ArgMatches<'_>) -> Option<Turn>
+    ensures { result ≡ turn_found (rows_of (found_of found.now)) }
+{
+    match text_of(found, "turn") {
+        None => Some(Turn::None),
+        Some(text) => turn_named(text),
     }
 }
 

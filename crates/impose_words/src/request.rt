@@ -9,6 +9,7 @@ ghost use Rattle.impose_words.specs.Words.{has_numbers};
 use dressing::Marks;
 use layouts::{Arrangement, Binding, Cells, Free, Order, Run, Turned};
 use lengths::{Grains, Number, Paper};
+use pagespec::Turn;
 use rows::{Choice, Part, Signing};
 
 /// How the pages are laid out.
@@ -275,6 +276,8 @@ pub struct ImposeRequest {
     pub spacing: Spacing,
     /// Which pages are laid out; those of a specification are all.
     pub choice: PageChoice,
+    /// How each page is turned before it is placed.
+    pub turn: Turn,
     /// The paper of the pages, if it is named.
     pub page_paper: Option<Paper>,
     /// The paper of the pages if neither the words nor the document name one: the usual one where the program runs.

@@ -8,6 +8,7 @@ mod Alone
 mod Counted
 mod OneScale
 mod NotLaid
+mod Turned
 pub mod Refused
 mod Fit
 mod ReadInOrder

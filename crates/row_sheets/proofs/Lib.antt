@@ -27,3 +27,4 @@ mod AsPrinted
 mod AsDocument
 mod PrintedBacks
 pub mod NoPlan
+mod Turns

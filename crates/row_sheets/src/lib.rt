@@ -10,6 +10,7 @@ mod poster;
 mod poster_rows;
 mod same_scale;
 mod selecting;
+mod turning;
 
 pub use by_spec::{SpecOnRow, spec_sheets};
 pub use checked::{check_cells, check_posters};
@@ -19,3 +20,4 @@ pub use poster::{Poster, PosterError, check_poster, poster_sheets};
 pub use poster_rows::poster_row_sheets;
 pub use same_scale::at_one_scale;
 pub use selecting::select;
+pub use turning::{turned_paper, turned_papers, turned_sheets};
