@@ -11,16 +11,7 @@ pub fn words_of(alloc: Global, command: &str) -> Result<Vec<String>, AllocError>
         word: Vec::new(alloc),
         is_begun: false,
     };
-    let mut is_quoted = false;
-    for part in command.split('\'') {
-        if is_quoted {
-            words.add_quoted(part)?;
-        } else {
-            words.add_plain(part)?;
-        }
-        is_quoted = !is_quoted;
-    }
-    words.end_word()?;
+    words.add(command)?;
     Ok(words.words)
 }
 
@@ -34,6 +25,19 @@ struct Words {
 }
 
 impl Words {
+    fn add(&mut self, command: &str) -> Result<(), AllocError> {
+        let mut is_quoted = false;
+        for part in command.split('\'') {
+            if is_quoted {
+                self.add_quoted(part)?;
+            } else {
+                self.add_plain(part)?;
+            }
+            is_quoted = !is_quoted;
+        }
+        self.end_word()
+    }
+
     fn add_quoted(&mut self, part: &str) -> Result<(), AllocError> {
         self.is_begun = true;
         if self.word.as_slice().ends_with(b"$") {
@@ -89,25 +93,15 @@ pub fn push_unescaped(bytes: &mut Vec<u8>, text: &str) -> Result<(), AllocError>
 
 /// Adds the byte of an escape, and the text after it.
 fn push_escape(bytes: &mut Vec<u8>, part: &str) -> Result<(), AllocError> {
-    if let Some(rest) = part.strip_prefix('n') {
-        bytes.push(b'\n')?;
-        return bytes.extend_from_slice(rest.as_bytes());
-    }
-    if let Some(rest) = part.strip_prefix('r') {
-        bytes.push(b'\r')?;
-        return bytes.extend_from_slice(rest.as_bytes());
-    }
-    if let Some(rest) = part.strip_prefix('t') {
-        bytes.push(b'\t')?;
-        return bytes.extend_from_slice(rest.as_bytes());
-    }
-    match part.as_bytes() {
-        [b'x', high, low, rest @ ..] => {
-            bytes.push(digit(*high) * 16 + digit(*low))?;
-            bytes.extend_from_slice(rest)
-        }
-        other => bytes.extend_from_slice(other),
-    }
+    let (byte, rest) = match part.as_bytes() {
+        [b'n', rest @ ..] => (b'\n', rest),
+        [b'r', rest @ ..] => (b'\r', rest),
+        [b't', rest @ ..] => (b'\t', rest),
+        [b'x', high, low, rest @ ..] => (digit(*high) * 16 + digit(*low), rest),
+        other => return bytes.extend_from_slice(other),
+    };
+    bytes.push(byte)?;
+    bytes.extend_from_slice(rest)
 }
 
 /// The value of a hexadecimal digit; 0 for anything else.

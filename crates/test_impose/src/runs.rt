@@ -17,8 +17,8 @@ use test_tools::{Folder, GivenFile};
 pub fn found_of_case<R: Threads + Wait + Sync>(
     rt: &R,
     alloc: Global,
-    file: &CaseFile,
-    case: &Case,
+    file: &CaseFile<'_>,
+    case: &Case<'_>,
 ) -> Result<Option<Found>, AllocError> {
     let Some(mut asked) = asked_of(alloc, case)? else {
         return Ok(None);
@@ -48,16 +48,16 @@ pub fn found_of_case<R: Threads + Wait + Sync>(
 pub fn run<R: Threads + Wait + Sync>(
     rt: &R,
     alloc: Global,
-    file: &CaseFile,
-    case: &Case,
+    file: &CaseFile<'_>,
+    case: &Case<'_>,
     words: &[String],
     asked: &Asked,
 ) -> Result<Found, AllocError> {
     let mut files = Vec::new(alloc);
     for input in case.inputs.iter() {
         files.push(GivenFile {
-            name: input.name.as_str(),
-            bytes: file.text_of(input),
+            name: input.name,
+            bytes: file.text_of(*input),
         })?;
     }
     if let Some(home) = &asked.home {
@@ -139,9 +139,9 @@ fn found_of_fault(
 }
 
 /// The text of the first file that the case gives.
-fn first_text<'a>(file: &'a CaseFile, case: &Case) -> &'a [u8] {
+fn first_text<'a>(file: &'a CaseFile<'_>, case: &Case<'_>) -> &'a [u8] {
     match case.inputs.first() {
-        Some(input) => file.text_of(input),
+        Some(input) => file.text_of(*input),
         None => &[],
     }
 }

@@ -5,6 +5,7 @@ use imposer::MemorySink;
 use pstops_cli::{ReadSource, read_command, read_input, run_request};
 use sha2::{Digest, Sha256};
 use std::fs::File;
+use std::io;
 use std::sync::Wait;
 use std::thread::Threads;
 
@@ -40,7 +41,7 @@ const SPECIFICATIONS: [&str; 5] = [
 const ROOM: usize = 1_000_000;
 
 /// Imposes them, with threads that this handle starts.
-pub fn impose_all<R: Threads + Wait + Sync>(rt: &HostRuntime, threads: &R) -> anyhow::Result<()> {
+pub fn impose_all<R: Threads + Wait + Sync>(rt: &HostRuntime, threads: &R) -> io::Result<()> {
     for name in DOCUMENTS {
         let mut source = ReadSource::new(File::open(rt, name)?);
         let Ok(input) = read_input(rt.alloc(), &mut source) else {
