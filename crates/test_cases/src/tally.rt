@@ -2,7 +2,7 @@
 use crate::case_file::{Case, CaseFile};
 use crate::compared::push_differences;
 use crate::reading::read_case_file;
-use std::alloc::AllocError;
+use std::alloc::{AllocError, Global};
 use std::fs::File;
 use std::io::{self, Read};
 
@@ -21,6 +21,18 @@ pub struct Found {
 pub struct FoundFile {
     pub name: String,
     pub bytes: Vec<u8>,
+}
+
+impl Found {
+    /// Status 0, and nothing but standard output.
+    pub fn printed(alloc: Global, output: Vec<u8>) -> Found {
+        Found {
+            status: 0,
+            output,
+            error: Vec::new(alloc),
+            files: Vec::new(alloc),
+        }
+    }
 }
 
 /// What makes the calls of a case file.
