@@ -4,7 +4,7 @@ mod cuts;
 mod guards;
 mod known_laws;
 mod named_rows;
-mod papers;
+mod page_papers;
 mod sheets;
 
 pub use known_laws::call_laws;
@@ -17,7 +17,7 @@ pub fn run(out: &mut Answer, words: &[String], documents: &[Document<'_>]) -> Op
     let is_command = cuts::run(out, words, documents).is_some()
         || changes::run(out, words, documents).is_some()
         || guards::run(out, words, documents).is_some()
-        || papers::run(out, words, documents).is_some()
+        || page_papers::run(out, words, documents).is_some()
         || named_rows::run(out, words).is_some()
         || sheets::run(out, words).is_some();
     if is_command { Some(()) } else { None }

@@ -1,7 +1,7 @@
 //! Sheets that are made from rows.
 use crate::answer::Answer;
 use crate::documents::named_rows::entries;
-use crate::documents::papers::paper_text;
+use crate::documents::page_papers::paper_text;
 use crate::words::{number_of, paper, word};
 use lengths::{Paper, paper_by_name};
 use pagespec::{Turn, read_spec};
