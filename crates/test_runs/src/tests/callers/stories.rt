@@ -1,14 +1,13 @@
 //! Stories: in each line a call, and what it is answered.
-use std::alloc::Global;
-use std::fmt::Debug;
+use std::alloc::{AllocError, Global};
+use std::fmt::{Debug, Display};
 use std::io::Write;
-use std::test::Fail;
 use test_tools::{MOST_GROWTHS, has_refused, refuse};
 
 /// What the lines of a story call.
 pub(crate) trait Called {
     /// Makes the call with these words, and appends what it is answered.
-    fn call(&mut self, alloc: Global, words: &str, answer: &mut Vec<u8>) -> anyhow::Result<()>;
+    fn call(&mut self, alloc: Global, words: &str, answer: &mut Vec<u8>) -> Result<(), AllocError>;
 }
 
 /// What came of a story: the first line that is answered otherwise than it says, and whether a growth was refused.
@@ -27,7 +26,7 @@ pub(crate) fn tell<'s, C: Called>(
     called: &mut C,
     number: u32,
     story: &'s str,
-) -> Result<Told<'s>, Fail> {
+) -> Result<Told<'s>, AllocError> {
     let mut answer = Vec::with_capacity(alloc, ROOM)?;
     let mut is_refused = false;
     for line in story.lines() {
@@ -52,7 +51,7 @@ fn call_again<C: Called>(
     number: u32,
     words: &str,
     answer: &mut Vec<u8>,
-) -> Result<bool, Fail> {
+) -> Result<bool, AllocError> {
     refuse(alloc, number);
     let call = called.call(alloc, words, answer);
     if !has_refused(alloc) {
@@ -73,7 +72,7 @@ pub(crate) fn first_wrong<'s, C: Called>(
     alloc: Global,
     called: &mut C,
     story: &'s str,
-) -> Result<Option<&'s str>, Fail> {
+) -> Result<Option<&'s str>, AllocError> {
     Ok(tell(alloc, called, MOST_GROWTHS, story)?.wrong)
 }
 
@@ -88,6 +87,14 @@ pub(crate) fn number(word: Option<&str>) -> u32 {
 }
 
 /// Appends a value as it is written in a program.
-pub(crate) fn show<T: Debug + Drop>(value: T, answer: &mut Vec<u8>) -> anyhow::Result<()> {
-    Ok(write!(answer, "{value:?}")?)
+pub(crate) fn show<T: Debug + Drop>(value: T, answer: &mut Vec<u8>) -> Result<(), AllocError> {
+    say(format_args!("{value:?}"), answer)
+}
+
+/// Appends a text.
+pub(crate) fn say<T: Display + Drop>(text: T, answer: &mut Vec<u8>) -> Result<(), AllocError> {
+    match write!(answer, "{text}") {
+        Ok(()) => Ok(()),
+        Err(_) => Err(AllocError),
+    }
 }
