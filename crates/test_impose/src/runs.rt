@@ -9,6 +9,7 @@ use impose_cli::{
 use lengths::paper_by_name;
 use std::alloc::{AllocError, Global};
 use std::sync::Wait;
+use std::sync::atomic::AtomicU32;
 use std::thread::Threads;
 use test_cases::{Case, CaseFile, Found, FoundFile};
 use test_tools::{Folder, GivenFile};
@@ -66,8 +67,10 @@ pub fn run<R: Threads + Wait + Sync>(
             bytes: home.as_str().as_bytes(),
         })?;
     }
+    let opened = AtomicU32::new(0);
     let world = Folder {
         alloc,
+        opened: &opened,
         files: files.as_slice(),
         takes: asked.takes,
     };

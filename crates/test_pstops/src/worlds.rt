@@ -2,6 +2,7 @@
 use pstops_cli::pstops;
 use std::alloc::{AllocError, Global};
 use std::sync::Wait;
+use std::sync::atomic::AtomicU32;
 use std::thread::Threads;
 use test_cases::{Case, CaseFile, Found, FoundFile};
 use test_tools::{Folder, GivenFile, Takes, Written};
@@ -21,8 +22,10 @@ pub(crate) fn ran<R: Threads + Wait + Sync>(
         return Ok(None);
     };
     let files = files_of(alloc, file, case)?;
+    let opened = AtomicU32::new(0);
     let world = Folder {
         alloc,
+        opened: &opened,
         files: files.as_slice(),
         takes,
     };
