@@ -46,3 +46,11 @@ pub fn text_of_line(line: &str) -> Option<&str> {
         line.strip_prefix("  ")
     }
 }
+
+/// A word, and what follows a space after it.
+pub fn split_word(text: &str) -> (&str, &str) {
+    match text.split_once(' ') {
+        Some(parts) => parts,
+        None => (text, ""),
+    }
+}

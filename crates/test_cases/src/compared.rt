@@ -37,10 +37,17 @@ fn push_words(
     wanted: &str,
     found: &str,
 ) -> Result<(), AllocError> {
-    let lines = format!(in alloc;
-        "  {part} {line} wanted: {wanted}\n  {part} {line} found:  {found}\n"
-    )?;
-    report.push_str(lines.as_str())
+    let place = format!(in alloc; "  {part} {line} ")?;
+    push_after(report, place.as_str(), "wanted: ", wanted)?;
+    push_after(report, place.as_str(), "found:  ", found)
+}
+
+/// Adds a line of these three.
+fn push_after(report: &mut String, place: &str, what: &str, text: &str) -> Result<(), AllocError> {
+    report.push_str(place)?;
+    report.push_str(what)?;
+    report.push_str(text)?;
+    report.push_str("\n")
 }
 
 fn push_statuses(
@@ -177,16 +184,15 @@ fn push_lines(
 
 /// A line for display: without its end, or in words if there is none.
 fn shown(alloc: Global, line: &[u8]) -> Result<String, AllocError> {
-    if line.is_empty() {
-        return String::from_str(alloc, "(no further line)");
+    match line {
+        [] => String::from_str(alloc, "(no further line)"),
+        [text @ .., b'\n'] => String::from_utf8_lossy(alloc, text),
+        text => {
+            let mut text = String::from_utf8_lossy(alloc, text)?;
+            text.push_str(" (without a line end)")?;
+            Ok(text)
+        }
     }
-    let mut text = String::from_utf8_lossy(alloc, line)?;
-    if line.ends_with(b"\n") {
-        text.pop();
-    } else {
-        text.push_str(" (without a line end)")?;
-    }
-    Ok(text)
 }
 
 /// Adds the first line that differs of a text with gaps. What is before the first gap is at the start, and what is

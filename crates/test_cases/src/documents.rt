@@ -1,5 +1,5 @@
 //! The texts of documents.
-use crate::blocks::text_of_line;
+use crate::blocks::{split_word, text_of_line};
 use crate::case_file::Document;
 use crate::words::push_unescaped;
 use std::alloc::{AllocError, Global};
@@ -11,7 +11,7 @@ pub fn take_document<'t>(
     rest: &'t str,
     body: &str,
 ) -> Result<bool, AllocError> {
-    let (name, form) = rest.split_once(' ').unwrap_or((rest, ""));
+    let (name, form) = split_word(rest);
     let mut bytes = Vec::new(alloc);
     let is_read = push_document(alloc, &mut bytes, form, body, documents.as_slice())?;
     if is_read {
@@ -74,10 +74,15 @@ fn push_lines(
     Ok(true)
 }
 
-/// The text of the document of that name.
+/// The text of the document of that name: the last one counts.
 fn text_named<'d>(documents: &'d [Document<'_>], name: &str) -> Option<&'d [u8]> {
-    let document = documents.get(index_of(documents, name)?)?;
-    Some(document.bytes.as_slice())
+    let mut found = None;
+    for document in documents {
+        if document.name == name {
+            found = Some(document.bytes.as_slice());
+        }
+    }
+    found
 }
 
 /// Adds a line with its end; a backslash alone removes the end before it.
@@ -113,9 +118,13 @@ fn push_numbered(
     line: &str,
     time: u32,
 ) -> Result<(), AllocError> {
-    let number = format!(in alloc; "{time}")?;
-    let line = line.replace(alloc, "{0}", number.as_str())?;
-    let number = format!(in alloc; "{}", time.saturating_add(1))?;
-    let line = line.as_str().replace(alloc, "{}", number.as_str())?;
+    let line = numbered(alloc, line, "{0}", time)?;
+    let line = numbered(alloc, line.as_str(), "{}", time.saturating_add(1))?;
     push_line(bytes, line.as_str())
+}
+
+/// A line with a number in each place of a mark.
+fn numbered(alloc: Global, line: &str, mark: &str, number: u32) -> Result<String, AllocError> {
+    let number = format!(in alloc; "{number}")?;
+    line.replace(alloc, mark, number.as_str())
 }

@@ -1,5 +1,5 @@
 //! From a text to what a case file holds.
-use crate::blocks::{Block, blocks, text_of_line};
+use crate::blocks::{Block, blocks, split_word, text_of_line};
 use crate::case_file::{
     BadLine, Case, CaseFile, Digest, Document, Input, Setting, WantedFile, WantedText,
 };
@@ -42,7 +42,7 @@ fn take_block<'t>(
     file: &mut CaseFile<'t>,
     block: Block<'t>,
 ) -> Result<bool, AllocError> {
-    let (key, rest) = block.head.split_once(' ').unwrap_or((block.head, ""));
+    let (key, rest) = split_word(block.head);
     match key {
         "" => Ok(block.body.is_empty()),
         "document" => take_document(alloc, &mut file.documents, rest, block.body),
@@ -123,7 +123,7 @@ fn input_of<'t>(rest: &'t str, documents: &[Document<'_>]) -> Option<Input<'t>> 
 
 /// A setting: `KEY VALUE`.
 fn setting_of(rest: &str) -> Setting<'_> {
-    let (key, value) = rest.split_once(' ').unwrap_or((rest, ""));
+    let (key, value) = split_word(rest);
     Setting { key, value }
 }
 
@@ -134,7 +134,7 @@ fn take_file<'t>(
     rest: &'t str,
     body: &str,
 ) -> Result<bool, AllocError> {
-    let (name, form) = rest.split_once(' ').unwrap_or((rest, ""));
+    let (name, form) = split_word(rest);
     if form == "absent" {
         files.push(WantedFile { name, text: None })?;
         return Ok(true);
@@ -164,16 +164,24 @@ fn push_text(wanted: &mut WantedText, form: &str, body: &str) -> Result<bool, Al
 fn push_plain(wanted: &mut WantedText, body: &str) -> Result<(), AllocError> {
     for line in body.lines() {
         if let Some(line) = text_of_line(line) {
-            if line == ".." {
-                wanted.gaps.push(wanted.bytes.len())?;
-            } else if let Some(digest) = digest_of(line) {
-                wanted.digest = Some(digest);
-            } else {
-                push_line(&mut wanted.bytes, line)?;
-            }
+            push_wanted(wanted, line)?;
         }
     }
     Ok(())
+}
+
+fn push_wanted(wanted: &mut WantedText, line: &str) -> Result<(), AllocError> {
+    if line == ".." {
+        wanted.gaps.push(wanted.bytes.len())?;
+        return Ok(());
+    }
+    match digest_of(line) {
+        Some(digest) => {
+            wanted.digest = Some(digest);
+            Ok(())
+        }
+        None => push_line(&mut wanted.bytes, line),
+    }
 }
 
 /// Adds the lines of a text with escapes.
@@ -186,11 +194,15 @@ fn push_escaped(wanted: &mut WantedText, body: &str) -> Result<(), AllocError> {
 
 /// A digest: `= BYTES LINES SUM`.
 fn digest_of(line: &str) -> Option<Digest> {
-    let (bytes, rest) = line.strip_prefix("= ")?.split_once(' ')?;
-    let (lines, sum) = rest.split_once(' ')?;
-    Some(Digest {
-        bytes: bytes.parse::<usize>().ok()?,
-        lines: lines.parse::<usize>().ok()?,
-        sum: u64::from_str_radix(sum, 16).ok()?,
-    })
+    let rest = line.strip_prefix("= ")?;
+    let (bytes, rest) = split_word(rest);
+    let (lines, sum) = split_word(rest);
+    match (
+        bytes.parse::<usize>(),
+        lines.parse::<usize>(),
+        u64::from_str_radix(sum, 16),
+    ) {
+        (Ok(bytes), Ok(lines), Ok(sum)) => Some(Digest { bytes, lines, sum }),
+        _ => None,
+    }
 }

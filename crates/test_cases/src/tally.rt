@@ -3,8 +3,7 @@ use crate::case_file::{Case, CaseFile};
 use crate::compared::push_differences;
 use crate::reading::read_case_file;
 use std::alloc::{AllocError, Global};
-use std::fs::File;
-use std::io::{self, Read};
+use std::{fs, io};
 
 /// What a command gave.
 #[derive(Drop)]
@@ -76,7 +75,7 @@ fn run_file<C: Caller>(
     name: &str,
     tally: &mut Tally,
 ) -> io::Result<()> {
-    let text = text_of_file(rt, name)?;
+    let text = fs::read_to_string(rt, name)?;
     let file = read_case_file(rt.alloc(), text.as_str())?;
     for bad in file.bad_lines.iter() {
         tally.count(true);
@@ -90,14 +89,6 @@ fn run_file<C: Caller>(
         }
     }
     Ok(())
-}
-
-/// The text of the file of that name.
-fn text_of_file(rt: &HostRuntime, name: &str) -> io::Result<String> {
-    let mut bytes = Vec::new(rt.alloc());
-    let mut file = File::open(rt, name)?;
-    file.read_to_end(&mut bytes)?;
-    Ok(String::from_utf8_lossy(rt.alloc(), bytes.as_slice())?)
 }
 
 /// How a case differs, in lines, or why it can't be run. Empty if it doesn't differ.
