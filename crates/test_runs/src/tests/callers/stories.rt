@@ -1,4 +1,5 @@
 //! Stories: in each line a call, and what it is answered.
+use crate::tests::checks::begins_with;
 use std::alloc::{AllocError, Global};
 use std::fmt::{Debug, Display};
 use std::io::Write;
@@ -58,7 +59,7 @@ fn call_again<C: Called>(
         call?;
         return Ok(false);
     }
-    if call.is_ok() && !answer.as_slice().starts_with(b"NoMemory") {
+    if call.is_ok() && !begins_with(answer.as_slice(), b"NoMemory") {
         answer.extend_from_slice(b", though memory was refused")?;
         return Ok(true);
     }
@@ -78,7 +79,18 @@ pub(crate) fn first_wrong<'s, C: Called>(
 
 /// The words of a line, and what it says that they are answered.
 pub(crate) fn parts_of(line: &str) -> (&str, &str) {
-    line.split_once(" = ").unwrap_or((line, ""))
+    match line.split_once(" = ") {
+        Some(parts) => parts,
+        None => (line, ""),
+    }
+}
+
+/// A word, and what follows a space after it.
+pub(crate) fn split_word(text: &str) -> (&str, &str) {
+    match text.split_once(' ') {
+        Some(parts) => parts,
+        None => (text, ""),
+    }
 }
 
 /// The number that a word is, 0 if it is none.

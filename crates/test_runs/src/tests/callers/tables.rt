@@ -4,7 +4,7 @@ ghost use Rattle.rules.specs.Sheets.{layout};
 ghost use Rattle.gather_table.specs.Shared.{IsSeatOf};
 ghost use Rattle.gather_table.specs.Table.{HasGroup};
 
-use super::stories::{Called, first_wrong, number, say, show};
+use super::stories::{Called, first_wrong, number, say, show, split_word};
 use crate::tests::checks::assert_told;
 use gather_table::{Closing, GatherTable, NoMemory, PlainTable, Published, Reply, Seat};
 use pagespec::read_spec;
@@ -527,7 +527,7 @@ fn lane_at(alloc: Global, text: &str, pages: u32, sheet: u32) -> Result<Option<(
 
 impl<'t> Called for Lanes<'t> {
     fn call(&mut self, alloc: Global, words: &str, answer: &mut Vec<u8>) -> Result<(), AllocError> {
-        let (pages, sheet) = words.split_once(' ').unwrap_or((words, ""));
+        let (pages, sheet) = split_word(words);
         let lane = lane_at(alloc, self.text, number(Some(pages)), number(Some(sheet)))?;
         show(lane, answer)
     }

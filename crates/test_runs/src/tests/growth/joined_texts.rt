@@ -1,6 +1,6 @@
 //! Texts of several sheets in the same memory, and sheets that come together before their turn, with each growth of each
 //! call refused in turn.
-use crate::tests::callers::stories::{Called, number, say, show, tell};
+use crate::tests::callers::stories::{Called, number, say, show, split_word, tell};
 use crate::tests::checks::{assert_that, assert_told};
 use sheet_text::{Pieces, Rope, Texts};
 use sheet_writer::{Early, FinishedSheets};
@@ -143,8 +143,8 @@ fn show_added(
 
 impl<'r> Called for InTexts<'r> {
     fn call(&mut self, alloc: Global, words: &str, answer: &mut Vec<u8>) -> Result<(), AllocError> {
-        let (name, rest) = words.split_once(' ').unwrap_or((words, ""));
-        let (word, parts) = rest.split_once(' ').unwrap_or((rest, ""));
+        let (name, rest) = split_word(words);
+        let (word, parts) = split_word(rest);
         let first = number(Some(word));
         match name {
             "push" => self.push(rest, answer),

@@ -1,7 +1,7 @@
 //! Single calls in which each growth is refused in turn, and a whole run.
 use super::{request_of, words_of};
-use crate::tests::callers::stories::{Called, say, show, tell};
-use crate::tests::checks::{assert_bytes, assert_that, assert_told};
+use crate::tests::callers::stories::{Called, say, show, split_word, tell};
+use crate::tests::checks::{assert_bytes, assert_that, assert_told, begins_with};
 use dsc::DscError;
 use imposer::{MemorySink, RunError};
 use pagespec::SpecError;
@@ -97,7 +97,7 @@ fn fault_of(name: &str) -> Fault {
 
 impl Called for Calls {
     fn call(&mut self, alloc: Global, words: &str, answer: &mut Vec<u8>) -> Result<(), AllocError> {
-        let (name, rest) = words.split_once(' ').unwrap_or((words, ""));
+        let (name, rest) = split_word(words);
         match name {
             "pstops" => show_request(alloc, rest, answer),
             "input" => show_input(alloc, answer),
@@ -171,7 +171,7 @@ fn run_refused<R: Threads + Wait + Abort + Sync>(
             rt,
             said.is_empty() || said == b"pstops: out of memory\n".as_slice(),
         );
-        assert_that(rt, output.starts_with(sink.bytes()));
+        assert_that(rt, begins_with(output, sink.bytes()));
     } else {
         assert_that(rt, status == 0);
         assert_bytes(rt, said, b"pstops: pages 1, sheets 1, bytes 273\n");
