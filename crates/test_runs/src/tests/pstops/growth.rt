@@ -51,9 +51,9 @@ fn show_input(alloc: Global, answer: &mut Vec<u8>) -> Result<(), AllocError> {
 fn show_fault(alloc: Global, fault: &Fault, answer: &mut Vec<u8>) -> Result<(), AllocError> {
     let (status, line) = fault_line(alloc, fault)?;
     say(format_args!("{status} "), answer)?;
-    match line.as_slice().strip_suffix(b"\n") {
-        Some(line) => answer.extend_from_slice(line),
-        None => show("a line without an end", answer),
+    match line.as_slice() {
+        [text @ .., b'\n'] => answer.extend_from_slice(text),
+        _ => show("a line without an end", answer),
     }
 }
 
