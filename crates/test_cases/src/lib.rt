@@ -5,6 +5,7 @@ mod blocks;
 mod case_file;
 mod compared;
 mod documents;
+mod lines;
 mod reading;
 mod tally;
 mod words;
@@ -12,7 +13,5 @@ mod words;
 pub use case_file::{
     BadLine, Case, CaseFile, Digest, Document, Input, Setting, WantedFile, WantedText,
 };
-pub use compared::{Difference, differences};
-pub use reading::read_case_file;
-pub use tally::{Found, FoundFile, Tally, load};
+pub use tally::{Caller, Found, FoundFile, run_files};
 pub use words::words_of;

@@ -1,9 +1,9 @@
 //! Counts of cases, and the report of those that differ.
 use crate::case_file::{Case, CaseFile};
-use crate::compared::differences;
+use crate::compared::push_differences;
 use crate::reading::read_case_file;
-use std::fs::File;
-use std::io::Read;
+use std::alloc::{AllocError, Global};
+use std::{fs, io};
 
 /// What a command gave.
 #[derive(Drop)]
@@ -22,93 +22,86 @@ pub struct FoundFile {
     pub bytes: Vec<u8>,
 }
 
-/// The number of cases, and of those that differ.
-#[derive(Clone, Copy)]
-pub struct Tally {
-    pub cases: usize,
-    pub differ: usize,
+impl Found {
+    /// Status 0, and nothing but standard output.
+    pub fn printed(alloc: Global, output: Vec<u8>) -> Found {
+        Found {
+            status: 0,
+            output,
+            error: Vec::new(alloc),
+            files: Vec::new(alloc),
+        }
+    }
 }
 
-/// Reads the case file of that name from the folder in which the program runs.
-pub fn load(rt: &HostRuntime, name: &str) -> anyhow::Result<CaseFile> {
-    let mut bytes = Vec::new(rt.alloc());
-    let mut file = File::open(rt, name)?;
-    file.read_to_end(&mut bytes)?;
-    let text = String::from_utf8_lossy(rt.alloc(), bytes.as_slice())?;
-    Ok(read_case_file(rt.alloc(), text.as_str())?)
+/// What makes the calls of a case file.
+pub trait Caller {
+    /// What comes of a case. None if there is no such command or setting.
+    fn call(&self, file: &CaseFile<'_>, case: &Case<'_>) -> Result<Option<Found>, AllocError>;
+}
+
+/// The number of cases, and of those that differ.
+#[derive(Clone, Copy)]
+struct Tally {
+    cases: usize,
+    differ: usize,
 }
 
 impl Tally {
-    pub fn new() -> Tally {
-        Tally {
-            cases: 0,
-            differ: 0,
-        }
-    }
-
-    /// Prints the lines of a file that can't be understood. Each counts as a case that differs.
-    pub fn tell_bad_lines(
-        &mut self,
-        rt: &HostRuntime,
-        name: &str,
-        file: &CaseFile,
-    ) -> anyhow::Result<()> {
-        for bad in file.bad_lines.iter() {
-            self.count(true);
-            println!(rt; "{name}:{}: not understood: {}", bad.line, bad.text)?;
-        }
-        Ok(())
-    }
-
-    /// Counts a case, and prints how it differs, if it does.
-    pub fn compare(
-        &mut self,
-        rt: &HostRuntime,
-        name: &str,
-        case: &Case,
-        found: &Found,
-    ) -> anyhow::Result<()> {
-        let differences = differences(rt.alloc(), case, found)?;
-        self.count(!differences.is_empty());
-        if !differences.is_empty() {
-            println!(rt; "{name}:{}: $ {}", case.line, case.command)?;
-        }
-        for difference in differences.iter() {
-            println!(rt;
-                "  {} {} wanted: {}",
-                difference.part, difference.line, difference.wanted
-            )?;
-            println!(rt;
-                "  {} {} found:  {}",
-                difference.part, difference.line, difference.found
-            )?;
-        }
-        Ok(())
-    }
-
-    /// Counts a case that the program can't run, and prints why.
-    pub fn refuse(
-        &mut self,
-        rt: &HostRuntime,
-        name: &str,
-        case: &Case,
-        why: &str,
-    ) -> anyhow::Result<()> {
-        self.count(true);
-        println!(rt; "{name}:{}: $ {}\n  {why}", case.line, case.command)?;
-        Ok(())
-    }
-
-    /// Prints the last line.
-    pub fn end(&self, rt: &HostRuntime) -> anyhow::Result<()> {
-        println!(rt; "{} cases, {} differ", self.cases, self.differ)?;
-        Ok(())
-    }
-
     fn count(&mut self, differs: bool) {
         self.cases = self.cases.saturating_add(1);
         if differs {
             self.differ = self.differ.saturating_add(1);
         }
     }
+}
+
+/// Goes through the case files of these names, in the folder in which the program runs. It prints the lines that can't be
+/// understood, which count as cases that differ; the cases that differ; and how many there are.
+pub fn run_files<C: Caller>(rt: &HostRuntime, caller: &C, names: &[&str]) -> io::Result<()> {
+    let mut tally = Tally {
+        cases: 0,
+        differ: 0,
+    };
+    for name in names {
+        run_file(rt, caller, name, &mut tally)?;
+    }
+    println!(rt; "{} cases, {} differ", tally.cases, tally.differ)
+}
+
+fn run_file<C: Caller>(
+    rt: &HostRuntime,
+    caller: &C,
+    name: &str,
+    tally: &mut Tally,
+) -> io::Result<()> {
+    let text = fs::read_to_string(rt, name)?;
+    let file = read_case_file(rt.alloc(), text.as_str())?;
+    for bad in file.bad_lines.iter() {
+        tally.count(true);
+        println!(rt; "{name}:{}: not understood: {}", bad.line, bad.text)?;
+    }
+    for case in file.cases.iter() {
+        let report = report_of(rt, caller, &file, case)?;
+        tally.count(!report.is_empty());
+        if !report.is_empty() {
+            print!(rt; "{name}:{}: $ {}\n{report}", case.line, case.command)?;
+        }
+    }
+    Ok(())
+}
+
+/// How a case differs, in lines, or why it can't be run. Empty if it doesn't differ.
+fn report_of<C: Caller>(
+    rt: &HostRuntime,
+    caller: &C,
+    file: &CaseFile<'_>,
+    case: &Case<'_>,
+) -> Result<String, AllocError> {
+    let mut report = String::new(rt.alloc());
+    match caller.call(file, case)? {
+        Some(found) => push_differences(rt.alloc(), &mut report, case, &found)?,
+        None => report.push_str("  no such command or setting\n")?,
+    }
+    Ok(report)
 }

@@ -8,9 +8,11 @@ mod made_faults;
 mod runs;
 
 use runs::found_of_case;
+use std::alloc::{AllocError, Global};
+use std::io;
 use std::sync::Wait;
 use std::thread::Threads;
-use test_cases::{Tally, load};
+use test_cases::{Caller, Case, CaseFile, Found, run_files};
 
 /// The case files.
 const FILES: [&str; 7] = [
@@ -23,28 +25,23 @@ const FILES: [&str; 7] = [
     "real_document.cases",
 ];
 
-fn main(rt: HostRuntime) -> anyhow::Result<()> {
-    let mut tally = Tally::new();
-    for name in FILES {
-        run_file(&rt, &rt, name, &mut tally)?;
-    }
-    tally.end(&rt)
+fn main(rt: HostRuntime) -> io::Result<()> {
+    let commands = Commands {
+        rt: &rt,
+        alloc: rt.alloc(),
+    };
+    run_files(&rt, &commands, &FILES)
 }
 
-/// Runs each case of the file.
-fn run_file<R: Threads + Wait + Sync>(
-    rt: &HostRuntime,
-    threads: &R,
-    name: &str,
-    tally: &mut Tally,
-) -> anyhow::Result<()> {
-    let file = load(rt, name)?;
-    tally.tell_bad_lines(rt, name, &file)?;
-    for case in file.cases.iter() {
-        match found_of_case(threads, rt.alloc(), &file, case)? {
-            Some(found) => tally.compare(rt, name, case, &found)?,
-            None => tally.refuse(rt, name, case, "no such command or setting")?,
-        }
+/// The program and what it is made of, with threads that this handle starts.
+#[derive(Drop)]
+struct Commands<'r, R> {
+    rt: &'r R,
+    alloc: Global,
+}
+
+impl<'r, R: Threads + Wait + Sync> Caller for Commands<'r, R> {
+    fn call(&self, file: &CaseFile<'_>, case: &Case<'_>) -> Result<Option<Found>, AllocError> {
+        found_of_case(self.rt, self.alloc, file, case)
     }
-    Ok(())
 }

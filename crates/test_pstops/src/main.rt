@@ -8,9 +8,10 @@ mod worlds;
 
 use requests::asked;
 use std::alloc::{AllocError, Global};
+use std::io;
 use std::sync::Wait;
 use std::thread::Threads;
-use test_cases::{Case, CaseFile, Found, Tally, load};
+use test_cases::{Caller, Case, CaseFile, Found, run_files};
 use worlds::ran;
 
 /// The case files.
@@ -22,35 +23,32 @@ const FILES: [&str; 5] = [
     "words.cases",
 ];
 
-fn main(rt: HostRuntime) -> anyhow::Result<()> {
+fn main(rt: HostRuntime) -> io::Result<()> {
     corpus::impose_all(&rt, &rt)?;
-    let mut tally = Tally::new();
-    for name in FILES {
-        let file = load(&rt, name)?;
-        tally.tell_bad_lines(&rt, name, &file)?;
-        for case in file.cases.iter() {
-            match found(&rt, rt.alloc(), &file, case)? {
-                Some(found) => tally.compare(&rt, name, case, &found)?,
-                None => tally.refuse(&rt, name, case, "no such call, or no such setting")?,
-            }
-        }
-    }
-    tally.end(&rt)
+    let commands = Commands {
+        rt: &rt,
+        alloc: rt.alloc(),
+    };
+    run_files(&rt, &commands, &FILES)
 }
 
-/// The result of a case, by the call that its first word names.
-fn found<R: Threads + Wait + Sync>(
-    rt: &R,
+/// The program and what it is made of, with threads that this handle starts.
+#[derive(Drop)]
+struct Commands<'r, R> {
+    rt: &'r R,
     alloc: Global,
-    file: &CaseFile,
-    case: &Case,
-) -> Result<Option<Found>, AllocError> {
-    let Some((call, words)) = case.words.as_slice().split_first() else {
-        return Ok(None);
-    };
-    match call.as_str() {
-        "pstops" => ran(rt, alloc, words, file, case),
-        "read_command" => Ok(Some(asked(alloc, words)?)),
-        _ => Ok(None),
+}
+
+impl<'r, R: Threads + Wait + Sync> Caller for Commands<'r, R> {
+    /// The result of a case, by the call that its first word names.
+    fn call(&self, file: &CaseFile<'_>, case: &Case<'_>) -> Result<Option<Found>, AllocError> {
+        let Some((call, words)) = case.words.as_slice().split_first() else {
+            return Ok(None);
+        };
+        match call.as_str() {
+            "pstops" => ran(self.rt, self.alloc, words, file, case),
+            "read_command" => Ok(Some(asked(self.alloc, words)?)),
+            _ => Ok(None),
+        }
     }
 }

@@ -5,6 +5,7 @@ ghost use Rattle.sheet_writer.specs.Sinks.{IsCountable};
 
 mod callers;
 mod checks;
+mod crews;
 mod doubled;
 mod ended_tables;
 mod examples;
@@ -17,6 +18,7 @@ mod large;
 mod pstops;
 mod queues;
 mod refused_puts;
+mod sets;
 mod sheets_of_sheets;
 mod sinks;
 mod texts;

@@ -1,6 +1,6 @@
 //! Numbers, lengths and papers.
-use crate::specifications::answer::Answer;
-use crate::specifications::words::{number, paper, word};
+use crate::answer::Answer;
+use crate::words::{number, paper, word};
 use lengths::{
     Grains, Number, NumberError, Unit, paper_by_name, print_number, print_points, print_scale,
     read_digits, read_number, to_grains, unit_by_name,

@@ -1,11 +1,10 @@
 //! Texts of several sheets in the same memory, and sheets that come together before their turn, with each growth of each
 //! call refused in turn.
-use crate::tests::callers::stories::{Called, number, show, tell};
+use crate::tests::callers::stories::{Called, number, say, show, split_word, tell};
 use crate::tests::checks::{assert_that, assert_told};
 use sheet_text::{Pieces, Rope, Texts};
 use sheet_writer::{Early, FinishedSheets};
 use std::alloc::{AllocError, Global};
-use std::io::Write;
 use std::mem;
 use std::process::Abort;
 use std::test::Fail;
@@ -42,7 +41,7 @@ impl<'r> InTexts<'r> {
     }
 
     /// Adds such a text to the texts: how many they are then.
-    fn push(&mut self, parts: &str, answer: &mut Vec<u8>) -> anyhow::Result<()> {
+    fn push(&mut self, parts: &str, answer: &mut Vec<u8>) -> Result<(), AllocError> {
         self.write(parts)?;
         let (count, room) = (self.texts.len(), self.text.capacity());
         let len = self.text.pieces().len();
@@ -59,7 +58,7 @@ impl<'r> InTexts<'r> {
     }
 
     /// Adds a sheet with such a text to the finished ones: how many they are then.
-    fn finish(&mut self, sheet: u32, parts: &str, answer: &mut Vec<u8>) -> anyhow::Result<()> {
+    fn finish(&mut self, sheet: u32, parts: &str, answer: &mut Vec<u8>) -> Result<(), AllocError> {
         self.write(parts)?;
         let (count, room) = (self.finished.sheets.len(), self.text.capacity());
         let len = self.text.pieces().len();
@@ -77,7 +76,7 @@ impl<'r> InTexts<'r> {
     }
 
     /// From one of the texts on, how many are joined, of so many at most, and their pieces.
-    fn join(&self, nth: u32, most: u32, answer: &mut Vec<u8>) -> anyhow::Result<()> {
+    fn join(&self, nth: u32, most: u32, answer: &mut Vec<u8>) -> Result<(), AllocError> {
         let (nth, most) = (nth as usize, most as usize);
         if nth >= self.texts.len() || most == 0 {
             return show("no such text", answer);
@@ -88,14 +87,14 @@ impl<'r> InTexts<'r> {
     }
 
     /// The text of a sheet that came.
-    fn text_of(&self, sheet: u32, answer: &mut Vec<u8>) -> anyhow::Result<()> {
+    fn text_of(&self, sheet: u32, answer: &mut Vec<u8>) -> Result<(), AllocError> {
         match self.early.joined(sheet, 1) {
             Some(joined) => self.show_pieces(joined.text, answer),
             None => show("no such sheet", answer),
         }
     }
 
-    fn show_pieces(&self, text: Pieces<'_, '_>, answer: &mut Vec<u8>) -> anyhow::Result<()> {
+    fn show_pieces(&self, text: Pieces<'_, '_>, answer: &mut Vec<u8>) -> Result<(), AllocError> {
         let mut pieces = text;
         for _ in 0..MOST_PIECES {
             let Some(piece) = pieces.take_next() else {
@@ -114,10 +113,10 @@ impl<'r> InTexts<'r> {
     }
 
     /// Which of the first sheets are found.
-    fn found(&self, answer: &mut Vec<u8>) -> anyhow::Result<()> {
+    fn found(&self, answer: &mut Vec<u8>) -> Result<(), AllocError> {
         for sheet in 0..8u32 {
             if self.early.joined(sheet, 1).is_some() {
-                write!(answer, "{sheet};")?;
+                say(format_args!("{sheet};"), answer)?;
             }
         }
         Ok(())
@@ -132,20 +131,20 @@ fn show_added(
     [had, has]: [Option<usize>; 2],
     has_room: bool,
     answer: &mut Vec<u8>,
-) -> anyhow::Result<()> {
+) -> Result<(), AllocError> {
     if is_added && has == Some(0) && has_room {
         show(after, answer)
     } else if !is_added && after == before && has == had && has_room {
-        Ok(write!(answer, "NoMemory")?)
+        say("NoMemory", answer)
     } else {
         show("something else has changed", answer)
     }
 }
 
 impl<'r> Called for InTexts<'r> {
-    fn call(&mut self, alloc: Global, words: &str, answer: &mut Vec<u8>) -> anyhow::Result<()> {
-        let (name, rest) = words.split_once(' ').unwrap_or((words, ""));
-        let (word, parts) = rest.split_once(' ').unwrap_or((rest, ""));
+    fn call(&mut self, alloc: Global, words: &str, answer: &mut Vec<u8>) -> Result<(), AllocError> {
+        let (name, rest) = split_word(words);
+        let (word, parts) = split_word(rest);
         let first = number(Some(word));
         match name {
             "push" => self.push(rest, answer),

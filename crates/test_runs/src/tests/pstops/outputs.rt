@@ -10,28 +10,35 @@ use std::sync::atomic::AtomicU32;
 use std::sync::atomic::Ordering::SeqCst;
 use std::test::Fail;
 use std::thread::Threads;
-use test_tools::{InMemory, ONE_PAGE, Takes, one_up_output, with_lines};
+use test_tools::{Folder, GivenFile, ONE_PAGE, Takes, one_up_output, with_lines};
 use world::tell;
 
 /// Room for every output.
 const AMPLE: Takes = Takes::Bytes(100_000);
 
-/// Runs the program over a world with this document as the file `in.ps`, and counts the inputs that it opens.
+/// A document as the file `in.ps`.
+fn file_of(document: &str) -> GivenFile<'_> {
+    GivenFile {
+        name: "in.ps",
+        bytes: document.as_bytes(),
+        is_regular: true,
+    }
+}
+
+/// Runs the program over a world of these files, and counts the inputs that it opens.
 fn ended<'a, R: Threads + Wait + Sync>(
     rt: &R,
     alloc: Global,
     words: &str,
-    document: &'a str,
+    files: &'a [GivenFile<'a>],
     takes: Takes,
     opened: &'a AtomicU32,
-) -> Result<ExitReport<InMemory<'a>>, AllocError> {
+) -> Result<ExitReport<Folder<'a>>, AllocError> {
     let words = words_of(alloc, words)?;
-    let world = InMemory {
+    let world = Folder {
         alloc,
         opened,
-        name: "in.ps",
-        text: document,
-        home: None,
+        files,
         takes,
     };
     Ok(pstops(rt, alloc, words.as_slice(), world))
@@ -46,7 +53,8 @@ fn assert_stopped<R: Threads + Wait + Abort + Sync>(
     inputs: u32,
 ) -> Result<(), AllocError> {
     let opened = AtomicU32::new(0);
-    let end = ended(rt, alloc, words, ONE_PAGE, AMPLE, &opened)?;
+    let files = [file_of(ONE_PAGE)];
+    let end = ended(rt, alloc, words, &files, AMPLE, &opened)?;
     assert_that(rt, end.status == status && opened.load(SeqCst) == inputs);
     assert_that(rt, end.world.is_some() && end.output.is_none());
     Ok(())
@@ -83,7 +91,8 @@ fn assert_status<R: Threads + Wait + Abort + Sync>(
     status: u8,
 ) -> Result<(), AllocError> {
     let opened = AtomicU32::new(0);
-    let end = ended(rt, alloc, "0 in.ps out.ps", ONE_PAGE, takes, &opened)?;
+    let files = [file_of(ONE_PAGE)];
+    let end = ended(rt, alloc, "0 in.ps out.ps", &files, takes, &opened)?;
     assert_that(rt, end.output.is_some() == (status == 0));
     let told = tell(&mut Closed {}, end.line.as_slice(), end.status);
     assert_that(rt, told == status);
@@ -107,7 +116,8 @@ fn assert_cut_off<R: Threads + Wait + Abort + Sync>(
 ) -> Result<(), AllocError> {
     let words = "-q 0 in.ps out.ps";
     let opened = AtomicU32::new(0);
-    let end = ended(rt, alloc, words, document, Takes::Bytes(most), &opened)?;
+    let files = [file_of(document)];
+    let end = ended(rt, alloc, words, &files, Takes::Bytes(most), &opened)?;
     let (first, rest) = sheets.as_bytes().split_at(most.min(sheets.len()));
     let (status, line) = if rest.is_empty() {
         (0, "")

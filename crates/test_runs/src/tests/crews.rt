@@ -2,10 +2,7 @@
 //! returned.
 ghost use Rattle.std.specs.Prelude.{◌≡◌, ⊤};
 
-mod checks;
-mod sets;
-
-use checks::assert_that;
+use super::checks::assert_that;
 use std::alloc::{AllocError, Global};
 use std::process::Abort;
 use std::sync::Wait;
