@@ -15,5 +15,7 @@ pub use finished::{Done, Finished, PaperOrigin, Told};
 pub use inputs::of_document;
 pub use messages::{command_text, fault_status, fault_text};
 pub use mistakes::words_text;
-pub use reports::{behind_text, cut_text, note_text, reach_text, report_text, told_text, unknown_text};
+pub use reports::{
+    behind_text, cut_text, note_text, reach_text, report_text, told_text, unknown_text,
+};
 pub use said::text_said;

@@ -233,7 +233,11 @@ fn front_of(name: &[u8]) -> &[u8]
 fn dots_after(name: &[u8]) -> &'static str
     ensures { result.now ≡ (if nat_lt 100 (length name.now) then codes ".." else []) }
 {
-    if name.len() > MOST_OF_A_NAME { ".." } else { "" }
+    if name.len() > MOST_OF_A_NAME {
+        ".."
+    } else {
+        ""
+    }
 }
 
 /// A byte of a name: what isn't a printable one of ASCII is a question mark.

@@ -6,8 +6,9 @@ use crate::fault::ImposeFault;
 use crate::finished::{Done, Finished};
 use crate::messages::fault_text;
 use crate::mistakes::words_text;
-use crate::reports::{behind_text, cut_text, note_text, reach_text};
-use crate::reports::{report_text, told_text, unknown_text};
+use crate::reports::{
+    behind_text, cut_text, note_text, reach_text, report_text, told_text, unknown_text,
+};
 use clap::Error as WordsError;
 use impose_words::{ImposeRequest, RequestFault};
 use std::alloc::Global;

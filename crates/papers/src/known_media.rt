@@ -84,7 +84,7 @@ impl KnownMedia {
     /// Finds their papers: among the first medium, and those of the lines after it that continue it.
     fn find(&mut self, alloc: Global, first: &[u8], others: &[u8]) -> Result<(), AllocError>
         ensures { OnOk result ((at : List ℕ) → found_at self.new at
-            ≡ option_map (λ found. with_media at found (flat_map medium_in (fields_in first.now ∷ continued (contents others.now))))
+            ≡ option_map (λ found. with_media at found (flat_map medium_in (first.now ∷ continued (contents others.now))))
             (found_at self.old at)) }
     {
         self.take(alloc, first)?;
