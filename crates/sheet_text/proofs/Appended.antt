@@ -16,6 +16,12 @@ three o a p b l m text one two more =
     ∙ append_assoc (o ++ a) p b
     ∙ append_assoc o a (p ++ b)
 
+-- a line of three pieces after a text, the last of which has the line end
+pub line_of_three : (o a p b l m text : List ℕ) → l ≡ o ++ a → m ≡ l ++ p → text ≡ m ++ (b ++ 10 ∷ []) → text ≡ o ++ line (a ++ (p ++ b))
+line_of_three o a p b l m text one two more =
+    three o a p (b ++ 10 ∷ []) l m text one two more
+    ∙ ap (λ (t : List ℕ). o ++ t) (sym (append_assoc a (p ++ b) (10 ∷ []) ∙ ap (λ (t : List ℕ). a ++ t) (append_assoc p b (10 ∷ []))))
+
 -- four texts after a text
 pub four : (o a b c d l m n text : List ℕ) → l ≡ o ++ a → m ≡ l ++ b → n ≡ m ++ c → text ≡ n ++ d → text ≡ o ++ (a ++ (b ++ (c ++ (d ++ []))))
 four o a b c d l m n text one two next last =

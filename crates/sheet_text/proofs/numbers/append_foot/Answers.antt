@@ -1,4 +1,4 @@
-use Rattle.std.proofs.Common.{rules, ap, ◌≡◌, ◌++◌}
+use Rattle.std.proofs.Common.{rules, ap, ◌≡◌, ◌∙◌, ◌++◌}
 use Rattle.std.specs.Prelude.{codes, pos}
 use Rattle.rules.specs.Numbers.{points_text}
 use Rattle.sheet_text.specs.PageNumbers.{middle}
