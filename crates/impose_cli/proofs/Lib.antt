@@ -2,6 +2,7 @@ pub mod Placing
 pub mod RowOptions
 pub mod OnePaper
 pub mod Noted
+pub mod Uneven
 pub mod ZineCells
 pub mod Counted
 pub mod Coming

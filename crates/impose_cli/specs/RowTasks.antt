@@ -105,6 +105,9 @@ laying_in (layout.SpecRow specs signing) s page_paper sheet_paper = None
 abbrev pub has_even_margins : Free → Bool
 has_even_margins f = int_eq f.left f.right && int_eq f.bottom f.top
 
+abbrev pub may_be_stacked : (duplex : Bool) → Free → Bool
+may_be_stacked duplex f = not duplex || has_even_margins f
+
 abbrev pub has_one_margin : Free → Bool
 has_one_margin f = has_even_margins f && int_eq f.left f.bottom
 
@@ -116,7 +119,7 @@ why_not_laid (layout.NUp cells) s page_paper sheet_paper =
 why_not_laid (layout.Cards cells) s page_paper sheet_paper =
     option_map fault.Layout (why_not_arranged page_paper sheet_paper (arrangement_in s cells))
 why_not_laid (layout.Stack cells duplex) s page_paper sheet_paper = option_map fault.Layout
-    (first_of (not duplex || has_even_margins s.free) why.UnevenMargins
+    (first_of (may_be_stacked duplex s.free) why.UnevenMargins
     (why_not_arranged page_paper sheet_paper (arrangement_in s cells)))
 why_not_laid (layout.Booklet signing long_edge) s page_paper sheet_paper = option_map fault.Layout
     (first_of (is_length s.creep) why.LengthOutOfRange (why_not_bound page_paper sheet_paper (binding_in s long_edge)))

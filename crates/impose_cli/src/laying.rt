@@ -9,7 +9,7 @@ ghost use Rattle.sheet_text.specs.Jobs.{is_border};
 ghost use Rattle.row_runs.specs.Sheets.{MayBeLaid};
 ghost use Rattle.impose_cli.specs.Refusals.{RefusesLaying, RefusesOptions};
 ghost use Rattle.impose_words.specs.Spacings.{arrangement_in};
-ghost use Rattle.impose_cli.specs.RowTasks.{has_even_margins as are_even, has_one_margin as are_one};
+ghost use Rattle.impose_cli.specs.RowTasks.{has_even_margins as are_even, has_one_margin as are_one, may_be_stacked as may_be_stacked_so};
 ghost use Rattle.impose_cli.specs.RowTasks.{laying_in, sheet_paper_in, signing_in, why_not_laid};
 ghost use Rattle.impose_words.specs.declared.request.Layout.TheVariants as layout;
 
@@ -113,7 +113,7 @@ fn stack_laying(
     ensures refused { IfErr result
         (RefusesLaying (layout.Stack cells duplex) spacing.now papers.now.page papers.now.sheet) }
 {
-    if duplex && !has_even_margins(&spacing.free) {
+    if !may_be_stacked(duplex, &spacing.free) {
         return Err(ImposeFault::Layout(ArrangementError::UnevenMargins));
     }
     match cells_for(cells, spacing, papers) {
@@ -251,6 +251,13 @@ fn has_even_margins(free: &Free) -> bool
     ensures { result ≡ are_even free.now }
 {
     free.left.get() == free.right.get() && free.bottom.get() == free.top.get()
+}
+
+/// Whether parts of sheets lie behind one another: on one side they needn't.
+fn may_be_stacked(duplex: bool, free: &Free) -> bool
+    ensures { result ≡ may_be_stacked_so duplex free.now }
+{
+    !duplex || has_even_margins(free)
 }
 
 /// Whether as much is kept free along all edges.

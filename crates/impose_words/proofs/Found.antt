@@ -12,8 +12,8 @@ use Rattle.impose_words.specs.Words.{ChoosesBy, Entered, Enters, Reads, ReadsSiz
 use Rattle.impose_words.specs.Arranging.{numbering, with_numbers}
 use Rattle.impose_words.specs.Words.{first_found, has_numbers, lines_found, number_size_found, numbers_found}
 use Rattle.impose_words.specs.Words.{gaps_found, length_found, margins_found, marks_found, order_by, order_found, run_found, scale_found, turned_found}
-use Rattle.impose_words.specs.declared.edges.Gaps.{Gaps}
-use Rattle.impose_words.specs.declared.edges.Margins.{Margins}
+use Rattle.layouts.specs.declared.arrangement.Free.{Free}
+use Rattle.impose_words.specs.Edges.{spaced}
 use Rattle.impose_words.specs.declared.request.Layout.{Layout}
 use Rattle.impose_words.specs.declared.request.Layout.TheVariants as layout
 use Rattle.impose_words.specs.declared.request.PageChoice.{PageChoice}
@@ -125,13 +125,22 @@ order_parts (Some run) rtl (Some turned) order w v e = refl
 pub order_right : (found : List Row) (order : Order) → order_found found ≡ Some order → wrong_order found ≡ None
 order_right found order e = order_parts (run_found found) (has_flag (codes "rtl") found) (turned_found found) order _ _ e
 
+-- so has what is kept free
+free_parts : (margins gaps : Option Free) (trim : Option ℤ) (free : Free) (w v u : Wrong) {e : Option Wrong} → spaced margins gaps trim ≡ Some free → e ≡ None
+    → (if is_some margins then (if is_some gaps then (if is_some trim then e else Some w) else Some v) else Some u) ≡ None
+free_parts None gaps trim free w v u s h = cc
+free_parts (Some margins) None trim free w v u s h = cc
+free_parts (Some margins) (Some gaps) None free w v u s h = cc
+free_parts (Some margins) (Some gaps) (Some trim) free w v u s h = h
+
 pub spacing_right : (keeps : Bool) (found : List Row) (s : Spacing) → SpacesBy keeps found s → wrong_spacing keeps found ≡ None
 spacing_right false found s k = refl
 spacing_right true found s k =
-    next (past _ k.0 (past _ k.1 (past _ k.2 (past _ k.3 (past _ k.4 refl))))) (next (order_right found s.order k.5) (past _ k.6 refl))
+    next (free_parts (margins_found found) (gaps_found found) (length_found opt.Trim found) s.free _ _ _ k.0 (past _ k.1 (past _ k.2 refl)))
+    (next (order_right found s.order k.3) (past _ k.4 refl))
 
 -- the scale alone is wrong
-pub scale_wrong : (keeps : Bool) (found : List Row) (margins : Margins) (gaps : Gaps) (trim creep overlap : ℤ) (order : Order) → true ≡ keeps
+pub scale_wrong : (keeps : Bool) (found : List Row) (margins gaps : Free) (trim creep overlap : ℤ) (order : Order) → true ≡ keeps
     → margins_found found ≡ Some margins → gaps_found found ≡ Some gaps → length_found opt.Trim found ≡ Some trim
     → length_found opt.Creep found ≡ Some creep → length_found opt.Overlap found ≡ Some overlap → order_found found ≡ Some order → scale_found found ≡ None
     → wrong_spacing keeps found ≡ Some (NoValue opt.Scale)

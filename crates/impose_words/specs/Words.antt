@@ -24,9 +24,9 @@ use Rattle.dressing.specs.declared.strokes.Marks.{Marks}
 use Rattle.impose_words.specs.Arranging.{booklet_marks_named, cells_named, cut_marks_named, exact_alone, lines_alone, no_marks, noted_alone}
 use Rattle.impose_words.specs.Arranging.{number_size_named, numbering, run_named, turn_named, turned_named, with_numbers}
 use Rattle.impose_words.specs.Choices.{is_whole}
-use Rattle.impose_words.specs.Edges.{gaps_in, gaps_named, margins_in, margins_named, no_gaps, no_margins}
-use Rattle.impose_words.specs.declared.edges.Gaps.{Gaps}
-use Rattle.impose_words.specs.declared.edges.Margins.{Margins}
+use Rattle.layouts.specs.Grids.{nothing_free}
+use Rattle.layouts.specs.declared.arrangement.Free.{Free}
+use Rattle.impose_words.specs.Edges.{gaps_named, margins_named, spaced}
 use Rattle.impose_words.specs.declared.request.PageChoice.{PageChoice}
 use Rattle.impose_words.specs.Command.{impose}
 use Rattle.impose_words.specs.Signatures.{signing_named}
@@ -96,11 +96,14 @@ abbrev pub length_found : Opt → (found : List Row) → Option ℤ
 length_found option found = asked (pos 0) length_with_unit (given option found)
 
 -- what is kept free along edges, and between cells
-abbrev pub margins_found : (found : List Row) → Option Margins
-margins_found found = asked no_margins margins_named (given opt.Margin found)
+abbrev pub margins_found : (found : List Row) → Option Free
+margins_found found = asked nothing_free margins_named (given opt.Margin found)
 
-abbrev pub gaps_found : (found : List Row) → Option Gaps
-gaps_found found = asked no_gaps gaps_named (given opt.Gap found)
+abbrev pub gaps_found : (found : List Row) → Option Free
+gaps_found found = asked nothing_free gaps_named (given opt.Gap found)
+
+abbrev pub free_found : (found : List Row) → Option Free
+free_found found = spaced (margins_found found) (gaps_found found) (length_found opt.Trim found)
 
 -- how leaves are sewn, if anything is asked for
 abbrev pub signing_found : (found : List Row) → Option (Option Signing)
@@ -269,8 +272,7 @@ ChoosesBy (Some id) found choice = (first_of id found ≡ option_map string_byte
 -- keeps room; or nothing is
 abbrev pub SpacesBy : (keeps : Bool) → (found : List Row) → Spacing → Type 0
 SpacesBy false found s = s ≡ nothing_kept
-SpacesBy true found s = (margins_found found ≡ Some (margins_in s.free)) × (gaps_found found ≡ Some (gaps_in s.free))
-    × (length_found opt.Trim found ≡ Some s.free.trim) × (length_found opt.Creep found ≡ Some s.creep)
+SpacesBy true found s = (free_found found ≡ Some s.free) × (length_found opt.Creep found ≡ Some s.creep)
     × (length_found opt.Overlap found ≡ Some s.overlap) × (order_found found ≡ Some s.order) × (scale_found found ≡ Some s.scale)
     × (has_flag (codes "same-scale") found ≡ s.same_scale)
 

@@ -3,7 +3,6 @@ ghost use Rattle.std.specs.Prelude.{◌≡◌, [], ◌∷◌, IfOk, IfErr, None,
 ghost use Rattle.clap.specs.Words.{Text, fault_of, first_of, found_of, is_simple, rows_of, subcommand_of, subcommand_rows_of};
 ghost use Rattle.impose_words.specs.Command.{impose};
 ghost use Rattle.impose_words.specs.Words.{AsksFor, Entered, ReadsSizes, Reads, border_found, file_asked, given, is_outfile};
-ghost use Rattle.impose_words.specs.Edges.{gaps_in, margins_in};
 ghost use Rattle.impose_words.specs.Words.{gaps_found, margins_found};
 ghost use Rattle.impose_words.specs.Words.{ChoosesBy, MakesBy, NamesPicture, SpacesBy, length_found, ranges_id, part_by as of_both};
 ghost use Rattle.impose_words.specs.Words.{cells_in as cells_of_command, command_name, order_found, run_found, scale_found};
@@ -21,7 +20,7 @@ use crate::arranging::{
     NO_MARKS, booklet_marks_named, cells_named, cut_marks_named, exact_cells, noted_cells,
     number_size_named, run_named, turn_named, turned_named,
 };
-use crate::edges::{Gaps, Margins, gaps_named, margins_named};
+use crate::edges::{gaps_named, margins_named};
 use crate::fault::{GridCommand, Opt, ProductOption, RequestFault};
 use crate::request::{ImposeRequest, Layout, PageChoice, Product, Spacing};
 use crate::signature::{number_in, signing_named};
@@ -396,7 +395,12 @@ fn spacing_of(layout: &Layout, found: &ArgMatches<'_>) -> Result<Spacing, Opt>
         return Err(Opt::Scale);
     };
     Ok(Spacing {
-        free: free_of(margins, gaps, trim),
+        free: Free {
+            across: gaps.across,
+            up: gaps.up,
+            trim,
+            ..margins
+        },
         creep,
         overlap,
         order,
@@ -405,38 +409,22 @@ fn spacing_of(layout: &Layout, found: &ArgMatches<'_>) -> Result<Spacing, Opt>
     })
 }
 
-fn free_of(margins: Margins, gaps: Gaps, trim: Grains) -> Free
-    ensures margins { margins_in result ≡ margins }
-    ensures gaps { gaps_in result ≡ gaps }
-    ensures trim { result.trim ≡ trim }
-{
-    Free {
-        left: margins.left,
-        right: margins.right,
-        bottom: margins.bottom,
-        top: margins.top,
-        across: gaps.across,
-        up: gaps.up,
-        trim,
-    }
-}
-
 /// What is kept free along the edges of a sheet; nothing if `--margin` isn't there.
-fn margins_of(found: &ArgMatches<'_>) -> Option<Margins>
+fn margins_of(found: &ArgMatches<'_>) -> Option<Free>
     ensures { result ≡ margins_found (rows_of (found_of found.now)) }
 {
     match text_of(found, Opt::Margin.id()) {
-        None => Some(Margins::none()),
+        None => Some(Free::none()),
         Some(text) => margins_named(text),
     }
 }
 
 /// What is kept free between cells; nothing if `--gap` isn't there.
-fn gaps_of(found: &ArgMatches<'_>) -> Option<Gaps>
+fn gaps_of(found: &ArgMatches<'_>) -> Option<Free>
     ensures { result ≡ gaps_found (rows_of (found_of found.now)) }
 {
     match text_of(found, Opt::Gap.id()) {
-        None => Some(Gaps::none()),
+        None => Some(Free::none()),
         Some(text) => gaps_named(text),
     }
 }

@@ -1,78 +1,30 @@
 //! What is kept free along the edges of a sheet, and between its cells, as people write it.
 ghost use Rattle.std.specs.Prelude.{◌≡◌, ◌<◌, Some, option_map};
 ghost use Rattle.impose_words.specs.Edges as meaning;
+ghost use Rattle.impose_words.specs.Sizes.{length_with_unit as length_of};
 
 use crate::sizes::length_with_unit;
 use layouts::Free;
 use lengths::Grains;
 
-/// What is kept free along the edges of a sheet.
-#[derive(Clone, Copy, Debug, PartialEq, Eq)]
-pub struct Margins {
-    pub left: Grains,
-    pub right: Grains,
-    pub bottom: Grains,
-    pub top: Grains,
-}
-
-/// What is kept free between pages that are side by side, and between those that are one above another.
-#[derive(Clone, Copy, Debug, PartialEq, Eq)]
-pub struct Gaps {
-    pub across: Grains,
-    pub up: Grains,
-}
-
-impl Margins {
-    /// Nothing.
-    pub fn none() -> Margins
-        ensures { result ≡ meaning.no_margins }
-    {
-        let none = Free::none();
-        Margins {
-            left: none.left,
-            right: none.right,
-            bottom: none.bottom,
-            top: none.top,
-        }
-    }
-}
-
-impl Gaps {
-    /// Nothing.
-    pub fn none() -> Gaps
-        ensures { result ≡ meaning.no_gaps }
-    {
-        let none = Free::none();
-        Gaps {
-            across: none.across,
-            up: none.up,
-        }
-    }
-}
-
 /// The gaps that the text means: one length, or two with a comma between them.
-pub fn gaps_named(text: &str) -> Option<Gaps>
+pub fn gaps_named(text: &str) -> Option<Free>
     ensures { result ≡ meaning.gaps_named text.now }
 {
-    match cut_at(text, ',') {
-        None => {
-            let gap = length_with_unit(text)?;
-            Some(Gaps {
-                across: gap,
-                up: gap,
-            })
-        }
-        Some((across, up)) => {
-            let across = length_with_unit(across)?;
-            let up = length_with_unit(up)?;
-            Some(Gaps { across, up })
-        }
-    }
+    let (across, up) = match cut_at(text, ',') {
+        None => (text, text),
+        Some(parts) => parts,
+    };
+    Some(Free {
+        across: length_with_unit(across)?,
+        up: length_with_unit(up)?,
+        ..Free::none()
+    })
 }
 
 /// The margins that the text means: one length; two, for the edges on both sides, and for the upper and the lower one; four,
 /// clockwise from the upper edge; or up to four edges by their names.
-pub fn margins_named(text: &str) -> Option<Margins>
+pub fn margins_named(text: &str) -> Option<Free>
     ensures { result ≡ meaning.margins_named text.now }
 {
     if cut_at(text, '=').is_some() {
@@ -83,68 +35,53 @@ pub fn margins_named(text: &str) -> Option<Margins>
 }
 
 /// One, two or four lengths.
-fn lengths_named(text: &str) -> Option<Margins>
+fn lengths_named(text: &str) -> Option<Free>
     ensures { result ≡ meaning.lengths_by (meaning.cut_at 44 text.now) text.now }
 {
     match cut_at(text, ',') {
-        None => {
-            let margin = length_with_unit(text);
-            margins_of(margin, margin, margin, margin)
-        }
-        Some((one, rest)) => more_lengths(length_with_unit(one), rest),
+        None => margins_of(text, text, text, text),
+        Some((one, rest)) => more_lengths(one, rest),
     }
 }
 
 /// One or three lengths after the first one.
-fn more_lengths(one: Option<Grains>, rest: &str) -> Option<Margins>
-    ensures { result ≡ meaning.of_more one (meaning.cut_at 44 rest.now) rest.now }
+fn more_lengths(one: &str, rest: &str) -> Option<Free>
+    ensures { result ≡ meaning.of_more (length_of one.now) (meaning.cut_at 44 rest.now) rest.now }
 {
     match cut_at(rest, ',') {
-        None => {
-            let ends = length_with_unit(rest);
-            margins_of(ends, one, ends, one)
-        }
-        Some((two, rest)) => last_lengths(one, length_with_unit(two), rest),
+        None => margins_of(rest, one, rest, one),
+        Some((two, rest)) => last_lengths(one, two, rest),
     }
 }
 
 /// The last two of four lengths.
-fn last_lengths(top: Option<Grains>, right: Option<Grains>, rest: &str) -> Option<Margins>
-    ensures { result ≡ meaning.of_four top right (meaning.cut_at 44 rest.now) }
+fn last_lengths(top: &str, right: &str, rest: &str) -> Option<Free>
+    ensures { result ≡ meaning.of_four (length_of top.now) (length_of right.now) (meaning.cut_at 44 rest.now) }
 {
     match cut_at(rest, ',') {
         None => None,
-        Some((bottom, left)) => {
-            margins_of(top, right, length_with_unit(bottom), length_with_unit(left))
-        }
+        Some((bottom, left)) => margins_of(top, right, bottom, left),
     }
 }
 
-/// Four margins, if all are there.
-fn margins_of(
-    top: Option<Grains>,
-    right: Option<Grains>,
-    bottom: Option<Grains>,
-    left: Option<Grains>,
-) -> Option<Margins>
-    ensures { result ≡ meaning.margins_of top right bottom left }
+/// Four margins, if all are lengths.
+fn margins_of(top: &str, right: &str, bottom: &str, left: &str) -> Option<Free>
+    ensures { result ≡ meaning.margins_of (length_of top.now) (length_of right.now) (length_of bottom.now) (length_of left.now) }
 {
-    match (top, right, bottom, left) {
-        (Some(top), Some(right), Some(bottom), Some(left)) => Some(Margins {
-            left,
-            right,
-            bottom,
-            top,
-        }),
-        _ => None,
-    }
+    Some(Free {
+        top: length_with_unit(top)?,
+        right: length_with_unit(right)?,
+        bottom: length_with_unit(bottom)?,
+        left: length_with_unit(left)?,
+        ..Free::none()
+    })
 }
 
-/// Up to four edges by their names; of the others nothing is kept free.
-fn edges_named(text: &str) -> Option<Margins>
-    ensures { result ≡ meaning.edges_by (Some meaning.no_margins) (meaning.cut_at 44 text.now) text.now }
+/// Up to four edges by their names.
+fn edges_named(text: &str) -> Option<Free>
+    ensures { result ≡ meaning.edges_by (meaning.cut_at 44 text.now) text.now }
 {
-    let none = Some(Margins::none());
+    let none = Some(Free::none());
     match cut_at(text, ',') {
         None => edge_in(none, text),
         Some((part, rest)) => more_edges(edge_in(none, part), rest),
@@ -152,59 +89,48 @@ fn edges_named(text: &str) -> Option<Margins>
 }
 
 /// Up to three edges after the first one.
-fn more_edges(margins: Option<Margins>, text: &str) -> Option<Margins>
-    ensures { result ≡ meaning.third_edge margins (meaning.cut_at 44 text.now) text.now }
+fn more_edges(free: Option<Free>, text: &str) -> Option<Free>
+    ensures { result ≡ meaning.more_edges free (meaning.cut_at 44 text.now) text.now }
 {
     match cut_at(text, ',') {
-        None => edge_in(margins, text),
-        Some((part, rest)) => last_edges(edge_in(margins, part), rest),
+        None => edge_in(free, text),
+        Some((part, rest)) => last_edges(edge_in(free, part), rest),
     }
 }
 
 /// The last two of them.
-fn last_edges(margins: Option<Margins>, text: &str) -> Option<Margins>
-    ensures { result ≡ meaning.last_edge margins (meaning.cut_at 44 text.now) text.now }
+fn last_edges(free: Option<Free>, text: &str) -> Option<Free>
+    ensures { result ≡ meaning.last_edges free (meaning.cut_at 44 text.now) text.now }
 {
     match cut_at(text, ',') {
-        None => edge_in(margins, text),
-        Some((part, rest)) => edge_in(edge_in(margins, part), rest),
+        None => edge_in(free, text),
+        Some((part, rest)) => edge_in(edge_in(free, part), rest),
     }
 }
 
 /// One edge, by its name and its length.
-fn edge_in(margins: Option<Margins>, text: &str) -> Option<Margins>
-    ensures { result ≡ meaning.edge_in margins text.now }
+fn edge_in(free: Option<Free>, text: &str) -> Option<Free>
+    ensures { result ≡ meaning.edge_in free text.now }
 {
-    match (margins, cut_at(text, '=')) {
-        (Some(margins), Some((name, text))) => with_edge(margins, name, length_with_unit(text)?),
-        _ => None,
-    }
+    let free = free?;
+    let (name, text) = cut_at(text, '=')?;
+    let margin = length_with_unit(text)?;
+    with_edge(free, name, margin)
 }
 
 /// The margin of the edge with this name.
-fn with_edge(margins: Margins, name: &str, margin: Grains) -> Option<Margins>
-    ensures { result ≡ meaning.with_edge margins name.now (Some margin) }
+fn with_edge(free: Free, name: &str, margin: Grains) -> Option<Free>
+    ensures { result ≡ meaning.with_edge free name.now (Some margin) }
 {
+    let (left, right, top, bottom) = (margin, margin, margin, margin);
     if name == "left" {
-        Some(Margins {
-            left: margin,
-            ..margins
-        })
+        Some(Free { left, ..free })
     } else if name == "right" {
-        Some(Margins {
-            right: margin,
-            ..margins
-        })
+        Some(Free { right, ..free })
     } else if name == "top" {
-        Some(Margins {
-            top: margin,
-            ..margins
-        })
+        Some(Free { top, ..free })
     } else if name == "bottom" {
-        Some(Margins {
-            bottom: margin,
-            ..margins
-        })
+        Some(Free { bottom, ..free })
     } else {
         None
     }

@@ -170,7 +170,8 @@ still_apart room (Placed page item paper) (Placed page' item' paper') (inr (inr 
 
 still_inside : (room : Room) (slot : MadeSlot) → SlotIsInside room slot → SlotIsInside (closer room) slot
 still_inside room Blank h = tt
-still_inside room (Placed page item paper) h p of = let at = h p of in record { left = at.left; right = at.right; bottom = at.bottom; top = at.top }
+still_inside room (Placed page item paper) h =
+    λ p of. let at = h p of in record { left = at.left; right = at.right; bottom = at.bottom; top = at.top }
 
 -- where it lies in its half of the sheet
 abbrev half_cell : Bool → ℕ → ℕ
