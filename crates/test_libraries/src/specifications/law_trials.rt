@@ -63,26 +63,37 @@ fn up_to_64(alloc: Global) -> Option<Vec<u32>> {
 /// A paper by its name, and its sides in points.
 type Named = (&'static str, i64, i64);
 
-/// Prints how many layouts have no fault, or the first that has one.
+/// Prints how many layouts have no fault, and those that have one.
 fn layouts_tried(out: &mut Answer, numbers: &[u32], on_own_paper: bool, kept: Kept) -> Option<()> {
     let mut count = 0u32;
     for page in PAPERS {
         for sheet in PAPERS {
-            if on_own_paper && page.0 != sheet.0 {
-                continue;
-            }
-            for n in numbers {
-                let fault = fault_of(out.alloc, *n, page, sheet, kept);
-                if fault != "" {
-                    out.line(format_args!("{n} of {} on {}: {fault}", page.0, sheet.0));
-                    return Some(());
-                }
-                count = count.saturating_add(1);
+            if !on_own_paper || page.0 == sheet.0 {
+                count = count.saturating_add(tried(out, numbers, page, sheet, kept));
             }
         }
     }
     out.line(format_args!("{count} layouts, no fault"));
     Some(())
+}
+
+/// How many of these numbers of pages have a layout without a fault.
+fn tried(out: &mut Answer, numbers: &[u32], page: Named, sheet: Named, kept: Kept) -> u32 {
+    let mut count = 0u32;
+    for n in numbers {
+        let fault = fault_of(out.alloc, *n, page, sheet, kept);
+        count = count.saturating_add(faultless(out, *n, page, sheet, fault));
+    }
+    count
+}
+
+/// Prints a fault: 1 if there is none, else 0.
+fn faultless(out: &mut Answer, n: u32, page: Named, sheet: Named, fault: &str) -> u32 {
+    if fault == "" {
+        return 1;
+    }
+    out.line(format_args!("{n} of {} on {}: {fault}", page.0, sheet.0));
+    0
 }
 
 /// The specification of n pages of one paper on a sheet of the other.
@@ -153,19 +164,15 @@ fn fault_among(
     ""
 }
 
-/// Prints how many booklets have no fault, or the first that has one.
+/// Prints how many booklets have no fault, and those that have one.
 fn booklets_tried(out: &mut Answer) -> Option<()> {
     let mut count = 0u32;
     for page in PAPERS {
         for sheet in PAPERS {
-            for long_edge in [false, true] {
-                let fault = booklet_fault(out.alloc, page, sheet, long_edge);
-                if fault != "" {
-                    out.line(format_args!("{} on {}: {fault}", page.0, sheet.0));
-                    return Some(());
-                }
-                count = count.saturating_add(1);
-            }
+            let fault = booklet_fault(out.alloc, page, sheet, false);
+            count = count.saturating_add(faultless(out, 2, page, sheet, fault));
+            let fault = booklet_fault(out.alloc, page, sheet, true);
+            count = count.saturating_add(faultless(out, 2, page, sheet, fault));
         }
     }
     out.line(format_args!("{count} layouts, no fault"));
