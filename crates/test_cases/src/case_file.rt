@@ -118,7 +118,10 @@ impl WantedText {
             Some(before) => self.gap(before),
             None => 0,
         };
-        self.bytes.as_slice().get(begin..self.gap(nth)).unwrap_or(&[])
+        self.bytes
+            .as_slice()
+            .get(begin..self.gap(nth))
+            .unwrap_or(&[])
     }
 
     /// How many bytes are before this gap, or before the end.

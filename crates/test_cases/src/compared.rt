@@ -16,14 +16,26 @@ pub fn push_differences(
     if case.status != found.status {
         push_statuses(alloc, report, case.status, found.status)?;
     }
-    push_text(alloc, report, "output", &case.output, found.output.as_slice())?;
+    push_text(
+        alloc,
+        report,
+        "output",
+        &case.output,
+        found.output.as_slice(),
+    )?;
     push_text(alloc, report, "error", &case.error, found.error.as_slice())?;
     for file in case.files.iter() {
         push_file(alloc, report, file, found.files.as_slice())?;
     }
     for file in found.files.iter() {
         if !is_wanted(file, case.files.as_slice()) {
-            push_words(alloc, report, (file.name.as_str(), 0), "no such file named", "one")?;
+            push_words(
+                alloc,
+                report,
+                (file.name.as_str(), 0),
+                "no such file named",
+                "one",
+            )?;
         }
     }
     Ok(())
@@ -58,7 +70,13 @@ fn push_statuses(
 ) -> Result<(), AllocError> {
     let wanted = format!(in alloc; "{wanted}")?;
     let found = format!(in alloc; "{found}")?;
-    push_words(alloc, report, ("status", 1), wanted.as_str(), found.as_str())
+    push_words(
+        alloc,
+        report,
+        ("status", 1),
+        wanted.as_str(),
+        found.as_str(),
+    )
 }
 
 /// Adds how a file differs from the expected one.

@@ -51,7 +51,13 @@ fn take_block<'t>(
             let Some(case) = file.cases.last_mut() else {
                 return Ok(false);
             };
-            take_part(alloc, case, file.documents.as_slice(), (key, rest), block.body)
+            take_part(
+                alloc,
+                case,
+                file.documents.as_slice(),
+                (key, rest),
+                block.body,
+            )
         }
     }
 }

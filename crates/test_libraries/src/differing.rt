@@ -13,16 +13,19 @@ pub struct Differing {
 
 impl Caller for Differing {
     fn call(&self, file: &CaseFile<'_>, case: &Case<'_>) -> Result<Option<Found>, AllocError> {
-        let words = case.words.as_slice();
-        if word(words, 0) == Some("found") {
-            return said(self.alloc, words);
+        match word(case.words.as_slice(), 0) {
+            Some("found") => said(self.alloc, case.words.as_slice()),
+            _ => Ok(read(self.alloc, file, case)),
         }
-        let mut out = Answer::new(self.alloc);
-        what_was_read(&mut out, file, case);
-        Ok(match out.whole() {
-            Some(output) => Some(Found::printed(self.alloc, output)),
-            None => None,
-        })
+    }
+}
+
+fn read(alloc: Global, file: &CaseFile<'_>, case: &Case<'_>) -> Option<Found> {
+    let mut out = Answer::new(alloc);
+    what_was_read(&mut out, file, case);
+    match out.whole() {
+        Some(output) => Some(Found::printed(alloc, output)),
+        None => None,
     }
 }
 

@@ -7,9 +7,8 @@ mod named_rows;
 mod page_papers;
 mod sheets;
 
-pub use known_laws::call_laws;
-
 use crate::answer::Answer;
+pub use known_laws::call_laws;
 use test_cases::Document;
 
 /// Runs a command, if it is one of these.

@@ -56,10 +56,10 @@ struct Libraries {
 impl Caller for Libraries {
     fn call(&self, file: &CaseFile<'_>, case: &Case<'_>) -> Result<Option<Found>, AllocError> {
         let output = answer_of(self.alloc, case.words.as_slice(), file.documents.as_slice());
-        Ok(match output {
-            Some(output) => Some(Found::printed(self.alloc, output)),
-            None => None,
-        })
+        match output {
+            Some(output) => Ok(Some(Found::printed(self.alloc, output))),
+            None => Ok(None),
+        }
     }
 }
 

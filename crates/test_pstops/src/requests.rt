@@ -23,7 +23,12 @@ pub(crate) fn asked(alloc: Global, words: &[String]) -> Result<Found, AllocError
 fn push_request(alloc: Global, lines: &mut String, request: &Request) -> Result<(), AllocError> {
     let options = request.options;
     push_name(alloc, lines, "spec", request.spec.as_str())?;
-    push_workers(alloc, lines, options.workers.preparers, options.workers.imposers)?;
+    push_workers(
+        alloc,
+        lines,
+        options.workers.preparers,
+        options.workers.imposers,
+    )?;
     push_paper(alloc, lines, &options.paper)?;
     if let Some(width) = options.border {
         push(lines, format!(in alloc; "border {}\n", width.get()))?;
@@ -47,12 +52,7 @@ fn push(lines: &mut String, line: Result<String, AllocError>) -> Result<(), Allo
     lines.push_str(line?.as_str())
 }
 
-fn push_name(
-    alloc: Global,
-    lines: &mut String,
-    what: &str,
-    name: &str,
-) -> Result<(), AllocError> {
+fn push_name(alloc: Global, lines: &mut String, what: &str, name: &str) -> Result<(), AllocError> {
     push(lines, format!(in alloc; "{what} '{name}'\n"))
 }
 

@@ -8,10 +8,19 @@ use test_cases::Document;
 
 pub fn run(out: &mut Answer, words: &[String], documents: &[Document<'_>]) -> Option<()> {
     match word(words, 0)? {
-        "pages_of_prefixes" => every_prefix(out, text_of(documents, words, 1)?),
-        "pages_with_byte" => every_change(out, text_of(documents, words, 1)?, word(words, 2)?),
-        _ => return None,
+        "pages_of_prefixes" => prefixes(out, words, documents),
+        "pages_with_byte" => changes(out, words, documents),
+        _ => None,
     }
+}
+
+fn prefixes(out: &mut Answer, words: &[String], documents: &[Document<'_>]) -> Option<()> {
+    every_prefix(out, text_of(documents, words, 1)?);
+    Some(())
+}
+
+fn changes(out: &mut Answer, words: &[String], documents: &[Document<'_>]) -> Option<()> {
+    every_change(out, text_of(documents, words, 1)?, word(words, 2)?);
     Some(())
 }
 

@@ -7,15 +7,30 @@ use test_cases::Document as Named;
 
 pub fn run(out: &mut Answer, words: &[String], documents: &[Named<'_>]) -> Option<()> {
     match word(words, 0)? {
-        "cut" => cut(out, count(words, 1)?, text_of(documents, words, 2)?),
-        "pages" => {
-            let counted = count_pages(out.alloc, text_of(documents, words, 1)?);
-            tell_count(out, counted);
+        "cut" => cut_for(out, words, documents),
+        "pages" => pages(out, words, documents),
+        "prepare" => prepared(out, words, documents),
+        "refusals" => {
+            refusals(out);
+            Some(())
         }
-        "prepare" => bodies(out, text_of(documents, words, 1)?),
-        "refusals" => refusals(out),
-        _ => return None,
+        _ => None,
     }
+}
+
+fn cut_for(out: &mut Answer, words: &[String], documents: &[Named<'_>]) -> Option<()> {
+    cut(out, count(words, 1)?, text_of(documents, words, 2)?);
+    Some(())
+}
+
+fn pages(out: &mut Answer, words: &[String], documents: &[Named<'_>]) -> Option<()> {
+    let counted = count_pages(out.alloc, text_of(documents, words, 1)?);
+    tell_count(out, counted);
+    Some(())
+}
+
+fn prepared(out: &mut Answer, words: &[String], documents: &[Named<'_>]) -> Option<()> {
+    bodies(out, text_of(documents, words, 1)?);
     Some(())
 }
 

@@ -7,15 +7,18 @@ use std::alloc::{AllocError, Global};
 use test_cases::Document;
 
 pub fn run(out: &mut Answer, words: &[String], documents: &[Document<'_>]) -> Option<()> {
-    if word(words, 0)? != "guard" {
-        return None;
+    match word(words, 0)? {
+        "guard" => guard_for(out, words, documents),
+        _ => None,
     }
+}
+
+fn guard_for(out: &mut Answer, words: &[String], documents: &[Document<'_>]) -> Option<()> {
     let text = text_of(documents, words, 1)?;
-    let sheet = match word(words, 2) {
-        Some(_) => Some(paper(words, 2)?),
-        None => None,
-    };
-    guard(out, text, sheet.as_ref());
+    match word(words, 2) {
+        Some(_) => guard(out, text, Some(&paper(words, 2)?)),
+        None => guard(out, text, None),
+    }
     Some(())
 }
 
@@ -51,11 +54,7 @@ fn tell_other(out: &mut Answer, put: Result<Vec<u8>, AllocError>, wanted: &[u8],
     }
 }
 
-fn put_in_place(
-    alloc: Global,
-    text: &[u8],
-    paper: Option<&Paper>,
-) -> Result<Vec<u8>, AllocError> {
+fn put_in_place(alloc: Global, text: &[u8], paper: Option<&Paper>) -> Result<Vec<u8>, AllocError> {
     let mut in_place = Vec::from_slice(alloc, text)?;
     put_guard(&mut in_place, paper)?;
     Ok(in_place)

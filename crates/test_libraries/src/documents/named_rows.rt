@@ -15,35 +15,43 @@ const FEW: usize = 20;
 
 pub fn run(out: &mut Answer, words: &[String]) -> Option<()> {
     match word(words, 0)? {
-        "read_row" => {
-            let row = read_row(out.alloc, count(words, 1)?, word(words, 2)?.as_bytes());
-            told(out, row);
-        }
-        "chosen_row" => chosen(out, count(words, 1)?, words_from(words, 2)),
-        "imposed_row" => imposed(out, count(words, 1)?, word(words, 2)?, words_from(words, 3))?,
-        "auto_sides" => sides_for(out, count(words, 1)?),
-        "in_signatures" => sewn(out, count(words, 1)?, word(words, 2)?)?,
-        _ => return None,
+        "read_row" => named(out, words),
+        "chosen_row" => chosen(out, words),
+        "imposed_row" => imposed(out, words),
+        "auto_sides" => sides_for(out, words),
+        "in_signatures" => sewn(out, words),
+        _ => None,
     }
+}
+
+/// The row that a text names.
+fn named(out: &mut Answer, words: &[String]) -> Option<()> {
+    let row = read_row(out.alloc, count(words, 1)?, word(words, 2)?.as_bytes());
+    told(out, row);
     Some(())
 }
 
 /// The row of a choice.
-fn chosen(out: &mut Answer, pages: u32, words: &[String]) {
+fn chosen(out: &mut Answer, words: &[String]) -> Option<()> {
+    let pages = count(words, 1)?;
     if pages >= TOO_MANY {
-        return out.text("too many pages\n");
+        out.text("too many pages\n");
+    } else {
+        let row = chosen_row(out.alloc, pages, &choice_of(words_from(words, 2)));
+        told(out, row);
     }
-    let row = chosen_row(out.alloc, pages, &choice_of(words));
-    told(out, row);
+    Some(())
 }
 
 /// The row of a choice, in signatures if any are wanted.
-fn imposed(out: &mut Answer, pages: u32, signing: &str, words: &[String]) -> Option<()> {
+fn imposed(out: &mut Answer, words: &[String]) -> Option<()> {
+    let pages = count(words, 1)?;
+    let signing = word(words, 2)?;
     if pages >= TOO_MANY {
         out.text("too many pages\n");
         return Some(());
     }
-    let choice = choice_of(words);
+    let choice = choice_of(words_from(words, 3));
     let row = match signing {
         "unsigned" => imposed_row(out.alloc, pages, &choice, None),
         "in_one" => imposed_row(out.alloc, pages, &choice, Some(Signing::InOne)),
@@ -80,20 +88,24 @@ fn choice_of(words: &[String]) -> Choice<'_> {
 }
 
 /// The number of sides of signatures that are easy to fold.
-fn sides_for(out: &mut Answer, entries: u32) {
+fn sides_for(out: &mut Answer, words: &[String]) -> Option<()> {
+    let entries = count(words, 1)?;
     if entries == 0 || entries >= TOO_MANY {
-        return out.text("no row has so many entries\n");
+        out.text("no row has so many entries\n");
+    } else {
+        out.line(auto_sides(entries as usize));
     }
-    out.line(auto_sides(entries as usize));
+    Some(())
 }
 
 /// A row in signatures of this many sides.
-fn sewn(out: &mut Answer, sides: u32, row: &str) -> Option<()> {
+fn sewn(out: &mut Answer, words: &[String]) -> Option<()> {
+    let sides = count(words, 1)?;
+    let row = entries(out.alloc, word(words, 2)?)?;
     if !are_sides(sides) {
         out.text("no sides of leaves\n");
         return Some(());
     }
-    let row = entries(out.alloc, row)?;
     match in_signatures(out.alloc, row.as_slice(), sides) {
         Ok(sewn) => row_text(out, sewn.as_slice()),
         Err(_) => out.note(false),
@@ -119,7 +131,10 @@ fn entry_of(word: &str) -> Option<(Option<u32>, u32)> {
     if word == "-" {
         return Some((None, 1));
     }
-    let (page, times) = word.split_once('*').unwrap_or((word, "1"));
+    let (page, times) = match word.split_once('*') {
+        Some(parts) => parts,
+        None => (word, "1"),
+    };
     Some((Some(number_of(page)?.checked_sub(1)?), number_of(times)?))
 }
 

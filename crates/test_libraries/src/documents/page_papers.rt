@@ -10,30 +10,27 @@ use test_cases::Document;
 pub fn run(out: &mut Answer, words: &[String], documents: &[Document<'_>]) -> Option<()> {
     match word(words, 0)? {
         "paper" => told(out, text_of(documents, words, 1)?),
-        "page_papers" => {
-            let asked = match word(words, 2) {
-                Some(_) => Some(paper(words, 2)?),
-                None => None,
-            };
-            home_papers(out, text_of(documents, words, 1)?, asked)?;
-        }
-        "papers_as_one" => counted(out, text_of(documents, words, 1)?)?,
-        "cut_by" => {
-            let own = papers(out.alloc, words_from(words, 2))?;
-            cutting(out, &paper(words, 1)?, own.as_slice());
-        }
-        "first_instead_of" => {
-            let own = papers(out.alloc, words_from(words, 2))?;
-            paper_line(out, first_instead_of(&paper(words, 1)?, own.as_slice()));
-        }
+        "page_papers" => home_papers(out, words, documents),
+        "papers_as_one" => counted(out, words, documents),
+        "cut_by" => cutting(out, words),
+        "first_instead_of" => instead_of(out, words),
         "trailer_box" => value_line(out, trailer_box(text_of(documents, words, 1)?)),
-        "title" => {
-            let line = word(words, 1)?.as_bytes();
-            value_line(out, comment_value(line, b"%%Title", b"%%Title:"));
-        }
-        _ => return None,
+        "title" => title(out, words),
+        _ => None,
     }
+}
+
+/// The first page's paper, if no page has this one.
+fn instead_of(out: &mut Answer, words: &[String]) -> Option<()> {
+    let own = papers(out.alloc, words_from(words, 2))?;
+    paper_line(out, first_instead_of(&paper(words, 1)?, own.as_slice()));
     Some(())
+}
+
+/// The value of a line that is a title.
+fn title(out: &mut Answer, words: &[String]) -> Option<()> {
+    let line = word(words, 1)?.as_bytes();
+    value_line(out, comment_value(line, b"%%Title", b"%%Title:"))
 }
 
 /// Papers, by their names. None also if memory runs out.
@@ -60,7 +57,7 @@ pub fn paper_text(out: &mut Answer, paper: &Paper) {
 }
 
 /// The paper of a document where a4 is usual, and the comment that has it.
-fn told(out: &mut Answer, text: &[u8]) {
+fn told(out: &mut Answer, text: &[u8]) -> Option<()> {
     match document_paper(text, &a4()) {
         Some((paper, comment)) => {
             paper_text(out, &paper);
@@ -68,10 +65,19 @@ fn told(out: &mut Answer, text: &[u8]) {
         }
         None => out.text("none\n"),
     }
+    Some(())
 }
 
 /// The paper of each page, for a home of letter.
-fn home_papers(out: &mut Answer, text: &[u8], asked: Option<Paper>) -> Option<()> {
+fn home_papers(out: &mut Answer, words: &[String], documents: &[Document<'_>]) -> Option<()> {
+    let text = text_of(documents, words, 1)?;
+    match word(words, 2) {
+        Some(_) => tell_papers(out, text, Some(paper(words, 2)?)),
+        None => tell_papers(out, text, None),
+    }
+}
+
+fn tell_papers(out: &mut Answer, text: &[u8], asked: Option<Paper>) -> Option<()> {
     let home = paper_by_name("letter")?;
     match dsc::Document::read(out.alloc, text) {
         Ok(document) => {
@@ -84,7 +90,8 @@ fn home_papers(out: &mut Answer, text: &[u8], asked: Option<Paper>) -> Option<()
 }
 
 /// The papers as which those of the pages count.
-fn counted(out: &mut Answer, text: &[u8]) -> Option<()> {
+fn counted(out: &mut Answer, words: &[String], documents: &[Document<'_>]) -> Option<()> {
+    let text = text_of(documents, words, 1)?;
     let home = paper_by_name("letter")?;
     match dsc::Document::read(out.alloc, text) {
         Ok(document) => {
@@ -113,8 +120,9 @@ fn paper_lines(out: &mut Answer, papers: Result<Vec<Paper>, AllocError>) {
 
 /// The pages among these that a paper cuts: the first and the last of them, their number, and the least paper that
 /// covers theirs.
-fn cutting(out: &mut Answer, paper: &Paper, own: &[Paper]) {
-    match cut_by(paper, own) {
+fn cutting(out: &mut Answer, words: &[String]) -> Option<()> {
+    let own = papers(out.alloc, words_from(words, 2))?;
+    match cut_by(&paper(words, 1)?, own.as_slice()) {
         Some(cut) => {
             let (first, last) = (cut.first.saturating_add(1), cut.last.saturating_add(1));
             out.show(format_args!("first {first}, last {last}, pages {}, paper ", cut.pages));
@@ -122,6 +130,7 @@ fn cutting(out: &mut Answer, paper: &Paper, own: &[Paper]) {
         }
         None => out.text("none\n"),
     }
+    Some(())
 }
 
 fn paper_line(out: &mut Answer, paper: Option<Paper>) {
@@ -132,10 +141,11 @@ fn paper_line(out: &mut Answer, paper: Option<Paper>) {
     out.text("\n");
 }
 
-fn value_line(out: &mut Answer, value: Option<&[u8]>) {
+fn value_line(out: &mut Answer, value: Option<&[u8]>) -> Option<()> {
     match value {
         Some(value) => out.quoted(value),
         None => out.text("none"),
     }
     out.text("\n");
+    Some(())
 }

@@ -15,17 +15,18 @@ const FEW: usize = 20;
 
 pub fn run(out: &mut Answer, words: &[String]) -> Option<()> {
     match word(words, 0)? {
-        "select" => on_their_own(out, &paper(words, 1)?, word(words, 2)?, word(words, 3)?),
-        "spec_sheets" => by_specification(out, word(words, 1)?, word(words, 2)?),
+        "select" => on_their_own(out, words),
+        "spec_sheets" => by_specification(out, words),
         _ => None,
     }
 }
 
 /// Each entry of a row on a sheet of its own.
-fn on_their_own(out: &mut Answer, blank: &Paper, papers: &str, row: &str) -> Option<()> {
-    let (pages, papers) = papers_of(out.alloc, papers)?;
-    let row = row_of(out.alloc, pages, row)?;
-    match select(out.alloc, row.as_slice(), papers.as_slice(), blank) {
+fn on_their_own(out: &mut Answer, words: &[String]) -> Option<()> {
+    let blank = paper(words, 1)?;
+    let (pages, papers) = papers_of(out.alloc, word(words, 2)?)?;
+    let row = row_of(out.alloc, pages, word(words, 3)?)?;
+    match select(out.alloc, row.as_slice(), papers.as_slice(), &blank) {
         Ok(made) => sheets_text(out, &made),
         Err(_) => out.note(false),
     }
@@ -33,10 +34,10 @@ fn on_their_own(out: &mut Answer, blank: &Paper, papers: &str, row: &str) -> Opt
 }
 
 /// The sheets of a specification on a row, of A3 for pages of A4; or why there are none.
-fn by_specification(out: &mut Answer, spec: &str, row: &str) -> Option<()> {
+fn by_specification(out: &mut Answer, words: &[String]) -> Option<()> {
     let (sheet, page) = (paper_by_name("a3")?, paper_by_name("a4")?);
-    let row = entries(out.alloc, row)?;
-    match read_spec(out.alloc, spec) {
+    let row = entries(out.alloc, word(words, 2)?)?;
+    match read_spec(out.alloc, word(words, 1)?) {
         Ok(spec) => {
             let on = SpecOnRow {
                 spec: &spec,
@@ -56,7 +57,10 @@ fn by_specification(out: &mut Answer, spec: &str, row: &str) -> Option<()> {
 
 /// This many pages, and their papers in turn: `5 a4 a3`. None also if memory runs out.
 fn papers_of(alloc: Global, text: &str) -> Option<(u32, Vec<Paper>)> {
-    let (pages, names) = text.split_once(' ').unwrap_or((text, ""));
+    let (pages, names) = match text.split_once(' ') {
+        Some(parts) => parts,
+        None => (text, ""),
+    };
     let pages = number_of(pages)?;
     let turns = papers_named(alloc, names)?;
     let mut papers = Vec::new(alloc);

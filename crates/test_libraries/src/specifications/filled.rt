@@ -15,19 +15,20 @@ use sheet_plan::{MadeSheets, Plan};
 
 pub fn run(out: &mut Answer, words: &[String]) -> Option<()> {
     match word(words, 0)? {
-        "filled" => filled(out, words, &[])?,
-        "filled_with" => {
-            let papers = [a4(), paper(words, 1)?];
-            filled(out, behind_first(words), &papers)?;
-        }
-        "fitted" => fitted(out, &paper(words, 1)?)?,
-        "scale" => scale(out, &paper(words, 1)?)?,
-        "poster" => poster(out, words)?,
-        "check_poster" => checked(out, words)?,
-        "posters" => posters(out, words)?,
-        _ => return None,
+        "filled" => filled(out, words, &[]),
+        "filled_with" => filled_with(out, words),
+        "fitted" => fitted(out, words),
+        "scale" => scale(out, words),
+        "poster" => poster(out, words),
+        "check_poster" => checked(out, words),
+        "posters" => posters(out, words),
+        _ => None,
     }
-    Some(())
+}
+
+fn filled_with(out: &mut Answer, words: &[String]) -> Option<()> {
+    let papers = [a4(), paper(words, 1)?];
+    filled(out, behind_first(words), &papers)
 }
 
 fn behind_first(words: &[String]) -> &[String] {
@@ -84,8 +85,9 @@ fn tell(out: &mut Answer, made: Result<MadeSheets, ArrangementError>) {
 }
 
 /// How a page is scaled and moved in the second cell, in 10^-9.
-fn fitted(out: &mut Answer, paper: &Paper) -> Option<()> {
-    match two_columns()?.item(paper, 1) {
+fn fitted(out: &mut Answer, words: &[String]) -> Option<()> {
+    let paper = paper(words, 1)?;
+    match two_columns()?.item(&paper, 1) {
         Ok(item) => {
             let (x, y) = (item.offset.0.number, item.offset.1.number);
             let scale = item.scale.billionths();
@@ -96,8 +98,9 @@ fn fitted(out: &mut Answer, paper: &Paper) -> Option<()> {
     Some(())
 }
 
-fn scale(out: &mut Answer, paper: &Paper) -> Option<()> {
-    match two_columns()?.scale(paper) {
+fn scale(out: &mut Answer, words: &[String]) -> Option<()> {
+    let paper = paper(words, 1)?;
+    match two_columns()?.scale(&paper) {
         Ok(scale) => out.line(scale.billionths()),
         Err(error) => out.refusal(error),
     }

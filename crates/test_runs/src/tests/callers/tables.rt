@@ -219,7 +219,12 @@ impl<'t, 's> Calls for Seated<'t, 's> {
 }
 
 // Marks these slots of the first sheet: the first answer that isn't Fresh.
-fn marks<C: Calls>(table: &mut C, from: u32, to: u32, answer: &mut Vec<u8>) -> Result<(), AllocError> {
+fn marks<C: Calls>(
+    table: &mut C,
+    from: u32,
+    to: u32,
+    answer: &mut Vec<u8>,
+) -> Result<(), AllocError> {
     for slot in from..to {
         let reply = table.mark(0, slot.min(65_535) as u16);
         if reply != Some(Reply::Fresh) {
@@ -249,13 +254,23 @@ fn call<C: Calls>(table: &mut C, words: &str, answer: &mut Vec<u8>) -> Result<()
 }
 
 impl<'p> Called for OneThread<'p> {
-    fn call(&mut self, _alloc: Global, words: &str, answer: &mut Vec<u8>) -> Result<(), AllocError> {
+    fn call(
+        &mut self,
+        _alloc: Global,
+        words: &str,
+        answer: &mut Vec<u8>,
+    ) -> Result<(), AllocError> {
         call(self, words, answer)
     }
 }
 
 impl<'t, 's> Called for Seated<'t, 's> {
-    fn call(&mut self, _alloc: Global, words: &str, answer: &mut Vec<u8>) -> Result<(), AllocError> {
+    fn call(
+        &mut self,
+        _alloc: Global,
+        words: &str,
+        answer: &mut Vec<u8>,
+    ) -> Result<(), AllocError> {
         call(self, words, answer)
     }
 }
@@ -511,7 +526,12 @@ struct Lanes<'t> {
 }
 
 // The word and the first bit in which a sheet of so many pages has its lane, if it has one.
-fn lane_at(alloc: Global, text: &str, pages: u32, sheet: u32) -> Result<Option<(u32, u8)>, AllocError> {
+fn lane_at(
+    alloc: Global,
+    text: &str,
+    pages: u32,
+    sheet: u32,
+) -> Result<Option<(u32, u8)>, AllocError> {
     let Ok(spec) = read_spec(alloc, text) else {
         return Err(AllocError);
     };
@@ -534,11 +554,7 @@ impl<'t> Called for Lanes<'t> {
 }
 
 // The first line of a story of lanes that is answered otherwise than it says.
-fn in_lanes<'s>(
-    alloc: Global,
-    text: &str,
-    story: &'s str,
-) -> Result<Option<&'s str>, AllocError> {
+fn in_lanes<'s>(alloc: Global, text: &str, story: &'s str) -> Result<Option<&'s str>, AllocError> {
     first_wrong(alloc, &mut Lanes { text }, story)
 }
 
