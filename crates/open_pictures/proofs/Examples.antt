@@ -6,3 +6,6 @@ pub mod Binding
 pub mod Freer
 pub mod Applied
 pub mod AppliedOwn
+pub mod Values
+pub mod PageRuns
+pub mod Barcode
