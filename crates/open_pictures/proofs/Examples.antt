@@ -7,5 +7,3 @@ pub mod Freer
 pub mod Applied
 pub mod AppliedOwn
 pub mod Values
-pub mod PageRuns
-pub mod Barcode

@@ -5,14 +5,13 @@ use Rattle.std.proofs.Math.Path.{fun_ext}
 use Rattle.std.proofs.lemmas.List.{map-append}
 use Rattle.pictures.specs.Objects.{Object, Procedure, Saved, Kind}
 use Rattle.pictures.specs.Dictionaries.{Entry, entry_of, or}
-use Rattle.pictures.specs.Operators.{Work}
 use Rattle.pictures.specs.Machine.{Kept}
 use Rattle.pictures.specs.Unaware.{is_saved, no_saved, no_saved_in}
-use Rattle.pictures.specs.Shifted.{up, ups, two, Agree, up_work}
+use Rattle.pictures.specs.Shifted.{up, ups, Agree, up_work}
 use Rattle.pictures.proofs.Tests.{first, second}
 use Rattle.pictures.proofs.Shifted.{ups_same}
 use Rattle.pictures.proofs.Names.{agrees_put}
-use Rattle.open_pictures.specs.Operators.{Sight, Outcome, Blind, Table, Stop, AtName, AtOperands, entry, TakesOthers, AsksForNone, AllAskForNone, IsOutside}
+use Rattle.open_pictures.specs.Operators.{Sight, Outcome, Blind, Stop, AtName, AtOperands, entry, TakesOthers, AsksForNone, IsOutside}
 use Rattle.open_pictures.specs.Shelter.{SeesNoMatrices}
 use Rattle.open_pictures.specs.Stores.{Store, Given, Change, Valued, above_save, from_save, is_put, unlevelled, seen, given_of, changed_work, change_made, by_store, or_else, by_stores, FormsTakeOthers}
 use Rattle.open_pictures.specs.Stores.{StoresAskForNone, StoresSeeNoMatrices, StoresAreBlind, StoresArePlacelessThere}

@@ -4,13 +4,13 @@ use Rattle.std.specs.Prelude.{Option, Some, None, if◌then◌else◌, length, o
 use Rattle.std.specs.List.{list_all}
 use Rattle.std.specs.Char.{is_ascii_digit}
 use Rattle.std.proofs.Common.{◌≡◌, ℕ, refl, ap, ap₂, ◌∙◌, sym, Bool, true, false, not, ◌&&◌, ◌||◌, List, [], ◌∷◌, ◌++◌, true≢false, is_none}
-use Rattle.pictures.specs.Objects.{Token, Number, Literal, Bound, Object, Plain, Mark, Procedure, SystemDictionary, Font, Kind, Computation, Computes, Controls, Draws}
+use Rattle.pictures.specs.Objects.{Token, Number, Literal, Bound, Object, Plain, Mark, Procedure, SystemDictionary, Font, Computation, Computes, Controls, Draws}
 use Rattle.pictures.specs.Objects.{CloseArray, Get, Put, Length, LoadArray, Compare, ForAll, Where, Load, Known, MakeDictionary, MakeExecutable, Want, AText, Comparison, Shows}
 use Rattle.pictures.specs.Dictionaries.{Entry, has, system, is_lacked, or, meaning, entry_of}
 use Rattle.pictures.specs.Operators.{Work, with_operands, taken, collected, gathered, judged, loaded, located, holder, known_there, objects_compared, computed_on, controlled_on}
 use Rattle.pictures.proofs.Tests.{first, second}
 use Rattle.pictures.proofs.Names.{not_true}
-use Rattle.open_pictures.specs.Operators.{Sight, Blind, AsksForNone, IsOutside}
+use Rattle.open_pictures.specs.Operators.{Sight, Blind, AsksForNone}
 use Rattle.open_pictures.specs.Stores.{Given, Change, FormsTakeOthers, above_save, from_save, is_put, unlevelled, seen, given_of}
 use Rattle.open_pictures.specs.Composites.{array_tag, making}
 use Rattle.open_pictures.specs.Values.{down_to_mark, are_tokens, closed_array, pushing, system_value, is_in_interpreters, has_any, where_more, load_more, known_more, make_dictionary, get_from, put_into, length_of, load_from, for_all, judging, compared_more, compare_more, show_more, make_executable, formed, named, no_others, ValuesAreBlind, ValuesArePlacelessThere}

@@ -3,7 +3,7 @@
 -- 255. A reference to it is a bound name of such numbers: what it is, its number, and the interval of it (`getinterval`).
 -- So a reference is a token, which an array may have as an element; run, it is pushed.
 use Rattle.std.specs.List.{range_with_len}
-use Rattle.std.specs.Prelude.{ℕ, ◌+◌, List, [], ◌∷◌, ◌++◌, map, Bool, true, false, ◌||◌, ◌==◌, if◌then◌else◌, Option, Some, None, codes, decimal, option_map}
+use Rattle.std.specs.Prelude.{ℕ, ◌+◌, List, [], ◌∷◌, map, ◌||◌, ◌==◌, if◌then◌else◌, Option, Some, None, codes, decimal, option_map}
 use Rattle.rules.specs.Numbers.{number_of}
 use Rattle.pictures.specs.Objects.{Token, Number, Literal, Name, Text, Hexadecimal, Bound, Object, Plain, Array}
 use Rattle.pictures.specs.Dictionaries.{Entry}

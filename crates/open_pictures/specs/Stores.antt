@@ -6,7 +6,6 @@ use Rattle.pictures.specs.Objects.{Token, Object, Saved, Kind, Call}
 use Rattle.pictures.specs.Dictionaries.{Entry, entry_of}
 use Rattle.pictures.specs.Operators.{Work}
 use Rattle.pictures.specs.Unaware.{no_saved, no_saved_in}
-use Rattle.open_pictures.specs.Machine.{Further}
 use Rattle.open_pictures.specs.Blindness.{IsBlind}
 use Rattle.open_pictures.specs.Operators.{Sight, Outcome, Blind, Stroke, Table, by_table, IsOutside, AsksForNone}
 use Rattle.open_pictures.specs.Shelter.{SeesNoMatrices, IsPlacelessThere}

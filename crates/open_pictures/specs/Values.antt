@@ -6,7 +6,7 @@ use Rattle.std.specs.Char.{is_ascii_digit}
 use Rattle.std.specs.Prelude.{◌≡◌, ℕ, ◌+◌, List, [], ◌∷◌, ◌++◌, map, reverse, flat_map, length, take, drop, Bool, true, false, not}
 use Rattle.std.specs.Prelude.{◌&&◌, ◌||◌, ◌==◌, nat_lt, nat_le, if◌then◌else◌, Option, Some, None, codes, bytes_eq, decimal, option_map}
 use Rattle.rules.specs.Numbers.{number_of}
-use Rattle.pictures.specs.Objects.{Token, Number, Literal, Text, Hexadecimal, Bound, Name, Object, Plain, Truth, Mark, Array, Procedure, SystemDictionary, Operator, Call}
+use Rattle.pictures.specs.Objects.{Token, Number, Literal, Hexadecimal, Bound, Name, Object, Plain, Truth, Mark, Array, Procedure, SystemDictionary, Operator, Call}
 use Rattle.pictures.specs.Objects.{Dictionary, Font, Kind, Computes, Controls, Draws, CloseArray, Get, Put, Length, LoadArray, Compare}
 use Rattle.pictures.specs.Objects.{ForAll, Where, Load, Known, MakeDictionary, MakeExecutable, Looks, CopiesPage, Want, ANumber, AText, AnArray, AMatrix, ATruth, Comparison, Effect, Sets, Shows, Segments}
 use Rattle.pictures.specs.Dictionaries.{has, system, is_lacked}

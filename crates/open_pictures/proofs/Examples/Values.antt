@@ -2,7 +2,7 @@
 use Rattle.std.proofs.Common.{◌≡◌, ℕ, List, [], ◌∷◌, refl, Some, None, false, true}
 use Rattle.std.specs.Prelude.{codes, Option, option_map}
 use Rattle.std.specs.Fmt.{digits}
-use Rattle.pictures.specs.Objects.{Token, Number, Literal, Object, Plain, Truth, Array, Hexadecimal, Font, Call}
+use Rattle.pictures.specs.Objects.{Number, Literal, Object, Plain, Truth, Array, Hexadecimal, Font}
 use Rattle.pictures.specs.Machine.{Painting}
 use Rattle.pictures.specs.Scanner.{tokens}
 use Rattle.pictures.proofs.Examples.TwoUp.{number, end_by}

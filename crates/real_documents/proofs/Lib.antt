@@ -1,0 +1,4 @@
+pub mod PageRuns
+pub mod Shown
+pub mod Barcode
+pub mod Groff
