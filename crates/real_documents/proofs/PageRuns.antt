@@ -8,7 +8,7 @@ use Rattle.pictures.specs.Machine.{State, Painting, steps}
 use Rattle.pictures.specs.Scanner.{tokens, IsComplete}
 use Rattle.pictures.specs.Kept.{page_comments_apart}
 use Rattle.pictures.specs.Sheets.{run_of}
-use Rattle.pictures.specs.Documents.{page_of, started}
+use Rattle.pictures.specs.Documents.{page_of}
 use Rattle.pictures.specs.Unaware.{PagePrintsBy, absent, none_before, is_in}
 use Rattle.pictures.proofs.Tests.{first, second}
 use Rattle.pictures.proofs.Own.{nothing_behind, absent_means}
@@ -32,11 +32,6 @@ ends_well s None = false
 ends_well s (Some at) =
     is_last at.left
     && (is_empty at.work.operands && (bytes_eq at.work.dictionaries s.work.dictionaries && (none_before s.level at.saves && has_none at)))
-
--- the state that a run has come to
-abbrev pub reached : Option State → State
-reached None = started []
-reached (Some t) = t
 
 abbrev pub painted_by : Option State → List Painting
 painted_by None = []
