@@ -6,7 +6,8 @@ time, and a painting is its operator with its operands and the graphics state. I
 
 PROVED are the names that the machine of the crate has, each by its definition. FURTHER are operators of the Reference
 that it lacks, and more general forms of those that it has: `Machine(.., further=True)` has them too. If `further` is an
-object (within.Noted), it is asked to note which are used. A name in neither stops the machine.
+object (within.Noted), it is asked to note which are used; if it is values.VALUES, there are those of values.py alone. A
+name in neither stops the machine.
 """
 from dataclasses import dataclass, field, replace
 
@@ -168,6 +169,16 @@ class Null:
 @dataclass(frozen=True)
 class File:
     pass
+
+
+@dataclass(frozen=True)
+class Reference:
+    """To a composite of values.py, or to null: a token, as an array may have it as an element."""
+
+    sort: str
+    number: int = 0
+    first: int = 0
+    count: int = 0
 
 
 class Composite:
@@ -603,6 +614,8 @@ class Machine:
             raise Stopped(f"the token {item.what.decode('latin-1')}")
         elif item == b"}":
             raise Stopped("a closing brace")
+        elif hasattr(item, "run"):
+            item.run(self)
         else:
             self.operands.append(self.own(item) if not isinstance(item, Procedure) else item)
 
@@ -632,6 +645,8 @@ class Machine:
 
     def meaning(self, key):
         value = self.found(key)
+        if value is None and self.further is not True and hasattr(self.further, "named"):
+            value = self.further.named(key)
         if value is None:
             raise Stopped(f"the name {key.decode('latin-1')}")
         return value
@@ -659,13 +674,13 @@ class Machine:
             try:
                 return PROVED[name](self)
             except Operands:
-                if not self.further:
-                    raise Stopped(f"operands of {name.decode()}") from None
+                pass
         if self.further:
             if self.further is not True:
                 self.further.lacks(self, name)
             return perform(self, name)
-        raise Stopped(f"operands of {name.decode()}")
+        if not (hasattr(self.further, "goes_on") and self.further.goes_on(self, name)):
+            raise Stopped(f"operands of {name.decode()}")
 
     # What operators use.
 
@@ -815,7 +830,10 @@ def make_dictionary(m):
 
 def load(m):
     (key,) = m.taken(Literal)
-    m.operands.append(m.meaning(key.name))
+    value = m.found(key.name)
+    if value is None:
+        refused(m, key)
+    m.operands.append(value)
 
 
 def bound(m, item):
@@ -887,8 +905,8 @@ def where(m):
 
 
 def is_token(o):
-    """What an array may hold: a number, a name, a string."""
-    return isinstance(o, (Number, Literal, Name, String))
+    """What an array may hold: a number, a name, a string, a reference."""
+    return isinstance(o, (Number, Literal, Name, String, Reference))
 
 
 def get(m):
@@ -986,7 +1004,7 @@ COMPARED = {
 
 def sort_of(o):
     """What `eq` distinguishes whatever the value."""
-    if isinstance(o, (Name, Literal, String)):
+    if isinstance(o, (Name, Literal, String, Reference)):
         return "name or string"
     if isinstance(o, (Array, Matrix)):
         return "array"
@@ -1047,7 +1065,7 @@ def scale_font(m):
 
 
 def execute(m):
-    (o,) = m.taken(lambda o: isinstance(o, (Procedure, Operator, Number, Name, Literal, String)))
+    (o,) = m.taken(lambda o: isinstance(o, (Procedure, Operator, Number, Name, Literal, String, Reference)))
     m.frames.append(Frame([o])) if isinstance(o, (Operator, Name)) else m.done(o)
 
 

@@ -1,7 +1,8 @@
 """Which law about pictures speaks of a document, by running the second machine: outright, or given further operators; or none, and why.
 
-The closed machine is tried first, then the open one: that with further operators, of crates/open_pictures and open_pictures. The
-operators are noted that a run uses. names.tsv says of each whether it looks at where the page is."""
+The closed machine is tried first, then that with the table of operators on values (values.py), both of which need nobody's word; then the open one,
+with any further operators, of crates/open_pictures. The operators are noted that a run uses. names.tsv says of each whether it looks at where the page
+is."""
 import copy
 from dataclasses import dataclass, field
 from pathlib import Path
@@ -11,6 +12,7 @@ import shelter
 import stubs
 from machine import PROVED, SYSTEMDICT, Dictionary, Font, Machine, Matrix, Operands, Scanner, Stopped, SystemDictionary
 from parts import Document
+from values import VALUES
 
 HERE = Path(__file__).resolve().parent
 PAPER = (595, 842)
@@ -20,18 +22,17 @@ AT_NAME = "the name "
 OF_MATRICES = {b"forall": 2, b"get": 2, b"put": 3, b"aload": 1, b"astore": 1, b"makefont": 1, b"concat": 1, b"getinterval": 3, b"putinterval": 3}
 # What is a font there is a dictionary here.
 AS_FONTS = {b"findfont", b"scalefont", b"setfont", b"selectfont"}
-BARE = "open_pictures::laws::"
-GUARDED = "open_pictures::laws::"
+OPEN = "open_pictures::laws::"
 DRESSED = "dressed_pictures::laws::"
 LAWS = {
     (False, None): f"pictures::laws::sheets_show_the_pages, {DRESSED}dressed_sheets_show_the_pages",
-    (True, None): f"{BARE}open_sheets_show_the_pages, {DRESSED}open_dressed_sheets_show_the_pages",
+    (True, None): f"{OPEN}open_sheets_show_the_pages, {DRESSED}open_dressed_sheets_show_the_pages",
     (False, shelter.GUARDED): f"guarded_pictures::laws::guarded_document_is_shown, {DRESSED}dressed_document_is_shown",
-    (True, shelter.GUARDED): f"{GUARDED}open_guarded_document_is_shown, {DRESSED}open_dressed_document_is_shown",
+    (True, shelter.GUARDED): f"{OPEN}open_guarded_document_is_shown, {DRESSED}open_dressed_document_is_shown",
     (False, shelter.OWN): "guarded_pictures::laws::own_showpage_is_shown, own_made_document_is_shown",
-    (True, shelter.OWN): f"{GUARDED}open_own_showpage_is_shown, open_own_made_document_is_shown",
+    (True, shelter.OWN): f"{OPEN}open_own_showpage_is_shown, open_own_made_document_is_shown",
     (False, shelter.SILENCED): "guarded_pictures::laws::silenced_document_is_shown, silenced_made_document_is_shown",
-    (True, shelter.SILENCED): f"{GUARDED}open_silenced_document_is_shown, open_silenced_made_document_is_shown",
+    (True, shelter.SILENCED): f"{OPEN}open_silenced_document_is_shown, open_silenced_made_document_is_shown",
 }
 LOOKS = {
     "no": "doesn't look at the place",
@@ -127,6 +128,7 @@ class Verdict:
     # whether all premises are met, whatever the names; and each of them
     ran: bool
     premises: list
+    how: str
     # the names that put it outside: of its pages, of its preamble
     wrong: tuple = (set(), set())
 
@@ -170,32 +172,43 @@ def premises_of(document, further):
     found = law.pages(document, further) if runs else []
     for premise in law.PAGE_PREMISES if runs else ():
         premises.append((premise, by_page((number, of[1]) for number, (_, of) in enumerate(found, 1) if of is not None and of[0] == premise)))
-    if further:
+    if further is not False:
         premises = [(opened(words), wrong) for words, wrong in premises]
     return premises, [picture for picture, _ in found]
 
 
-def without_guard(text, is_open):
-    stubs.arrays_as_matrices(is_open)
+# How a document is run.
+CLOSED, TABLE, ANY = "closed", "table", "any"
+
+
+def operators(document, how):
+    """What the machine is given besides its own: nothing, the table, or whatever the Reference has, noted."""
+    return {CLOSED: False, TABLE: VALUES, ANY: Noted(document.preamble) if how is ANY else None}[how]
+
+
+def without_guard(text, how):
+    stubs.arrays_as_matrices(how is ANY)
     document = Document(text)
-    noted = Noted(document.preamble) if is_open else None
-    premises, pictures = premises_of(document, noted or False)
+    further = operators(document, how)
+    premises, pictures = premises_of(document, further)
     why = law.unmet(premises)
-    together = None if why or is_open else law.together(document, pictures)
-    named = LAWS[is_open, None] + (", sheets_show_the_document" if not is_open and together is None else "")
-    return Verdict(None if why else named, why, noted, not why, premises)
+    together = None if why or how is ANY else law.together(document, pictures, further)
+    named = LAWS[how is not CLOSED, None]
+    if how is not ANY and together is None:
+        named += f", {'' if how is CLOSED else OPEN}{'' if how is CLOSED else 'open_'}sheets_show_the_document"
+    return Verdict(None if why else named, why, further or None, not why, premises, how)
 
 
-def with_guard(text, is_open):
+def with_guard(text, how):
     stubs.arrays_as_matrices(False)
-    document = Document(shelter.guarded(text, PAPER, is_open))
-    noted, guard = Noted(document.preamble) if is_open else None, shelter.Guard(PAPER, is_open)
-    premises, form = shelter.ground(document, guard, noted or False)
+    document = Document(shelter.guarded(text, PAPER, how is ANY))
+    further, guard = operators(document, how), shelter.Guard(PAPER, how is ANY)
+    premises, form = shelter.ground(document, guard, further)
     if form is not None:
-        wrong = ((number + 1, shelter.page(document, number, guard, form, noted or False)) for number in range(len(document.pages)))
+        wrong = ((number + 1, shelter.page(document, number, guard, form, further)) for number in range(len(document.pages)))
         premises.append(("each page paints a picture by itself", by_page(wrong)))
     why = law.unmet(premises)
-    return Verdict(None if why else LAWS[is_open, form], why, noted, not why, premises)
+    return Verdict(None if why else LAWS[how is not CLOSED, form], why, further or None, not why, premises, how)
 
 
 def listed(text):
@@ -217,9 +230,12 @@ def listed(text):
 
 
 def verdict(text, by):
-    """By the closed machine, or else by the open one."""
-    closed = by(text, False)
-    return closed if closed.law else by(text, True)
+    """By the closed machine, or else with the table, or else by the open one."""
+    for how in (CLOSED, TABLE):
+        found = by(text, how)
+        if found.law:
+            return found
+    return by(text, ANY)
 
 
 def answers(text):

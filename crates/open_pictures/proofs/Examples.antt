@@ -6,3 +6,4 @@ pub mod Binding
 pub mod Freer
 pub mod Applied
 pub mod AppliedOwn
+pub mod Values

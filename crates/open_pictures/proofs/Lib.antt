@@ -18,4 +18,6 @@ pub mod GuardedImposed
 pub mod States
 pub mod OwnShowpage
 pub mod Silenced
+pub mod Stores
+pub mod Values
 pub mod Examples

@@ -1,6 +1,6 @@
 -- Read in this order: the machine with further operators; what is asked of these; operators that see no place; pages,
 -- sheets and documents. Then, of guarded documents: a page by itself; pages, sheets and documents; made sheets; documents with a
--- showpage of their own, or an empty one.
+-- showpage of their own, or an empty one. Last, operators on values, and a table of such.
 pub mod Machine
 pub mod Blindness
 pub mod Operators
@@ -12,3 +12,7 @@ pub mod Pages
 pub mod Imposed
 pub mod OwnShowpage
 pub mod Silenced
+pub mod Stores
+pub mod Strings
+pub mod Composites
+pub mod Values

@@ -8,6 +8,8 @@ ghost use Rattle.open_pictures.specs.Imposed.{OpenMadeDocumentIsShown};
 ghost use Rattle.open_pictures.specs.OwnShowpage.{OpenOwnMadeDocumentIsShown, OpenOwnPageIsPlaced, OpenOwnShowpageIsShown};
 ghost use Rattle.open_pictures.specs.Pages.{OpenGuardedDocumentIsShown, OpenGuardedPageIsPlaced, OpenGuardedSheetsShowThePages};
 ghost use Rattle.open_pictures.specs.Silenced.{OpenSilencedDocumentIsShown, OpenSilencedMadeDocumentIsShown, OpenSilencedPageIsPlaced};
+ghost use Rattle.open_pictures.specs.Stores.{StoresAreBlind, StoresArePlacelessThere, StoresAskForNone, StoresSeeNoMatrices};
+ghost use Rattle.open_pictures.specs.Values.{ValuesAreBlind, ValuesArePlacelessThere};
 ghost use Rattle.open_pictures.specs.Shelter.{AnswersSeeNoMatrices, OpenShelterCommutes, TablesArePlacelessThere};
 
 /// With any further operators that are placeless, a machine in a placed state does what it does in the state, placed.
@@ -130,4 +132,36 @@ pub fn open_silenced_document_is_shown()
 /// So it prints what impose makes of such a document on sheets that are reported as one paper.
 pub fn open_silenced_made_document_is_shown()
     ensures { OpenSilencedMadeDocumentIsShown }
+{}
+
+// Values.
+
+/// An operator that sees dictionaries but for the names that the sheet's text puts asks for none of these.
+pub fn stores_ask_for_none()
+    ensures { StoresAskForNone }
+{}
+
+/// Nor does it look at what matrices hold.
+pub fn stores_see_no_matrices()
+    ensures { StoresSeeNoMatrices }
+{}
+
+/// A table of such operators is blind.
+pub fn stores_are_blind()
+    ensures { StoresAreBlind }
+{}
+
+/// And it is placeless under the guard.
+pub fn stores_are_placeless_there()
+    ensures { StoresArePlacelessThere }
+{}
+
+/// The table of operators on values is blind, with any others that are.
+pub fn values_are_blind()
+    ensures { ValuesAreBlind }
+{}
+
+/// And it is placeless under the guard.
+pub fn values_are_placeless_there()
+    ensures { ValuesArePlacelessThere }
 {}

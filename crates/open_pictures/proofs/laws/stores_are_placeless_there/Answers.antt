@@ -1,0 +1,5 @@
+use Rattle.open_pictures.proofs.Stores.{stores_are_placeless_there}
+use Rattle.open_pictures.proofs.laws.stores_are_placeless_there.Goals as goal
+
+pub returns : goal.returns
+returns c = stores_are_placeless_there

@@ -1,0 +1,5 @@
+use Rattle.open_pictures.proofs.Values.{values_are_blind}
+use Rattle.open_pictures.proofs.laws.values_are_blind.Goals as goal
+
+pub returns : goal.returns
+returns c = values_are_blind

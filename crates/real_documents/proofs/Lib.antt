@@ -1,0 +1,5 @@
+pub mod PageRuns
+pub mod Preambles
+pub mod Shown
+pub mod Barcode
+pub mod Groff
