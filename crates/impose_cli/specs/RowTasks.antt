@@ -174,7 +174,7 @@ text_for r papers page_paper input = taken_text r.is_guarded (guarded_paper r pa
 abbrev pub own_in : ImposeRequest → (input : List ℕ) → List NestedUnit → List Paper
 own_in r input us = own_papers r.page_paper paper_named r.home_paper input us
 
--- the row that is imposed, before it is sewn: none of its pages if there is no such row, which the run says
+-- the row that is imposed, before it is sewn; an empty one if there is no such row, which the run says
 abbrev pub row_or_none : Result Row RowFault → Row
 row_or_none (Ok row) = row
 row_or_none (Err fault) = []
