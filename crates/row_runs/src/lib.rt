@@ -14,6 +14,7 @@ mod numbered;
 mod planned;
 mod reading;
 mod run;
+mod turning;
 
 pub use asked::{Asked, Laying, asked_sheets};
 pub use by_spec::SpecJob;
@@ -21,3 +22,4 @@ pub use error::AskedError;
 pub use look::{row_plan, row_preview};
 pub use planned::{PlannedSheets, SheetJob};
 pub use run::{LaidRow, RowJob};
+pub use turning::{turned_paper, turned_papers};

@@ -7,11 +7,11 @@ use crate::asked::{Asked, asked_sheets};
 use crate::error::AskedError;
 use crate::marked::strokes_of;
 use crate::numbered::numbers_of;
+use crate::turning::turned_sheets;
 use dressing::{Marks, Numbers, Stroke};
 use dsc::Document;
 use lengths::{Grains, Paper};
 use pagespec::Turn;
-use row_sheets::turned_sheets;
 use sheet_plan::MadeSheets;
 use std::alloc::Global;
 

@@ -26,4 +26,3 @@ mod Specified
 mod AsPrinted
 mod AsDocument
 mod PrintedBacks
-mod Turns
