@@ -38,7 +38,7 @@ use Rattle.row_runs.specs.ToldPages.{told_pages}
 use Rattle.impose_cli.specs.Claims.{IsToldBy}
 use Rattle.impose_cli.specs.Reaches.{reach_in, takes}
 use Rattle.pagespec.specs.Items.{turn_of}
-use Rattle.row_sheets.specs.Turning.{turned_paper}
+use Rattle.row_runs.specs.Turning.{turned_paper}
 use Rattle.papers.specs.declared.reach.Reach.{Reach}
 use Rattle.impose_cli.specs.Tasks.{HasBehind, page_paper_found, sheet_paper_found, taken_text}
 use Rattle.impose_said.specs.Said.{is_same}

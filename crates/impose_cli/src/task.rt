@@ -32,7 +32,7 @@ use layouts::{Binding, Cells, Papers, arrange, bind};
 use lengths::Paper;
 use pagespec::{Spec, Turn, read_spec, write_spec};
 use papers::{Reach, document_paper};
-use row_sheets::turned_paper;
+use row_runs::turned_paper;
 use rows::{Signing, auto_sides};
 use std::alloc::{AllocError, Global};
 

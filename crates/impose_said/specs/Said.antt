@@ -1,7 +1,7 @@
 -- What is said on standard error of how the program ended: which lines, in which order, and what is in those of a finished run. What
 -- a fault's message is no word here says, nor what is said of words that the command doesn't take.
 use Rattle.std.specs.Prelude.{⊤, ◌≡◌, ◌==◌, ◌⊎◌, ◌++◌, if◌then◌else◌, ℕ, List, [], Bool, true, false, Option, Some, None, Result, Ok, Err}
-use Rattle.std.specs.Prelude.{◌+◌, ◌-◌, ◌*◌, ◌/◌, ℤ, pos, int_le, codes, decimal, nat_eq, nat_le, nat_lt, ◌||◌, ◌&&◌, option_map, string_bytes, unwrap_or}
+use Rattle.std.specs.Prelude.{◌+◌, ◌-◌, ◌*◌, ◌/◌, ℤ, pos, int_le, codes, decimal, nat_eq, nat_le, nat_lt, ◌||◌, ◌&&◌, option_map, string_bytes}
 use Rattle.std.specs.Prelude.{length, map, min, take}
 use Rattle.std.specs.List.{ends_with}
 use Rattle.std.specs.IoError.{error_kind}
@@ -14,8 +14,6 @@ use Rattle.rules.specs.Bytes.{line}
 use Rattle.rules.specs.Numbers.{points_text}
 use Rattle.rules.specs.Papers.{Paper}
 use Rattle.layouts.specs.Grids.{count_of}
-use Rattle.pagespec.specs.Items.{turn_of}
-use Rattle.row_sheets.specs.Turning.{turned_paper}
 use Rattle.papers.specs.declared.media.Comment.TheVariants as comment
 use Rattle.papers.specs.declared.boxes.Edges.{Edges}
 use Rattle.papers.specs.declared.cuts.Cut.{Cut}
@@ -87,19 +85,16 @@ counts_text report r = codes "pages " ++ (decimal report.pages ++ (blanks_text (
 abbrev pub is_same : Paper → Paper → Bool
 is_same a b = int_eq a.width b.width && int_eq a.height b.height
 
--- the size of the sheets, if they have another paper than the pages
-abbrev pub sheets_text : (sheet page_paper : Paper) → List ℕ
-sheets_text sheet page_paper =
+-- the size of the sheets, if another paper is named for them than the pages have
+abbrev pub sheets_text : (named : Option Paper) → (page_paper : Paper) → List ℕ
+sheets_text None page_paper = []
+sheets_text (Some sheet) page_paper =
     if is_same sheet page_paper then [] else codes "; sheets of " ++ (size_text sheet ++ codes " pt")
-
--- the paper of the sheets: the one that is named, or else that of the pages once they are turned
-abbrev pub sheet_paper : ImposeRequest → (page_paper : Paper) → Paper
-sheet_paper r page_paper = unwrap_or r.sheet_paper (turned_paper (turn_of r.turn) page_paper)
 
 -- the report: the counts, the size of the pages' paper with where it was found, and that of the sheets (RULES, 17)
 abbrev pub report_text : Finished → ImposeRequest → List ℕ
 report_text finished r = counts_text finished.report r ++ (codes "; pages of " ++ (size_text finished.page_paper
-    ++ (codes " pt, " ++ (origin_text finished.origin ++ sheets_text (sheet_paper r finished.page_paper) finished.page_paper))))
+    ++ (codes " pt, " ++ (origin_text finished.origin ++ sheets_text r.sheet_paper finished.page_paper))))
 
 -- a byte of a name as it is shown: what isn't a printable one of ASCII is a question mark
 abbrev pub shown_byte : ℕ → ℕ

@@ -8,8 +8,7 @@ ghost use Rattle.impose_said.specs.Said.{are_sides as are_sides_of, leaves_text 
 ghost use Rattle.impose_said.specs.Said.{cut_pages_text as text_of_cut_pages, cut_size_text as text_of_cut_size, cut_text as text_of_cut};
 ghost use Rattle.impose_said.specs.Said.{some_pages_text as text_of_some_pages};
 ghost use Rattle.impose_said.specs.Said.{edges_text as text_of_edges, others_text as text_of_others, reach_text as text_of_reach};
-ghost use Rattle.impose_said.specs.Said.{is_same as are_same, report_text as text_of_report};
-ghost use Rattle.impose_said.specs.Said.{sheet_paper as paper_of_sheets, sheets_text as text_of_sheets};
+ghost use Rattle.impose_said.specs.Said.{is_same as are_same, report_text as text_of_report, sheets_text as text_of_sheets};
 ghost use Rattle.impose_said.specs.Said.{sides_text as text_of_sides, size_text as text_of_size};
 ghost use Rattle.impose_said.specs.Said.{found_text as text_of_found, pages_text as text_of_pages, told_text as text_of_told};
 ghost use Rattle.impose_said.specs.Said.{is_pdf_name as names_pdf, origin_text as text_of_origin};
@@ -21,7 +20,6 @@ use impose_words::{ImposeRequest, Layout};
 use imposer::Report;
 use lengths::{Grains, Paper, print_grains};
 use papers::{Comment, Cut, Edges};
-use row_sheets::turned_paper;
 use std::alloc::{AllocError, Global};
 
 /// What is said of a finished run.
@@ -37,32 +35,27 @@ pub fn report_text(
     let size = size_text(alloc, &done.page_paper)?;
     let size = size.as_str();
     let origin = origin_text(done.origin);
-    let sheet_paper = sheet_paper(request, &done.page_paper);
-    let sheets = sheets_text(alloc, &sheet_paper, &done.page_paper)?;
+    let sheets = sheets_text(alloc, &request.sheet_paper, &done.page_paper)?;
     let sheets = sheets.as_str();
     format!(in alloc; "{counts}; pages of {size} pt, {origin}{sheets}")
 }
 
-/// The paper of the sheets: the one that is named, or else that of the pages once they are turned.
-fn sheet_paper(request: &ImposeRequest, page_paper: &Paper) -> Paper
-    ensures { result ≡ paper_of_sheets request.now page_paper.now }
+/// The size of the sheets, if another paper is named for them than the pages have.
+fn sheets_text(
+    alloc: Global,
+    named: &Option<Paper>,
+    page_paper: &Paper,
+) -> Result<String, AllocError>
+    ensures { IfOk result (λ text. string_bytes text ≡ text_of_sheets named.now page_paper.now) }
 {
-    match request.sheet_paper {
-        Some(paper) => paper,
-        None => turned_paper(request.turn, page_paper),
+    match named {
+        Some(sheet) if !is_same(sheet, page_paper) => {
+            let size = size_text(alloc, sheet)?;
+            let size = size.as_str();
+            format!(in alloc; "; sheets of {size} pt")
+        }
+        _ => Ok(String::new(alloc)),
     }
-}
-
-/// The size of the sheets, if they have another paper than the pages.
-fn sheets_text(alloc: Global, sheet: &Paper, page_paper: &Paper) -> Result<String, AllocError>
-    ensures { IfOk result (λ text. string_bytes text ≡ text_of_sheets sheet.now page_paper.now) }
-{
-    if is_same(sheet, page_paper) {
-        return Ok(String::new(alloc));
-    }
-    let size = size_text(alloc, sheet)?;
-    let size = size.as_str();
-    format!(in alloc; "; sheets of {size} pt")
 }
 
 fn is_same(one: &Paper, other: &Paper) -> bool

@@ -9,6 +9,7 @@ mod Counted
 mod OneScale
 mod NotLaid
 mod Turned
+mod Turns
 pub mod Refused
 mod Fit
 mod ReadInOrder

@@ -8,7 +8,7 @@ use Rattle.rules.specs.Run.{most_pages, most_places, most_sheets, refuse_if}
 use Rattle.rules.specs.Specification.{Turn}
 use Rattle.made_sheets.specs.Made.{MadeSheet, MadeSlot, Blank, Placed}
 use Rattle.made_sheets.specs.MadePlans.{MadeFault, MadeNoSuchPage, MadeSlotsOutOfRange, MadeTooManyPages, MadeTooManyPlaces, MadeTooManySheets, is_missing, is_slot_count, refuse_at, slot_count}
-use Rattle.row_sheets.specs.Turning.{turned_sheet, turned_slot}
+use Rattle.row_runs.specs.Turning.{turned_sheet, turned_slot}
 use Rattle.sheet_plan.specs.MadeRefusals.{RefusesMade}
 use Rattle.sheet_plan.specs.declared.error.MadeError.{MadeError}
 use Rattle.sheet_plan.specs.declared.error.MadeError.TheVariants as error

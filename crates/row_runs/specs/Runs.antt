@@ -6,7 +6,7 @@ use Rattle.rules.specs.Output.{Border, border_within}
 use Rattle.made_sheets.specs.Made.{MadeSheet}
 use Rattle.made_sheets.specs.MadePlans.{made_plan_of}
 use Rattle.pagespec.specs.Items.{turn_of}
-use Rattle.row_sheets.specs.Turning.{turned_sheet}
+use Rattle.row_runs.specs.Turning.{turned_sheet}
 use Rattle.sheet_plan.specs.MadeRefusals.{RefusesMade}
 use Rattle.imposer.specs.declared.outcome.Report.{Report}
 use Rattle.row_runs.specs.SheetsRuns.{ReportsOn, told_output}

@@ -15,6 +15,7 @@ mod planned;
 mod reading;
 mod run;
 mod told_pages;
+mod turning;
 
 pub use asked::{Asked, Laying, asked_sheets};
 pub use by_spec::SpecJob;
@@ -23,3 +24,4 @@ pub use look::{row_plan, row_preview};
 pub use planned::{PlannedSheets, SheetJob};
 pub use run::{LaidRow, RowJob};
 pub use told_pages::told_pages;
+pub use turning::{turned_paper, turned_papers};

@@ -14,9 +14,9 @@ use crate::error::{AskedError, plan_error};
 use crate::guides::guides_of;
 use crate::reading::{reading_of, sides_of};
 use crate::run::RowJob;
+use crate::turning::turned_sheets;
 use dressing::Marks;
 use preview::{plan_text, preview_text};
-use row_sheets::turned_sheets;
 use sheet_plan::{MadeError, MadeSheets, Plan};
 use std::alloc::{AllocError, Global};
 

@@ -27,4 +27,3 @@ mod AsPrinted
 mod AsDocument
 mod PrintedBacks
 pub mod NoPlan
-mod Turns

@@ -1,6 +1,6 @@
 -- Read in this order: sheets of a row, and those of a specification; sheets whose cells are filled from a row, and how, or
 -- which of its pages is refused; one scale for all; leaves that creep; how sheets are laid out, and how booklets, stacks and
--- zines are read; posters; sheets of a specification, as it is printed; rows that are laid as documents; turned pages.
+-- zines are read; posters; sheets of a specification, as it is printed; rows that are laid as documents.
 pub mod RowSheets
 pub mod BySpec
 pub mod Filled
@@ -16,4 +16,3 @@ pub mod Posters
 pub mod Specified
 pub mod AsPrinted
 pub mod AsDocument
-pub mod Turning

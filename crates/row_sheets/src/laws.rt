@@ -11,7 +11,6 @@ ghost use Rattle.row_sheets.specs.Stacked.{CellsLieBehind, LeavesAreRead, StackI
 ghost use Rattle.row_sheets.specs.Posters.{PosterCovers, PosterHasTiles, RowIsShown, TilesOverlap};
 ghost use Rattle.row_sheets.specs.SameScale.{HaveOneScale, OneScaleStands};
 ghost use Rattle.row_sheets.specs.Standing.{FilledStandsInCells};
-ghost use Rattle.row_sheets.specs.Turning.{TurnedStands, TurnsAddUp};
 ghost use Rattle.row_sheets.specs.Zine.{ZineIsRead};
 
 /// Of all pages, in signatures or not, the sheets of a specification on their row are those of the rules.
@@ -172,14 +171,4 @@ pub fn nothing_is_written_of_numbers()
 /// A row of pages is laid as all pages of the document that consists of them, in the same cells.
 pub fn row_is_document()
     ensures { RowIsDocument }
-{}
-
-/// Two quarter turns of a page are half a turn, three are one to the right, and four are none.
-pub fn turns_add_up()
-    ensures { TurnsAddUp }
-{}
-
-/// Each point of a turned page stands where a page of the turned paper would have it, to 10^-5 of a point.
-pub fn turned_stands()
-    ensures { TurnedStands }
 {}

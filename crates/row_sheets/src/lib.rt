@@ -10,7 +10,6 @@ mod poster;
 mod poster_rows;
 mod same_scale;
 mod selecting;
-mod turning;
 
 pub use by_spec::{SpecOnRow, spec_sheets};
 pub use checked::{check_cells, check_posters};
@@ -20,4 +19,3 @@ pub use poster::{Poster, PosterError, check_poster, poster_sheets};
 pub use poster_rows::poster_row_sheets;
 pub use same_scale::at_one_scale;
 pub use selecting::select;
-pub use turning::{turned_paper, turned_papers, turned_sheets};

@@ -4,7 +4,7 @@ ghost use Rattle.rules.specs.Papers.{is_side};
 ghost use Rattle.rules.specs.Placement.{turned as turned_point};
 ghost use Rattle.pagespec.specs.Items.{item_of, measure_of, turn_of};
 ghost use Rattle.sheet_plan.specs.OfSheets.{placed_of, slot_of, slots_at};
-ghost use Rattle.row_sheets.specs.Turning as meaning;
+ghost use Rattle.row_runs.specs.Turning as meaning;
 
 use lengths::{Grains, Number, Paper};
 use pagespec::{Item, Measure, Turn};
@@ -47,7 +47,7 @@ fn all_papers(alloc: Global, turn: Turn, papers: &[Paper]) -> Result<Vec<Paper>,
 
 /// The same sheets with the pages turned, which were laid as pages of the papers that they have then. Refused are, for want
 /// of memory, 2^32 sheets and a place of 100,000 points or more.
-pub fn turned_sheets(
+pub(crate) fn turned_sheets(
     alloc: Global,
     turn: Turn,
     sheets: MadeSheets,

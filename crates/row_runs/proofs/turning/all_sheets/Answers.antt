@@ -3,9 +3,9 @@ use Rattle.std.proofs.lemmas.List.{take_all}
 use Rattle.std.specs.Prelude.{List, map}
 use Rattle.pagespec.specs.Items.{turn_of}
 use Rattle.made_sheets.specs.Made.{MadeSheet, MadeSlot}
-use Rattle.row_sheets.specs.Turning.{turned_sheet, turned_slot}
-use Rattle.row_sheets.proofs.Turns.{one_more, sheet_at}
-use Rattle.row_sheets.proofs.turning.all_sheets.Goals as goal
+use Rattle.row_runs.specs.Turning.{turned_sheet, turned_slot}
+use Rattle.row_runs.proofs.Turns.{one_more, sheet_at}
+use Rattle.row_runs.proofs.turning.all_sheets.Goals as goal
 
 pub loop-sheet-preserved : goal.loop-sheet-preserved
 loop-sheet-preserved c =

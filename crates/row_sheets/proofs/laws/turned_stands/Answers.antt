@@ -1,5 +1,0 @@
-use Rattle.row_sheets.proofs.Turns.{turned_stands}
-use Rattle.row_sheets.proofs.laws.turned_stands.Goals as goal
-
-pub returns : goal.returns
-returns c = turned_stands
