@@ -16,12 +16,13 @@ use Rattle.sheet_plan.specs.Refusals.{Refuses, RefusesIn}
 use Rattle.sheet_plan.specs.declared.error.PlanError.{PlanError}
 use Rattle.sheet_text.specs.Jobs.{JobView, is_border, of_frame}
 use Rattle.sheet_writer.specs.Sinks.{fresh_sink}
-use Rattle.imposer.proofs.Made.{job_answers}
+use Rattle.planned_runs.proofs.Made.{job_answers}
 use Rattle.imposer.proofs.Refusals.{refused_plan}
-use Rattle.imposer.specs.Outcomes.{of_plan}
+use Rattle.planned_runs.specs.Outcomes.{of_plan}
 use Rattle.imposer.specs.Runs.{Accepted, Reports, frame_of, request}
-use Rattle.imposer.specs.Workers.{AreOptions, AreWorkers}
-use Rattle.imposer.specs.declared.outcome.RunError.{RunError}
+use Rattle.imposer.specs.Options.{AreOptions}
+use Rattle.planned_runs.specs.Workers.{AreWorkers}
+use Rattle.planned_runs.specs.declared.outcome.RunError.{RunError}
 use Rattle.impose_said.specs.declared.fault.ImposeFault.{ImposeFault}
 use Rattle.impose_said.specs.declared.fault.ImposeFault.TheVariants as fault
 use Rattle.impose_said.specs.declared.finished.Done.{Done}
@@ -30,7 +31,7 @@ use Rattle.impose_cli.specs.Endings.{Comes, IsImposed, RefusesImposing, RefusesS
 use Rattle.impose_cli.specs.Refusals.{RefusesTask}
 use Rattle.impose_cli.specs.declared.runs.About.{About}
 use Rattle.impose_cli.proofs.Coming.{comes_as, comes_refused, comes_reported}
-use Rattle.imposer.specs.declared.outcome.Report.{Report}
+use Rattle.planned_runs.specs.declared.outcome.Report.{Report}
 use Rattle.row_runs.specs.ToldPages.{told_pages}
 use Rattle.impose_cli.specs.Claims.{IsToldBy}
 use Rattle.impose_said.specs.declared.finished.Told.{Told}

@@ -15,7 +15,7 @@ use Rattle.dsc.proofs.Slices.{text_whole}
 use Rattle.rules.specs.Parts.{NestedUnit, bytes_of, pages}
 use Rattle.rules.specs.Run.{document_of}
 use Rattle.rows.specs.Sewing.{MayBeSewn}
-use Rattle.imposer.specs.declared.outcome.Report.{Report}
+use Rattle.planned_runs.specs.declared.outcome.Report.{Report}
 use Rattle.row_runs.specs.declared.run.RowJob.{RowJob}
 use Rattle.row_runs.specs.Runs.{AreTurned, Imposes, border_on, drawn_of, page_count}
 use Rattle.row_runs.specs.SheetsRuns.{ReportsOn, told_output}

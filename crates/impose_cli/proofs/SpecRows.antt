@@ -4,7 +4,7 @@ use Rattle.std.specs.Prelude.{IfSome, option_map, string_bytes}
 use Rattle.made_sheets.specs.Made.{MadeSheet}
 use Rattle.rows.specs.Sewing.{MayBeSewn}
 use Rattle.rules.specs.Run.{document_of}
-use Rattle.imposer.specs.declared.outcome.Report.{Report}
+use Rattle.planned_runs.specs.declared.outcome.Report.{Report}
 use Rattle.dressing.specs.Numbered.{nothing_drawn}
 use Rattle.row_runs.specs.BySpec.{AreBySpec, ImposesBySpec, border_by_spec, pages_of}
 use Rattle.row_runs.specs.declared.by_spec.SpecJob.{SpecJob}

@@ -10,8 +10,8 @@ use Rattle.sheet_plan.specs.OfSheets.{made_plan}
 use Rattle.sheet_plan.specs.Places.{born_complete}
 use Rattle.sheet_text.specs.Jobs.{JobView, output_of}
 use Rattle.dressing.specs.Numbered.{Drawn}
-use Rattle.imposer.specs.Gathering.{ReportsOf}
-use Rattle.imposer.specs.declared.outcome.Report.{Report}
+use Rattle.planned_runs.specs.Gathering.{ReportsOf}
+use Rattle.planned_runs.specs.declared.outcome.Report.{Report}
 use Rattle.row_runs.specs.SheetsRuns.{ReportsOn, told_output}
 
 -- the report

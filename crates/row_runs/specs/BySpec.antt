@@ -12,7 +12,7 @@ use Rattle.rows.specs.Refusals.{RefusesRow}
 use Rattle.rows.specs.Sewing.{signing_of}
 use Rattle.row_sheets.specs.BySpec.{by_spec}
 use Rattle.sheet_plan.specs.MadeRefusals.{RefusesMade}
-use Rattle.imposer.specs.declared.outcome.Report.{Report}
+use Rattle.planned_runs.specs.declared.outcome.Report.{Report}
 use Rattle.dressing.specs.Numbered.{nothing_drawn}
 use Rattle.row_runs.specs.SheetsRuns.{ReportsOn, told_output}
 use Rattle.row_runs.specs.declared.by_spec.SpecJob.{SpecJob}

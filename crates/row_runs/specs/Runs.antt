@@ -8,7 +8,7 @@ use Rattle.made_sheets.specs.MadePlans.{made_plan_of}
 use Rattle.pagespec.specs.Items.{turn_of}
 use Rattle.row_runs.specs.Turning.{turned_sheet}
 use Rattle.sheet_plan.specs.MadeRefusals.{RefusesMade}
-use Rattle.imposer.specs.declared.outcome.Report.{Report}
+use Rattle.planned_runs.specs.declared.outcome.Report.{Report}
 use Rattle.row_runs.specs.SheetsRuns.{ReportsOn, told_output}
 use Rattle.row_runs.specs.Sheets.{AreAsked, row_chosen}
 use Rattle.row_runs.specs.Sheets as sheets

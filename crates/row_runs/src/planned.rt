@@ -8,8 +8,8 @@ ghost use Rattle.dressing.specs.Numbered.{drawn_on};
 ghost use Rattle.sheet_plan.specs.OfSheets.{made_plan};
 ghost use Rattle.sheet_text.specs.Dressings.{dress_in};
 ghost use Rattle.sheet_text.specs.Jobs.{is_border, output_of};
-ghost use Rattle.imposer.specs.Gathering.{ReportsOf};
-ghost use Rattle.imposer.specs.declared.outcome.Report.{Report};
+ghost use Rattle.planned_runs.specs.Gathering.{ReportsOf};
+ghost use Rattle.planned_runs.specs.declared.outcome.Report.{Report};
 ghost use Rattle.row_runs.specs.SheetsRuns.{RefusesSheets, ReportsIn, drawn_in, output_in};
 
 use crate::error::{AskedError, plan_error};

@@ -2,8 +2,7 @@
 use crate::tests::checks::assert_that;
 use crate::tests::workers;
 use dsc::Document;
-use imposed_again_runs::laws;
-use imposer::{MemorySink, Open, run};
+use imposer::{MemorySink, Open, again, run};
 use std::alloc::Global;
 use std::sync::Wait;
 use std::test::Fail;
@@ -54,6 +53,6 @@ fn an_open_page_hides_the_sheet_after_it(rt: HostRuntime) -> Result<(), Fail> {
 
 #[test]
 fn laws_are_called(_: HostRuntime) {
-    laws::run_is_document();
-    laws::runs_go_on();
+    again::run_is_document();
+    again::runs_go_on();
 }
