@@ -1,6 +1,7 @@
 -- What is made of papers: the lines of a header so far, and the dress.
-use Rattle.std.proofs.Common.{ℕ, suc, append_assoc, sym, ◌<◌, ◌≡◌, ◌∙◌, refl, ap, arith, [], ◌∷◌, ◌++◌, List, length, map, codes, Bool, true, false}
+use Rattle.std.proofs.Common.{ℕ, append_assoc, sym, ◌≡◌, ◌∙◌, refl, ap, arith, [], ◌∷◌, ◌++◌, List, length, map, codes, Bool, true, false}
 use Rattle.std.specs.Prelude.{if◌then◌else◌, nat_lt, Option, Some, None}
+use Rattle.std.proofs.lemmas.Bool.{lt-ltb}
 use Rattle.rules.specs.Papers.{Paper}
 use Rattle.made_sheets.specs.Dress.{Dress}
 use Rattle.papers.specs.Told.{box_line, box_lines, exact_box_line, is_whole, whole_paper, medium_line, size_name, telling_of}
@@ -30,15 +31,34 @@ kept header tells finish numbers = record {
   finish = λ s paper. with_numbers numbers finish s;
 }
 
+-- more than one
+abbrev several : List Paper → Bool
+several [] = false
+several (p ∷ []) = false
+several (p ∷ q ∷ ps) = true
+
+are_several : (told : List Paper) → nat_lt 1 (length told) ≡ several told
+are_several [] = refl
+are_several (p ∷ []) = refl
+are_several (p ∷ q ∷ ps) = lt-ltb 1 (length (p ∷ q ∷ ps)) (omega arith)
+
 -- with what is drawn
-pub drawn : (told : List Paper) (strokes : List Stroke) (numbers : Option Numbers)
-    → kept (telling_of told).header (nat_lt 1 (length told)) (mark_lines strokes) numbers ≡ drawn_on (record { strokes = strokes; numbers = numbers }) (telling_of told)
-drawn [] strokes None = refl
-drawn [] strokes (Some n) = refl
-drawn (p ∷ []) strokes None = refl
-drawn (p ∷ []) strokes (Some n) = refl
-drawn (p ∷ q ∷ ps) strokes None = refl
-drawn (p ∷ q ∷ ps) strokes (Some n) = refl
+dressed : (told : List Paper) (strokes : List Stroke) (numbers : Option Numbers)
+    → kept (telling_of told).header (several told) (mark_lines strokes) numbers ≡ drawn_on (record { strokes = strokes; numbers = numbers }) (telling_of told)
+dressed [] strokes None = refl
+dressed [] strokes (Some n) = refl
+dressed (p ∷ []) strokes None = refl
+dressed (p ∷ []) strokes (Some n) = refl
+dressed (p ∷ q ∷ ps) strokes None = refl
+dressed (p ∷ q ∷ ps) strokes (Some n) = refl
+
+pub drawn : (told : List Paper) (strokes : List Stroke) (numbers : Option Numbers) (header finish : List (List ℕ)) → header ≡ (telling_of told).header → finish ≡ mark_lines strokes
+    → kept header (nat_lt 1 (length told)) finish numbers ≡ drawn_on (record { strokes = strokes; numbers = numbers }) (telling_of told)
+drawn told strokes numbers header finish is_header is_finish =
+    ap (λ (h : List (List ℕ)). kept h (nat_lt 1 (length told)) finish numbers) is_header
+    ∙ ap (λ (b : Bool). kept (telling_of told).header b finish numbers) (are_several told)
+    ∙ ap (λ (f : List (List ℕ)). kept (telling_of told).header (several told) f numbers) is_finish
+    ∙ dressed told strokes numbers
 
 pub no_marks_are_telling : NoMarksAreTelling
 no_marks_are_telling [] = refl

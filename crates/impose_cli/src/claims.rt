@@ -3,12 +3,12 @@ ghost use Rattle.std.specs.Prelude.{◌≡◌, codes, option_map};
 ghost use Rattle.papers.specs.Media.{comment_value, contents};
 ghost use Rattle.impose_cli.specs.Claims as meaning;
 
-use crate::told_pages::told_pages;
 use dsc::header_len;
 use impose_said::Told;
 use impose_words::ImposeRequest;
 use lengths::Paper;
 use papers::{Comment, document_paper, first_comment, first_name};
+use row_runs::told_pages;
 use std::alloc::Global;
 
 /// What a document says of itself, as far as it is reported. Without memory for a name it has none.

@@ -13,7 +13,7 @@ pub use planned_runs::{
 };
 pub use run_steps::{DeliverError, Delivered, ImposeError, Imposed, deliver, impose};
 pub use runs::run;
-pub use sheet_text::{Dress, Job, Lines, SheetLines, sheet_text};
+pub use sheet_text::{Dress, Job, Lines, Numbers, sheet_text};
 pub use sheet_writer::{MemorySink, Sink, SinkFault, WriteSink};
 pub use statuses::run_status;
 pub use std::alloc::AllocError as NoMemory;
