@@ -13,5 +13,6 @@ mod words;
 pub use case_file::{
     BadLine, Case, CaseFile, Digest, Document, Input, Setting, WantedFile, WantedText,
 };
-pub use tally::{Caller, Found, FoundFile, run_files};
+pub use reading::read_case_file;
+pub use tally::{Caller, Found, FoundFile, Tally, run_files, text_of_file};
 pub use words::words_of;

@@ -40,33 +40,14 @@ pub trait Caller {
     fn call(&self, file: &CaseFile<'_>, case: &Case<'_>) -> Result<Option<Found>, AllocError>;
 }
 
-/// The number of cases, and of those that differ.
-#[derive(Clone, Copy)]
-struct Tally {
-    cases: usize,
-    differ: usize,
-}
-
-impl Tally {
-    fn count(&mut self, differs: bool) {
-        self.cases = self.cases.saturating_add(1);
-        if differs {
-            self.differ = self.differ.saturating_add(1);
-        }
-    }
-}
-
 /// Goes through the case files of these names, in the folder in which the program runs. It prints the lines that can't be
 /// understood, which count as cases that differ; the cases that differ; and how many there are.
 pub fn run_files<C: Caller>(rt: &HostRuntime, caller: &C, names: &[&str]) -> io::Result<()> {
-    let mut tally = Tally {
-        cases: 0,
-        differ: 0,
-    };
+    let mut tally = Tally::new();
     for name in names {
         run_file(rt, caller, name, &mut tally)?;
     }
-    println!(rt; "{} cases, {} differ", tally.cases, tally.differ)
+    tally.end(rt)
 }
 
 fn run_file<C: Caller>(
@@ -75,32 +56,84 @@ fn run_file<C: Caller>(
     name: &str,
     tally: &mut Tally,
 ) -> io::Result<()> {
-    let text = fs::read_to_string(rt, name)?;
+    let text = text_of_file(rt, name)?;
     let file = read_case_file(rt.alloc(), text.as_str())?;
-    for bad in file.bad_lines.iter() {
-        tally.count(true);
-        println!(rt; "{name}:{}: not understood: {}", bad.line, bad.text)?;
-    }
+    tally.tell_bad_lines(rt, name, &file)?;
     for case in file.cases.iter() {
-        let report = report_of(rt, caller, &file, case)?;
-        tally.count(!report.is_empty());
-        if !report.is_empty() {
-            print!(rt; "{name}:{}: $ {}\n{report}", case.line, case.command)?;
-        }
+        let found = caller.call(&file, case)?;
+        tally.tell(rt, name, case, &found)?;
     }
     Ok(())
 }
 
+/// The text of the file of that name.
+pub fn text_of_file(rt: &HostRuntime, name: &str) -> io::Result<String> {
+    fs::read_to_string(rt, name)
+}
+
+/// The number of cases, and of those that differ.
+#[derive(Clone, Copy)]
+pub struct Tally {
+    cases: usize,
+    differ: usize,
+}
+
+impl Tally {
+    pub fn new() -> Tally {
+        Tally {
+            cases: 0,
+            differ: 0,
+        }
+    }
+
+    /// Prints the lines of a file that can't be understood. Each counts as a case that differs.
+    pub fn tell_bad_lines(
+        &mut self,
+        rt: &HostRuntime,
+        name: &str,
+        file: &CaseFile<'_>,
+    ) -> io::Result<()> {
+        for bad in file.bad_lines.iter() {
+            self.count(true);
+            println!(rt; "{name}:{}: not understood: {}", bad.line, bad.text)?;
+        }
+        Ok(())
+    }
+
+    /// Counts a case, and prints how it differs, if it does.
+    pub fn tell(
+        &mut self,
+        rt: &HostRuntime,
+        name: &str,
+        case: &Case<'_>,
+        found: &Option<Found>,
+    ) -> io::Result<()> {
+        let report = report_of(rt.alloc(), case, found)?;
+        self.count(!report.is_empty());
+        if !report.is_empty() {
+            print!(rt; "{name}:{}: $ {}\n{report}", case.line, case.command)?;
+        }
+        Ok(())
+    }
+
+    /// Prints the last line.
+    pub fn end(&self, rt: &HostRuntime) -> io::Result<()> {
+        println!(rt; "{} cases, {} differ", self.cases, self.differ)
+    }
+
+    fn count(&mut self, differs: bool) {
+        self.cases = self.cases.saturating_add(1);
+        if differs {
+            self.differ = self.differ.saturating_add(1);
+        }
+    }
+}
+
 /// How a case differs, in lines, or why it can't be run. Empty if it doesn't differ.
-fn report_of<C: Caller>(
-    rt: &HostRuntime,
-    caller: &C,
-    file: &CaseFile<'_>,
-    case: &Case<'_>,
-) -> Result<String, AllocError> {
-    let mut report = String::new(rt.alloc());
-    match caller.call(file, case)? {
-        Some(found) => push_differences(rt.alloc(), &mut report, case, &found)?,
+fn report_of(alloc: Global, case: &Case<'_>, found: &Option<Found>) -> Result<String, AllocError> {
+    let mut report = String::new(alloc);
+    match found {
+        Some(found) => push_differences(alloc, &mut report, case, found)?,
         None => report.push_str("  no such command or setting\n")?,
     }
     Ok(report)

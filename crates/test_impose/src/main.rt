@@ -8,11 +8,10 @@ mod made_faults;
 mod runs;
 
 use runs::found_of_case;
-use std::alloc::{AllocError, Global};
 use std::io;
 use std::sync::Wait;
 use std::thread::Threads;
-use test_cases::{Caller, Case, CaseFile, Found, run_files};
+use test_cases::{Tally, read_case_file, text_of_file};
 
 /// The case files.
 const FILES: [&str; 7] = [
@@ -26,22 +25,26 @@ const FILES: [&str; 7] = [
 ];
 
 fn main(rt: HostRuntime) -> io::Result<()> {
-    let commands = Commands {
-        rt: &rt,
-        alloc: rt.alloc(),
-    };
-    run_files(&rt, &commands, &FILES)
-}
-
-/// The program and what it is made of, with threads that this handle starts.
-#[derive(Drop)]
-struct Commands<'r, R> {
-    rt: &'r R,
-    alloc: Global,
-}
-
-impl<'r, R: Threads + Wait + Sync> Caller for Commands<'r, R> {
-    fn call(&self, file: &CaseFile<'_>, case: &Case<'_>) -> Result<Option<Found>, AllocError> {
-        found_of_case(self.rt, self.alloc, file, case)
+    let mut tally = Tally::new();
+    for name in FILES {
+        run_file(&rt, &rt, name, &mut tally)?;
     }
+    tally.end(&rt)
+}
+
+/// Runs each case of the file, with threads that this handle starts.
+fn run_file<R: Threads + Wait + Sync>(
+    rt: &HostRuntime,
+    threads: &R,
+    name: &str,
+    tally: &mut Tally,
+) -> io::Result<()> {
+    let text = text_of_file(rt, name)?;
+    let file = read_case_file(rt.alloc(), text.as_str())?;
+    tally.tell_bad_lines(rt, name, &file)?;
+    for case in file.cases.iter() {
+        let found = found_of_case(threads, rt.alloc(), &file, case)?;
+        tally.tell(rt, name, case, &found)?;
+    }
+    Ok(())
 }

@@ -11,7 +11,7 @@ use std::alloc::{AllocError, Global};
 use std::io;
 use std::sync::Wait;
 use std::thread::Threads;
-use test_cases::{Caller, Case, CaseFile, Found, run_files};
+use test_cases::{Case, CaseFile, Found, Tally, read_case_file, text_of_file};
 use worlds::ran;
 
 /// The case files.
@@ -25,30 +25,43 @@ const FILES: [&str; 5] = [
 
 fn main(rt: HostRuntime) -> io::Result<()> {
     corpus::impose_all(&rt, &rt)?;
-    let commands = Commands {
-        rt: &rt,
-        alloc: rt.alloc(),
-    };
-    run_files(&rt, &commands, &FILES)
+    let mut tally = Tally::new();
+    for name in FILES {
+        run_file(&rt, &rt, name, &mut tally)?;
+    }
+    tally.end(&rt)
 }
 
-/// The program and what it is made of, with threads that this handle starts.
-#[derive(Drop)]
-struct Commands<'r, R> {
-    rt: &'r R,
+/// Runs each case of the file, with threads that this handle starts.
+fn run_file<R: Threads + Wait + Sync>(
+    rt: &HostRuntime,
+    threads: &R,
+    name: &str,
+    tally: &mut Tally,
+) -> io::Result<()> {
+    let text = text_of_file(rt, name)?;
+    let file = read_case_file(rt.alloc(), text.as_str())?;
+    tally.tell_bad_lines(rt, name, &file)?;
+    for case in file.cases.iter() {
+        let found = found(threads, rt.alloc(), &file, case)?;
+        tally.tell(rt, name, case, &found)?;
+    }
+    Ok(())
+}
+
+/// The result of a case, by the call that its first word names.
+fn found<R: Threads + Wait + Sync>(
+    rt: &R,
     alloc: Global,
-}
-
-impl<'r, R: Threads + Wait + Sync> Caller for Commands<'r, R> {
-    /// The result of a case, by the call that its first word names.
-    fn call(&self, file: &CaseFile<'_>, case: &Case<'_>) -> Result<Option<Found>, AllocError> {
-        let Some((call, words)) = case.words.as_slice().split_first() else {
-            return Ok(None);
-        };
-        match call.as_str() {
-            "pstops" => ran(self.rt, self.alloc, words, file, case),
-            "read_command" => Ok(Some(asked(self.alloc, words)?)),
-            _ => Ok(None),
-        }
+    file: &CaseFile<'_>,
+    case: &Case<'_>,
+) -> Result<Option<Found>, AllocError> {
+    let Some((call, words)) = case.words.as_slice().split_first() else {
+        return Ok(None);
+    };
+    match call.as_str() {
+        "pstops" => ran(rt, alloc, words, file, case),
+        "read_command" => Ok(Some(asked(alloc, words)?)),
+        _ => Ok(None),
     }
 }

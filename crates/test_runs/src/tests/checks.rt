@@ -15,9 +15,3 @@ pub(super) fn assert_bytes<R: Abort>(rt: &R, found: &[u8], wanted: &[u8]) {
 pub(super) fn assert_told<R: Abort>(rt: &R, wrong: Option<&str>) {
     assert_eq!(rt; wrong, None);
 }
-
-/// Whether a text begins with these bytes.
-pub(super) fn begins_with(text: &[u8], first: &[u8]) -> bool {
-    let (front, _) = text.split_at(first.len().min(text.len()));
-    front == first
-}

@@ -2,7 +2,7 @@
 ghost use Rattle.std.specs.Prelude.{◌<◌, None};
 
 use super::{Trial, run_into};
-use crate::tests::checks::{assert_bytes, assert_that, begins_with};
+use crate::tests::checks::{assert_bytes, assert_that};
 use imposer::{MemorySink, Open, RunError, Sink, SinkFault, WriteSink};
 use std::alloc::{AllocError, Global};
 use std::io::{self, ErrorKind, Write};
@@ -44,7 +44,7 @@ fn written_into<R: Threads + Wait + Sync>(
         Err(_) => return None,
     };
     let taken = sink.bytes();
-    if begins_with(output.as_bytes(), taken) && taken.len() as u64 == written {
+    if output.as_bytes().starts_with(taken) && taken.len() as u64 == written {
         Some(written)
     } else {
         None

@@ -3,7 +3,7 @@
 ghost use Rattle.handover.specs.Shelves.{IsOn};
 
 use super::gatherer::{Gatherer, gatherer_of, outcome_of};
-use super::stories::{Called, Told, number, say, show, tell};
+use super::stories::{Called, Told, number, show, tell};
 use crate::tests::checks::{assert_that, assert_told};
 use crate::tests::jobs::{Task, with_job};
 use dsc::prepare;
@@ -11,7 +11,8 @@ use gather_table::GatherTable;
 use handover::{Overflow, Prepared, PutError, Ready, Receipt, Shelf};
 use imposer::{DeliverError, Delivered, Job};
 use run_steps::Answers;
-use std::alloc::{AllocError, Global};
+use std::alloc::Global;
+use std::io::Write;
 use std::process::Abort;
 use std::sync::Wait;
 use std::test::Fail;
@@ -25,22 +26,22 @@ struct InStory<'r, 's, 'j, 't, 'd, R> {
 }
 
 /// What a delivery is answered.
-fn show_delivered(delivered: &Delivered<'_>, answer: &mut Vec<u8>) -> Result<(), AllocError> {
+fn show_delivered(delivered: &Delivered<'_>, answer: &mut Vec<u8>) -> anyhow::Result<()> {
     let published = delivered.published;
     let replies = delivered.replies.as_slice();
     let closings = delivered.closings.as_slice();
     let handed_back = delivered.handed_back.as_slice();
-    say(
-        format_args!("{published:?} {replies:?} {closings:?} {handed_back:?}"),
+    Ok(write!(
         answer,
-    )
+        "{published:?} {replies:?} {closings:?} {handed_back:?}"
+    )?)
 }
 
 /// What comes of a delivery.
 fn show_delivery(
     delivery: Result<Delivered<'_>, DeliverError<'_>>,
     answer: &mut Vec<u8>,
-) -> Result<(), AllocError> {
+) -> anyhow::Result<()> {
     match delivery {
         Ok(delivered) => show_delivered(&delivered, answer),
         Err(DeliverError::NoMemory(prepared)) => show_unshelved(&prepared, answer),
@@ -49,8 +50,8 @@ fn show_delivery(
 }
 
 /// A page that comes back for want of memory.
-fn show_unshelved(prepared: &Prepared<'_>, answer: &mut Vec<u8>) -> Result<(), AllocError> {
-    say(format_args!("NoMemory {}", prepared.page()), answer)
+fn show_unshelved(prepared: &Prepared<'_>, answer: &mut Vec<u8>) -> anyhow::Result<()> {
+    Ok(write!(answer, "NoMemory {}", prepared.page())?)
 }
 
 /// Delivers a page.
@@ -60,7 +61,7 @@ fn deliver<R: Wait>(
     gatherer: &mut Gatherer<'_, '_, '_, '_>,
     page: u32,
     answer: &mut Vec<u8>,
-) -> Result<(), AllocError> {
+) -> anyhow::Result<()> {
     let prepared = gatherer.prepare(alloc, page)?;
     match gatherer.deliver(rt, alloc, prepared) {
         Some(delivery) => show_delivery(delivery, answer),
@@ -75,7 +76,7 @@ fn deliver_again<R: Wait>(
     gatherer: &mut Gatherer<'_, '_, '_, '_>,
     page: u32,
     answer: &mut Vec<u8>,
-) -> Result<(), AllocError> {
+) -> anyhow::Result<()> {
     let prepared = gatherer.prepare(alloc, page)?;
     let first = gatherer.deliver_page(rt, alloc, page)?;
     match gatherer.deliver_again(rt, prepared, Answers::of(first)) {
@@ -119,15 +120,13 @@ fn put<'d, R: Wait>(
     job: &Job<'_, 'd>,
     page: u32,
     answer: &mut Vec<u8>,
-) -> Result<(), AllocError> {
+) -> anyhow::Result<()> {
     let document = job.document();
     if page >= document.pages() {
         return show("no such page", answer);
     }
     let raw = document.page(page);
-    let Ok(body) = prepare(alloc, raw) else {
-        return Err(AllocError);
-    };
+    let body = prepare(alloc, raw)?;
     let known = Known {
         page,
         raw,
@@ -150,7 +149,7 @@ fn shown_at(shelf: &Shelf<'_>, index: u32) -> Option<u32> {
 }
 
 impl<'r, 's, 'j, 't, 'd, R: Wait> Called for InStory<'r, 's, 'j, 't, 'd, R> {
-    fn call(&mut self, alloc: Global, words: &str, answer: &mut Vec<u8>) -> Result<(), AllocError> {
+    fn call(&mut self, alloc: Global, words: &str, answer: &mut Vec<u8>) -> anyhow::Result<()> {
         let mut words = words.split(' ');
         let name = words.next().unwrap_or("");
         let first = number(words.next());
@@ -188,8 +187,12 @@ impl<'s, R: Wait> Task<R, Told<'s>> for Gathering<'s> {
         let shelf = Shelf::new(alloc)?;
         let (ready, pass) = Ready::new(alloc, self.room.max(1))?;
         let gatherer = gatherer_of(job, &table, &shelf, &ready, seat, pass);
-        let mut called = InStory { rt, gatherer };
-        Ok(tell(alloc, &mut called, self.number, self.story)?)
+        tell(
+            alloc,
+            &mut InStory { rt, gatherer },
+            self.number,
+            self.story,
+        )
     }
 }
 

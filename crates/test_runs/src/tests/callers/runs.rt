@@ -1,5 +1,5 @@
 //! Runs: what is reported of each, and why one is refused before it writes anything.
-use super::stories::{number, parts_of, say};
+use super::stories::{number, parts_of};
 use crate::tests::checks::{assert_that, assert_told};
 use crate::tests::workers;
 use dsc::DscError;
@@ -9,6 +9,7 @@ use pagespec::SpecError;
 use sheet_plan::PlanError;
 use std::alloc::Global;
 use std::fmt::Display;
+use std::io::Write;
 use std::process::Abort;
 use std::sync::Wait;
 use std::test::Fail;
@@ -42,7 +43,7 @@ fn show_report(
     report: &Report,
     written: &[u8],
     answer: &mut Vec<u8>,
-) -> Result<(), NoMemory> {
+) -> Result<(), Fail> {
     let Report {
         pages,
         sheets,
@@ -50,16 +51,14 @@ fn show_report(
         swept,
         bytes,
     } = *report;
-    say(
-        format_args!("{pages} {sheets} {born} {swept} {bytes}, "),
-        answer,
-    )?;
+    write!(answer, "{pages} {sheets} {born} {swept} {bytes}, ")?;
     match wanted_of(alloc, items, report)? {
         Some(wanted) => {
             let is_wanted = wanted.as_bytes() == written;
-            say(if is_wanted { "as wanted" } else { "otherwise" }, answer)
+            let verdict = if is_wanted { "as wanted" } else { "otherwise" };
+            Ok(write!(answer, "{verdict}")?)
         }
-        None => say(format_args!("{} written", written.len()), answer),
+        None => Ok(write!(answer, "{} written", written.len())?),
     }
 }
 
@@ -70,7 +69,7 @@ fn run_line<R: Threads + Wait + Sync>(
     alloc: Global,
     line: &str,
     answer: &mut Vec<u8>,
-) -> Result<(), NoMemory> {
+) -> Result<(), Fail> {
     let mut words = line.split(' ');
     let input = input_of(alloc, words.next().unwrap_or(""))?;
     let preparers = number(words.next());
@@ -91,10 +90,7 @@ fn run_line<R: Threads + Wait + Sync>(
         &mut sink,
     ) {
         Ok(report) => show_report(alloc, items, &report, sink.bytes(), answer),
-        Err(error) => {
-            let written = sink.bytes().len();
-            say(format_args!("{error:?}, {written} written"), answer)
-        }
+        Err(error) => Ok(write!(answer, "{error:?}, {} written", sink.bytes().len())?),
     }
 }
 
@@ -103,7 +99,7 @@ fn first_wrong_run<'s, R: Threads + Wait + Sync>(
     rt: &R,
     alloc: Global,
     story: &'s str,
-) -> Result<Option<&'s str>, NoMemory> {
+) -> Result<Option<&'s str>, Fail> {
     for line in story.lines() {
         let (words, wanted) = parts_of(line);
         let mut answer = Vec::new(alloc);

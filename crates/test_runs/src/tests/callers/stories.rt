@@ -1,14 +1,14 @@
 //! Stories: in each line a call, and what it is answered.
-use crate::tests::checks::begins_with;
-use std::alloc::{AllocError, Global};
-use std::fmt::{Debug, Display};
+use std::alloc::Global;
+use std::fmt::Debug;
 use std::io::Write;
+use std::test::Fail;
 use test_tools::{MOST_GROWTHS, has_refused, refuse};
 
 /// What the lines of a story call.
 pub(crate) trait Called {
     /// Makes the call with these words, and appends what it is answered.
-    fn call(&mut self, alloc: Global, words: &str, answer: &mut Vec<u8>) -> Result<(), AllocError>;
+    fn call(&mut self, alloc: Global, words: &str, answer: &mut Vec<u8>) -> anyhow::Result<()>;
 }
 
 /// What came of a story: the first line that is answered otherwise than it says, and whether a growth was refused.
@@ -27,7 +27,7 @@ pub(crate) fn tell<'s, C: Called>(
     called: &mut C,
     number: u32,
     story: &'s str,
-) -> Result<Told<'s>, AllocError> {
+) -> Result<Told<'s>, Fail> {
     let mut answer = Vec::with_capacity(alloc, ROOM)?;
     let mut is_refused = false;
     for line in story.lines() {
@@ -52,14 +52,14 @@ fn call_again<C: Called>(
     number: u32,
     words: &str,
     answer: &mut Vec<u8>,
-) -> Result<bool, AllocError> {
+) -> Result<bool, Fail> {
     refuse(alloc, number);
     let call = called.call(alloc, words, answer);
     if !has_refused(alloc) {
         call?;
         return Ok(false);
     }
-    if call.is_ok() && !begins_with(answer.as_slice(), b"NoMemory") {
+    if call.is_ok() && !answer.as_slice().starts_with(b"NoMemory") {
         answer.extend_from_slice(b", though memory was refused")?;
         return Ok(true);
     }
@@ -73,24 +73,13 @@ pub(crate) fn first_wrong<'s, C: Called>(
     alloc: Global,
     called: &mut C,
     story: &'s str,
-) -> Result<Option<&'s str>, AllocError> {
+) -> Result<Option<&'s str>, Fail> {
     Ok(tell(alloc, called, MOST_GROWTHS, story)?.wrong)
 }
 
 /// The words of a line, and what it says that they are answered.
 pub(crate) fn parts_of(line: &str) -> (&str, &str) {
-    match line.split_once(" = ") {
-        Some(parts) => parts,
-        None => (line, ""),
-    }
-}
-
-/// A word, and what follows a space after it.
-pub(crate) fn split_word(text: &str) -> (&str, &str) {
-    match text.split_once(' ') {
-        Some(parts) => parts,
-        None => (text, ""),
-    }
+    line.split_once(" = ").unwrap_or((line, ""))
 }
 
 /// The number that a word is, 0 if it is none.
@@ -99,14 +88,6 @@ pub(crate) fn number(word: Option<&str>) -> u32 {
 }
 
 /// Appends a value as it is written in a program.
-pub(crate) fn show<T: Debug + Drop>(value: T, answer: &mut Vec<u8>) -> Result<(), AllocError> {
-    say(format_args!("{value:?}"), answer)
-}
-
-/// Appends a text.
-pub(crate) fn say<T: Display + Drop>(text: T, answer: &mut Vec<u8>) -> Result<(), AllocError> {
-    match write!(answer, "{text}") {
-        Ok(()) => Ok(()),
-        Err(_) => Err(AllocError),
-    }
+pub(crate) fn show<T: Debug + Drop>(value: T, answer: &mut Vec<u8>) -> anyhow::Result<()> {
+    Ok(write!(answer, "{value:?}")?)
 }

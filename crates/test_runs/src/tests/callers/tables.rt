@@ -4,12 +4,13 @@ ghost use Rattle.rules.specs.Sheets.{layout};
 ghost use Rattle.gather_table.specs.Shared.{IsSeatOf};
 ghost use Rattle.gather_table.specs.Table.{HasGroup};
 
-use super::stories::{Called, first_wrong, number, say, show, split_word};
+use super::stories::{Called, first_wrong, number, show};
 use crate::tests::checks::assert_told;
 use gather_table::{Closing, GatherTable, NoMemory, PlainTable, Published, Reply, Seat};
 use pagespec::read_spec;
 use sheet_plan::Plan;
-use std::alloc::{AllocError, Global};
+use std::alloc::Global;
+use std::io::Write;
 use std::test::Fail;
 use test_tools::same_items;
 
@@ -219,23 +220,18 @@ impl<'t, 's> Calls for Seated<'t, 's> {
 }
 
 // Marks these slots of the first sheet: the first answer that isn't Fresh.
-fn marks<C: Calls>(
-    table: &mut C,
-    from: u32,
-    to: u32,
-    answer: &mut Vec<u8>,
-) -> Result<(), AllocError> {
+fn marks<C: Calls>(table: &mut C, from: u32, to: u32, answer: &mut Vec<u8>) -> anyhow::Result<()> {
     for slot in from..to {
         let reply = table.mark(0, slot.min(65_535) as u16);
         if reply != Some(Reply::Fresh) {
-            return say(format_args!("{slot}: {reply:?}"), answer);
+            return Ok(write!(answer, "{slot}: {reply:?}")?);
         }
     }
-    say("all Fresh", answer)
+    Ok(write!(answer, "all Fresh")?)
 }
 
 // Makes a call of a table. Sheets are the first one.
-fn call<C: Calls>(table: &mut C, words: &str, answer: &mut Vec<u8>) -> Result<(), AllocError> {
+fn call<C: Calls>(table: &mut C, words: &str, answer: &mut Vec<u8>) -> anyhow::Result<()> {
     let mut words = words.split(' ');
     let name = words.next().unwrap_or("");
     let first = number(words.next());
@@ -254,23 +250,13 @@ fn call<C: Calls>(table: &mut C, words: &str, answer: &mut Vec<u8>) -> Result<()
 }
 
 impl<'p> Called for OneThread<'p> {
-    fn call(
-        &mut self,
-        _alloc: Global,
-        words: &str,
-        answer: &mut Vec<u8>,
-    ) -> Result<(), AllocError> {
+    fn call(&mut self, _alloc: Global, words: &str, answer: &mut Vec<u8>) -> anyhow::Result<()> {
         call(self, words, answer)
     }
 }
 
 impl<'t, 's> Called for Seated<'t, 's> {
-    fn call(
-        &mut self,
-        _alloc: Global,
-        words: &str,
-        answer: &mut Vec<u8>,
-    ) -> Result<(), AllocError> {
+    fn call(&mut self, _alloc: Global, words: &str, answer: &mut Vec<u8>) -> anyhow::Result<()> {
         call(self, words, answer)
     }
 }
@@ -526,18 +512,9 @@ struct Lanes<'t> {
 }
 
 // The word and the first bit in which a sheet of so many pages has its lane, if it has one.
-fn lane_at(
-    alloc: Global,
-    text: &str,
-    pages: u32,
-    sheet: u32,
-) -> Result<Option<(u32, u8)>, AllocError> {
-    let Ok(spec) = read_spec(alloc, text) else {
-        return Err(AllocError);
-    };
-    let Ok(plan) = Plan::new(alloc, &spec, pages) else {
-        return Err(AllocError);
-    };
+fn lane_at(alloc: Global, text: &str, pages: u32, sheet: u32) -> anyhow::Result<Option<(u32, u8)>> {
+    let spec = read_spec(alloc, text)?;
+    let plan = Plan::new(alloc, &spec, pages)?;
     let (table, _seat) = GatherTable::new(alloc, &plan)?;
     if sheet >= plan.sheets() || plan.slots(sheet) > 64 {
         return Ok(None);
@@ -546,15 +523,15 @@ fn lane_at(
 }
 
 impl<'t> Called for Lanes<'t> {
-    fn call(&mut self, alloc: Global, words: &str, answer: &mut Vec<u8>) -> Result<(), AllocError> {
-        let (pages, sheet) = split_word(words);
+    fn call(&mut self, alloc: Global, words: &str, answer: &mut Vec<u8>) -> anyhow::Result<()> {
+        let (pages, sheet) = words.split_once(' ').unwrap_or((words, ""));
         let lane = lane_at(alloc, self.text, number(Some(pages)), number(Some(sheet)))?;
         show(lane, answer)
     }
 }
 
 // The first line of a story of lanes that is answered otherwise than it says.
-fn in_lanes<'s>(alloc: Global, text: &str, story: &'s str) -> Result<Option<&'s str>, AllocError> {
+fn in_lanes<'s>(alloc: Global, text: &str, story: &'s str) -> Result<Option<&'s str>, Fail> {
     first_wrong(alloc, &mut Lanes { text }, story)
 }
 

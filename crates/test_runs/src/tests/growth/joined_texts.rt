@@ -1,10 +1,11 @@
 //! Texts of several sheets in the same memory, and sheets that come together before their turn, with each growth of each
 //! call refused in turn.
-use crate::tests::callers::stories::{Called, number, say, show, split_word, tell};
+use crate::tests::callers::stories::{Called, number, show, tell};
 use crate::tests::checks::{assert_that, assert_told};
 use sheet_text::{Pieces, Rope, Texts};
 use sheet_writer::{Early, FinishedSheets};
 use std::alloc::{AllocError, Global};
+use std::io::Write;
 use std::mem;
 use std::process::Abort;
 use std::test::Fail;
@@ -41,7 +42,7 @@ impl<'r> InTexts<'r> {
     }
 
     /// Adds such a text to the texts: how many they are then.
-    fn push(&mut self, parts: &str, answer: &mut Vec<u8>) -> Result<(), AllocError> {
+    fn push(&mut self, parts: &str, answer: &mut Vec<u8>) -> anyhow::Result<()> {
         self.write(parts)?;
         let (count, room) = (self.texts.len(), self.text.capacity());
         let len = self.text.pieces().len();
@@ -58,7 +59,7 @@ impl<'r> InTexts<'r> {
     }
 
     /// Adds a sheet with such a text to the finished ones: how many they are then.
-    fn finish(&mut self, sheet: u32, parts: &str, answer: &mut Vec<u8>) -> Result<(), AllocError> {
+    fn finish(&mut self, sheet: u32, parts: &str, answer: &mut Vec<u8>) -> anyhow::Result<()> {
         self.write(parts)?;
         let (count, room) = (self.finished.sheets.len(), self.text.capacity());
         let len = self.text.pieces().len();
@@ -76,7 +77,7 @@ impl<'r> InTexts<'r> {
     }
 
     /// From one of the texts on, how many are joined, of so many at most, and their pieces.
-    fn join(&self, nth: u32, most: u32, answer: &mut Vec<u8>) -> Result<(), AllocError> {
+    fn join(&self, nth: u32, most: u32, answer: &mut Vec<u8>) -> anyhow::Result<()> {
         let (nth, most) = (nth as usize, most as usize);
         if nth >= self.texts.len() || most == 0 {
             return show("no such text", answer);
@@ -87,14 +88,14 @@ impl<'r> InTexts<'r> {
     }
 
     /// The text of a sheet that came.
-    fn text_of(&self, sheet: u32, answer: &mut Vec<u8>) -> Result<(), AllocError> {
+    fn text_of(&self, sheet: u32, answer: &mut Vec<u8>) -> anyhow::Result<()> {
         match self.early.joined(sheet, 1) {
             Some(joined) => self.show_pieces(joined.text, answer),
             None => show("no such sheet", answer),
         }
     }
 
-    fn show_pieces(&self, text: Pieces<'_, '_>, answer: &mut Vec<u8>) -> Result<(), AllocError> {
+    fn show_pieces(&self, text: Pieces<'_, '_>, answer: &mut Vec<u8>) -> anyhow::Result<()> {
         let mut pieces = text;
         for _ in 0..MOST_PIECES {
             let Some(piece) = pieces.take_next() else {
@@ -113,10 +114,10 @@ impl<'r> InTexts<'r> {
     }
 
     /// Which of the first sheets are found.
-    fn found(&self, answer: &mut Vec<u8>) -> Result<(), AllocError> {
+    fn found(&self, answer: &mut Vec<u8>) -> anyhow::Result<()> {
         for sheet in 0..8u32 {
             if self.early.joined(sheet, 1).is_some() {
-                say(format_args!("{sheet};"), answer)?;
+                write!(answer, "{sheet};")?;
             }
         }
         Ok(())
@@ -131,20 +132,20 @@ fn show_added(
     [had, has]: [Option<usize>; 2],
     has_room: bool,
     answer: &mut Vec<u8>,
-) -> Result<(), AllocError> {
+) -> anyhow::Result<()> {
     if is_added && has == Some(0) && has_room {
         show(after, answer)
     } else if !is_added && after == before && has == had && has_room {
-        say("NoMemory", answer)
+        Ok(write!(answer, "NoMemory")?)
     } else {
         show("something else has changed", answer)
     }
 }
 
 impl<'r> Called for InTexts<'r> {
-    fn call(&mut self, alloc: Global, words: &str, answer: &mut Vec<u8>) -> Result<(), AllocError> {
-        let (name, rest) = split_word(words);
-        let (word, parts) = split_word(rest);
+    fn call(&mut self, alloc: Global, words: &str, answer: &mut Vec<u8>) -> anyhow::Result<()> {
+        let (name, rest) = words.split_once(' ').unwrap_or((words, ""));
+        let (word, parts) = rest.split_once(' ').unwrap_or((rest, ""));
         let first = number(Some(word));
         match name {
             "push" => self.push(rest, answer),

@@ -1,7 +1,7 @@
 //! Whole runs and gatherings, over a sink that was made before.
 ghost use Rattle.std.specs.Prelude.{◌<◌};
 
-use crate::tests::checks::{assert_that, begins_with};
+use crate::tests::checks::assert_that;
 use crate::tests::{Trial, gather_pairs, large_pages, run_into};
 use imposer::{Gate, MemorySink, Open, RunError, Step, Workers};
 use std::alloc::{AllocError, Global};
@@ -66,7 +66,7 @@ fn run_refused<R: Threads + Wait + Sync, G: Gate + Sync>(
 /// Whether a sink has all of the output, after a run that finished, else as many of its first bytes as were reported.
 fn is_written(output: &[u8], sink: &MemorySink, written: Option<u64>) -> bool {
     let wanted = written.unwrap_or(output.len() as u64);
-    sink.bytes().len() as u64 == wanted && begins_with(output, sink.bytes())
+    sink.bytes().len() as u64 == wanted && output.starts_with(sink.bytes())
 }
 
 /// Whether a run in which a growth was refused, or none was, may end so. A run finishes if it was refused the room for

@@ -1,7 +1,7 @@
 //! Single calls in which each growth is refused in turn, and a whole run.
 use super::{request_of, words_of};
-use crate::tests::callers::stories::{Called, say, show, split_word, tell};
-use crate::tests::checks::{assert_bytes, assert_that, assert_told, begins_with};
+use crate::tests::callers::stories::{Called, show, tell};
+use crate::tests::checks::{assert_bytes, assert_that, assert_told};
 use dsc::DscError;
 use imposer::{MemorySink, RunError};
 use pagespec::SpecError;
@@ -11,6 +11,7 @@ use pstops_cli::{
 };
 use sheet_plan::PlanError;
 use std::alloc::{AllocError, Global};
+use std::io::Write;
 use std::process::Abort;
 use std::sync::Wait;
 use std::test::Fail;
@@ -24,17 +25,17 @@ use test_tools::{
 struct Calls {}
 
 /// The specification of a request, or the status and the line of its refusal.
-fn show_request(alloc: Global, line: &str, answer: &mut Vec<u8>) -> Result<(), AllocError> {
+fn show_request(alloc: Global, line: &str, answer: &mut Vec<u8>) -> anyhow::Result<()> {
     let words = words_of(alloc, line)?;
     match read_command(alloc, words.as_slice()) {
-        Ok(request) => say(request.spec.as_str(), answer),
-        Err(CommandFault::NoMemory) => say("NoMemory", answer),
+        Ok(request) => Ok(write!(answer, "{}", request.spec)?),
+        Err(CommandFault::NoMemory) => Ok(write!(answer, "NoMemory")?),
         Err(fault) => show_fault(alloc, &Fault::Command(fault), answer),
     }
 }
 
 /// Reads more than the first piece of room: how many bytes, and whether they are the source's.
-fn show_input(alloc: Global, answer: &mut Vec<u8>) -> Result<(), AllocError> {
+fn show_input(alloc: Global, answer: &mut Vec<u8>) -> anyhow::Result<()> {
     let long = vec![in alloc; 37u8; 300_000]?;
     let mut source = ReadSource::new(long.as_slice());
     match read_input(alloc, &mut source) {
@@ -42,18 +43,18 @@ fn show_input(alloc: Global, answer: &mut Vec<u8>) -> Result<(), AllocError> {
             let is_whole = bytes.as_slice() == long.as_slice();
             show((bytes.len(), is_whole), answer)
         }
-        Err(ReadFault::NoMemory) => say("NoMemory", answer),
+        Err(ReadFault::NoMemory) => Ok(write!(answer, "NoMemory")?),
         Err(ReadFault::Device) => show("the source failed", answer),
     }
 }
 
 /// Status and line of a fault.
-fn show_fault(alloc: Global, fault: &Fault, answer: &mut Vec<u8>) -> Result<(), AllocError> {
+fn show_fault(alloc: Global, fault: &Fault, answer: &mut Vec<u8>) -> anyhow::Result<()> {
     let (status, line) = fault_line(alloc, fault)?;
-    say(format_args!("{status} "), answer)?;
-    match line.as_slice() {
-        [text @ .., b'\n'] => answer.extend_from_slice(text),
-        _ => show("a line without an end", answer),
+    write!(answer, "{status} ")?;
+    match line.as_slice().strip_suffix(b"\n") {
+        Some(line) => Ok(answer.extend_from_slice(line)?),
+        None => show("a line without an end", answer),
     }
 }
 
@@ -96,8 +97,8 @@ fn fault_of(name: &str) -> Fault {
 }
 
 impl Called for Calls {
-    fn call(&mut self, alloc: Global, words: &str, answer: &mut Vec<u8>) -> Result<(), AllocError> {
-        let (name, rest) = split_word(words);
+    fn call(&mut self, alloc: Global, words: &str, answer: &mut Vec<u8>) -> anyhow::Result<()> {
+        let (name, rest) = words.split_once(' ').unwrap_or((words, ""));
         match name {
             "pstops" => show_request(alloc, rest, answer),
             "input" => show_input(alloc, answer),
@@ -171,7 +172,7 @@ fn run_refused<R: Threads + Wait + Abort + Sync>(
             rt,
             said.is_empty() || said == b"pstops: out of memory\n".as_slice(),
         );
-        assert_that(rt, begins_with(output, sink.bytes()));
+        assert_that(rt, output.starts_with(sink.bytes()));
     } else {
         assert_that(rt, status == 0);
         assert_bytes(rt, said, b"pstops: pages 1, sheets 1, bytes 273\n");
