@@ -1,7 +1,7 @@
 use Rattle.std.proofs.Common.{rules, ◌<◌, ◌∙◌, length, drop, ap, sym}
 use Rattle.row_runs.specs.ToldPages.{begins_trailer}
 use Rattle.row_runs.proofs.TrailerLines.{behind_end, behind_step}
-use Rattle.row_runs.proofs.told_pages.last_lines.Goals as goal
+use Rattle.row_runs.proofs.counted_pages.last_lines.Goals as goal
 
 pub loop-rest-preserved : goal.loop-rest-preserved
 loop-rest-preserved c =

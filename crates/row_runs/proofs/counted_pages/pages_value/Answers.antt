@@ -1,7 +1,7 @@
 use Rattle.std.proofs.Common.{sym, codes}
 use Rattle.papers.specs.Media.{contents}
 use Rattle.papers.proofs.Contents.{first_told, none_told}
-use Rattle.row_runs.proofs.told_pages.pages_value.Goals as goal
+use Rattle.row_runs.proofs.counted_pages.pages_value.Goals as goal
 
 pub returns-in-Some : goal.returns-in-Some
 returns-in-Some c = sym (first_told (codes "%%Pages") (contents c.args.lines.now) _ _ c.in-Some.ensures)
