@@ -101,7 +101,13 @@ fn stack<'a>(alloc: Global) -> Result<Command<'a>, AllocError>
         "Several pages on each sheet: cut the pile, lay its parts on one another, and the pages run on";
     let help = "How many pages, from 1 to 1024, or columns and rows, as 2x4";
     let duplex = flag(alloc, "duplex").help("For sheets that are printed on both sides");
-    let laid = vec![in alloc; duplex, turn(alloc), plan(alloc), preview(alloc), pages(alloc)]?;
+    let laid = vec![in alloc;
+        duplex,
+        turn(alloc),
+        plan(alloc),
+        preview(alloc),
+        pages(alloc),
+    ]?;
     subcommand(alloc, "stack", about, cell_args(alloc, help)?, laid)
 }
 

@@ -69,10 +69,10 @@ same_checks : (t : Turn) (pages : ℕ) (all other : List MadeSheet)
 same_checks t pages all other =
     let count : length (turned t all) ≡ length all = length-map all (turned_sheet t) in
     let uneven : position (λ s. not (is_slot_count (slot_count s))) (turned t all) ≡ position (λ s. not (is_slot_count (slot_count s))) all =
-        first_too (λ s. not (is_slot_count (slot_count s))) (turned_sheet t) (λ s. ap (λ n. not (is_slot_count n)) (as_many t s)) all in
+    first_too (λ s. not (is_slot_count (slot_count s))) (turned_sheet t) (λ s. ap (λ n. not (is_slot_count n)) (as_many t s)) all in
     let places : sum_by slot_count (turned t all) ≡ sum_by slot_count all = sum_same slot_count (turned_sheet t) (as_many t) all in
     let missing : position (λ s. list_any (is_missing pages) s.slots) (turned t all) ≡ position (λ s. list_any (is_missing pages) s.slots) all =
-        first_too (λ s. list_any (is_missing pages) s.slots) (turned_sheet t) (λ s. any_same (is_missing pages) (turned_slot t) (missing_same t pages) s.slots) all in
+    first_too (λ s. list_any (is_missing pages) s.slots) (turned_sheet t) (λ s. any_same (is_missing pages) (turned_slot t) (missing_same t pages) s.slots) all in
     rw (count, uneven, places, missing) refl
 
 pub turned_refused : (t : Turn) (pages : ℕ) (all : List MadeSheet) (e : MadeError) → RefusesMade pages all e → RefusesMade pages (turned t all) e

@@ -204,8 +204,8 @@ turned_stands turn page item w h s wide high scaled across up =
     let x : in_pt item.x.number ≡ item.x = ap (λ u. record { number = item.x.number; unit = u }) (sym across) in
     let y : in_pt item.y.number ≡ item.y = ap (λ u. record { number = item.y.number; unit = u }) (sym up) in
     let same : item_at item.page item.from_end item.turn (pos s) (in_pt item.x.number) (in_pt item.y.number) ≡ item =
-        ap (λ z. item_at item.page item.from_end item.turn z (in_pt item.x.number) (in_pt item.y.number)) (sym scaled)
-        ∙ ap₂ (item_at item.page item.from_end item.turn item.scale) x y in
+    ap (λ z. item_at item.page item.from_end item.turn z (in_pt item.x.number) (in_pt item.y.number)) (sym scaled)
+    ∙ ap₂ (item_at item.page item.from_end item.turn item.scale) x y in
     subst (λ (q : Paper). IsDrawnTurned turn q item w h s) (same_paper page w h wide high)
     (subst (λ (i : Item). IsDrawnTurned turn (paper_of (pos w) (pos h)) i w h s) same
     (drawn turn item.turn item.page item.from_end item.x.number item.y.number w h s))

@@ -118,10 +118,7 @@ fn turned_item(turn: Turn, paper: &Paper, item: &Item) -> Option<Item>
     let (right, up) = turned_by(item.turn, x, y);
     Some(Item {
         turn: both(turn, item.turn),
-        offset: (
-            farther(right, item.offset.0)?,
-            farther(up, item.offset.1)?,
-        ),
+        offset: (farther(right, item.offset.0)?, farther(up, item.offset.1)?),
         ..*item
     })
 }

@@ -12,5 +12,5 @@ in_unit z unit = record { number = z; unit = unit }
 pub returns-in_ok-new-in-Ok : goal.returns-in_ok-new-in-Ok
 returns-in_ok-new-in-Ok c =
     let number : c.in_ok-new-in-Ok.field-0 ≡ c.args.measure.number +ℤ (pos 10_000 *ℤ c.args.by) =
-        omega (arith, ints, c.in_ok-new-in-Ok.ensures.value, c.in-Ok.ensures, c.from.ensures, c.from-2.ensures, c.billionths.ensures.value) in
+    omega (arith, ints, c.in_ok-new-in-Ok.ensures.value, c.in-Ok.ensures, c.from.ensures, c.from-2.ensures, c.billionths.ensures.value) in
     ap (λ (z : ℤ). in_unit z (length_unit c.args.measure.unit)) number
