@@ -10,7 +10,7 @@ ghost use Rattle.row_runs.specs.Sheets.{MayBeLaid};
 ghost use Rattle.impose_cli.specs.Refusals.{RefusesLaying, RefusesOptions};
 ghost use Rattle.impose_words.specs.Spacings.{arrangement_in};
 ghost use Rattle.impose_cli.specs.RowTasks.{has_even_margins as are_even, has_one_margin as are_one, may_be_stacked as may_be_stacked_so};
-ghost use Rattle.impose_cli.specs.RowTasks.{laying_in, sheet_paper_in, signing_in, why_not_laid};
+ghost use Rattle.impose_cli.specs.RowTasks.{cells_paper, laying_in, sheet_paper_in, signing_in, why_not_laid};
 ghost use Rattle.impose_words.specs.declared.request.Layout.TheVariants as layout;
 
 use impose_said::ImposeFault;
@@ -18,17 +18,19 @@ use impose_words::{ImposeRequest, Layout, Spacing};
 use imposer::RunError;
 use layouts::{ArrangementError, Cells, Free, Papers, Setting};
 use lengths::{Grains, Paper};
-use row_runs::Laying;
+use row_runs::{Laying, turned_paper};
 use row_sheets::{Poster, check_poster};
 use rows::Signing;
 use sheet_plan::are_sides;
 
-/// The papers of the pages and of the sheets of a layout. A selection keeps its pages on their own paper.
-pub(crate) fn papers_for(layout: &Layout, named: Option<Paper>, page: Paper) -> Papers
-    ensures page { result.page ≡ page }
-    ensures sheet { result.sheet ≡ sheet_paper_in layout.now named page }
+/// The papers of the pages, once they are turned, and of the sheets. A selection keeps its pages on their own paper.
+pub(crate) fn papers_for(request: &ImposeRequest, page_paper: &Paper) -> Papers
+    ensures page { result.page ≡ cells_paper request.now page_paper.now }
+    ensures sheet { result.sheet ≡ sheet_paper_in request.now.layout request.now.sheet_paper
+        (cells_paper request.now page_paper.now) }
 {
-    let sheet = match (layout, named) {
+    let page = turned_paper(request.turn, page_paper);
+    let sheet = match (&request.layout, request.sheet_paper) {
         (Layout::Selection, _) => page,
         (_, Some(sheet)) => sheet,
         (_, None) => page,

@@ -36,7 +36,7 @@ use impose_words::{ImposeRequest, Layout, PageChoice};
 use imposer::{Report, RunError};
 use lengths::Paper;
 use papers::{Cut, Reach, as_one, cut_by, first_instead_of, own_papers};
-use row_runs::{Asked, AskedError, Laying, RowJob, turned_paper, turned_papers};
+use row_runs::{Asked, AskedError, Laying, RowJob, turned_papers};
 use rows::{RowError, Signing, imposed_row};
 use std::alloc::{AllocError, Global};
 use std::sync::Wait;
@@ -77,8 +77,7 @@ pub(crate) fn row_task(
         Ok(found) => found,
         Err(fault) => return Err(fault),
     };
-    let cells_paper = turned_paper(request.turn, &found.page_paper);
-    let papers = papers_for(&request.layout, request.sheet_paper, cells_paper);
+    let papers = papers_for(request, &found.page_paper);
     let laying = match laying_for(&request.layout, &request.spacing, &papers) {
         Ok(Some(laying)) => laying,
         Ok(None) => unreachable!(),

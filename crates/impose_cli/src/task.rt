@@ -32,7 +32,6 @@ use layouts::{Binding, Cells, Papers, arrange, bind};
 use lengths::Paper;
 use pagespec::{Spec, Turn, read_spec, write_spec};
 use papers::{Reach, document_paper};
-use row_runs::turned_paper;
 use rows::{Signing, auto_sides};
 use std::alloc::{AllocError, Global};
 
@@ -80,8 +79,7 @@ pub fn check_layout(alloc: Global, request: &ImposeRequest) -> Result<(), Impose
         (Layout::SpecRow { specs, .. }, _) => check_spec(alloc, specs.as_str()),
         (_, None) => Ok(()),
         (layout, Some(page_paper)) => {
-            let page_paper = turned_paper(request.turn, page_paper);
-            let papers = papers_for(layout, request.sheet_paper, page_paper);
+            let papers = papers_for(request, page_paper);
             match laying_for(layout, &request.spacing, &papers) {
                 Ok(_) => Ok(()),
                 Err(fault) => Err(fault),

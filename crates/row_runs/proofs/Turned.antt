@@ -2,6 +2,7 @@
 use Rattle.std.proofs.Common.{◌≡◌, ◌∙◌, ℕ, ◌+◌, Bool, true, false, List, [], ◌∷◌, Option, Some, None, Ok, Err, ap, ap₂, refl, sym, length, map}
 use Rattle.std.specs.Prelude.{Result, not, nat_lt, sum_by, position}
 use Rattle.std.specs.List.{list_any, position_from}
+use Rattle.std.proofs.lemmas.Iterator.Adapters.{position_from-zero}
 use Rattle.std.proofs.lemmas.List.{length-map}
 use Rattle.std.proofs.lemmas.List.Sums.{sum_by-cons}
 use Rattle.rules.specs.Run.{most_pages, most_places, most_sheets, refuse_if}
@@ -24,6 +25,9 @@ any_same p f same (x ∷ xs) = rw (same x, any_same p f same xs) refl
 first_same : {X : Type 0} (p : X → Bool) (f : X → X) → ((x : X) → p (f x) ≡ p x) → (i : ℕ) (xs : List X) → position_from p i (map f xs) ≡ position_from p i xs
 first_same p f same i [] = refl
 first_same p f same i (x ∷ xs) = rw (same x, first_same p f same (i + 1) xs) refl
+
+first_too : {X : Type 0} (p : X → Bool) (f : X → X) → ((x : X) → p (f x) ≡ p x) → (xs : List X) → position p (map f xs) ≡ position p xs
+first_too p f same xs = position_from-zero p (map f xs) ∙ first_same p f same 0 xs ∙ sym (position_from-zero p xs)
 
 sum_same : {X : Type 0} (n : X → ℕ) (f : X → X) → ((x : X) → n (f x) ≡ n x) → (xs : List X) → sum_by n (map f xs) ≡ sum_by n xs
 sum_same n f same [] = refl
@@ -65,10 +69,10 @@ same_checks : (t : Turn) (pages : ℕ) (all other : List MadeSheet)
 same_checks t pages all other =
     let count : length (turned t all) ≡ length all = length-map all (turned_sheet t) in
     let uneven : position (λ s. not (is_slot_count (slot_count s))) (turned t all) ≡ position (λ s. not (is_slot_count (slot_count s))) all =
-    first_same (λ s. not (is_slot_count (slot_count s))) (turned_sheet t) (λ s. ap (λ n. not (is_slot_count n)) (as_many t s)) 0 all in
+    first_too (λ s. not (is_slot_count (slot_count s))) (turned_sheet t) (λ s. ap (λ n. not (is_slot_count n)) (as_many t s)) all in
     let places : sum_by slot_count (turned t all) ≡ sum_by slot_count all = sum_same slot_count (turned_sheet t) (as_many t) all in
     let missing : position (λ s. list_any (is_missing pages) s.slots) (turned t all) ≡ position (λ s. list_any (is_missing pages) s.slots) all =
-    first_same (λ s. list_any (is_missing pages) s.slots) (turned_sheet t) (λ s. any_same (is_missing pages) (turned_slot t) (missing_same t pages) s.slots) 0 all in
+    first_too (λ s. list_any (is_missing pages) s.slots) (turned_sheet t) (λ s. any_same (is_missing pages) (turned_slot t) (missing_same t pages) s.slots) all in
     rw (count, uneven, places, missing) refl
 
 pub turned_refused : (t : Turn) (pages : ℕ) (all : List MadeSheet) (e : MadeError) → RefusesMade pages all e → RefusesMade pages (turned t all) e

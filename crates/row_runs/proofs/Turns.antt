@@ -1,6 +1,6 @@
 -- Turned pages: turns add up, and each point stands where it should.
-use Rattle.std.proofs.Common.{arith, ◌≡◌, ◌∙◌, ℕ, zero, suc, ◌+◌, ◌*◌, ◌/◌, ap, ap₂, refl, sym, subst, Bool, List, [], ◌∷◌, Some, map, take, length, ◌++◌}
-use Rattle.std.specs.Prelude.{ℤ, pos, negsuc, neg_ℤ, suc_ℤ, ◌+ℤ◌, ◌-ℤ◌, ◌*ℤ◌, nat_abs, slice_get}
+use Rattle.std.proofs.Common.{arith, ◌≡◌, ◌∙◌, ℕ, zero, suc, ◌+◌, ◌*◌, ◌/◌, ap, ap₂, refl, sym, subst, Bool, List, [], ◌∷◌, Some, map, take, ◌++◌}
+use Rattle.std.specs.Prelude.{ℤ, pos, neg_ℤ, ◌+ℤ◌, ◌-ℤ◌, ◌*ℤ◌, slice_get}
 use Rattle.std.proofs.Math.IntN.{suc_ℤ-*ℤ, zero-*ℤ, pos-*ℤ-pos}
 use Rattle.std.proofs.lemmas.Int.{ints}
 use Rattle.std.proofs.lemmas.Option.{none-some, same_Some}
@@ -83,20 +83,36 @@ turns_add_up (Placed page item paper) =
     let t = item.turn in
     let a = pos (long item.scale paper.width) in
     let b = pos (long item.scale paper.height) in
+    let one : Point = turned t (point a (pos 0)) in
+    let half : Point = turned t (point a b) in
+    let right : Point = turned t (point (pos 0) b) in
+    let second : Point = turned (further t) (point b (pos 0)) in
+    let third : Point = turned (further (further t)) (point a (pos 0)) in
+    let fourth : Point = turned (further (further (further t))) (point b (pos 0)) in
     let two = two_corners t a b in
     let three = three_corners t a b in
     let four = four_corners t b in
     record {
       none = unturned (Placed page item paper);
       two = ap (λ (i : Item). Placed page i paper)
-          (same_items item _ _ _ _ _ _ refl (twice_farther _ _ _ item.x (ap (λ (q : Point). q.x) two)) (twice_farther _ _ _ item.y (ap (λ (q : Point). q.y) two)));
+          (same_items item (both Half t) (both Half t) _ _ _ _ refl (twice_farther one.x second.x half.x item.x (ap (λ (q : Point). q.x) two))
+          (twice_farther one.y second.y half.y item.y (ap (λ (q : Point). q.y) two)));
       three = ap (λ (i : Item). Placed page i (paper_of paper.height paper.width))
-          (same_items item _ _ _ _ _ _ refl (twice_farther _ _ _ item.x (ap (λ (q : Point). q.x) three)) (twice_farther _ _ _ item.y (ap (λ (q : Point). q.y) three)));
+          (same_items item (both Right t) (both Right t) _ _ _ _ refl (twice_farther half.x third.x right.x item.x (ap (λ (q : Point). q.x) three))
+          (twice_farther half.y third.y right.y item.y (ap (λ (q : Point). q.y) three)));
       four = ap (λ (i : Item). Placed page i paper)
-          (same_items item _ t _ item.x _ item.y (four_turns t)
-          (twice_farther _ _ _ item.x (ap (λ (q : Point). q.x) four) ∙ no_farther (pos 0) item.x refl)
-          (twice_farther _ _ _ item.y (ap (λ (q : Point). q.y) four) ∙ no_farther (pos 0) item.y refl));
+          (same_items item (further (both Right t)) t _ item.x _ item.y (four_turns t)
+          (twice_farther right.x fourth.x (pos 0) item.x (ap (λ (q : Point). q.x) four) ∙ no_farther (pos 0) item.x refl)
+          (twice_farther right.y fourth.y (pos 0) item.y (ap (λ (q : Point). q.y) four) ∙ no_farther (pos 0) item.y refl));
     }
+
+-- an item that is turned, by its parts
+pub item_is : (turn : Turn) (paper : Paper) (item : Item) (w h a b x y : ℤ) (t : Turn) (mx my : Measure) → w ≡ pos (long item.scale paper.width)
+    → h ≡ pos (long item.scale paper.height) → a ≡ (corner turn w h).x → b ≡ (corner turn w h).y → x ≡ (turned item.turn (point a b)).x
+    → y ≡ (turned item.turn (point a b)).y → t ≡ both turn item.turn → mx ≡ farther x item.x → my ≡ farther y item.y
+    → item_at item.page item.from_end t item.scale mx my ≡ turned_item turn paper item
+item_is turn paper item w h a b x y t mx my w_is h_is a_is b_is x_is y_is t_is mx_is my_is =
+    rw mx_is (rw my_is (rw t_is (rw x_is (rw y_is (rw a_is (rw b_is (rw w_is (rw h_is refl))))))))
 
 -- ---- where points stand
 
@@ -166,8 +182,8 @@ at_turn Right Left x y m n w h q = same_points _ _ _ _ (omega (arith, ints)) (om
 at_turn Right Half x y m n w h q = same_points _ _ _ _ (omega (arith, ints)) (omega (arith, ints))
 at_turn Right Right x y m n w h q = same_points _ _ _ _ (omega (arith, ints)) (omega (arith, ints))
 
-little : (n : ℕ) → IsLittle (fine ((n + 1_269_999_999_999_999) / 1_270_000_000_000_000) -ℤ pos n)
-little n = record { some = omega (arith, ints); less = omega (arith, ints) }
+is_little : (n : ℕ) → IsLittle (fine ((n + 1_269_999_999_999_999) / 1_270_000_000_000_000) -ℤ pos n)
+is_little n = record { some = omega (arith, ints); less = omega (arith, ints) }
 
 abbrev in_pt : ℤ → Measure
 in_pt x = record { number = x; unit = Pt }
@@ -175,7 +191,7 @@ in_pt x = record { number = x; unit = Pt }
 drawn : (turn t : Turn) (n : ℕ) (from_end : Bool) (x y : ℤ) (w h s : ℕ)
     → IsDrawnTurned turn (paper_of (pos w) (pos h)) (item_at n from_end t (pos s) (in_pt x) (in_pt y)) w h s
 drawn turn t n from_end x y w h s = record {
-  little = (little (s * w), little (s * h));
+  little = (is_little (s * w), is_little (s * h));
   stand = λ p. at_turn turn t x y (long (pos s) (pos w)) (long (pos s) (pos h)) (pos (s * w)) (pos (s * h)) (times (pos s) p)
       ∙ ap (λ (q : Point). moved (turned t (corner turn (excess s w) (excess s h))) (moved (points x y) (turned t q))) (sym (scaled_on turn s w h p));
 }

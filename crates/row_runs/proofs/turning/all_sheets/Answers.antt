@@ -1,9 +1,9 @@
-use Rattle.std.proofs.Common.{◌∙◌, ap, arith}
-use Rattle.std.proofs.lemmas.List.{take_all}
-use Rattle.std.specs.Prelude.{List, map}
+use Rattle.std.proofs.Common.{◌∙◌, ap, map}
+use Rattle.std.specs.Prelude.{List}
 use Rattle.pagespec.specs.Items.{turn_of}
-use Rattle.made_sheets.specs.Made.{MadeSheet, MadeSlot}
-use Rattle.row_runs.specs.Turning.{turned_sheet, turned_slot}
+use Rattle.made_sheets.specs.Made.{MadeSlot}
+use Rattle.sheet_plan.specs.OfSheets.{slot_of}
+use Rattle.row_runs.specs.Turning.{turned_sheet}
 use Rattle.row_runs.proofs.Turns.{one_more, sheet_at}
 use Rattle.row_runs.proofs.turning.all_sheets.Goals as goal
 
