@@ -107,7 +107,12 @@ fn across(room: &Room, grid: Grid, row: u32) -> Span
     if grid.turned {
         reach(&room.along_width(), room.paper.width(), grid.rows, row)
     } else {
-        reach(&room.along_width(), room.paper.width(), grid.columns, grid.columns - 1)
+        reach(
+            &room.along_width(),
+            room.paper.width(),
+            grid.columns,
+            grid.columns - 1,
+        )
     }
 }
 
@@ -119,9 +124,19 @@ fn up(room: &Room, grid: Grid, row: u32) -> Span
     ensures few { (result.first ≤ 10 ^ 14) × (result.last ≤ 10 ^ 14) }
 {
     if grid.turned {
-        reach(&room.along_height(), room.paper.height(), grid.columns, grid.columns - 1)
+        reach(
+            &room.along_height(),
+            room.paper.height(),
+            grid.columns,
+            grid.columns - 1,
+        )
     } else {
-        reach(&room.along_height(), room.paper.height(), grid.rows, grid.rows - (row + 1))
+        reach(
+            &room.along_height(),
+            room.paper.height(),
+            grid.rows,
+            grid.rows - (row + 1),
+        )
     }
 }
 

@@ -292,7 +292,7 @@ fn margin<'a>(alloc: Global) -> Arg<'a>
     ensures { rule_of result ≡ option_rule (codes "margin") }
 {
     option(alloc, "margin", "LENGTHS").help(
-        "Keep so much free along the edges of a sheet: 5mm, SIDES,ENDS, TOP,RIGHT,BOTTOM,LEFT, or left=2cm"
+        "Keep so much free along the edges of a sheet: 5mm, SIDES,ENDS, TOP,RIGHT,BOTTOM,LEFT, or left=2cm",
     )
 }
 

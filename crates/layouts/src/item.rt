@@ -167,10 +167,7 @@ impl GridLayout {
                 self.along_row(self.room.bottom, column),
             )
         } else {
-            (
-                self.along_row(self.room.left, column),
-                self.above_foot(row),
-            )
+            (self.along_row(self.room.left, column), self.above_foot(row))
         }
     }
 

@@ -30,14 +30,14 @@ impl Model for Room {
     ghost Value = { Kept };
 
     ghost view = { λ r. record {
-        paper = r.paper;
-        left = r.left;
-        right = r.right;
-        bottom = r.bottom;
-        top = r.top;
-        gap_across = r.gap_across;
-        gap_up = r.gap_up;
-        trim = r.trim;
+      paper = r.paper;
+      left = r.left;
+      right = r.right;
+      bottom = r.bottom;
+      top = r.top;
+      gap_across = r.gap_across;
+      gap_up = r.gap_up;
+      trim = r.trim;
     } };
 
     ghost invariant = { λ r.
@@ -46,14 +46,14 @@ impl Model for Room {
         × (r.trim ≤ 10_000_000_000) };
 
     ghost inverse = { λ r. record {
-        paper = r.paper;
-        left = r.left;
-        right = r.right;
-        bottom = r.bottom;
-        top = r.top;
-        gap_across = r.gap_across;
-        gap_up = r.gap_up;
-        trim = r.trim;
+      paper = r.paper;
+      left = r.left;
+      right = r.right;
+      bottom = r.bottom;
+      top = r.top;
+      gap_across = r.gap_across;
+      gap_up = r.gap_up;
+      trim = r.trim;
     } };
 }
 

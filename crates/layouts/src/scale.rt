@@ -37,7 +37,9 @@ fn left_free(along: &Along, side: u64) -> u64
     ensures value { result ≡ left_free_of along.now side }
     ensures in_range { result ≤ longest_side }
 {
-    side.saturating_sub(1_270_000 * (kept(along.trim, along.before) + kept(along.trim, along.after)))
+    side.saturating_sub(
+        1_270_000 * (kept(along.trim, along.before) + kept(along.trim, along.after)),
+    )
 }
 
 /// One of so many equal parts of a side, in 10^-5 of a point.
@@ -54,7 +56,10 @@ fn step(along: &Along, side: u64, parts: u32) -> u64
     requires in_range { side ≤ longest_side }
     ensures { result ≡ step_of along.now side parts }
 {
-    part(left_free(along, side) + 1_270_000 * kept(along.trim, along.gap), parts)
+    part(
+        left_free(along, side) + 1_270_000 * kept(along.trim, along.gap),
+        parts,
+    )
 }
 
 /// From where a cell begins to where the next one begins, across and down, as one holds the sheet for its pages to be
@@ -144,12 +149,7 @@ pub fn exact_scale(page: &Paper, room: &Room, grid: Grid) -> u128
     };
     let (beside, above) = room.held(grid.turned);
     let wide = exact_along(&beside, across, grid.columns, counted(room, page.width()));
-    wide.min(exact_along(
-        &above,
-        down,
-        grid.rows,
-        counted(room, page.height()),
-    ))
+    wide.min(exact_along(&above, down, grid.rows, counted(room, page.height())))
 }
 
 /// Whether pages can be written with this scale, in 10^-9.

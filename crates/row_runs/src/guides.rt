@@ -127,11 +127,7 @@ fn push_upright_margin(room: &Room, guides: &mut Vec<Guide>) -> Result<(), Alloc
     ensures { OnOk result (guides.new.items ≡ guides.old.items ++ upright_margin room.now) }
 {
     let right = far_edge(room.right, room.paper.width());
-    guides.push(upright(
-        GuideKind::Margin,
-        &room.paper,
-        near_edge(room.left),
-    ))?;
+    guides.push(upright(GuideKind::Margin, &room.paper, near_edge(room.left)))?;
     guides.push(upright(GuideKind::Margin, &room.paper, right))?;
     Ok(())
 }
@@ -141,11 +137,7 @@ fn push_level_margin(room: &Room, guides: &mut Vec<Guide>) -> Result<(), AllocEr
     ensures { OnOk result (guides.new.items ≡ guides.old.items ++ level_margin room.now) }
 {
     let top = far_edge(room.top, room.paper.height());
-    guides.push(level(
-        GuideKind::Margin,
-        &room.paper,
-        near_edge(room.bottom),
-    ))?;
+    guides.push(level(GuideKind::Margin, &room.paper, near_edge(room.bottom)))?;
     guides.push(level(GuideKind::Margin, &room.paper, top))?;
     Ok(())
 }

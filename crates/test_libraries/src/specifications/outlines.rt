@@ -2,7 +2,9 @@
 use crate::specifications::answer::Answer;
 use crate::specifications::specifications::written;
 use crate::specifications::words::{count, length, number, number_in, paper, word};
-use layouts::{Arrangement, ArrangementError, Binding, Cells, Free, Papers, Run, Turned, arrange, bind};
+use layouts::{
+    Arrangement, ArrangementError, Binding, Cells, Free, Papers, Run, Turned, arrange, bind,
+};
 use lengths::{Grains, Number, a4};
 use pagespec::Spec;
 use std::fmt::{Debug, Display};
