@@ -11,10 +11,16 @@ use lengths::Grains;
 pub fn gaps_named(text: &str) -> Option<Free>
     ensures { result ≡ meaning.gaps_named text.now }
 {
-    let (across, up) = match cut_at(text, ',') {
-        None => (text, text),
-        Some(parts) => parts,
-    };
+    match cut_at(text, ',') {
+        None => gaps_of(text, text),
+        Some((across, up)) => gaps_of(across, up),
+    }
+}
+
+/// Two gaps, if both are lengths.
+fn gaps_of(across: &str, up: &str) -> Option<Free>
+    ensures { result ≡ meaning.gaps_of (length_of across.now) (length_of up.now) }
+{
     Some(Free {
         across: length_with_unit(across)?,
         up: length_with_unit(up)?,
