@@ -1,7 +1,7 @@
 -- A preamble's run as a test, which is computed once: it leaves no operands, the graphics state as it was, and none of the names
 -- that the sheet's text uses or puts.
 use Rattle.std.specs.Prelude.{Option, Some, None, codes}
-use Rattle.std.proofs.Common.{◌≡◌, ℕ, refl, ap, ◌∙◌, sym, Bool, true, false, not, ◌&&◌, List, [], ◌∷◌, true≢false}
+use Rattle.std.proofs.Common.{◌≡◌, refl, ap, ◌∙◌, sym, Bool, true, false, not, ◌&&◌, List, [], ◌∷◌, true≢false}
 use Rattle.pictures.specs.Objects.{Object, Call}
 use Rattle.pictures.specs.Dictionaries.{entry_of, has}
 use Rattle.pictures.specs.Operators.{all_are_old, all_old}

@@ -1,6 +1,6 @@
 -- A document is shown if its preamble and pages run as the law asks.
 use Rattle.std.specs.Prelude.{Option, Ok, length}
-use Rattle.std.proofs.Common.{◌≡◌, ℕ, ◌<◌, ◌∙◌, List, true, false}
+use Rattle.std.proofs.Common.{◌≡◌, ℕ, ◌<◌, ◌∙◌, subst, List, true, false}
 use Rattle.rules.specs.Parts.{NestedUnit, pages, preamble, bytes_of}
 use Rattle.rules.specs.Run.{document_of}
 use Rattle.pictures.specs.Machine.{State, Painting, steps}
@@ -9,17 +9,19 @@ use Rattle.pictures.specs.Sheets.{IsGround}
 use Rattle.pictures.specs.Documents.{all_sheets}
 use Rattle.pictures.specs.Kept.{preamble_comments_apart}
 use Rattle.pictures.proofs.Output.{on_sheets}
+use Rattle.pictures.proofs.DocumentRun.{on_all_sheets}
+use Rattle.pictures.specs.DocumentRun.{OnPages}
 use Rattle.open_pictures.specs.Machine.{open_step}
 use Rattle.open_pictures.specs.Blindness.{IsBlind}
 use Rattle.open_pictures.specs.Documents.{begun, plain_work, OpenPreambleRuns, OpenPagePrints}
 use Rattle.open_pictures.specs.Values.{values, no_others}
 use Rattle.open_pictures.proofs.Nowhere.{placeless_runs_preambles}
-use Rattle.open_pictures.proofs.Imposed.{open_sheets_show_the_pages}
+use Rattle.open_pictures.proofs.Imposed.{open_made_sheets_show_the_pages, open_sheets_show_the_pages}
 use Rattle.open_pictures.proofs.Values.{no_others_ask, values_are_blind}
 use Rattle.real_documents.specs.Shown.{IsShown}
 use Rattle.real_documents.proofs.Preambles.{reached, is_ready, ready}
 
-blind : IsBlind values
+pub blind : IsBlind values
 blind = values_are_blind no_others no_others_ask
 
 -- it is accepted, and its preamble, in so many steps, leaves what the law asks
@@ -31,15 +33,19 @@ shown text us r steps_of count picture document apart pages complete run e print
     let z = ready r e in
     let s : State = reached r in
     let runs : OpenPreambleRuns values plain_work IsGround (bytes_of (preamble us)) s =
-    (complete, (steps_of, run ∙ z.run), z.left, z.painted, z.sheets, z.plain.ground) in (
+    (complete, (steps_of, run ∙ z.run), z.left, z.painted, z.sheets, z.plain.ground) in
+    let each : OnPages (λ p. OpenPagePrints values us s p (picture p)) us = λ p lt. prints p (subst (λ n. p < n) pages lt) in (
       us,
       s,
       picture,
       document,
       pages,
       runs,
-      prints,
-      λ frame sides spec h.
+      each,
+      λ frame sides spec.
           open_sheets_show_the_pages values values plain_work frame sides spec text us picture s blind (placeless_runs_preambles values blind.placeless) document apart runs z.plain
-          (on_sheets (λ k paper p. p < count) (λ k paper p. OpenPagePrints values us s p (picture p)) (λ k paper p lt. prints p lt) 0 (all_sheets frame sides spec us) h),
+          (on_all_sheets (λ p. OpenPagePrints values us s p (picture p)) frame sides spec us each),
+      λ border dress all quiet h.
+          open_made_sheets_show_the_pages values values plain_work border dress all text us picture s blind (placeless_runs_preambles values blind.placeless) quiet document apart runs z.plain
+          (on_sheets (λ k paper p. p < count) (λ k paper p. OpenPagePrints values us s p (picture p)) (λ k paper p lt. prints p lt) 0 all h),
     )

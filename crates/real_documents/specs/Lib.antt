@@ -2,3 +2,4 @@
 pub mod Shown
 pub mod Barcode
 pub mod Groff
+pub mod Guarded
