@@ -1,10 +1,10 @@
 //! The row of pages that is taken.
-ghost use Rattle.std.specs.Prelude.{◌≡◌, ℕ, ◌<◌, ◌≤◌, ◌==◌, ◌||◌, if◌then◌else◌, IfOk, None, length, get_or, false};
-ghost use Rattle.std.specs.Prelude.{option_and_then, slice_get};
+ghost use Rattle.std.specs.Prelude.{◌≡◌, ℕ, ◌<◌, ◌≤◌, ◌==◌, ◌||◌, if◌then◌else◌, IfOk, OnOk, None, length, get_or, false};
+ghost use Rattle.std.specs.Prelude.{[], ◌++◌, option_and_then, slice_get};
 ghost use Rattle.made_sheets.specs.Choice.{imposed_row as row_of, most_entries};
 ghost use Rattle.impose_words.specs.Choices.{choice_in};
 ghost use Rattle.impose_cli.specs.Reaches.{is_page, takes};
-ghost use Rattle.impose_cli.specs.RowTasks.{row_or_none, row_papers, taken_from};
+ghost use Rattle.impose_cli.specs.RowTasks.{or_without, row_or_none, row_papers, taken_from};
 
 use impose_words::PageChoice;
 use lengths::Paper;
@@ -37,11 +37,20 @@ pub(crate) fn papers_on_row(
 {
     let mut papers = Vec::new(alloc);
     for entry in row {
-        if let Some(paper) = paper_of_entry(own, *entry) {
-            papers.push(paper)?;
-        }
+        push_paper(&mut papers, own, entry)?;
     }
     Ok(papers)
+}
+
+/// Appends the paper of an entry's page, if it has one.
+fn push_paper(papers: &mut Vec<Paper>, own: &[Paper], entry: &Option<u32>) -> Result<(), AllocError>
+    ensures { OnOk result (papers.new.items
+        ≡ papers.old.items ++ or_without (option_and_then (slice_get own.now) entry.now) []) }
+{
+    if let Some(paper) = paper_of_entry(own, *entry) {
+        papers.push(paper)?;
+    }
+    Ok(())
 }
 
 fn paper_of_entry(own: &[Paper], entry: Option<u32>) -> Option<Paper>
