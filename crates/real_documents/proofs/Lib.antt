@@ -3,4 +3,3 @@ pub mod Preambles
 pub mod Shown
 pub mod Barcode
 pub mod Groff
-pub mod Guarded

@@ -6,7 +6,6 @@ use Rattle.rules.specs.Run.{document_of}
 use Rattle.pictures.specs.Machine.{State, Painting, steps}
 use Rattle.pictures.specs.Scanner.{tokens, IsComplete}
 use Rattle.pictures.specs.Sheets.{IsGround}
-use Rattle.pictures.specs.Documents.{all_sheets}
 use Rattle.pictures.specs.Kept.{preamble_comments_apart}
 use Rattle.pictures.proofs.Output.{on_sheets}
 use Rattle.pictures.proofs.DocumentRun.{on_all_sheets}

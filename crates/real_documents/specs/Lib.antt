@@ -2,4 +2,3 @@
 pub mod Shown
 pub mod Barcode
 pub mod Groff
-pub mod Guarded

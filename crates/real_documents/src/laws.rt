@@ -1,7 +1,6 @@
 //! Laws of real documents. The functions do nothing.
 ghost use Rattle.real_documents.specs.Barcode.{BarcodeIsShown};
 ghost use Rattle.real_documents.specs.Groff.{GroffIsShown};
-ghost use Rattle.real_documents.specs.Guarded.{GuardedBarcodeIsShown};
 
 /// Sheets of barcode.ps show its three pages, placed.
 pub fn barcode_is_shown()
@@ -11,9 +10,4 @@ pub fn barcode_is_shown()
 /// Sheets of groff.ps show its two pages, placed.
 pub fn groff_is_shown()
     ensures { GroffIsShown }
-{}
-
-/// With the guard in it, sheets of barcode.ps show its pages, placed.
-pub fn guarded_barcode_is_shown()
-    ensures { GuardedBarcodeIsShown }
 {}
