@@ -111,10 +111,11 @@ impl Spacing {
         ensures { result ≡ nothing_kept }
     {
         let plain = Arrangement::plain(Cells::AtLeast(1));
+        let free = plain.free;
         Spacing {
-            free: plain.free,
-            creep: plain.free.trim,
-            overlap: plain.free.trim,
+            free,
+            creep: free.trim,
+            overlap: free.trim,
             order: plain.order,
             scale: plain.scale,
             same_scale: false,
