@@ -1,56 +1,58 @@
 //! Blocks of lines: a line at column 0, and the indented lines below it.
 use std::alloc::{AllocError, Global};
 
-/// A line at column 0, and the lines below it.
-#[derive(Clone, Copy)]
-pub struct Block<'t> {
+/// A line at column 0, and the lines below it without their indentation.
+#[derive(Drop)]
+pub struct Block<'a> {
     /// The line's number, counted from 1.
     pub line: usize,
-    pub head: &'t str,
-    pub body: &'t str,
+    pub head: &'a str,
+    pub body: Vec<&'a str>,
 }
 
 /// The blocks of a text. Lines that begin with `#` belong to none.
 pub fn blocks(alloc: Global, text: &str) -> Result<Vec<Block<'_>>, AllocError> {
     let mut blocks = Vec::new(alloc);
-    let mut block = Block {
-        line: 1,
-        head: "",
-        body: "",
-    };
-    let (mut begin, mut offset) = (0usize, 0usize);
+    let mut empty_lines: usize = 0;
     for (index, line) in text.split('\n').enumerate() {
-        let end = offset.saturating_add(line.len());
-        offset = end.saturating_add(1);
-        if line.starts_with("  ") {
-            block.body = text.get(begin..end).unwrap_or("");
-        } else if !line.is_empty() && !line.starts_with('#') {
-            blocks.push(block)?;
-            begin = offset;
-            block = Block {
-                line: index.saturating_add(1),
-                head: line,
-                body: "",
-            };
+        if line.is_empty() {
+            empty_lines = empty_lines.saturating_add(1);
+        } else if let Some(rest) = line.strip_prefix("  ") {
+            add_line(alloc, &mut blocks, index, rest, empty_lines)?;
+            empty_lines = 0;
+        } else {
+            empty_lines = 0;
+            if !line.starts_with('#') {
+                blocks.push(block_of(alloc, index, line))?;
+            }
         }
     }
-    blocks.push(block)?;
     Ok(blocks)
 }
 
-/// The text of a line in a block's body. None for a comment.
-pub fn text_of_line(line: &str) -> Option<&str> {
-    if line.is_empty() {
-        Some(line)
-    } else {
-        line.strip_prefix("  ")
+fn block_of(alloc: Global, index: usize, head: &str) -> Block<'_> {
+    Block {
+        line: index.saturating_add(1),
+        head,
+        body: Vec::new(alloc),
     }
 }
 
-/// A word, and what follows a space after it.
-pub fn split_word(text: &str) -> (&str, &str) {
-    match text.split_once(' ') {
-        Some(parts) => parts,
-        None => (text, ""),
+/// Adds a line to the last block, after this many empty ones. If there is no block, it becomes one without a head.
+fn add_line<'a>(
+    alloc: Global,
+    blocks: &mut Vec<Block<'a>>,
+    index: usize,
+    line: &'a str,
+    empty_lines: usize,
+) -> Result<(), AllocError> {
+    let Some(block) = blocks.last_mut() else {
+        blocks.push(block_of(alloc, index, ""))?;
+        return Ok(());
+    };
+    for _ in 0..empty_lines {
+        block.body.push("")?;
     }
+    block.body.push(line)?;
+    Ok(())
 }

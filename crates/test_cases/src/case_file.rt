@@ -1,85 +1,82 @@
 //! What a case file holds.
-use std::alloc::Global;
 
 /// Documents and cases, and the lines that are neither.
 #[derive(Drop)]
-pub struct CaseFile<'t> {
-    pub documents: Vec<Document<'t>>,
-    pub cases: Vec<Case<'t>>,
-    pub bad_lines: Vec<BadLine<'t>>,
+pub struct CaseFile {
+    pub documents: Vec<Document>,
+    pub cases: Vec<Case>,
+    pub bad_lines: Vec<BadLine>,
 }
 
 /// A document, by a name.
 #[derive(Drop)]
-pub struct Document<'t> {
-    pub name: &'t str,
+pub struct Document {
+    pub name: String,
     pub bytes: Vec<u8>,
 }
 
 /// A line that can't be understood.
-#[derive(Clone, Copy)]
-pub struct BadLine<'t> {
+#[derive(Drop)]
+pub struct BadLine {
     pub line: usize,
-    pub text: &'t str,
+    pub text: String,
 }
 
 /// A command with its setting and its expected results.
 #[derive(Drop)]
-pub struct Case<'t> {
+pub struct Case {
     /// The line of the command, counted from 1.
     pub line: usize,
     /// The command as it is written.
-    pub command: &'t str,
+    pub command: String,
     pub words: Vec<String>,
-    pub inputs: Vec<Input<'t>>,
-    pub settings: Vec<Setting<'t>>,
+    pub inputs: Vec<Input>,
+    pub settings: Vec<Setting>,
     pub status: u8,
     pub output: WantedText,
     pub error: WantedText,
-    pub files: Vec<WantedFile<'t>>,
+    pub files: Vec<WantedFile>,
 }
 
 /// A file that can be read, or standard input, which is `-`; and the index of the document that it holds.
-#[derive(Clone, Copy)]
-pub struct Input<'t> {
-    pub name: &'t str,
+#[derive(Drop)]
+pub struct Input {
+    pub name: String,
     pub document: Option<usize>,
 }
 
 /// A setting of a run.
-#[derive(Clone, Copy)]
-pub struct Setting<'t> {
-    pub key: &'t str,
-    pub value: &'t str,
+#[derive(Drop)]
+pub struct Setting {
+    pub key: String,
+    pub value: String,
 }
 
 /// A file that must be there afterwards with this text, or must not be there.
 #[derive(Drop)]
-pub struct WantedFile<'t> {
-    pub name: &'t str,
+pub struct WantedFile {
+    pub name: String,
     pub text: Option<WantedText>,
 }
 
-/// An expected text. Where there is a gap, there may be any lines.
+/// An expected text: parts between which there may be any lines. A part is lines with their ends.
 #[derive(Drop)]
 pub struct WantedText {
-    pub bytes: Vec<u8>,
-    /// How many bytes are before each gap.
-    pub gaps: Vec<usize>,
+    pub parts: Vec<Vec<Vec<u8>>>,
     pub digest: Option<Digest>,
 }
 
-/// The number of bytes and lines of a text, and the first eight bytes of its SHA-256.
-#[derive(Clone, Copy, PartialEq, Eq)]
+/// The number of bytes and lines of a text, and the first 16 digits of its SHA-256.
+#[derive(Drop)]
 pub struct Digest {
     pub bytes: usize,
     pub lines: usize,
-    pub sum: u64,
+    pub sum: String,
 }
 
-impl<'t> CaseFile<'t> {
+impl CaseFile {
     /// What an input holds.
-    pub fn text_of(&self, input: Input<'_>) -> &[u8] {
+    pub fn text_of(&self, input: &Input) -> &[u8] {
         let Some(index) = input.document else {
             return &[];
         };
@@ -90,45 +87,14 @@ impl<'t> CaseFile<'t> {
     }
 }
 
-impl<'t> Case<'t> {
+impl Case {
     /// The value of the setting of that name, if it is there.
     pub fn setting(&self, key: &str) -> Option<&str> {
         for setting in self.settings.iter() {
-            if setting.key == key {
-                return Some(setting.value);
+            if setting.key.as_str() == key {
+                return Some(setting.value.as_str());
             }
         }
         None
-    }
-}
-
-impl WantedText {
-    /// The empty text.
-    pub fn new(alloc: Global) -> WantedText {
-        WantedText {
-            bytes: Vec::new(alloc),
-            gaps: Vec::new(alloc),
-            digest: None,
-        }
-    }
-
-    /// What is after this many gaps and before the next one.
-    pub fn part(&self, nth: usize) -> &[u8] {
-        let begin = match nth.checked_sub(1) {
-            Some(before) => self.gap(before),
-            None => 0,
-        };
-        self.bytes
-            .as_slice()
-            .get(begin..self.gap(nth))
-            .unwrap_or(&[])
-    }
-
-    /// How many bytes are before this gap, or before the end.
-    fn gap(&self, nth: usize) -> usize {
-        match self.gaps.get(nth) {
-            Some(gap) => *gap,
-            None => self.bytes.len(),
-        }
     }
 }

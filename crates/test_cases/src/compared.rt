@@ -1,270 +1,272 @@
 //! Differences between what is expected and what was found.
 use crate::case_file::{Case, Digest, WantedFile, WantedText};
-use crate::lines::{count_ends, count_lines, split_lines};
 use crate::tally::{Found, FoundFile};
 use sha2::{Digest as _, Sha256};
 use std::alloc::{AllocError, Global};
 
-/// Adds to the report what differs: of each part the first line, as wanted and as found. A part is `status`, `output`,
-/// `error`, or a file by its name.
-pub fn push_differences(
+/// The first line that differs in a part of what was found.
+#[derive(Drop)]
+pub struct Difference {
+    /// `status`, `output`, `error`, or a file's name.
+    pub part: String,
+    /// The line's number in what was found, counted from 1.
+    pub line: usize,
+    pub wanted: String,
+    pub found: String,
+}
+
+/// A line that differs, with its number.
+#[derive(Drop)]
+struct Line {
+    number: usize,
+    wanted: String,
+    found: String,
+}
+
+/// What differs, a part at a time.
+pub fn differences(
     alloc: Global,
-    report: &mut String,
-    case: &Case<'_>,
+    case: &Case,
     found: &Found,
-) -> Result<(), AllocError> {
+) -> Result<Vec<Difference>, AllocError> {
+    let mut differences = Vec::new(alloc);
     if case.status != found.status {
-        push_statuses(alloc, report, case.status, found.status)?;
+        let line = Line {
+            number: 1,
+            wanted: format!(in alloc; "{}", case.status)?,
+            found: format!(in alloc; "{}", found.status)?,
+        };
+        add(alloc, &mut differences, "status", Some(line))?;
     }
-    push_text(
-        alloc,
-        report,
-        "output",
-        &case.output,
-        found.output.as_slice(),
-    )?;
-    push_text(alloc, report, "error", &case.error, found.error.as_slice())?;
+    let line = differing_line(alloc, &case.output, found.output.as_slice())?;
+    add(alloc, &mut differences, "output", line)?;
+    let line = differing_line(alloc, &case.error, found.error.as_slice())?;
+    add(alloc, &mut differences, "error", line)?;
     for file in case.files.iter() {
-        push_file(alloc, report, file, found.files.as_slice())?;
+        let line = differing_file(alloc, file, found.files.as_slice())?;
+        add(alloc, &mut differences, file.name.as_str(), line)?;
     }
     for file in found.files.iter() {
-        if !is_wanted(file, case.files.as_slice()) {
-            push_words(
-                alloc,
-                report,
-                (file.name.as_str(), 0),
-                "no such file named",
-                "one",
-            )?;
-        }
+        let line = unwanted_file(alloc, file, case.files.as_slice())?;
+        add(alloc, &mut differences, file.name.as_str(), line)?;
+    }
+    Ok(differences)
+}
+
+/// Adds a line that differs in this part, if there is one.
+fn add(
+    alloc: Global,
+    differences: &mut Vec<Difference>,
+    part: &str,
+    line: Option<Line>,
+) -> Result<(), AllocError> {
+    if let Some(line) = line {
+        differences.push(Difference {
+            part: String::from_str(alloc, part)?,
+            line: line.number,
+            wanted: line.wanted,
+            found: line.found,
+        })?;
     }
     Ok(())
 }
 
-/// Adds a line of a part as wanted and as found. Lines are counted from 1, and 0 stands for none of them.
-fn push_words(
+/// How a file differs from the expected one.
+fn differing_file(
     alloc: Global,
-    report: &mut String,
-    (part, line): (&str, usize),
-    wanted: &str,
-    found: &str,
-) -> Result<(), AllocError> {
-    let place = format!(in alloc; "  {part} {line} ")?;
-    push_after(report, place.as_str(), "wanted: ", wanted)?;
-    push_after(report, place.as_str(), "found:  ", found)
-}
-
-/// Adds a line of these three.
-fn push_after(report: &mut String, place: &str, what: &str, text: &str) -> Result<(), AllocError> {
-    report.push_str(place)?;
-    report.push_str(what)?;
-    report.push_str(text)?;
-    report.push_str("\n")
-}
-
-fn push_statuses(
-    alloc: Global,
-    report: &mut String,
-    wanted: u8,
-    found: u8,
-) -> Result<(), AllocError> {
-    let wanted = format!(in alloc; "{wanted}")?;
-    let found = format!(in alloc; "{found}")?;
-    push_words(
-        alloc,
-        report,
-        ("status", 1),
-        wanted.as_str(),
-        found.as_str(),
-    )
-}
-
-/// Adds how a file differs from the expected one.
-fn push_file(
-    alloc: Global,
-    report: &mut String,
-    wanted: &WantedFile<'_>,
+    wanted: &WantedFile,
     files: &[FoundFile],
-) -> Result<(), AllocError> {
-    match (&wanted.text, bytes_named(files, wanted.name)) {
-        (Some(text), Some(bytes)) => push_text(alloc, report, wanted.name, text, bytes),
-        (None, None) => Ok(()),
-        (Some(_), None) => push_words(alloc, report, (wanted.name, 0), "a file", "none"),
-        (None, Some(_)) => push_words(alloc, report, (wanted.name, 0), "no file", "one"),
+) -> Result<Option<Line>, AllocError> {
+    let file = files
+        .iter()
+        .find(|file| file.name.as_str() == wanted.name.as_str());
+    match (&wanted.text, file) {
+        (Some(text), Some(file)) => differing_line(alloc, text, file.bytes.as_slice()),
+        (None, None) => Ok(None),
+        (Some(_), None) => Ok(Some(words(alloc, "a file", "none")?)),
+        (None, Some(_)) => Ok(Some(words(alloc, "no file", "one")?)),
     }
 }
 
-/// The bytes of the file of that name.
-fn bytes_named<'f>(files: &'f [FoundFile], name: &str) -> Option<&'f [u8]> {
-    for file in files {
-        if file.name.as_str() == name {
-            return Some(file.bytes.as_slice());
-        }
-    }
-    None
-}
-
-/// Whether the case names a file.
-fn is_wanted(found: &FoundFile, wanted: &[WantedFile<'_>]) -> bool {
-    for file in wanted {
-        if file.name == found.name.as_str() {
-            return true;
-        }
-    }
-    false
-}
-
-/// Adds the first line of a part that differs.
-fn push_text(
+/// A file that the case doesn't name.
+fn unwanted_file(
     alloc: Global,
-    report: &mut String,
-    part: &str,
+    found: &FoundFile,
+    wanted: &[WantedFile],
+) -> Result<Option<Line>, AllocError> {
+    let named = wanted
+        .iter()
+        .find(|file| file.name.as_str() == found.name.as_str());
+    match named {
+        Some(_) => Ok(None),
+        None => Ok(Some(words(alloc, "no such file named", "one")?)),
+    }
+}
+
+fn words(alloc: Global, wanted: &str, found: &str) -> Result<Line, AllocError> {
+    Ok(Line {
+        number: 0,
+        wanted: String::from_str(alloc, wanted)?,
+        found: String::from_str(alloc, found)?,
+    })
+}
+
+/// The first line of a text that differs.
+fn differing_line(
+    alloc: Global,
     wanted: &WantedText,
     found: &[u8],
-) -> Result<(), AllocError> {
-    if let Some(digest) = wanted.digest {
-        let other = digest_of(found);
-        if other != digest {
-            return push_digests(alloc, report, part, digest, other);
+) -> Result<Option<Line>, AllocError> {
+    let mut lines = Vec::new(alloc);
+    for line in found.split_inclusive(|byte| *byte == b'\n') {
+        lines.push(line)?;
+    }
+    if let Some(digest) = &wanted.digest {
+        let line = differing_digest(alloc, digest, found)?;
+        if line.is_some() || !wanted.tells_lines() {
+            return Ok(line);
         }
-        if wanted.bytes.is_empty() && wanted.gaps.is_empty() {
-            return Ok(());
+    }
+    match wanted.parts.as_slice() {
+        [] => Ok(None),
+        [all] => whole_differs(alloc, all.as_slice(), lines.as_slice()),
+        [first, others @ ..] => parts_differ(alloc, first.as_slice(), others, lines.as_slice()),
+    }
+}
+
+impl WantedText {
+    /// Whether it has more than a digest.
+    fn tells_lines(&self) -> bool {
+        match self.parts.as_slice() {
+            [only] => !only.is_empty(),
+            _ => true,
         }
     }
-    if wanted.gaps.is_empty() {
-        push_line(alloc, report, part, wanted.part(0), found)
-    } else {
-        push_parts(alloc, report, part, wanted, found)
-    }
 }
 
-/// The digest of a text.
-fn digest_of(text: &[u8]) -> Digest {
-    let [a, b, c, d, e, f, g, h, ..] = Sha256::digest(text);
-    Digest {
-        bytes: text.len(),
-        lines: count_ends(text),
-        sum: u64::from_be_bytes([a, b, c, d, e, f, g, h]),
-    }
-}
-
-fn push_digests(
+/// How a text differs from a digest.
+fn differing_digest(
     alloc: Global,
-    report: &mut String,
-    part: &str,
-    wanted: Digest,
-    found: Digest,
-) -> Result<(), AllocError> {
-    let wanted = digest_text(alloc, wanted)?;
-    let found = digest_text(alloc, found)?;
-    push_words(alloc, report, (part, 0), wanted.as_str(), found.as_str())
-}
-
-fn digest_text(alloc: Global, digest: Digest) -> Result<String, AllocError> {
-    let Digest { bytes, lines, sum } = digest;
-    format!(in alloc; "= {bytes} {lines} {sum:016x}")
-}
-
-/// Adds the first line that differs of a text without gaps.
-fn push_line(
-    alloc: Global,
-    report: &mut String,
-    part: &str,
-    wanted: &[u8],
+    wanted: &Digest,
     found: &[u8],
-) -> Result<(), AllocError> {
-    let (mut wanted, mut found) = (wanted, found);
-    let count = count_lines(wanted).max(count_lines(found));
+) -> Result<Option<Line>, AllocError> {
+    let mut ends: usize = 0;
+    for byte in found {
+        if *byte == b'\n' {
+            ends = ends.saturating_add(1);
+        }
+    }
+    let sum = hex::encode(alloc, Sha256::digest(found))?;
+    let (sum, _) = sum.as_str().split_at_checked(16).unwrap_or(("", ""));
+    if wanted.bytes == found.len() && wanted.lines == ends && wanted.sum.as_str() == sum {
+        return Ok(None);
+    }
+    let (bytes, lines) = (wanted.bytes, wanted.lines);
+    Ok(Some(Line {
+        number: 0,
+        wanted: format!(in alloc; "= {bytes} {lines} {}", wanted.sum)?,
+        found: format!(in alloc; "= {} {ends} {sum}", found.len())?,
+    }))
+}
+
+/// How a text differs from exactly the expected lines.
+fn whole_differs(
+    alloc: Global,
+    wanted: &[Vec<u8>],
+    found: &[&[u8]],
+) -> Result<Option<Line>, AllocError> {
+    let count = wanted.len().max(found.len());
     for index in 0..count {
-        let (line, rest) = split_lines(wanted, 1);
-        let (other, further) = split_lines(found, 1);
+        let line = wanted.get(index).map(|line| line.as_slice());
+        let other = found.get(index).copied();
         if line != other {
-            return push_lines(alloc, report, (part, index.saturating_add(1)), line, other);
+            return Ok(Some(line_at(alloc, index, line, other)?));
         }
-        wanted = rest;
-        found = further;
     }
-    Ok(())
+    Ok(None)
 }
 
-/// Adds lines that differ.
-fn push_lines(
+/// A line that differs, at this index.
+fn line_at(
     alloc: Global,
-    report: &mut String,
-    place: (&str, usize),
-    wanted: &[u8],
-    found: &[u8],
-) -> Result<(), AllocError> {
-    let wanted = shown(alloc, wanted)?;
-    let found = shown(alloc, found)?;
-    push_words(alloc, report, place, wanted.as_str(), found.as_str())
+    index: usize,
+    wanted: Option<&[u8]>,
+    found: Option<&[u8]>,
+) -> Result<Line, AllocError> {
+    Ok(Line {
+        number: index.saturating_add(1),
+        wanted: shown(alloc, wanted)?,
+        found: shown(alloc, found)?,
+    })
 }
 
 /// A line for display: without its end, or in words if there is none.
-fn shown(alloc: Global, line: &[u8]) -> Result<String, AllocError> {
+fn shown(alloc: Global, line: Option<&[u8]>) -> Result<String, AllocError> {
     match line {
-        [] => String::from_str(alloc, "(no further line)"),
-        [text @ .., b'\n'] => String::from_utf8_lossy(alloc, text),
-        text => {
-            let mut text = String::from_utf8_lossy(alloc, text)?;
-            text.push_str(" (without a line end)")?;
-            Ok(text)
-        }
+        None => String::from_str(alloc, "(no further line)"),
+        Some(line) => match line.strip_suffix(b"\n") {
+            Some(line) => String::from_utf8_lossy(alloc, line),
+            None => {
+                let text = String::from_utf8_lossy(alloc, line)?;
+                format!(in alloc; "{text} (without a line end)")
+            }
+        },
     }
 }
 
-/// Adds the first line that differs of a text with gaps. What is before the first gap is at the start, and what is
-/// after the last one at the end.
-fn push_parts(
+/// How lines differ from parts between which there may be any lines.
+fn parts_differ(
     alloc: Global,
-    report: &mut String,
-    part: &str,
-    wanted: &WantedText,
-    found: &[u8],
-) -> Result<(), AllocError> {
-    let first = wanted.part(0);
-    let (front, mut rest) = split_lines(found, count_lines(first));
-    if front != first {
-        return push_line(alloc, report, part, first, front);
+    first: &[Vec<u8>],
+    others: &[Vec<Vec<u8>>],
+    found: &[&[u8]],
+) -> Result<Option<Line>, AllocError> {
+    let (front, mut rest) = found.split_at(first.len().min(found.len()));
+    let line = whole_differs(alloc, first, front)?;
+    if line.is_some() {
+        return Ok(line);
     }
-    let gaps = wanted.gaps.len();
-    for nth in 1..gaps {
-        match after(wanted.part(nth), rest) {
+    let Some((last, between)) = others.split_last() else {
+        return Ok(None);
+    };
+    for part in between.iter() {
+        match behind(part.as_slice(), rest) {
             Some(further) => rest = further,
-            None => return push_missing(alloc, report, part, wanted.part(nth)),
+            None => return Ok(Some(missing(alloc, part.as_slice())?)),
         }
     }
-    let last = wanted.part(gaps);
-    let between = count_lines(rest).saturating_sub(count_lines(last));
-    let (_, back) = split_lines(rest, between);
-    push_line(alloc, report, part, last, back)
+    let (_, back) = rest.split_at(rest.len().saturating_sub(last.len()));
+    whole_differs(alloc, last.as_slice(), back)
 }
 
 /// What follows the first occurrence of these lines.
-fn after<'f>(wanted: &[u8], found: &'f [u8]) -> Option<&'f [u8]> {
-    let lines = count_lines(wanted);
-    let starts = count_lines(found).saturating_add(1);
-    let mut rest = found;
-    for _ in 0..starts {
-        let (here, further) = split_lines(rest, lines);
-        if here == wanted {
-            return Some(further);
+fn behind<'a, 'b>(wanted: &[Vec<u8>], found: &'b [&'a [u8]]) -> Option<&'b [&'a [u8]]> {
+    let count = wanted.len();
+    for start in 0..found.len() {
+        let (_, rest) = found.split_at(start);
+        if count <= rest.len() {
+            let (here, further) = rest.split_at(count);
+            if are_same(wanted, here) {
+                return Some(further);
+            }
         }
-        let (_, next) = split_lines(rest, 1);
-        rest = next;
     }
     None
 }
 
-/// Adds that lines occur nowhere.
-fn push_missing(
-    alloc: Global,
-    report: &mut String,
-    part: &str,
-    wanted: &[u8],
-) -> Result<(), AllocError> {
-    let (line, _) = split_lines(wanted, 1);
-    let line = shown(alloc, line)?;
-    let nowhere = "(nowhere, with the lines below it)";
-    push_words(alloc, report, (part, 0), line.as_str(), nowhere)
+fn are_same(wanted: &[Vec<u8>], found: &[&[u8]]) -> bool {
+    wanted
+        .iter()
+        .zip(found.iter())
+        .all(|(line, other)| line.as_slice() == *other)
+}
+
+/// Lines that occur nowhere.
+fn missing(alloc: Global, part: &[Vec<u8>]) -> Result<Line, AllocError> {
+    let wanted = part.first().map(|line| line.as_slice());
+    Ok(Line {
+        number: 0,
+        wanted: shown(alloc, wanted)?,
+        found: String::from_str(alloc, "(nowhere, with the lines below it)")?,
+    })
 }

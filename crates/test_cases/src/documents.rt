@@ -1,70 +1,61 @@
 //! The texts of documents.
-use crate::blocks::{split_word, text_of_line};
+use crate::blocks::Block;
 use crate::case_file::Document;
 use crate::words::push_unescaped;
 use std::alloc::{AllocError, Global};
 
-/// Takes a document: `NAME`, which `escaped` or `repeated N` may follow. Returns whether it is one.
-pub fn take_document<'t>(
+/// The document of a block, if its head is `document NAME`, which `escaped` or `repeated N` may follow.
+pub fn document_of(
     alloc: Global,
-    documents: &mut Vec<Document<'t>>,
-    rest: &'t str,
-    body: &str,
-) -> Result<bool, AllocError> {
-    let (name, form) = split_word(rest);
+    block: &Block<'_>,
+    documents: &[Document],
+) -> Result<Option<Document>, AllocError> {
+    let mut words = block.head.split(' ');
+    let (Some("document"), Some(name)) = (words.next(), words.next()) else {
+        return Ok(None);
+    };
     let mut bytes = Vec::new(alloc);
-    let is_read = push_document(alloc, &mut bytes, form, body, documents.as_slice())?;
-    if is_read {
-        documents.push(Document { name, bytes })?;
-    }
-    Ok(is_read)
-}
-
-/// Adds the text of a document of this form. Returns whether it is understood.
-fn push_document(
-    alloc: Global,
-    bytes: &mut Vec<u8>,
-    form: &str,
-    body: &str,
-    documents: &[Document<'_>],
-) -> Result<bool, AllocError> {
-    match form {
-        "" => push_lines(bytes, body, documents, false),
-        "escaped" => push_lines(bytes, body, documents, true),
-        _ => match form.strip_prefix("repeated ").unwrap_or("").parse::<u32>() {
-            Ok(times) => push_repeated(alloc, bytes, body, times),
-            Err(_) => Ok(false),
+    let is_read = match (words.next(), words.next()) {
+        (None, _) => push_lines(&mut bytes, block.body.as_slice(), documents, false)?,
+        (Some("escaped"), None) => {
+            push_lines(&mut bytes, block.body.as_slice(), documents, true)?
+        }
+        (Some("repeated"), Some(times)) => match times.parse::<u32>() {
+            Ok(times) => push_repeated(alloc, &mut bytes, block.body.as_slice(), times)?,
+            Err(_) => false,
         },
+        _ => false,
+    };
+    if !is_read {
+        return Ok(None);
     }
+    let name = String::from_str(alloc, name)?;
+    Ok(Some(Document { name, bytes }))
 }
 
 /// The index of the document of that name: the last one counts.
-pub fn index_of(documents: &[Document<'_>], name: &str) -> Option<usize> {
+pub fn index_of(documents: &[Document], name: &str) -> Option<usize> {
     let mut found = None;
     for (index, document) in documents.iter().enumerate() {
-        if document.name == name {
+        if document.name.as_str() == name {
             found = Some(index);
         }
     }
     found
 }
 
-/// Adds lines with their ends, or with escapes and no ends of their own. Returns whether each named document is there.
+/// Adds lines with their ends, or with escapes and no ends of their own.
 fn push_lines(
     bytes: &mut Vec<u8>,
-    body: &str,
-    documents: &[Document<'_>],
+    lines: &[&str],
+    documents: &[Document],
     are_escaped: bool,
 ) -> Result<bool, AllocError> {
-    for line in body.lines() {
-        let Some(line) = text_of_line(line) else {
-            continue;
-        };
+    for line in lines.iter() {
         if let Some(name) = line.strip_prefix('@') {
-            let Some(text) = text_named(documents, name) else {
+            if !push_document(bytes, documents, name)? {
                 return Ok(false);
-            };
-            bytes.extend_from_slice(text)?;
+            }
         } else if are_escaped {
             push_unescaped(bytes, line)?;
         } else {
@@ -74,19 +65,8 @@ fn push_lines(
     Ok(true)
 }
 
-/// The text of the document of that name: the last one counts.
-fn text_named<'d>(documents: &'d [Document<'_>], name: &str) -> Option<&'d [u8]> {
-    let mut found = None;
-    for document in documents {
-        if document.name == name {
-            found = Some(document.bytes.as_slice());
-        }
-    }
-    found
-}
-
 /// Adds a line with its end; a backslash alone removes the end before it.
-pub fn push_line(bytes: &mut Vec<u8>, line: &str) -> Result<(), AllocError> {
+fn push_line(bytes: &mut Vec<u8>, line: &str) -> Result<(), AllocError> {
     if line == "\\" {
         bytes.pop();
         return Ok(());
@@ -96,35 +76,39 @@ pub fn push_line(bytes: &mut Vec<u8>, line: &str) -> Result<(), AllocError> {
     Ok(())
 }
 
+/// Adds the document of that name, if it is there.
+fn push_document(
+    bytes: &mut Vec<u8>,
+    documents: &[Document],
+    name: &str,
+) -> Result<bool, AllocError> {
+    let Some(index) = index_of(documents, name) else {
+        return Ok(false);
+    };
+    match documents.get(index) {
+        Some(document) => {
+            bytes.extend_from_slice(document.bytes.as_slice())?;
+            Ok(true)
+        }
+        None => Ok(false),
+    }
+}
+
 /// Adds lines this many times. `{}` is the number of the repetition, from 1, and `{0}` the same from 0.
 fn push_repeated(
     alloc: Global,
     bytes: &mut Vec<u8>,
-    body: &str,
+    lines: &[&str],
     times: u32,
 ) -> Result<bool, AllocError> {
     for time in 0..times {
-        for line in body.lines() {
-            push_numbered(alloc, bytes, text_of_line(line).unwrap_or(""), time)?;
+        let from_0 = format!(in alloc; "{time}")?;
+        let from_1 = format!(in alloc; "{}", time.saturating_add(1))?;
+        for line in lines.iter() {
+            let numbered = line.replace(alloc, "{0}", from_0.as_str())?;
+            let numbered = numbered.as_str().replace(alloc, "{}", from_1.as_str())?;
+            push_line(bytes, numbered.as_str())?;
         }
     }
     Ok(true)
-}
-
-/// Adds a line of the repetition with this number, from 0.
-fn push_numbered(
-    alloc: Global,
-    bytes: &mut Vec<u8>,
-    line: &str,
-    time: u32,
-) -> Result<(), AllocError> {
-    let line = numbered(alloc, line, "{0}", time)?;
-    let line = numbered(alloc, line.as_str(), "{}", time.saturating_add(1))?;
-    push_line(bytes, line.as_str())
-}
-
-/// A line with a number in each place of a mark.
-fn numbered(alloc: Global, line: &str, mark: &str, number: u32) -> Result<String, AllocError> {
-    let number = format!(in alloc; "{number}")?;
-    line.replace(alloc, mark, number.as_str())
 }

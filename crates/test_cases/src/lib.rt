@@ -5,7 +5,6 @@ mod blocks;
 mod case_file;
 mod compared;
 mod documents;
-mod lines;
 mod reading;
 mod tally;
 mod words;
@@ -13,6 +12,7 @@ mod words;
 pub use case_file::{
     BadLine, Case, CaseFile, Digest, Document, Input, Setting, WantedFile, WantedText,
 };
+pub use compared::{Difference, differences};
 pub use reading::read_case_file;
-pub use tally::{Caller, Found, FoundFile, Tally, run_files, text_of_file};
+pub use tally::{Found, FoundFile, Tally, load};
 pub use words::words_of;

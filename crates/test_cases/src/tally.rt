@@ -1,9 +1,9 @@
 //! Counts of cases, and the report of those that differ.
 use crate::case_file::{Case, CaseFile};
-use crate::compared::push_differences;
+use crate::compared::differences;
 use crate::reading::read_case_file;
-use std::alloc::{AllocError, Global};
-use std::{fs, io};
+use std::fs::File;
+use std::io::Read;
 
 /// What a command gave.
 #[derive(Drop)]
@@ -22,60 +22,20 @@ pub struct FoundFile {
     pub bytes: Vec<u8>,
 }
 
-impl Found {
-    /// Status 0, and nothing but standard output.
-    pub fn printed(alloc: Global, output: Vec<u8>) -> Found {
-        Found {
-            status: 0,
-            output,
-            error: Vec::new(alloc),
-            files: Vec::new(alloc),
-        }
-    }
-}
-
-/// What makes the calls of a case file.
-pub trait Caller {
-    /// What comes of a case. None if there is no such command or setting.
-    fn call(&self, file: &CaseFile<'_>, case: &Case<'_>) -> Result<Option<Found>, AllocError>;
-}
-
-/// Goes through the case files of these names, in the folder in which the program runs. It prints the lines that can't be
-/// understood, which count as cases that differ; the cases that differ; and how many there are.
-pub fn run_files<C: Caller>(rt: &HostRuntime, caller: &C, names: &[&str]) -> io::Result<()> {
-    let mut tally = Tally::new();
-    for name in names {
-        run_file(rt, caller, name, &mut tally)?;
-    }
-    tally.end(rt)
-}
-
-fn run_file<C: Caller>(
-    rt: &HostRuntime,
-    caller: &C,
-    name: &str,
-    tally: &mut Tally,
-) -> io::Result<()> {
-    let text = text_of_file(rt, name)?;
-    let file = read_case_file(rt.alloc(), text.as_str())?;
-    tally.tell_bad_lines(rt, name, &file)?;
-    for case in file.cases.iter() {
-        let found = caller.call(&file, case)?;
-        tally.tell(rt, name, case, &found)?;
-    }
-    Ok(())
-}
-
-/// The text of the file of that name.
-pub fn text_of_file(rt: &HostRuntime, name: &str) -> io::Result<String> {
-    fs::read_to_string(rt, name)
-}
-
 /// The number of cases, and of those that differ.
 #[derive(Clone, Copy)]
 pub struct Tally {
-    cases: usize,
-    differ: usize,
+    pub cases: usize,
+    pub differ: usize,
+}
+
+/// Reads the case file of that name from the folder in which the program runs.
+pub fn load(rt: &HostRuntime, name: &str) -> anyhow::Result<CaseFile> {
+    let mut bytes = Vec::new(rt.alloc());
+    let mut file = File::open(rt, name)?;
+    file.read_to_end(&mut bytes)?;
+    let text = String::from_utf8_lossy(rt.alloc(), bytes.as_slice())?;
+    Ok(read_case_file(rt.alloc(), text.as_str())?)
 }
 
 impl Tally {
@@ -91,8 +51,8 @@ impl Tally {
         &mut self,
         rt: &HostRuntime,
         name: &str,
-        file: &CaseFile<'_>,
-    ) -> io::Result<()> {
+        file: &CaseFile,
+    ) -> anyhow::Result<()> {
         for bad in file.bad_lines.iter() {
             self.count(true);
             println!(rt; "{name}:{}: not understood: {}", bad.line, bad.text)?;
@@ -101,24 +61,48 @@ impl Tally {
     }
 
     /// Counts a case, and prints how it differs, if it does.
-    pub fn tell(
+    pub fn compare(
         &mut self,
         rt: &HostRuntime,
         name: &str,
-        case: &Case<'_>,
-        found: &Option<Found>,
-    ) -> io::Result<()> {
-        let report = report_of(rt.alloc(), case, found)?;
-        self.count(!report.is_empty());
-        if !report.is_empty() {
-            print!(rt; "{name}:{}: $ {}\n{report}", case.line, case.command)?;
+        case: &Case,
+        found: &Found,
+    ) -> anyhow::Result<()> {
+        let differences = differences(rt.alloc(), case, found)?;
+        self.count(!differences.is_empty());
+        if !differences.is_empty() {
+            println!(rt; "{name}:{}: $ {}", case.line, case.command)?;
+        }
+        for difference in differences.iter() {
+            println!(rt;
+                "  {} {} wanted: {}",
+                difference.part, difference.line, difference.wanted
+            )?;
+            println!(rt;
+                "  {} {} found:  {}",
+                difference.part, difference.line, difference.found
+            )?;
         }
         Ok(())
     }
 
+    /// Counts a case that the program can't run, and prints why.
+    pub fn refuse(
+        &mut self,
+        rt: &HostRuntime,
+        name: &str,
+        case: &Case,
+        why: &str,
+    ) -> anyhow::Result<()> {
+        self.count(true);
+        println!(rt; "{name}:{}: $ {}\n  {why}", case.line, case.command)?;
+        Ok(())
+    }
+
     /// Prints the last line.
-    pub fn end(&self, rt: &HostRuntime) -> io::Result<()> {
-        println!(rt; "{} cases, {} differ", self.cases, self.differ)
+    pub fn end(&self, rt: &HostRuntime) -> anyhow::Result<()> {
+        println!(rt; "{} cases, {} differ", self.cases, self.differ)?;
+        Ok(())
     }
 
     fn count(&mut self, differs: bool) {
@@ -127,14 +111,4 @@ impl Tally {
             self.differ = self.differ.saturating_add(1);
         }
     }
-}
-
-/// How a case differs, in lines, or why it can't be run. Empty if it doesn't differ.
-fn report_of(alloc: Global, case: &Case<'_>, found: &Option<Found>) -> Result<String, AllocError> {
-    let mut report = String::new(alloc);
-    match found {
-        Some(found) => push_differences(alloc, &mut report, case, found)?,
-        None => report.push_str("  no such command or setting\n")?,
-    }
-    Ok(report)
 }

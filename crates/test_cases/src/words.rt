@@ -1,4 +1,6 @@
 //! Words as they are typed, and escapes.
+ghost use Rattle.std.specs.Prelude.{◌≤◌};
+
 use std::alloc::{AllocError, Global};
 
 /// The words of a command: spaces separate them, single quotes hold them together, and `$'..'` has escapes.
@@ -9,7 +11,16 @@ pub fn words_of(alloc: Global, command: &str) -> Result<Vec<String>, AllocError>
         word: Vec::new(alloc),
         is_begun: false,
     };
-    words.add(command)?;
+    let mut is_quoted = false;
+    for part in command.split('\'') {
+        if is_quoted {
+            words.add_quoted(part)?;
+        } else {
+            words.add_plain(part)?;
+        }
+        is_quoted = !is_quoted;
+    }
+    words.end_word()?;
     Ok(words.words)
 }
 
@@ -23,26 +34,14 @@ struct Words {
 }
 
 impl Words {
-    fn add(&mut self, command: &str) -> Result<(), AllocError> {
-        let mut is_quoted = false;
-        for part in command.split('\'') {
-            if is_quoted {
-                self.add_quoted(part)?;
-            } else {
-                self.add_plain(part)?;
-            }
-            is_quoted = !is_quoted;
-        }
-        self.end_word()
-    }
-
     fn add_quoted(&mut self, part: &str) -> Result<(), AllocError> {
         self.is_begun = true;
-        if matches!(self.word.as_slice(), [.., b'$']) {
+        if self.word.as_slice().ends_with(b"$") {
             self.word.pop();
-            return push_unescaped(&mut self.word, part);
+            push_unescaped(&mut self.word, part)
+        } else {
+            self.word.extend_from_slice(part.as_bytes())
         }
-        self.word.extend_from_slice(part.as_bytes())
     }
 
     fn add_plain(&mut self, part: &str) -> Result<(), AllocError> {
@@ -90,28 +89,35 @@ pub fn push_unescaped(bytes: &mut Vec<u8>, text: &str) -> Result<(), AllocError>
 
 /// Adds the byte of an escape, and the text after it.
 fn push_escape(bytes: &mut Vec<u8>, part: &str) -> Result<(), AllocError> {
-    let (byte, rest) = match part.as_bytes() {
-        [b'n', rest @ ..] => (b'\n', rest),
-        [b'r', rest @ ..] => (b'\r', rest),
-        [b't', rest @ ..] => (b'\t', rest),
-        [b'x', high, low, rest @ ..] => (byte_of(digit(*high), digit(*low)), rest),
-        other => return bytes.extend_from_slice(other),
-    };
-    bytes.push(byte)?;
-    bytes.extend_from_slice(rest)
-}
-
-/// The byte of two hexadecimal digits.
-fn byte_of(high: u8, low: u8) -> u8 {
-    high.wrapping_mul(16).wrapping_add(low)
+    if let Some(rest) = part.strip_prefix('n') {
+        bytes.push(b'\n')?;
+        return bytes.extend_from_slice(rest.as_bytes());
+    }
+    if let Some(rest) = part.strip_prefix('r') {
+        bytes.push(b'\r')?;
+        return bytes.extend_from_slice(rest.as_bytes());
+    }
+    if let Some(rest) = part.strip_prefix('t') {
+        bytes.push(b'\t')?;
+        return bytes.extend_from_slice(rest.as_bytes());
+    }
+    match part.as_bytes() {
+        [b'x', high, low, rest @ ..] => {
+            bytes.push(digit(*high) * 16 + digit(*low))?;
+            bytes.extend_from_slice(rest)
+        }
+        other => bytes.extend_from_slice(other),
+    }
 }
 
 /// The value of a hexadecimal digit; 0 for anything else.
-fn digit(byte: u8) -> u8 {
+fn digit(byte: u8) -> u8
+    ensures { result ≤ 15 }
+{
     match byte {
-        b'0'..=b'9' => byte.wrapping_sub(b'0'),
-        b'a'..=b'f' => byte.wrapping_sub(b'a' - 10),
-        b'A'..=b'F' => byte.wrapping_sub(b'A' - 10),
+        b'0'..=b'9' => byte - b'0',
+        b'a'..=b'f' => byte - b'a' + 10,
+        b'A'..=b'F' => byte - b'A' + 10,
         _ => 0,
     }
 }

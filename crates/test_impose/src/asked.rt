@@ -21,7 +21,7 @@ pub struct Asked {
 }
 
 /// Reads the settings. None if one of them isn't known.
-pub fn asked_of(alloc: Global, case: &Case<'_>) -> Result<Option<Asked>, AllocError> {
+pub fn asked_of(alloc: Global, case: &Case) -> Result<Option<Asked>, AllocError> {
     let mut asked = Asked {
         paper_size: String::new(alloc),
         home: None,
@@ -30,7 +30,8 @@ pub fn asked_of(alloc: Global, case: &Case<'_>) -> Result<Option<Asked>, AllocEr
         lines: Vec::new(alloc),
     };
     for setting in case.settings.iter() {
-        if !take_setting(alloc, &mut asked, setting.key, setting.value)? {
+        let value = setting.value.as_str();
+        if !take_setting(alloc, &mut asked, setting.key.as_str(), value)? {
             return Ok(None);
         }
     }

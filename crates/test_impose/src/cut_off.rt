@@ -12,8 +12,8 @@ use test_tools::Takes;
 pub fn found_of_cut_offs<R: Threads + Wait + Sync>(
     rt: &R,
     alloc: Global,
-    file: &CaseFile<'_>,
-    case: &Case<'_>,
+    file: &CaseFile,
+    case: &Case,
     asked: &mut Asked,
 ) -> Result<Found, AllocError> {
     let (_, words) = case.words.as_slice().split_at(case.words.len().min(1));

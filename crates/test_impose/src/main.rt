@@ -8,10 +8,9 @@ mod made_faults;
 mod runs;
 
 use runs::found_of_case;
-use std::io;
 use std::sync::Wait;
 use std::thread::Threads;
-use test_cases::{Tally, read_case_file, text_of_file};
+use test_cases::{Tally, load};
 
 /// The case files.
 const FILES: [&str; 7] = [
@@ -24,7 +23,7 @@ const FILES: [&str; 7] = [
     "real_document.cases",
 ];
 
-fn main(rt: HostRuntime) -> io::Result<()> {
+fn main(rt: HostRuntime) -> anyhow::Result<()> {
     let mut tally = Tally::new();
     for name in FILES {
         run_file(&rt, &rt, name, &mut tally)?;
@@ -32,19 +31,20 @@ fn main(rt: HostRuntime) -> io::Result<()> {
     tally.end(&rt)
 }
 
-/// Runs each case of the file, with threads that this handle starts.
+/// Runs each case of the file.
 fn run_file<R: Threads + Wait + Sync>(
     rt: &HostRuntime,
     threads: &R,
     name: &str,
     tally: &mut Tally,
-) -> io::Result<()> {
-    let text = text_of_file(rt, name)?;
-    let file = read_case_file(rt.alloc(), text.as_str())?;
+) -> anyhow::Result<()> {
+    let file = load(rt, name)?;
     tally.tell_bad_lines(rt, name, &file)?;
     for case in file.cases.iter() {
-        let found = found_of_case(threads, rt.alloc(), &file, case)?;
-        tally.tell(rt, name, case, &found)?;
+        match found_of_case(threads, rt.alloc(), &file, case)? {
+            Some(found) => tally.compare(rt, name, case, &found)?,
+            None => tally.refuse(rt, name, case, "no such command or setting")?,
+        }
     }
     Ok(())
 }

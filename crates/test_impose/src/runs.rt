@@ -9,7 +9,6 @@ use impose_cli::{
 use lengths::paper_by_name;
 use std::alloc::{AllocError, Global};
 use std::sync::Wait;
-use std::sync::atomic::AtomicU32;
 use std::thread::Threads;
 use test_cases::{Case, CaseFile, Found, FoundFile};
 use test_tools::{Folder, GivenFile};
@@ -18,8 +17,8 @@ use test_tools::{Folder, GivenFile};
 pub fn found_of_case<R: Threads + Wait + Sync>(
     rt: &R,
     alloc: Global,
-    file: &CaseFile<'_>,
-    case: &Case<'_>,
+    file: &CaseFile,
+    case: &Case,
 ) -> Result<Option<Found>, AllocError> {
     let Some(mut asked) = asked_of(alloc, case)? else {
         return Ok(None);
@@ -49,16 +48,16 @@ pub fn found_of_case<R: Threads + Wait + Sync>(
 pub fn run<R: Threads + Wait + Sync>(
     rt: &R,
     alloc: Global,
-    file: &CaseFile<'_>,
-    case: &Case<'_>,
+    file: &CaseFile,
+    case: &Case,
     words: &[String],
     asked: &Asked,
 ) -> Result<Found, AllocError> {
     let mut files = Vec::new(alloc);
     for input in case.inputs.iter() {
         files.push(GivenFile {
-            name: input.name,
-            bytes: file.text_of(*input),
+            name: input.name.as_str(),
+            bytes: file.text_of(input),
             is_regular: true,
         })?;
     }
@@ -69,10 +68,8 @@ pub fn run<R: Threads + Wait + Sync>(
             is_regular: asked.home_is_regular,
         })?;
     }
-    let opened = AtomicU32::new(0);
     let world = Folder {
         alloc,
-        opened: &opened,
         files: files.as_slice(),
         takes: asked.takes,
     };
@@ -144,9 +141,9 @@ fn found_of_fault(
 }
 
 /// The text of the first file that the case gives.
-fn first_text<'a>(file: &'a CaseFile<'_>, case: &Case<'_>) -> &'a [u8] {
+fn first_text<'a>(file: &'a CaseFile, case: &Case) -> &'a [u8] {
     match case.inputs.first() {
-        Some(input) => file.text_of(*input),
+        Some(input) => file.text_of(input),
         None => &[],
     }
 }

@@ -2,12 +2,11 @@
 //! number of pages and of sheets, the number of bytes that are written, and their digest. A separate program made
 //! its `stdout`.
 use imposer::MemorySink;
-use pstops_cli::{ReadSource, Request, read_command, read_input, run_request};
+use pstops_cli::{ReadSource, read_command, read_input, run_request};
 use sha2::{Digest, Sha256};
-use std::alloc::{AllocError, Global};
+use std::fs::File;
 use std::sync::Wait;
 use std::thread::Threads;
-use std::{fs, io};
 
 /// The documents, by the programs that wrote them.
 const DOCUMENTS: [&str; 15] = [
@@ -41,50 +40,32 @@ const SPECIFICATIONS: [&str; 5] = [
 const ROOM: usize = 1_000_000;
 
 /// Imposes them, with threads that this handle starts.
-pub fn impose_all<R: Threads + Wait + Sync>(rt: &HostRuntime, threads: &R) -> io::Result<()> {
+pub fn impose_all<R: Threads + Wait + Sync>(rt: &HostRuntime, threads: &R) -> anyhow::Result<()> {
     for name in DOCUMENTS {
-        let document = fs::read(rt, name)?;
-        let input = input_of(rt.alloc(), document.as_slice())?;
+        let mut source = ReadSource::new(File::open(rt, name)?);
+        let Ok(input) = read_input(rt.alloc(), &mut source) else {
+            println!(rt; "{name}: cannot be read")?;
+            continue;
+        };
         for spec in SPECIFICATIONS {
-            let told = imposed(threads, rt.alloc(), spec, input.as_slice())?;
-            print!(rt; "{name} {spec}: {told}")?;
+            let words = vec![in rt.alloc(); String::from_str(rt.alloc(), spec)?]?;
+            let Ok(request) = read_command(rt.alloc(), words.as_slice()) else {
+                println!(rt; "{spec}: not taken")?;
+                continue;
+            };
+            let mut sink = MemorySink::new(rt.alloc(), ROOM, ROOM, 1_000)?;
+            let (status, line) = run_request(
+                threads,
+                rt.alloc(),
+                &request,
+                input.as_slice(),
+                &mut sink,
+            );
+            let line = String::from_utf8_lossy(rt.alloc(), line.as_slice())?;
+            print!(rt; "{name} {spec}: status {status}, {line}")?;
+            let digest = hex::encode(rt.alloc(), Sha256::digest(sink.bytes()))?;
+            println!(rt; "    SHA-256 {digest}")?;
         }
     }
     Ok(())
-}
-
-/// The input that is read of a document.
-fn input_of(alloc: Global, document: &[u8]) -> Result<Vec<u8>, AllocError> {
-    match read_input(alloc, &mut ReadSource::new(document)) {
-        Ok(input) => Ok(input),
-        Err(_) => Err(AllocError),
-    }
-}
-
-/// The request for a specification.
-fn request_of(alloc: Global, spec: &str) -> Result<Request, AllocError> {
-    let words = vec![in alloc; String::from_str(alloc, spec)?]?;
-    match read_command(alloc, words.as_slice()) {
-        Ok(request) => Ok(request),
-        Err(_) => Err(AllocError),
-    }
-}
-
-/// The status of a run, its line, and the digest of what it writes.
-fn imposed<R: Threads + Wait + Sync>(
-    threads: &R,
-    alloc: Global,
-    spec: &str,
-    input: &[u8],
-) -> Result<String, AllocError> {
-    let request = request_of(alloc, spec)?;
-    let mut sink = MemorySink::new(alloc, ROOM, ROOM, 1_000)?;
-    let (status, line) = run_request(threads, alloc, &request, input, &mut sink);
-    told(alloc, status, line.as_slice(), sink.bytes())
-}
-
-fn told(alloc: Global, status: u8, line: &[u8], written: &[u8]) -> Result<String, AllocError> {
-    let line = String::from_utf8_lossy(alloc, line)?;
-    let digest = hex::encode(alloc, Sha256::digest(written))?;
-    format!(in alloc; "status {status}, {line}    SHA-256 {digest}\n")
 }

@@ -8,10 +8,9 @@ mod worlds;
 
 use requests::asked;
 use std::alloc::{AllocError, Global};
-use std::io;
 use std::sync::Wait;
 use std::thread::Threads;
-use test_cases::{Case, CaseFile, Found, Tally, read_case_file, text_of_file};
+use test_cases::{Case, CaseFile, Found, Tally, load};
 use worlds::ran;
 
 /// The case files.
@@ -23,38 +22,28 @@ const FILES: [&str; 5] = [
     "words.cases",
 ];
 
-fn main(rt: HostRuntime) -> io::Result<()> {
+fn main(rt: HostRuntime) -> anyhow::Result<()> {
     corpus::impose_all(&rt, &rt)?;
     let mut tally = Tally::new();
     for name in FILES {
-        run_file(&rt, &rt, name, &mut tally)?;
+        let file = load(&rt, name)?;
+        tally.tell_bad_lines(&rt, name, &file)?;
+        for case in file.cases.iter() {
+            match found(&rt, rt.alloc(), &file, case)? {
+                Some(found) => tally.compare(&rt, name, case, &found)?,
+                None => tally.refuse(&rt, name, case, "no such call, or no such setting")?,
+            }
+        }
     }
     tally.end(&rt)
-}
-
-/// Runs each case of the file, with threads that this handle starts.
-fn run_file<R: Threads + Wait + Sync>(
-    rt: &HostRuntime,
-    threads: &R,
-    name: &str,
-    tally: &mut Tally,
-) -> io::Result<()> {
-    let text = text_of_file(rt, name)?;
-    let file = read_case_file(rt.alloc(), text.as_str())?;
-    tally.tell_bad_lines(rt, name, &file)?;
-    for case in file.cases.iter() {
-        let found = found(threads, rt.alloc(), &file, case)?;
-        tally.tell(rt, name, case, &found)?;
-    }
-    Ok(())
 }
 
 /// The result of a case, by the call that its first word names.
 fn found<R: Threads + Wait + Sync>(
     rt: &R,
     alloc: Global,
-    file: &CaseFile<'_>,
-    case: &Case<'_>,
+    file: &CaseFile,
+    case: &Case,
 ) -> Result<Option<Found>, AllocError> {
     let Some((call, words)) = case.words.as_slice().split_first() else {
         return Ok(None);

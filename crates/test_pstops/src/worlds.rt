@@ -2,7 +2,6 @@
 use pstops_cli::pstops;
 use std::alloc::{AllocError, Global};
 use std::sync::Wait;
-use std::sync::atomic::AtomicU32;
 use std::thread::Threads;
 use test_cases::{Case, CaseFile, Found, FoundFile};
 use test_tools::{Folder, GivenFile, Takes, Written};
@@ -15,17 +14,15 @@ pub(crate) fn ran<R: Threads + Wait + Sync>(
     rt: &R,
     alloc: Global,
     words: &[String],
-    file: &CaseFile<'_>,
-    case: &Case<'_>,
+    file: &CaseFile,
+    case: &Case,
 ) -> Result<Option<Found>, AllocError> {
     let Some(takes) = takes_of(case) else {
         return Ok(None);
     };
     let files = files_of(alloc, file, case)?;
-    let opened = AtomicU32::new(0);
     let world = Folder {
         alloc,
-        opened: &opened,
         files: files.as_slice(),
         takes,
     };
@@ -45,14 +42,14 @@ pub(crate) fn ran<R: Threads + Wait + Sync>(
 /// The files that can be read.
 fn files_of<'a>(
     alloc: Global,
-    file: &'a CaseFile<'_>,
-    case: &'a Case<'_>,
+    file: &'a CaseFile,
+    case: &'a Case,
 ) -> Result<Vec<GivenFile<'a>>, AllocError> {
     let mut files = Vec::new(alloc);
     for input in case.inputs.iter() {
         files.push(GivenFile {
-            name: input.name,
-            bytes: file.text_of(*input),
+            name: input.name.as_str(),
+            bytes: file.text_of(input),
             is_regular: true,
         })?;
     }
@@ -60,10 +57,10 @@ fn files_of<'a>(
 }
 
 /// What the outputs take: every byte, unless a setting says otherwise.
-fn takes_of(case: &Case<'_>) -> Option<Takes> {
+fn takes_of(case: &Case) -> Option<Takes> {
     let mut takes = AMPLE;
     for setting in case.settings.iter() {
-        takes = match (setting.key, setting.value) {
+        takes = match (setting.key.as_str(), setting.value.as_str()) {
             ("output", "none") => Takes::Nothing,
             ("output", "unflushed") => Takes::NoFlush,
             ("output", count) => Takes::Bytes(count.parse::<usize>().ok()?),

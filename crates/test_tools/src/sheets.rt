@@ -8,9 +8,6 @@ pub const A4_SIDES: (&str, &str) = ("595", "842");
 /// The matrix of a page that isn't moved.
 pub const UNMOVED: &str = "1 0 0 1 0 0";
 
-/// What a page is guarded by.
-const SAVE: &str = "userdict /ImposeSave save put\nuserdict /showpage {} put\n";
-
 /// The path along the edge of a paper of this width and height.
 fn edge(alloc: Global, (width, height): (&str, &str)) -> Result<String, AllocError> {
     format!(in alloc;
@@ -21,7 +18,9 @@ fn edge(alloc: Global, (width, height): (&str, &str)) -> Result<String, AllocErr
 /// What comes before the body of a page that is placed on this paper by this matrix.
 pub fn opening(alloc: Global, paper: (&str, &str), matrix: &str) -> Result<String, AllocError> {
     let edge = edge(alloc, paper)?;
-    format!(in alloc; "{SAVE}[{matrix}] concat\n{edge} clip newpath\n")
+    format!(in alloc;
+        "userdict /ImposeSave save put\nuserdict /showpage {{}} put\n[{matrix}] concat\n{edge} clip newpath\n"
+    )
 }
 
 /// The border of a page on this paper, which comes between opening and body.

@@ -1,63 +1,23 @@
 //! Documents with the guard inserted.
-use crate::answer::Answer;
-use crate::words::{paper, text_of, word};
 use guard::{guarded, put_guard, put_guard_before};
 use lengths::Paper;
 use std::alloc::{AllocError, Global};
-use test_cases::Document;
-
-pub fn run(out: &mut Answer, words: &[String], documents: &[Document<'_>]) -> Option<()> {
-    match word(words, 0)? {
-        "guard" => guard_for(out, words, documents),
-        _ => None,
-    }
-}
-
-fn guard_for(out: &mut Answer, words: &[String], documents: &[Document<'_>]) -> Option<()> {
-    let text = text_of(documents, words, 1)?;
-    match word(words, 2) {
-        Some(_) => guard(out, text, Some(&paper(words, 2)?)),
-        None => guard(out, text, None),
-    }
-    Some(())
-}
 
 /// The text with the guard inserted, and the other ways of inserting it that give another text.
-fn guard(out: &mut Answer, text: &[u8], paper: Option<&Paper>) {
-    match guarded(out.alloc, text, paper) {
-        Ok(copy) => {
-            out.add(copy.as_slice());
-            let in_place = put_in_place(out.alloc, text, paper);
-            tell_other(out, in_place, copy.as_slice(), "in its place");
-            for (room, how) in [
-                (2_560, "after much room"),
-                (7, "after room for seven bytes"),
-                (0, "without room before it"),
-            ] {
-                let put = put_behind(out.alloc, room, text, paper);
-                tell_other(out, put, copy.as_slice(), how);
-            }
-        }
-        Err(_) => out.note(false),
-    }
-}
-
-/// A text that should be this one, if it isn't.
-fn tell_other(out: &mut Answer, put: Result<Vec<u8>, AllocError>, wanted: &[u8], how: &str) {
-    match put {
-        Ok(put) => {
-            if put.as_slice() != wanted {
-                out.line(format_args!("but not {how}"));
-            }
-        }
-        Err(_) => out.note(false),
-    }
-}
-
-fn put_in_place(alloc: Global, text: &[u8], paper: Option<&Paper>) -> Result<Vec<u8>, AllocError> {
+pub fn guard(alloc: Global, text: &[u8], paper: Option<&Paper>) -> Result<String, AllocError> {
+    let copy = guarded(alloc, text, paper)?;
+    let mut lines = String::from_utf8_lossy(alloc, copy.as_slice())?;
     let mut in_place = Vec::from_slice(alloc, text)?;
     put_guard(&mut in_place, paper)?;
-    Ok(in_place)
+    if in_place != copy {
+        lines.push_str("but not in its place\n")?;
+    }
+    for room in [2_560, 7, 0] {
+        if put_behind(alloc, room, text, paper)? != copy {
+            lines.push_str(format!(in alloc; "but not with room for {room} bytes\n")?.as_str())?;
+        }
+    }
+    Ok(lines)
 }
 
 /// Inserts the guard into a text that follows this many bytes, and returns the result.

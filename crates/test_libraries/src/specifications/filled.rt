@@ -2,9 +2,9 @@
 ghost use Rattle.std.specs.Prelude.{◌*◌, ◌≤◌, IfSome};
 ghost use Rattle.layouts.specs.Cells.{size};
 
-use crate::answer::Answer;
+use crate::specifications::answer::Answer;
 use crate::specifications::planned::page_lists;
-use crate::words::{number, paper, row, word};
+use crate::specifications::words::{number, paper, row, word};
 use layouts::{Arrangement, ArrangementError, Cells, Papers, Setting};
 use lengths::{Paper, a4};
 use row_sheets::{
@@ -15,20 +15,19 @@ use sheet_plan::{MadeSheets, Plan};
 
 pub fn run(out: &mut Answer, words: &[String]) -> Option<()> {
     match word(words, 0)? {
-        "filled" => filled(out, words, &[]),
-        "filled_with" => filled_with(out, words),
-        "fitted" => fitted(out, words),
-        "scale" => scale(out, words),
-        "poster" => poster(out, words),
-        "check_poster" => checked(out, words),
-        "posters" => posters(out, words),
-        _ => None,
+        "filled" => filled(out, words, &[])?,
+        "filled_with" => {
+            let papers = [a4(), paper(words, 1)?];
+            filled(out, behind_first(words), &papers)?;
+        }
+        "fitted" => fitted(out, &paper(words, 1)?)?,
+        "scale" => scale(out, &paper(words, 1)?)?,
+        "poster" => poster(out, words)?,
+        "check_poster" => checked(out, words)?,
+        "posters" => posters(out, words)?,
+        _ => return None,
     }
-}
-
-fn filled_with(out: &mut Answer, words: &[String]) -> Option<()> {
-    let papers = [a4(), paper(words, 1)?];
-    filled(out, behind_first(words), &papers)
+    Some(())
 }
 
 fn behind_first(words: &[String]) -> &[String] {
@@ -85,9 +84,8 @@ fn tell(out: &mut Answer, made: Result<MadeSheets, ArrangementError>) {
 }
 
 /// How a page is scaled and moved in the second cell, in 10^-9.
-fn fitted(out: &mut Answer, words: &[String]) -> Option<()> {
-    let paper = paper(words, 1)?;
-    match two_columns()?.item(&paper, 1) {
+fn fitted(out: &mut Answer, paper: &Paper) -> Option<()> {
+    match two_columns()?.item(paper, 1) {
         Ok(item) => {
             let (x, y) = (item.offset.0.number, item.offset.1.number);
             let scale = item.scale.billionths();
@@ -98,9 +96,8 @@ fn fitted(out: &mut Answer, words: &[String]) -> Option<()> {
     Some(())
 }
 
-fn scale(out: &mut Answer, words: &[String]) -> Option<()> {
-    let paper = paper(words, 1)?;
-    match two_columns()?.scale(&paper) {
+fn scale(out: &mut Answer, paper: &Paper) -> Option<()> {
+    match two_columns()?.scale(paper) {
         Ok(scale) => out.line(scale.billionths()),
         Err(error) => out.refusal(error),
     }

@@ -1,9 +1,9 @@
 //! The laws of layouts on printed matrices, by arithmetic of the tests' own: all numbers of pages on many papers.
-use crate::answer::Answer;
+use crate::specifications::answer::Answer;
 use crate::specifications::placed::{
     Kept, Placed, are_apart, are_in_order, are_inside, are_like, columns_of, largest, pages_of,
 };
-use crate::words::word;
+use crate::specifications::words::word;
 use layouts::{Arrangement, Binding, Cells, Free, Papers, arrange, bind};
 use lengths::{Grains, paper_by_name};
 use pagespec::Spec;
@@ -37,19 +37,21 @@ const MILLIMETRES: Kept = Kept {
 
 pub fn run(out: &mut Answer, words: &[String]) -> Option<()> {
     match word(words, 0)? {
-        "1_to_64_pages" => few_tried(out, NOTHING),
+        "1_to_64_pages" => {
+            let numbers = up_to_64(out.alloc)?;
+            layouts_tried(out, numbers.as_slice(), true, NOTHING);
+        }
         "many_pages" => layouts_tried(out, &MANY, true, NOTHING),
         "other_papers" => layouts_tried(out, &SOME, false, NOTHING),
         "booklets" => booklets_tried(out),
-        "margins_and_gaps" => few_tried(out, MILLIMETRES),
+        "margins_and_gaps" => {
+            let numbers = up_to_64(out.alloc)?;
+            layouts_tried(out, numbers.as_slice(), true, MILLIMETRES);
+        }
         "laws" => laws_called(out),
-        _ => None,
+        _ => return None,
     }
-}
-
-fn few_tried(out: &mut Answer, kept: Kept) -> Option<()> {
-    let numbers = up_to_64(out.alloc)?;
-    layouts_tried(out, numbers.as_slice(), true, kept)
+    Some(())
 }
 
 fn up_to_64(alloc: Global) -> Option<Vec<u32>> {
@@ -63,37 +65,25 @@ fn up_to_64(alloc: Global) -> Option<Vec<u32>> {
 /// A paper by its name, and its sides in points.
 type Named = (&'static str, i64, i64);
 
-/// Prints how many layouts have no fault, and those that have one.
-fn layouts_tried(out: &mut Answer, numbers: &[u32], on_own_paper: bool, kept: Kept) -> Option<()> {
+/// Prints how many layouts have no fault, or the first that has one.
+fn layouts_tried(out: &mut Answer, numbers: &[u32], on_own_paper: bool, kept: Kept) {
     let mut count = 0u32;
     for page in PAPERS {
         for sheet in PAPERS {
-            if !on_own_paper || page.0 == sheet.0 {
-                count = count.saturating_add(tried(out, numbers, page, sheet, kept));
+            if on_own_paper && page.0 != sheet.0 {
+                continue;
+            }
+            for n in numbers {
+                let fault = fault_of(out.alloc, *n, page, sheet, kept);
+                if fault != "" {
+                    out.line(format_args!("{n} of {} on {}: {fault}", page.0, sheet.0));
+                    return;
+                }
+                count = count.saturating_add(1);
             }
         }
     }
     out.line(format_args!("{count} layouts, no fault"));
-    Some(())
-}
-
-/// How many of these numbers of pages have a layout without a fault.
-fn tried(out: &mut Answer, numbers: &[u32], page: Named, sheet: Named, kept: Kept) -> u32 {
-    let mut count = 0u32;
-    for n in numbers {
-        let fault = fault_of(out.alloc, *n, page, sheet, kept);
-        count = count.saturating_add(faultless(out, *n, page, sheet, fault));
-    }
-    count
-}
-
-/// Prints a fault: 1 if there is none, else 0.
-fn faultless(out: &mut Answer, n: u32, page: Named, sheet: Named, fault: &str) -> u32 {
-    if fault == "" {
-        return 1;
-    }
-    out.line(format_args!("{n} of {} on {}: {fault}", page.0, sheet.0));
-    0
 }
 
 /// The specification of n pages of one paper on a sheet of the other.
@@ -173,19 +163,22 @@ fn fault_among(
     ""
 }
 
-/// Prints how many booklets have no fault, and those that have one.
-fn booklets_tried(out: &mut Answer) -> Option<()> {
+/// Prints how many booklets have no fault, or the first that has one.
+fn booklets_tried(out: &mut Answer) {
     let mut count = 0u32;
     for page in PAPERS {
         for sheet in PAPERS {
-            let fault = booklet_fault(out.alloc, page, sheet, false);
-            count = count.saturating_add(faultless(out, 2, page, sheet, fault));
-            let fault = booklet_fault(out.alloc, page, sheet, true);
-            count = count.saturating_add(faultless(out, 2, page, sheet, fault));
+            for long_edge in [false, true] {
+                let fault = booklet_fault(out.alloc, page, sheet, long_edge);
+                if fault != "" {
+                    out.line(format_args!("{} on {}: {fault}", page.0, sheet.0));
+                    return;
+                }
+                count = count.saturating_add(1);
+            }
         }
     }
     out.line(format_args!("{count} layouts, no fault"));
-    Some(())
 }
 
 /// What is wrong with a booklet.
@@ -236,7 +229,7 @@ fn fault_of_leaf(front: &[Placed], back: &[Placed], sheet: (i64, i64)) -> &'stat
 }
 
 /// Calls the proved laws.
-fn laws_called(out: &mut Answer) -> Option<()> {
+fn laws_called(out: &mut Answer) {
     lengths::laws::printed_scale_is_read();
     lengths::laws::printed_number_is_read();
     placement::laws::printed_matrix_is_near();
@@ -254,5 +247,4 @@ fn laws_called(out: &mut Answer) -> Option<()> {
     layouts::laws::right_to_left_is_mirror();
     layouts::laws::printed_as_it_is();
     out.text("called\n");
-    Some(())
 }

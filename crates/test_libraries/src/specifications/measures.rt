@@ -1,6 +1,6 @@
 //! Numbers, lengths and papers.
-use crate::answer::Answer;
-use crate::words::{number, paper, word};
+use crate::specifications::answer::Answer;
+use crate::specifications::words::{number, paper, word};
 use lengths::{
     Grains, Number, NumberError, Unit, paper_by_name, print_number, print_points, print_scale,
     read_digits, read_number, to_grains, unit_by_name,
@@ -11,25 +11,16 @@ pub fn run(out: &mut Answer, words: &[String]) -> Option<()> {
     match word(words, 0)? {
         "read_number" => number_at_start(out, text),
         "read_digits" => digits_at_start(out, text),
-        "to_grains" => in_grains(out, words),
-        "print_number" => printed(out, words),
-        "print_points" => points(out, words),
+        "to_grains" => in_grains(out, words)?,
+        "print_number" => printed(out, billionths(words)?),
+        "print_points" => points(out, Grains::new(number(words, 1)?)?),
         "paper_by_name" => named(out, text),
         "numbers" => numbers(out),
-        "is_number" => verdict(out, billionths(words).is_some()),
-        "is_length" => is_length(out, words),
-        "is_paper" => verdict(out, paper(words, 1).is_some()),
-        _ => None,
+        "is_number" => out.verdict(billionths(words).is_some()),
+        "is_length" => out.verdict(Grains::new(number(words, 1)?).is_some()),
+        "is_paper" => out.verdict(paper(words, 1).is_some()),
+        _ => return None,
     }
-}
-
-fn verdict(out: &mut Answer, is_so: bool) -> Option<()> {
-    out.verdict(is_so);
-    Some(())
-}
-
-fn is_length(out: &mut Answer, words: &[String]) -> Option<()> {
-    out.verdict(Grains::new(number(words, 1)?).is_some());
     Some(())
 }
 
@@ -38,20 +29,18 @@ fn billionths(words: &[String]) -> Option<Number> {
     Number::new(i64::try_from(number(words, 1)?).ok()?)
 }
 
-fn number_at_start(out: &mut Answer, text: &str) -> Option<()> {
+fn number_at_start(out: &mut Answer, text: &str) {
     match read_number(text.as_bytes()) {
         Ok((number, len)) => out.line(format_args!("{} {len}", number.billionths())),
         Err(error) => out.refusal::<NumberError>(error),
     }
-    Some(())
 }
 
-fn digits_at_start(out: &mut Answer, text: &str) -> Option<()> {
+fn digits_at_start(out: &mut Answer, text: &str) {
     match read_digits(text.as_bytes()) {
         Some((value, rest)) => out.line(format_args!("{value} {}", rest.len())),
         None => out.text("none\n"),
     }
-    Some(())
 }
 
 fn in_grains(out: &mut Answer, words: &[String]) -> Option<()> {
@@ -73,8 +62,7 @@ fn unit(words: &[String]) -> Option<Unit> {
 }
 
 /// A number after a text, in full and as a specification has it.
-fn printed(out: &mut Answer, words: &[String]) -> Option<()> {
-    let number = billionths(words)?;
+fn printed(out: &mut Answer, number: Number) {
     out.text("@");
     let before = out.bytes.len();
     let added = print_scale(number, &mut out.bytes);
@@ -84,20 +72,17 @@ fn printed(out: &mut Answer, words: &[String]) -> Option<()> {
     let added = print_number(number, &mut out.bytes);
     out.note_appended(before, added.is_ok());
     out.text("\n");
-    Some(())
 }
 
-fn points(out: &mut Answer, words: &[String]) -> Option<()> {
-    let length = Grains::new(number(words, 1)?)?;
+fn points(out: &mut Answer, length: Grains) {
     let before = out.bytes.len();
     let added = print_points(length, &mut out.bytes);
     out.note_appended(before, added.is_ok());
     out.text("\n");
-    Some(())
 }
 
 /// The sides of a paper, in points.
-fn named(out: &mut Answer, name: &str) -> Option<()> {
+fn named(out: &mut Answer, name: &str) {
     match paper_by_name(name) {
         Some(paper) => {
             let width = paper.width().get() / 127_000_000_000;
@@ -106,12 +91,10 @@ fn named(out: &mut Answer, name: &str) -> Option<()> {
         }
         None => out.text("none\n"),
     }
-    Some(())
 }
 
-fn numbers(out: &mut Answer) -> Option<()> {
+fn numbers(out: &mut Answer) {
     let (zero, one) = (Number::ZERO.billionths(), Number::ONE.billionths());
     let less = (-Number::ONE).billionths();
     out.line(format_args!("{zero} {one} {less}"));
-    Some(())
 }

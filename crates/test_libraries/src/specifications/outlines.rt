@@ -1,7 +1,7 @@
 //! Layouts: specifications that are made for people.
-use crate::answer::Answer;
+use crate::specifications::answer::Answer;
 use crate::specifications::specifications::written;
-use crate::words::{count, length, number, number_in, paper, word, words_from};
+use crate::specifications::words::{count, length, number, number_in, paper, word};
 use layouts::{
     Arrangement, ArrangementError, Binding, Cells, Free, Papers, Run, Turned, arrange, bind,
 };
@@ -76,7 +76,7 @@ fn on_a4() -> Papers {
 /// Cells, and the options that follow them.
 fn arrangement(words: &[String]) -> Option<Arrangement> {
     let mut arrangement = Arrangement::plain(cells(word(words, 1)?)?);
-    for word in words_from(words, 2) {
+    for word in words.iter().skip(2) {
         ask(&mut arrangement, word.as_str())?;
     }
     Some(arrangement)
@@ -98,7 +98,7 @@ fn small(text: &str) -> Option<u32> {
 }
 
 fn ask(arrangement: &mut Arrangement, text: &str) -> Option<()> {
-    match split_at_sign(text) {
+    match text.split_once('=').unwrap_or((text, "")) {
         ("columns", "") => arrangement.order.run = Run::Columns,
         ("right_to_left", "") => arrangement.order.right_to_left = true,
         ("left", "") => arrangement.order.turned = Turned::Left,
@@ -134,14 +134,6 @@ fn keep(free: &mut Free, name: &str, length: Grains) -> Option<()> {
     Some(())
 }
 
-/// What is before the sign of equality, and after it.
-fn split_at_sign(text: &str) -> (&str, &str) {
-    match text.split_once('=') {
-        Some(parts) => parts,
-        None => (text, ""),
-    }
-}
-
 /// This many 10^-5 of a point.
 fn hundred_thousandths(text: &str) -> Option<Grains> {
     length(text, 1_270_000)
@@ -153,8 +145,8 @@ fn billionths(text: &str) -> Option<Number> {
 
 fn binding(words: &[String]) -> Option<Binding> {
     let mut binding = Binding::plain(false);
-    for word in words_from(words, 1) {
-        match split_at_sign(word.as_str()) {
+    for word in words.iter().skip(1) {
+        match word.as_str().split_once('=').unwrap_or((word.as_str(), "")) {
             ("right_to_left", "") => binding.right_to_left = true,
             (name, value) => keep(&mut binding.free, name, hundred_thousandths(value)?)?,
         }

@@ -2,7 +2,7 @@
 use crate::tests::checks::assert_that;
 use crate::tests::workers;
 use dsc::Document;
-use imposer::{MemorySink, Open, again, run};
+use imposer::{MemorySink, Open, laws, run};
 use std::alloc::Global;
 use std::sync::Wait;
 use std::test::Fail;
@@ -53,6 +53,6 @@ fn an_open_page_hides_the_sheet_after_it(rt: HostRuntime) -> Result<(), Fail> {
 
 #[test]
 fn laws_are_called(_: HostRuntime) {
-    again::run_is_document();
-    again::runs_go_on();
+    laws::run_is_document();
+    laws::runs_go_on();
 }

@@ -10,35 +10,28 @@ use std::sync::atomic::AtomicU32;
 use std::sync::atomic::Ordering::SeqCst;
 use std::test::Fail;
 use std::thread::Threads;
-use test_tools::{Folder, GivenFile, ONE_PAGE, Takes, one_up_output, with_lines};
+use test_tools::{InMemory, ONE_PAGE, Takes, one_up_output, with_lines};
 use world::tell;
 
 /// Room for every output.
 const AMPLE: Takes = Takes::Bytes(100_000);
 
-/// A document as the file `in.ps`.
-fn file_of(document: &str) -> GivenFile<'_> {
-    GivenFile {
-        name: "in.ps",
-        bytes: document.as_bytes(),
-        is_regular: true,
-    }
-}
-
-/// Runs the program over a world of these files, and counts the inputs that it opens.
+/// Runs the program over a world with this document as the file `in.ps`, and counts the inputs that it opens.
 fn ended<'a, R: Threads + Wait + Sync>(
     rt: &R,
     alloc: Global,
     words: &str,
-    files: &'a [GivenFile<'a>],
+    document: &'a str,
     takes: Takes,
     opened: &'a AtomicU32,
-) -> Result<ExitReport<Folder<'a>>, AllocError> {
+) -> Result<ExitReport<InMemory<'a>>, AllocError> {
     let words = words_of(alloc, words)?;
-    let world = Folder {
+    let world = InMemory {
         alloc,
         opened,
-        files,
+        name: "in.ps",
+        text: document,
+        home: None,
         takes,
     };
     Ok(pstops(rt, alloc, words.as_slice(), world))
@@ -53,8 +46,7 @@ fn assert_stopped<R: Threads + Wait + Abort + Sync>(
     inputs: u32,
 ) -> Result<(), AllocError> {
     let opened = AtomicU32::new(0);
-    let files = [file_of(ONE_PAGE)];
-    let end = ended(rt, alloc, words, &files, AMPLE, &opened)?;
+    let end = ended(rt, alloc, words, ONE_PAGE, AMPLE, &opened)?;
     assert_that(rt, end.status == status && opened.load(SeqCst) == inputs);
     assert_that(rt, end.world.is_some() && end.output.is_none());
     Ok(())
@@ -91,8 +83,7 @@ fn assert_status<R: Threads + Wait + Abort + Sync>(
     status: u8,
 ) -> Result<(), AllocError> {
     let opened = AtomicU32::new(0);
-    let files = [file_of(ONE_PAGE)];
-    let end = ended(rt, alloc, "0 in.ps out.ps", &files, takes, &opened)?;
+    let end = ended(rt, alloc, "0 in.ps out.ps", ONE_PAGE, takes, &opened)?;
     assert_that(rt, end.output.is_some() == (status == 0));
     let told = tell(&mut Closed {}, end.line.as_slice(), end.status);
     assert_that(rt, told == status);
@@ -116,8 +107,7 @@ fn assert_cut_off<R: Threads + Wait + Abort + Sync>(
 ) -> Result<(), AllocError> {
     let words = "-q 0 in.ps out.ps";
     let opened = AtomicU32::new(0);
-    let files = [file_of(document)];
-    let end = ended(rt, alloc, words, &files, Takes::Bytes(most), &opened)?;
+    let end = ended(rt, alloc, words, document, Takes::Bytes(most), &opened)?;
     let (first, rest) = sheets.as_bytes().split_at(most.min(sheets.len()));
     let (status, line) = if rest.is_empty() {
         (0, "")

@@ -1,9 +1,8 @@
 //! The words of a command.
-use crate::answer::{Answer, Form};
+use crate::specifications::answer::{Answer, Form};
 use lengths::{Grains, NoMemory, Paper, paper_by_name};
 use pagespec::{Item, Spec, read_spec};
 use std::alloc::Global;
-use test_cases::Document;
 
 /// The words after `line` or `taken`, which say what is shown of the answer.
 pub fn without_form<'w>(out: &mut Answer, words: &'w [String]) -> &'w [String] {
@@ -35,15 +34,7 @@ pub fn number_in(text: &str) -> Option<i128> {
     }
 }
 
-/// A number of pages, or of something as small, in decimal digits.
-pub fn number_of(text: &str) -> Option<u32> {
-    match text.parse::<u32>() {
-        Ok(number) => Some(number),
-        Err(_) => None,
-    }
-}
-
-/// The same of the word at this place.
+/// A number of pages, or of something as small.
 pub fn count(words: &[String], at: usize) -> Option<u32> {
     u32::try_from(number(words, at)?).ok()
 }
@@ -60,22 +51,6 @@ pub fn paper(words: &[String], at: usize) -> Option<Paper> {
     };
     let (width, height) = sides.split_once('x')?;
     Paper::new(length(width, unit)?, length(height, unit)?)
-}
-
-/// The text of the document that a word names.
-pub fn text_of<'d>(documents: &'d [Document<'_>], words: &[String], at: usize) -> Option<&'d [u8]> {
-    let name = word(words, at)?;
-    for document in documents {
-        if document.name == name {
-            return Some(document.bytes.as_slice());
-        }
-    }
-    None
-}
-
-/// The words from this one on.
-pub fn words_from(words: &[String], at: usize) -> &[String] {
-    words.get(at..).unwrap_or(&[])
 }
 
 /// A length of this many units, each of this many grains.

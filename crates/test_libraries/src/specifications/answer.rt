@@ -57,22 +57,9 @@ impl Answer {
         self.note(is_appended || len != before);
     }
 
-    /// Adds bytes.
-    pub fn add(&mut self, bytes: &[u8]) {
-        let added = self.bytes.extend_from_slice(bytes);
-        self.note(added.is_ok());
-    }
-
     pub fn text(&mut self, text: &str) {
-        self.add(text.as_bytes());
-    }
-
-    /// Bytes in quotes, with escapes.
-    pub fn quoted(&mut self, bytes: &[u8]) {
-        match String::from_utf8_lossy(self.alloc, bytes) {
-            Ok(text) => self.show(format_args!("{:?}", text.as_str())),
-            Err(_) => self.note(false),
-        }
+        let added = self.bytes.extend_from_slice(text.as_bytes());
+        self.note(added.is_ok());
     }
 
     pub fn show<D: Display + Drop>(&mut self, value: D) {
