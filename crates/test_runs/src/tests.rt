@@ -1,6 +1,6 @@
 //! What the trials share: options, large documents, a run with its report, and a gathering.
 ghost use Rattle.std.specs.Prelude.{◌<◌};
-ghost use Rattle.imposer.specs.Workers.{AreWorkers};
+ghost use Rattle.planned_runs.specs.Workers.{AreWorkers};
 ghost use Rattle.sheet_writer.specs.Sinks.{IsCountable};
 
 mod callers;
