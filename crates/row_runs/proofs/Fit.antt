@@ -66,7 +66,7 @@ evened_may_be true (laying.Grid setting cells) papers row h = h
 evened_may_be true (laying.Cards setting cells) papers row h = h
 evened_may_be true (laying.Stack setting cells) papers row h = h
 evened_may_be true (laying.Leaves setting) papers row h = h
-evened_may_be true (laying.Booklet setting turned_backs creep) papers row h = h
+evened_may_be true (laying.Booklet setting turned_backs creep) papers row h = record { grid_is = h.grid_is; order_is = h.order_is; even = h.even }
 evened_may_be true (laying.Zine setting) papers row h = h
 evened_may_be true (laying.Poster poster) papers row h = h
 

@@ -73,7 +73,10 @@ same_checks t pages all other =
     let places : sum_by slot_count (turned t all) ≡ sum_by slot_count all = sum_same slot_count (turned_sheet t) (as_many t) all in
     let missing : position (λ s. list_any (is_missing pages) s.slots) (turned t all) ≡ position (λ s. list_any (is_missing pages) s.slots) all =
     first_too (λ s. list_any (is_missing pages) s.slots) (turned_sheet t) (λ s. any_same (is_missing pages) (turned_slot t) (missing_same t pages) s.slots) all in
-    rw (count, uneven, places, missing) refl
+    ap (λ (n : ℕ). checked (nat_lt most_pages pages) (nat_lt most_sheets n) (position (λ s. not (is_slot_count (slot_count s))) (turned t all)) (nat_lt most_places (sum_by slot_count (turned t all))) (position (λ s. list_any (is_missing pages) s.slots) (turned t all)) other) count
+    ∙ ap (λ (u : Option ℕ). checked (nat_lt most_pages pages) (nat_lt most_sheets (length all)) u (nat_lt most_places (sum_by slot_count (turned t all))) (position (λ s. list_any (is_missing pages) s.slots) (turned t all)) other) uneven
+    ∙ ap (λ (n : ℕ). checked (nat_lt most_pages pages) (nat_lt most_sheets (length all)) (position (λ s. not (is_slot_count (slot_count s))) all) (nat_lt most_places n) (position (λ s. list_any (is_missing pages) s.slots) (turned t all)) other) places
+    ∙ ap (λ (m : Option ℕ). checked (nat_lt most_pages pages) (nat_lt most_sheets (length all)) (position (λ s. not (is_slot_count (slot_count s))) all) (nat_lt most_places (sum_by slot_count all)) m other) missing
 
 pub turned_refused : (t : Turn) (pages : ℕ) (all : List MadeSheet) (e : MadeError) → RefusesMade pages all e → RefusesMade pages (turned t all) e
 turned_refused t pages all error.TooManyPages h = same_checks t pages all (turned t all) ∙ fails_too _ _ _ _ _ all (turned t all) _ h
