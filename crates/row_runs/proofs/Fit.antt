@@ -67,7 +67,8 @@ evened_may_be true (laying.Cards setting cells) papers row h = h
 evened_may_be true (laying.Stack setting cells) papers row h = h
 evened_may_be true (laying.Leaves setting) papers row h = h
 evened_may_be true (laying.Booklet setting turned_backs creep) papers row h = record { grid_is = h.grid_is; order_is = h.order_is; even = h.even }
-evened_may_be true (laying.Zine setting) papers row h = h
+evened_may_be true (laying.Zine setting) papers row h =
+    record { grid_is = h.grid_is; order_is = h.order_is; untrimmed = h.untrimmed; some_across = h.some_across; some_up = h.some_up; even = h.even }
 evened_may_be true (laying.Poster poster) papers row h = h
 
 shown_on : (p : Poster) (papers : List Paper) (row : Row) → AllMayBePosters p papers row → (i page : ℕ) → entry_of row i ≡ Some page
