@@ -8,7 +8,7 @@ use Rattle.papers.specs.declared.media.Comment.{Comment}
 use Rattle.papers.specs.declared.media.Comment.TheVariants.{BoundingBox}
 use Rattle.impose_words.specs.declared.request.ImposeRequest.{ImposeRequest}
 use Rattle.impose_said.specs.declared.finished.Told.{Told}
-use Rattle.impose_cli.specs.ToldPages.{told_pages}
+use Rattle.row_runs.specs.ToldPages.{told_pages}
 
 -- a comment names papers or media
 abbrev pub is_name : Comment → Bool

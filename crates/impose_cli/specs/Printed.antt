@@ -27,7 +27,7 @@ command_text r t = call_text r t.options ++ codes " '" ++ spec_text (string_byte
     ++ files_text (option_map string_bytes r.infile) (option_map string_bytes r.outfile)
 
 abbrev pub is_border_trimmed : ImposeRequest → Task → Bool
-is_border_trimmed r t = is_some t.options.border && not (int_eq r.spacing.trim (pos 0))
+is_border_trimmed r t = is_some t.options.border && not (int_eq r.spacing.free.trim (pos 0))
 
 -- pstops draws a border along the page's edges, whatever is trimmed, and puts no guard in
 abbrev pub comments_text : ImposeRequest → Task → List ℕ

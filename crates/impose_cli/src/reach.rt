@@ -1,5 +1,5 @@
 //! Pages that reach beyond the papers by which they are placed.
-ghost use Rattle.std.specs.Prelude.{◌≡◌, IfOk, Ok};
+ghost use Rattle.std.specs.Prelude.{◌≡◌, IfOk, Ok, true};
 ghost use Rattle.rules.specs.Parts.{bytes_of};
 ghost use Rattle.papers.specs.Names.{paper_named};
 ghost use Rattle.papers.specs.Own.{own_papers};
