@@ -16,7 +16,7 @@ use Rattle.sheet_plan.specs.Refusals.{Refuses, RefusesIn}
 use Rattle.sheet_plan.specs.declared.error.PlanError.{PlanError}
 use Rattle.sheet_text.specs.Jobs.{JobView, is_border, of_frame}
 use Rattle.sheet_writer.specs.Sinks.{fresh_sink}
-use Rattle.planned_runs.proofs.Made.{job_answers}
+use Rattle.imposer.proofs.Answered.{job_answers}
 use Rattle.imposer.proofs.Refusals.{refused_plan}
 use Rattle.planned_runs.specs.Outcomes.{of_plan}
 use Rattle.imposer.specs.Runs.{Accepted, Reports, frame_of, request}
