@@ -6,7 +6,7 @@ _impose_papers='a0 a1 a2 a3 a4 a5 a6 b0 b1 b2 b3 b4 b5 b6 c4 c5 c6 dl letter leg
 _impose_options_of() {
     local all='--paper --sheet --border --unguarded --print-spec --quiet --help -p -q -h'
     local parts='--odd --even --reverse'
-    local looks='--plan --preview'
+    local looks='--turn --plan --preview'
     local row="--pages $parts"
     local numbers='--numbers --numbers-from'
     local laid="--margin --gap --trim --marks --rtl --same-scale $numbers $row $looks"
@@ -33,6 +33,7 @@ _impose_values_of() {
         --overlap) echo '5mm 1cm 2cm' ;;
         --order) echo 'right-down down-right left-down down-left' ;;
         --turned) echo 'left right' ;;
+        --turn) echo 'left right half' ;;
         --scale) echo '0.5 0.7 1' ;;
         --marks) echo 'fold cut fold,cut' ;;
         --numbers) echo '8pt 10pt 12pt' ;;

@@ -1,11 +1,17 @@
-//! What both commands have in common: how a value is taken out of what clap finds among the words, and what the width of a
-//! border means.
+//! What both commands have in common: how a value is taken out of what clap finds among the words, what the width of a
+//! border means, and how words are written for a shell.
 #![tactic(auto)]
 
 mod borders;
+mod caret;
 mod files;
 mod matches;
+mod shell;
 
 pub use borders::border_named;
+pub use caret::{caret_below, group_place, item_place, large_place, range_place};
 pub use files::name_of;
 pub use matches::{is_set, number_of, owned, text_of};
+pub use shell::{
+    append_border, append_files, append_if, append_length, append_sides, begins_with_minus,
+};

@@ -1,12 +1,12 @@
 -- The tokens of the lines that impose adds to its output.
-use Rattle.std.specs.Prelude.{codes, flat_map, fold}
-use Rattle.std.proofs.Common.{◌≡◌, ℕ, refl, ap, ◌∙◌, sym, subst, true, List, [], ◌∷◌, ◌++◌, map, reverse}
+use Rattle.std.specs.Prelude.{codes, flat_map, fold, if◌then◌else◌}
+use Rattle.std.proofs.Common.{◌≡◌, ℕ, refl, ap, ◌∙◌, sym, subst, Bool, true, false, List, [], ◌∷◌, ◌++◌, map, reverse}
 use Rattle.rules.specs.Bytes.{line, line_feed}
 use Rattle.rules.specs.Numbers.{points_text}
 use Rattle.rules.specs.Papers.{Paper}
 use Rattle.made_sheets.specs.Dress.{lines_text}
 use Rattle.papers.specs.Own.{covering}
-use Rattle.papers.specs.Told.{telling_of, size_text, size_name, medium_text, medium_line, box_line, page_size_lines, sheet_lines, setting_line}
+use Rattle.papers.specs.Told.{telling_of, size_text, size_name, medium_text, medium_line, box_line, box_lines, exact_box_line, exact_box_lines, is_whole, whole_paper, page_size_lines, sheet_lines, setting_line}
 use Rattle.dressing.specs.Drawn.{stroke_line, mark_lines}
 use Rattle.dressing.specs.declared.strokes.Stroke.{Stroke}
 use Rattle.pictures.specs.Objects.{Token, Number, Name, Literal, Opens, Closes}
@@ -195,11 +195,16 @@ others_quiet (r ∷ ps) =
     both_true (is_comment_line (medium_line (codes "%%+ ") (size_name r) r)) (are_comments (map (λ p. medium_line (codes "%%+ ") (size_name p) p) ps))
     (medium_stays (size_name r) r (name_stays r)) (others_quiet ps)
 
+exact_quiet : (b : Bool) (p : Paper) (ls : List (List ℕ)) → are_comments ls ≡ true → are_comments ((if b then [] else exact_box_line p ∷ []) ++ ls) ≡ true
+exact_quiet true p ls e = e
+exact_quiet false p ls e = both_true (is_comment_line (exact_box_line p)) (are_comments ls) (size_stays p) e
+
 header_after : (box : Paper) (name : List ℕ) (p : Paper) (ls : List (List ℕ)) → ends_nowhere name ≡ true → are_comments ls ≡ true
-    → are_comments (box_line box ∷ medium_line (codes "%%DocumentMedia: ") name p ∷ ls) ≡ true
+    → are_comments (box_lines box ++ medium_line (codes "%%DocumentMedia: ") name p ∷ ls) ≡ true
 header_after box name p ls e f =
-    both_true (is_comment_line (box_line box)) (are_comments (medium_line (codes "%%DocumentMedia: ") name p ∷ ls)) (size_stays box)
-    (both_true (is_comment_line (medium_line (codes "%%DocumentMedia: ") name p)) (are_comments ls) (medium_stays name p e) f)
+    both_true (is_comment_line (box_line (whole_paper box))) (are_comments (exact_box_lines box ++ medium_line (codes "%%DocumentMedia: ") name p ∷ ls)) (size_stays (whole_paper box))
+    (exact_quiet (is_whole box) box (medium_line (codes "%%DocumentMedia: ") name p ∷ ls)
+    (both_true (is_comment_line (medium_line (codes "%%DocumentMedia: ") name p)) (are_comments ls) (medium_stays name p e) f))
 
 pub header_quiet : (told : List Paper) → are_comments (telling_of told).header ≡ true
 header_quiet [] = refl

@@ -84,13 +84,13 @@ line_beside room rows columns false row column less other k =
     let c = note_cell room g other in
     let d = cell_at room g row column in
     level_beside c.left c.bottom c.width c.height (k * 2_400_000) d.left d.bottom d.width d.height
-    (before (kept room room.edge) (step_across room g) (kept room room.gap) column columns less)
+    (before (kept room.trim room.left) (step_across room g) (kept room.trim room.gap_across) column columns less)
 line_beside room rows columns true row column less other k =
     let g = cells rows columns true in
     let c = note_cell room g other in
     let d = cell_at room g row column in
     upright_beside c.left c.bottom c.width c.height (k * 2_400_000) d.left d.bottom d.width d.height
-    (before (kept room room.edge) (step_across room g) (kept room room.gap) column columns less)
+    (before (kept room.trim room.bottom) (step_across room g) (kept room.trim room.gap_up) column columns less)
 
 pub lines_are_beside : LinesAreBeside
 lines_are_beside room g row column less =

@@ -1,13 +1,13 @@
 -- Marks are on lines in the middle between cells, at both ends of each.
 use Rattle.std.proofs.Common.{arith, rules, ◌≡◌, ℕ, zero, suc, ◌+◌, ◌-◌, ◌*◌, ◌<◌, ◌≤◌, Bool, true, false, refl, ap, sym, subst, ◌∙◌, [], ◌∷◌}
-use Rattle.std.specs.Prelude.{ℤ, pos, ◌≤ℤ◌, ◌+ℤ◌, ◌-ℤ◌, nat_abs, nat_le, not, if◌then◌else◌, ◌==◌}
+use Rattle.std.specs.Prelude.{ℤ, pos, ◌≤ℤ◌, ◌+ℤ◌, ◌-ℤ◌, nat_abs, nat_le, not, ◌&&◌, if◌then◌else◌, ◌==◌}
 use Rattle.std.specs.List.{AllByRecursion, range_with_len}
 use Rattle.std.proofs.lemmas.Int.{ints}
 use Rattle.layouts.specs.Placed.{Room}
-use Rattle.layouts.specs.Cells.{Grid, high, kept, step, wide}
+use Rattle.layouts.specs.Cells.{Along, Grid, along_height, along_width, cell, high, kept, step, wide}
 use Rattle.layouts.proofs.InGrid.{both_true}
 use Rattle.dressing.specs.Places.{gap_at, grains_in}
-use Rattle.dressing.specs.Strokes.{cells_across, cells_up, far_end, has_room_round, level_at, longest, marks_round, near_end, upright_at}
+use Rattle.dressing.specs.Strokes.{cells_across, cells_up, far_end, has_room, has_room_round, level_at, longest, marks_round, near_end, upright_at}
 use Rattle.dressing.specs.Between.{AreMarksOf, IsLevel, IsUpright, MarksAreBetween, MarksLevel, MarksUpright, half_gap, lines_between}
 use Rattle.dressing.proofs.Outside.{half, not_zero}
 
@@ -16,16 +16,13 @@ cells rows columns turned = record { rows = rows; columns = columns; turned = tu
 
 -- ---- the line before part k of a side
 
--- where part k begins, and a part's size
-abbrev start : Room → (side parts k : ℕ) → ℕ
-start room side parts k = kept room room.edge + k * step room side parts
+-- where part k begins
+abbrev start : Along → (side parts k : ℕ) → ℕ
+start a side parts k = kept a.trim a.before + k * step a side parts
 
-abbrev size : Room → (side parts : ℕ) → ℕ
-size room side parts = step room side parts - kept room room.gap
-
-record IsLine (room : Room) (side parts k : ℕ) : Type 0 where
-  pub after : 0 < k → gap_at room side parts k ≡ grains_in (start room side parts (k - 1) + size room side parts) + half_gap room
-  pub before : (pos (gap_at room side parts k) +ℤ pos (half_gap room)) ≡ pos (grains_in (start room side parts k))
+record IsLine (a : Along) (side parts k : ℕ) : Type 0 where
+  pub after : 0 < k → gap_at a side parts k ≡ grains_in (start a side parts (k - 1) + cell a side parts) + half_gap a
+  pub before : (pos (gap_at a side parts k) +ℤ pos (half_gap a)) ≡ pos (grains_in (start a side parts k))
 
 -- half a gap after the part before it, if that is as wide as the gap at least
 after_part : (e g s k : ℕ) → 0 < s - g → 0 < k → 1_270_000 * (e + k * s) - 635_000 * g ≡ 1_270_000 * (e + (k - 1) * s + (s - g)) + 635_000 * g
@@ -52,24 +49,30 @@ no_more a b e = search (rules, e)
 gap_in_margin : (e g s k : ℕ) → 635_000 * g ≤ 1_270_000 * e → 635_000 * g ≤ 1_270_000 * (e + k * s)
 gap_in_margin e g s k le = omega (arith, le)
 
-line_is : (room : Room) (side parts k : ℕ) → 0 < size room side parts → 635_000 * kept room room.gap ≤ grains_in (start room side parts k) → IsLine room side parts k
-line_is room side parts k wide has = record {
-  after = λ some. after_part (kept room room.edge) (kept room room.gap) (step room side parts) k wide some;
-  before = before_part (grains_in (start room side parts k)) (635_000 * kept room room.gap) has;
+line_is : (a : Along) (side parts k : ℕ) → 0 < cell a side parts → 635_000 * kept a.trim a.gap ≤ grains_in (start a side parts k) → IsLine a side parts k
+line_is a side parts k wide has = record {
+  after = λ some. after_part (kept a.trim a.before) (kept a.trim a.gap) (step a side parts) k wide some;
+  before = before_part (grains_in (start a side parts k)) (635_000 * kept a.trim a.gap) has;
 }
 
-inner_line : (room : Room) (side parts k : ℕ) → 0 < size room side parts → 0 < k → IsLine room side parts k
-inner_line room side parts k wide some = line_is room side parts k wide (gap_in_part (kept room room.edge) (kept room room.gap) (step room side parts) k wide some)
+inner_line : (a : Along) (side parts k : ℕ) → 0 < cell a side parts → 0 < k → IsLine a side parts k
+inner_line a side parts k wide some = line_is a side parts k wide (gap_in_part (kept a.trim a.before) (kept a.trim a.gap) (step a side parts) k wide some)
 
-outer_line : (room : Room) (side parts k : ℕ) → 0 < size room side parts → has_room_round room ≡ true → IsLine room side parts k
-outer_line room side parts k wide has =
-    let fits = no_more room.gap (2 * room.edge) (both_true (not (room.edge == 0)) (nat_le room.gap (2 * room.edge)) has).1 in
-    line_is room side parts k wide (gap_in_margin (kept room room.edge) (kept room room.gap) (step room side parts) k (half (room.trim == 0) room.gap room.edge fits))
+outer_line : (a : Along) (side parts k : ℕ) → 0 < cell a side parts → has_room a.before a.gap ≡ true → IsLine a side parts k
+outer_line a side parts k wide has =
+    let fits = no_more a.gap (2 * a.before) (both_true (not (a.before == 0)) (nat_le a.gap (2 * a.before)) has).1 in
+    line_is a side parts k wide (gap_in_margin (kept a.trim a.before) (kept a.trim a.gap) (step a side parts) k (half (a.trim == 0) a.gap a.before fits))
+
+-- the first margin across, and the first one up
+round_room : (room : Room) → has_room_round room ≡ true → (has_room room.left room.gap_across ≡ true) × (has_room room.bottom room.gap_up ≡ true)
+round_room room h =
+    let all = both_true (has_room room.left room.gap_across && has_room room.right room.gap_across) (has_room room.bottom room.gap_up && has_room room.top room.gap_up) h in
+    ((both_true (has_room room.left room.gap_across) (has_room room.right room.gap_across) all.0).0, (both_true (has_room room.bottom room.gap_up) (has_room room.top room.gap_up) all.1).0)
 
 -- ---- among the cells of a grid
 
-upright_is : (room : Room) (rows columns : ℕ) (b : Bool) (k : ℕ) → IsLine room (nat_abs room.paper.width) (cells_across (cells rows columns b)) k
-    → IsUpright room (cells rows columns b) k (pos (gap_at room (nat_abs room.paper.width) (cells_across (cells rows columns b)) k))
+upright_is : (room : Room) (rows columns : ℕ) (b : Bool) (k : ℕ) → IsLine (along_width room) (nat_abs room.paper.width) (cells_across (cells rows columns b)) k
+    → IsUpright room (cells rows columns b) k (pos (gap_at (along_width room) (nat_abs room.paper.width) (cells_across (cells rows columns b)) k))
 upright_is room rows columns false k is = record { right = λ up some. ap pos (is.after some); left = λ up less. is.before }
 upright_is room rows columns true k is = record { right = λ up some. ap pos (is.after some); left = λ up less. is.before }
 
@@ -77,14 +80,15 @@ upright_is room rows columns true k is = record { right = λ up some. ap pos (is
 from_above : (rows j : ℕ) → j < rows → j ≡ rows - (rows - (j + 1) + 1)
 from_above rows j less = omega (arith, less)
 
-level_is : (room : Room) (rows columns : ℕ) (b : Bool) (k : ℕ) → k ≤ cells_up (cells rows columns b) → IsLine room (nat_abs room.paper.height) (cells_up (cells rows columns b)) k
-    → IsLevel room (cells rows columns b) k (pos (gap_at room (nat_abs room.paper.height) (cells_up (cells rows columns b)) k))
+level_is : (room : Room) (rows columns : ℕ) (b : Bool) (k : ℕ) → k ≤ cells_up (cells rows columns b) → IsLine (along_height room) (nat_abs room.paper.height) (cells_up (cells rows columns b)) k
+    → IsLevel room (cells rows columns b) k (pos (gap_at (along_height room) (nat_abs room.paper.height) (cells_up (cells rows columns b)) k))
 level_is room rows columns false k within is =
     let h = nat_abs room.paper.height in
+    let a = along_height room in
     record {
       above = λ across some. ap pos (is.after some
-          ∙ ap (λ j. grains_in (start room h rows j + size room h rows) + half_gap room) (from_above rows (k - 1) (omega (arith, some, within))));
-      below = λ across less. is.before ∙ ap (λ j. pos (grains_in (start room h rows j))) (from_above rows k less);
+          ∙ ap (λ j. grains_in (start a h rows j + cell a h rows) + half_gap a) (from_above rows (k - 1) (omega (arith, some, within))));
+      below = λ across less. is.before ∙ ap (λ j. pos (grains_in (start a h rows j))) (from_above rows k less);
     }
 level_is room rows columns true k within is = record { above = λ across some. ap pos (is.after some); below = λ across less. is.before }
 
@@ -102,8 +106,8 @@ some_far : (edge : ℕ) → 0 < grains_in (if edge == 0 then longest else edge)
 some_far zero = omega arith
 some_far (suc n) = subst (λ (b : Bool). 0 < grains_in (if b then longest else suc n)) (sym (not_zero n)) (omega arith)
 
-is_long : (room : Room) → IsLong (near_end room) (far_end room)
-is_long room = long_at (far_end room) (some_far room.edge)
+is_long : (edge : ℕ) → IsLong (near_end edge) (far_end edge)
+is_long edge = long_at (far_end edge) (some_far edge)
 
 abbrev Reaches : (end : ℕ) → (from to : ℤ) → Type 0
 Reaches end from to = (pos 0 ≤ℤ from) × ((from +ℤ pos 1) ≤ℤ to) × (to ≤ℤ (from +ℤ pos 2_286_000_000_000)) × (to ≡ pos end)
@@ -114,30 +118,30 @@ near_edge n f is = let some = is.some in let most = is.most in (omega (arith, in
 far_edge : (h : ℤ) (n f : ℕ) → IsLong n f → Reaches f (h -ℤ (h -ℤ pos n)) (h -ℤ (h -ℤ pos f))
 far_edge h n f is = let some = is.some in let most = is.most in (omega (arith, ints), omega (arith, ints, some), omega (arith, ints, most), omega (arith, ints))
 
-upright_marks : (room : Room) (g : Grid) (k : ℕ) → IsUpright room g k (pos (gap_at room (nat_abs room.paper.width) (cells_across g) k)) → MarksUpright room g k (upright_at room (cells_across g) k)
+upright_marks : (room : Room) (g : Grid) (k : ℕ) → IsUpright room g k (pos (gap_at (along_width room) (nat_abs room.paper.width) (cells_across g) k)) → MarksUpright room g k (upright_at room (cells_across g) k)
 upright_marks room g k is =
-    let x = pos (gap_at room (nat_abs room.paper.width) (cells_across g) k) in
+    let x = pos (gap_at (along_width room) (nat_abs room.paper.width) (cells_across g) k) in
     let h = room.paper.height in
     record {
-      lower = record { start = (x, pos (near_end room)); end = (x, pos (far_end room)) };
-      upper = record { start = (x, h -ℤ pos (near_end room)); end = (x, h -ℤ pos (far_end room)) };
+      lower = record { start = (x, pos (near_end room.bottom)); end = (x, pos (far_end room.bottom)) };
+      upper = record { start = (x, h -ℤ pos (near_end room.top)); end = (x, h -ℤ pos (far_end room.top)) };
       two = refl;
       along = ((is, is), ((is, is), tt));
-      at_lower = near_edge (near_end room) (far_end room) (is_long room);
-      at_upper = far_edge h (near_end room) (far_end room) (is_long room);
+      at_lower = near_edge (near_end room.bottom) (far_end room.bottom) (is_long room.bottom);
+      at_upper = far_edge h (near_end room.top) (far_end room.top) (is_long room.top);
     }
 
-level_marks : (room : Room) (g : Grid) (k : ℕ) → IsLevel room g k (pos (gap_at room (nat_abs room.paper.height) (cells_up g) k)) → MarksLevel room g k (level_at room (cells_up g) k)
+level_marks : (room : Room) (g : Grid) (k : ℕ) → IsLevel room g k (pos (gap_at (along_height room) (nat_abs room.paper.height) (cells_up g) k)) → MarksLevel room g k (level_at room (cells_up g) k)
 level_marks room g k is =
-    let y = pos (gap_at room (nat_abs room.paper.height) (cells_up g) k) in
+    let y = pos (gap_at (along_height room) (nat_abs room.paper.height) (cells_up g) k) in
     let w = room.paper.width in
     record {
-      left = record { start = (pos (near_end room), y); end = (pos (far_end room), y) };
-      right = record { start = (w -ℤ pos (near_end room), y); end = (w -ℤ pos (far_end room), y) };
+      left = record { start = (pos (near_end room.left), y); end = (pos (far_end room.left), y) };
+      right = record { start = (w -ℤ pos (near_end room.right), y); end = (w -ℤ pos (far_end room.right), y) };
       two = refl;
       along = ((is, is), ((is, is), tt));
-      at_left = near_edge (near_end room) (far_end room) (is_long room);
-      at_right = far_edge w (near_end room) (far_end room) (is_long room);
+      at_left = near_edge (near_end room.left) (far_end room.left) (is_long room.left);
+      at_right = far_edge w (near_end room.right) (far_end room.right) (is_long room.right);
     }
 
 -- ---- all lines
@@ -154,17 +158,17 @@ record Marked (room : Room) (g : Grid) : Type 0 where
   pub outer_upright : (k : ℕ) → has_room_round room ≡ true → MarksUpright room g k (upright_at room (cells_across g) k)
   pub outer_level : (k : ℕ) → has_room_round room ≡ true → k ≤ cells_up g → MarksLevel room g k (level_at room (cells_up g) k)
 
-lines_marked : (room : Room) (rows columns : ℕ) (b : Bool) → 0 < size room (nat_abs room.paper.width) (cells_across (cells rows columns b)) → 0 < size room (nat_abs room.paper.height) (cells_up (cells rows columns b))
+lines_marked : (room : Room) (rows columns : ℕ) (b : Bool) → 0 < cell (along_width room) (nat_abs room.paper.width) (cells_across (cells rows columns b)) → 0 < cell (along_height room) (nat_abs room.paper.height) (cells_up (cells rows columns b))
     → Marked room (cells rows columns b)
 lines_marked room rows columns b some_wide some_high =
     let g = cells rows columns b in
     let w = nat_abs room.paper.width in
     let h = nat_abs room.paper.height in
     record {
-      inner_upright = λ k some. upright_marks room g k (upright_is room rows columns b k (inner_line room w (cells_across g) k some_wide some));
-      inner_level = λ k some within. level_marks room g k (level_is room rows columns b k within (inner_line room h (cells_up g) k some_high some));
-      outer_upright = λ k has. upright_marks room g k (upright_is room rows columns b k (outer_line room w (cells_across g) k some_wide has));
-      outer_level = λ k has within. level_marks room g k (level_is room rows columns b k within (outer_line room h (cells_up g) k some_high has));
+      inner_upright = λ k some. upright_marks room g k (upright_is room rows columns b k (inner_line (along_width room) w (cells_across g) k some_wide some));
+      inner_level = λ k some within. level_marks room g k (level_is room rows columns b k within (inner_line (along_height room) h (cells_up g) k some_high some));
+      outer_upright = λ k has. upright_marks room g k (upright_is room rows columns b k (outer_line (along_width room) w (cells_across g) k some_wide (round_room room has).0));
+      outer_level = λ k has within. level_marks room g k (level_is room rows columns b k within (outer_line (along_height room) h (cells_up g) k some_high (round_room room has).1));
     }
 
 all_marked : (room : Room) (rows columns : ℕ) (b : Bool) → 0 < wide room (cells rows columns b) → 0 < high room (cells rows columns b) → Marked room (cells rows columns b)

@@ -1,22 +1,27 @@
 -- Worked examples.
 use Rattle.std.proofs.Common.{◌≡◌, refl}
-use Rattle.std.specs.Prelude.{Bool, codes, map, [], ◌∷◌, false, true, pos, None, Some}
+use Rattle.std.specs.Prelude.{ℕ, Bool, codes, map, [], ◌∷◌, false, true, pos, None, Some}
 use Rattle.std.specs.Fmt.{digits}
-use Rattle.rules.specs.Papers.{Pt, points}
+use Rattle.rules.specs.Papers.{Paper, Pt, points}
 use Rattle.rules.specs.Specification.{Item, Turn, Upright, Left, Half}
 use Rattle.made_sheets.specs.Dress.{undressed}
 use Rattle.made_sheets.specs.Made.{Blank}
+use Rattle.sheet_text.specs.PageNumbers.{foot_text, number_line, slot_lines}
+use Rattle.sheet_text.specs.declared.numbers.Numbers.{Numbers}
 use Rattle.layouts.specs.Placed.{Room}
 use Rattle.layouts.specs.Cells.{Grid}
 use Rattle.dressing.specs.Strokes.{cut_marks, fold_marks, outer_cut_marks}
 use Rattle.dressing.specs.Ruled.{note_lines}
 use Rattle.dressing.specs.Drawn.{mark_lines, marked, stroke_line}
-use Rattle.dressing.specs.Numbered.{foot_text, number_line, slot_lines}
-use Rattle.dressing.specs.declared.numbers.Numbers.{Numbers}
+
+-- with the same margin along all edges, and the same gap across and up
+abbrev room_in : Paper → (edge gap : ℕ) → Room
+room_in q e d =
+    record { paper = q; left = e; right = e; bottom = e; top = e; gap_across = d; gap_up = d; trim = 0 }
 
 -- a sheet of 100 by 200 points with a margin of 10 points and a gap of 4, in two columns
 abbrev small : Room
-small = record { paper = points 100 200; edge = 1_000_000; gap = 400_000; trim = 0 }
+small = room_in (points 100 200) 1_000_000 400_000
 
 abbrev columns : Grid
 columns = record { rows = 1; columns = 2; turned = false }
@@ -57,15 +62,15 @@ unfolding digits
 cut_round = refl
 
 -- and not at all if the margin has no room for half a gap, or if there is none
-narrow_round : outer_cut_marks (record { paper = points 100 200; edge = 1_000_000; gap = 2_000_001; trim = 0 }) columns ≡ []
+narrow_round : outer_cut_marks (room_in (points 100 200) 1_000_000 2_000_001) columns ≡ []
 narrow_round = refl
 
-bare_round : outer_cut_marks (record { paper = points 100 200; edge = 0; gap = 0; trim = 0 }) columns ≡ []
+bare_round : outer_cut_marks (room_in (points 100 200) 0 0) columns ≡ []
 bare_round = refl
 
 -- without a margin strokes have 18 points, and in a wide one too: they end at the cells
 abbrev bare : Room
-bare = record { paper = points 100 200; edge = 0; gap = 0; trim = 0 }
+bare = room_in (points 100 200) 0 0
 
 bare_cut : map stroke_line (cut_marks bare columns)
     ≡ codes "newpath 50 0 moveto 50 18 lineto stroke" ∷ codes "newpath 50 200 moveto 50 182 lineto stroke" ∷ []
@@ -73,12 +78,43 @@ unfolding digits
 bare_cut = refl
 
 abbrev wide : Room
-wide = record { paper = points 100 200; edge = 3_000_000; gap = 0; trim = 0 }
+wide = room_in (points 100 200) 3_000_000 0
 
 wide_fold : map stroke_line (fold_marks wide columns)
     ≡ codes "newpath 50 12 moveto 50 30 lineto stroke" ∷ codes "newpath 50 188 moveto 50 170 lineto stroke" ∷ []
 unfolding digits
 wide_fold = refl
+
+-- margins of 10, 12, 14 and 16 points at the left, the right, the foot and the head, and gaps of 4 points across and 6 up: each
+-- stroke ends where the margin of its edge does
+abbrev each_edge : Room
+each_edge = record {
+  paper = points 100 200;
+  left = 1_000_000;
+  right = 1_200_000;
+  bottom = 1_400_000;
+  top = 1_600_000;
+  gap_across = 400_000;
+  gap_up = 600_000;
+  trim = 0;
+}
+
+edges_cut : map stroke_line (cut_marks each_edge (record { rows = 2; columns = 2; turned = false }))
+    ≡ codes "newpath 49 0 moveto 49 14 lineto stroke"
+    ∷ codes "newpath 49 200 moveto 49 184 lineto stroke"
+    ∷ codes "newpath 0 99 moveto 10 99 lineto stroke"
+    ∷ codes "newpath 100 99 moveto 88 99 lineto stroke"
+    ∷ codes "newpath 8 0 moveto 8 14 lineto stroke"
+    ∷ codes "newpath 8 200 moveto 8 184 lineto stroke"
+    ∷ codes "newpath 90 0 moveto 90 14 lineto stroke"
+    ∷ codes "newpath 90 200 moveto 90 184 lineto stroke"
+    ∷ codes "newpath 0 11 moveto 10 11 lineto stroke"
+    ∷ codes "newpath 100 11 moveto 88 11 lineto stroke"
+    ∷ codes "newpath 0 187 moveto 10 187 lineto stroke"
+    ∷ codes "newpath 100 187 moveto 88 187 lineto stroke"
+    ∷ []
+unfolding digits
+edges_cut = refl
 
 -- two cells on their sides lie one above the other
 on_sides : map stroke_line (fold_marks bare (record { rows = 1; columns = 2; turned = true }))
@@ -91,13 +127,13 @@ on_sides = refl
 abbrev rows : Bool → Grid
 rows turned = record { rows = 2; columns = 2; turned = turned }
 
-ruled : map stroke_line (note_lines (record { paper = points 120 112; edge = 600_000; gap = 400_000; trim = 0 }) (rows false))
+ruled : map stroke_line (note_lines (room_in (points 120 112) 600_000 400_000) (rows false))
     ≡ codes "newpath 62 82 moveto 114 82 lineto stroke" ∷ codes "newpath 62 30 moveto 114 30 lineto stroke" ∷ []
 unfolding digits
 ruled = refl
 
 -- on a sheet that lies on its side they are upright, and the first row is the left one
-ruled_on_sides : map stroke_line (note_lines (record { paper = points 112 120; edge = 600_000; gap = 400_000; trim = 0 }) (rows true))
+ruled_on_sides : map stroke_line (note_lines (room_in (points 112 120) 600_000 400_000) (rows true))
     ≡ codes "newpath 30 62 moveto 30 114 lineto stroke" ∷ codes "newpath 82 62 moveto 82 114 lineto stroke" ∷ []
 unfolding digits
 ruled_on_sides = refl
@@ -131,7 +167,7 @@ no_marks = refl
 
 -- numbers of 10 points, from 3 on, in cells of 100 points: the middle of their feet is 50 points below the middle of their pages
 abbrev tens : Numbers
-tens = record { how = record { size = pos 1_270_000_000_000; first = 3 }; places = []; below = Some (pos 6_350_000_000_000) }
+tens = record { size = pos 1_270_000_000_000; first = 3; places = []; below = Some (pos 6_350_000_000_000) }
 
 -- the fifth page of a row, which has 100 by 200 points, half as large and turned so about its corner, which is in the middle of a
 -- sheet of 200 by 250

@@ -11,6 +11,4 @@ pub mod RowByRow
 pub mod Examples
 pub mod Turns
 pub mod Given
-pub mod Earlier
 pub mod Quiet
-pub mod Numbered

@@ -2,12 +2,11 @@
 use Rattle.std.proofs.Common.{arith, ◌≡◌, ℕ, ◌+◌, ◌-◌, ◌*◌, ◌<◌, Bool, true, false, refl, ap, None}
 use Rattle.std.specs.Prelude.{pos, nat_abs, ◌==◌, if◌then◌else◌}
 use Rattle.rules.specs.Papers.{Paper}
-use Rattle.layouts.specs.Placed.{Room}
-use Rattle.layouts.specs.Cells.{kept, step}
+use Rattle.layouts.specs.Cells.{Along, along_height, kept, step}
 use Rattle.layouts.specs.Fitted.{binding_setting_of, fitted, fitted_back, scale_on, why_no_scale_on}
 use Rattle.layouts.specs.Grids.{beside}
 use Rattle.layouts.specs.Laws.{HasPlace, IsHalfTurnOf, IsPaper}
-use Rattle.layouts.proofs.Fitting.{halves_fit, has_scale, stands_back}
+use Rattle.layouts.proofs.Fitting.{halves_fit, has_scale, leaves_even, stands_back}
 use Rattle.layouts.proofs.Folds.{fold, fold_on_sheet, in_middle, lies_before, lies_behind, turned_before, turned_behind}
 use Rattle.layouts.proofs.InGrid.{fits}
 use Rattle.dressing.specs.Between.{FoldMarksAreOnFold}
@@ -19,8 +18,8 @@ middle_at : (untrimmed : Bool) (edge part gap : ℕ)
 middle_at true edge part gap = omega arith
 middle_at false edge part gap = omega arith
 
-pub mark_is : (room : Room) (side : ℕ) → gap_at room side 2 1 ≡ 635_000 * (fold room side - kept room 0)
-mark_is room side = middle_at (room.trim == 0) (kept room room.edge) (step room side 2) room.gap
+pub mark_is : (a : Along) (side : ℕ) → gap_at a side 2 1 ≡ 635_000 * (fold a side - kept a.trim 0)
+mark_is a side = middle_at (a.trim == 0) (kept a.trim a.before) (step a side 2) a.gap
 
 one_of_two : (b : Bool) → ((if b then 1 else 0) < 2) × ((if b then 0 else 1) < 2)
 one_of_two true = (omega arith, omega arith)
@@ -34,21 +33,23 @@ fold_marks_are_on_fold page sheet b on possible =
     let side = nat_abs sheet.height in
     let has : (o : Paper) → why_no_scale_on t o ≡ None → HasPlace o room (beside true) (scale_on t o) = λ o e. (has_scale t o e).place in
     let some = (fits page room (beside true) (scale_on t page) (has page (halves_fit page sheet b possible))).some_wide in
-    let middle = in_middle room side some in
-    let low = fold_on_sheet room side some in
+    let a = along_height room in
+    let even = (leaves_even page sheet b possible).up in
+    let middle = in_middle a side even some in
+    let low = fold_on_sheet a side even some in
     let two = one_of_two r in
     let turned : (o : Paper) (k : ℕ) → IsPaper o → k < 2 → why_no_scale_on t o ≡ None → IsHalfTurnOf o sheet (fitted t o k) (fitted_back t o k) =
     λ o k is within e. (stands_back t o k is on within e).turned refl in
-    let at = ap pos (mark_is room side) in (
+    let at = ap pos (mark_is a side) in (
       record {
-        twice = fold room side;
+        twice = fold a side;
         no_farther = middle.0;
         no_nearer = middle.1;
         before = λ o is e. lies_before o room r (scale_on t o) is (has o e);
         behind = λ o is e. lies_behind o room r (scale_on t o) is (has o e);
-        turned_behind = λ o is e. turned_behind room (fold room side) o (fitted t o (if r then 1 else 0)) (fitted_back t o (if r then 1 else 0)) low
+        turned_behind = λ o is e. turned_behind room (fold a side) o (fitted t o (if r then 1 else 0)) (fitted_back t o (if r then 1 else 0)) low
             (lies_before o room r (scale_on t o) is (has o e)) (turned o (if r then 1 else 0) is two.0 e);
-        turned_before = λ o is e. turned_before room (fold room side) o (fitted t o (if r then 0 else 1)) (fitted_back t o (if r then 0 else 1)) low
+        turned_before = λ o is e. turned_before room (fold a side) o (fitted t o (if r then 0 else 1)) (fitted_back t o (if r then 0 else 1)) low
             (lies_behind o room r (scale_on t o) is (has o e)) (turned o (if r then 0 else 1) is two.1 e);
       },
       ((at, at), ((at, at), tt)),

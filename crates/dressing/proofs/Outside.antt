@@ -6,7 +6,7 @@ use Rattle.std.proofs.Math.Nat.{mul-le-mul_right}
 use Rattle.std.proofs.lemmas.Bool.{cases_lt}
 use Rattle.std.proofs.lemmas.Int.{ints}
 use Rattle.layouts.specs.Placed.{Room}
-use Rattle.layouts.specs.Cells.{Grid, high, kept, step, wide}
+use Rattle.layouts.specs.Cells.{Along, Grid, along_height, along_width, cell, high, kept, step, wide}
 use Rattle.layouts.specs.Laws.{Cell, cell_at}
 use Rattle.dressing.specs.Places.{PiecesAreLike, grains_in}
 use Rattle.dressing.specs.Strokes.{cells_across, cells_up, far_end, has_room_round, level_at, level_between, longest, near_end, upright_at, upright_between}
@@ -24,8 +24,8 @@ one_more : (e s k g : ℕ) → 635_000 * g ≤ 1_270_000 * e → 1_270_000 * (e 
 one_more e s k g le = let next : (k + 1) * s ≡ k * s + s = omega arith in omega (arith, le, next)
 
 pub pieces_are_like : PiecesAreLike
-pieces_are_like room side parts k le =
-    one_more (kept room room.edge) (step room side parts) k (kept room room.gap) (half (room.trim == 0) room.gap room.edge le)
+pieces_are_like a side parts k le =
+    one_more (kept a.trim a.before) (step a side parts) k (kept a.trim a.gap) (half (a.trim == 0) a.gap a.before le)
 
 -- ---- one line and one cell, along one side
 
@@ -83,30 +83,27 @@ holds_of_all P room a u across up =
 abbrev cell_of : (left bottom width height : ℕ) → Cell
 cell_of left bottom width height = record { left = left; bottom = bottom; width = width; height = height }
 
--- the part of a side of w grains that a cell takes, and the whole cell
-abbrev place : Room → (w parts c : ℕ) → ℕ
-place room w parts c = kept room room.edge + c * step room w parts
-
-abbrev size_of : Room → (w parts : ℕ) → ℕ
-size_of room w parts = step room w parts - kept room room.gap
+-- where the part of a side of w grains that a cell takes begins, and the whole cell
+abbrev place : Along → (w parts c : ℕ) → ℕ
+place a w parts c = kept a.trim a.before + c * step a w parts
 
 abbrev cell_in : Room → (a u c d : ℕ) → Cell
 cell_in room a u c d =
-    cell_of (place room (nat_abs room.paper.width) a c) (place room (nat_abs room.paper.height) u d) (size_of room (nat_abs room.paper.width) a) (size_of room (nat_abs room.paper.height) u)
+    cell_of (place (along_width room) (nat_abs room.paper.width) a c) (place (along_height room) (nat_abs room.paper.height) u d) (cell (along_width room) (nat_abs room.paper.width) a) (cell (along_height room) (nat_abs room.paper.height) u)
 
-upright_outside : (room : Room) (a u c d : ℕ) → 0 < size_of room (nat_abs room.paper.width) a → (k : ℕ) → AllByRecursion (IsOutsideCell (cell_in room a u c d)) (upright_at room a k)
-upright_outside room a u c d some k = elim (parted (kept room room.edge) (kept room room.gap) (step room (nat_abs room.paper.width) a) c k some) [
+upright_outside : (room : Room) (a u c d : ℕ) → 0 < cell (along_width room) (nat_abs room.paper.width) a → (k : ℕ) → AllByRecursion (IsOutsideCell (cell_in room a u c d)) (upright_at room a k)
+upright_outside room a u c d some k = elim (parted (kept room.trim room.left) (kept room.trim room.gap_across) (step (along_width room) (nat_abs room.paper.width) a) c k some) [
   | inl before ↦ let le = at_most before in (inl (inl (le, le)), (inl (inl (le, le)), tt))
   | inr behind ↦ let le = at_most behind in (inl (inr (le, le)), (inl (inr (le, le)), tt))
 ]
 
-level_outside : (room : Room) (a u c d : ℕ) → 0 < size_of room (nat_abs room.paper.height) u → (k : ℕ) → AllByRecursion (IsOutsideCell (cell_in room a u c d)) (level_at room u k)
-level_outside room a u c d some k = elim (parted (kept room room.edge) (kept room room.gap) (step room (nat_abs room.paper.height) u) d k some) [
+level_outside : (room : Room) (a u c d : ℕ) → 0 < cell (along_height room) (nat_abs room.paper.height) u → (k : ℕ) → AllByRecursion (IsOutsideCell (cell_in room a u c d)) (level_at room u k)
+level_outside room a u c d some k = elim (parted (kept room.trim room.bottom) (kept room.trim room.gap_up) (step (along_height room) (nat_abs room.paper.height) u) d k some) [
   | inl before ↦ let le = at_most before in (inr (inl (le, le)), (inr (inl (le, le)), tt))
   | inr behind ↦ let le = at_most behind in (inr (inr (le, le)), (inr (inr (le, le)), tt))
 ]
 
-all_outside : (room : Room) (a u c d : ℕ) → 0 < size_of room (nat_abs room.paper.width) a → 0 < size_of room (nat_abs room.paper.height) u
+all_outside : (room : Room) (a u c d : ℕ) → 0 < cell (along_width room) (nat_abs room.paper.width) a → 0 < cell (along_height room) (nat_abs room.paper.height) u
     → AllByRecursion (IsOutsideCell (cell_in room a u c d)) (all_of room a u)
 all_outside room a u c d wide high =
     holds_of_all (IsOutsideCell (cell_in room a u c d)) room a u (upright_outside room a u c d wide) (level_outside room a u c d high)
@@ -132,26 +129,28 @@ far_is zero lt = absurd (omega (arith, lt))
 far_is (suc n) lt = rw (not_zero n) refl
 
 -- how far strokes reach from an edge
-reach : (room : Room) → 0 < room.edge → (near_end room ≤ grains_in room.edge) × (far_end room ≤ grains_in room.edge)
-reach room some = let is = ap grains_in (far_is room.edge some) in (omega (arith, is), omega (arith, is))
+reach : (edge : ℕ) → 0 < edge → (near_end edge ≤ grains_in edge) × (far_end edge ≤ grains_in edge)
+reach edge some = let is = ap grains_in (far_is edge some) in (omega (arith, is), omega (arith, is))
 
 far : (side : ℤ) (a e : ℕ) → a ≤ e → (side -ℤ pos e) ≤ℤ (side -ℤ pos a)
 far side a e le = omega (arith, ints, le)
 
-upright_in_margin : (room : Room) (a : ℕ) → 0 < room.edge → (k : ℕ) → AllByRecursion (IsInMargin room) (upright_at room a k)
-upright_in_margin room a some k =
-    let (n, f) = reach room some in
-    let e = grains_in room.edge in
+upright_in_margin : (room : Room) (a : ℕ) → 0 < room.bottom → 0 < room.top → (k : ℕ) → AllByRecursion (IsInMargin room) (upright_at room a k)
+upright_in_margin room a some some' k =
+    let low = reach room.bottom some in
+    let high = reach room.top some' in
+    let e = grains_in room.top in
     let h = room.paper.height in
-    (inr (inl (at_most n, at_most f)), (inr (inr (far h (near_end room) e n, far h (far_end room) e f)), tt))
+    (inr (inl (at_most low.0, at_most low.1)), (inr (inr (far h (near_end room.top) e high.0, far h (far_end room.top) e high.1)), tt))
 
-level_in_margin : (room : Room) (u : ℕ) → 0 < room.edge → (k : ℕ) → AllByRecursion (IsInMargin room) (level_at room u k)
-level_in_margin room u some k =
-    let (n, f) = reach room some in
-    let e = grains_in room.edge in
+level_in_margin : (room : Room) (u : ℕ) → 0 < room.left → 0 < room.right → (k : ℕ) → AllByRecursion (IsInMargin room) (level_at room u k)
+level_in_margin room u some some' k =
+    let low = reach room.left some in
+    let high = reach room.right some' in
+    let e = grains_in room.right in
     let w = room.paper.width in
-    (inl (inl (at_most n, at_most f)), (inl (inr (far w (near_end room) e n, far w (far_end room) e f)), tt))
+    (inl (inl (at_most low.0, at_most low.1)), (inl (inr (far w (near_end room.right) e high.0, far w (far_end room.right) e high.1)), tt))
 
 pub marks_are_in_margin : MarksAreInMargin
-marks_are_in_margin room g some =
-    holds_of_all (IsInMargin room) room (cells_across g) (cells_up g) (upright_in_margin room (cells_across g) some) (level_in_margin room (cells_up g) some)
+marks_are_in_margin room g left right bottom top =
+    holds_of_all (IsInMargin room) room (cells_across g) (cells_up g) (upright_in_margin room (cells_across g) bottom top) (level_in_margin room (cells_up g) left right)

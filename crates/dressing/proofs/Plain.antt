@@ -3,7 +3,7 @@ use Rattle.std.proofs.Common.{◌≡◌, ℕ, List, [], ◌∷◌, Bool, true, f
 use Rattle.std.specs.Prelude.{IsTrue, not, ◌&&◌, ◌||◌, ◌==◌}
 use Rattle.rules.specs.Units.{is_end}
 use Rattle.seams.specs.Seams.{no_ends}
-use Rattle.sheet_text.specs.Dressings.{is_line}
+use Rattle.sheet_text.specs.LinesIn.{is_line}
 
 both : (s t : Bool) → (s && t) ≡ true → (s ≡ true) × (t ≡ true)
 both true t e = (refl, e)

@@ -11,11 +11,12 @@ use Rattle.sheet_plan.specs.OfSheets.{slots_at}
 use Rattle.seams.proofs.Plainly.{no_ends_append, no_ends_decimal, no_ends_points}
 use Rattle.seams.specs.Seams.{no_ends}
 use Rattle.imposed_again.specs.MadeAgain.{AreTame, IsTame, IsTameDress}
-use Rattle.dressing.specs.Drawn.{mark_lines, marked, point_text, stroke_line}
-use Rattle.dressing.specs.Numbered.{corner_text, degrees, font_text, foot_text, middle, number_line, number_lines, numbered, rise, shown_text}
-use Rattle.dressing.specs.Numbered.{slot_lines}
+use Rattle.sheet_text.specs.PageNumbers.{corner_text, degrees, font_text, foot_text, middle, number_line, number_lines, point_text, rise, shown_text}
+use Rattle.sheet_text.specs.PageNumbers.{slot_lines}
+use Rattle.dressing.specs.Drawn.{mark_lines, marked, stroke_line}
+use Rattle.dressing.specs.Numbered.{numbered}
+use Rattle.sheet_text.specs.declared.numbers.Numbers.{Numbers}
 use Rattle.dressing.specs.Laws.{DrawnIsTame}
-use Rattle.dressing.specs.declared.numbers.Numbers.{Numbers}
 use Rattle.dressing.specs.declared.strokes.Stroke.{Stroke}
 
 whole_point : (x y : ℤ) → no_ends (point_text x y) ≡ true
@@ -79,10 +80,10 @@ whole_shown number = no_ends_append (decimal number) (codes ") dup stringwidth p
 whole_number : (n : Numbers) (place : ℕ) (item : Item) (paper : Paper) → no_ends (number_line n place item paper) ≡ true
 whole_number n place item paper =
     let foot = foot_text n.below paper item in
-    let shown = shown_text (n.how.first + place) in
-    no_ends_append (font_text n.how.size) (corner_text paper item ++ (foot ++ shown)) (whole_font n.how.size)
+    let shown = shown_text (n.first + place) in
+    no_ends_append (font_text n.size) (corner_text paper item ++ (foot ++ shown)) (whole_font n.size)
     (no_ends_append (corner_text paper item) (foot ++ shown) (whole_corner paper item)
-    (no_ends_append foot shown (whole_foot n.below paper item) (whole_shown (n.how.first + place))))
+    (no_ends_append foot shown (whole_foot n.below paper item) (whole_shown (n.first + place))))
 
 pub number : (n : Numbers) (place : ℕ) (item : Item) (paper : Paper) → IsTame (number_line n place item paper)
 number n place item paper = record { whole = whole_number n place item paper; no_data = refl; no_document = refl; no_end = refl; no_page = refl; no_trailer = refl }

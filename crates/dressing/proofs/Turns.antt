@@ -63,19 +63,6 @@ same_order p q =
     ∙ (ap (λ b. b && int_eq (in_print q.height) (in_print p.height)) wide
     ∙ ap (λ b. int_eq (in_print p.width) (in_print q.width) && b) high)
 
-both : (s t : Bool) → (s && t) ≡ true → (s ≡ true) × (t ≡ true)
-both true t e = (refl, e)
-both false t e = (e, cc)
-
-abbrev size : ℤ → ℤ → Size
-size width height = record { width = width; height = height }
-
-pub one_size : (p q : Paper) → is_at (size_order (size_of q)) (size_of p) ≡ true → size_of p ≡ size_of q
-one_size p q e =
-    let parts = both (int_eq (in_print p.width) (in_print q.width)) (int_eq (in_print p.height) (in_print q.height)) (sym (same_order p q) ∙ e) in
-    ap (λ x. size x (in_print p.height)) ((Decides-int_eq (in_print p.width) (in_print q.width)).0 parts.0)
-    ∙ ap (λ y. size (in_print q.width) y) ((Decides-int_eq (in_print p.height) (in_print q.height)).0 parts.1)
-
 one_more : (t c : Bool) → cond t true c ≡ (c || (t || false))
 one_more true true = refl
 one_more true false = refl

@@ -1,12 +1,9 @@
 -- The lines that draw marks, and the dress that has them. Their operators are of the PostScript Language Reference; the rest
 -- is this project's own rules.
-use Rattle.std.specs.Prelude.{ℕ, ℤ, List, [], ◌∷◌, ◌++◌, map, codes}
-use Rattle.rules.specs.Numbers.{points_text}
+use Rattle.std.specs.Prelude.{ℕ, List, [], ◌∷◌, ◌++◌, map, codes}
 use Rattle.made_sheets.specs.Dress.{Dress}
+use Rattle.sheet_text.specs.PageNumbers.{point_text}
 use Rattle.dressing.specs.declared.strokes.Stroke.{Stroke}
-
-abbrev pub point_text : (x y : ℤ) → List ℕ
-point_text x y = points_text x ++ (codes " " ++ points_text y)
 
 -- the line that draws a stroke
 abbrev pub stroke_line : Stroke → List ℕ

@@ -35,10 +35,10 @@ abbrev pub IsOutsideCell : Cell → Stroke → Type 0
 IsOutsideCell cell s = IsOutside (pos (grains_in cell.left)) (pos (grains_in (cell.left + cell.width)))
     (pos (grains_in cell.bottom)) (pos (grains_in (cell.bottom + cell.height))) s
 
--- it goes over nothing of what the margin leaves of the sheet
+-- it goes over nothing of what the margins leave of the sheet
 abbrev pub IsInMargin : Room → Stroke → Type 0
-IsInMargin room s = IsOutside (pos (grains_in room.edge)) (room.paper.width -ℤ pos (grains_in room.edge))
-    (pos (grains_in room.edge)) (room.paper.height -ℤ pos (grains_in room.edge)) s
+IsInMargin room s = IsOutside (pos (grains_in room.left)) (room.paper.width -ℤ pos (grains_in room.right))
+    (pos (grains_in room.bottom)) (room.paper.height -ℤ pos (grains_in room.top)) s
 
 -- all marks that a sheet may have
 abbrev pub all_marks : Room → Grid → List Stroke
@@ -70,9 +70,9 @@ abbrev pub MarksMissPages : Type 0
 MarksMissPages = (page : Paper) (room : Room) (g : Grid) (o : Order) (s k : ℕ) → IsPaper page → HasPlace page room g s
     → room.trim ≡ 0 → k < size g → AllByRecursion (GoesPast room page (item_in page room g o s k)) (all_marks room g)
 
--- if there is a margin, all marks are in it
+-- if there is a margin along each edge, all marks are in them
 abbrev pub MarksAreInMargin : Type 0
-MarksAreInMargin = (room : Room) (g : Grid) → 0 < room.edge
+MarksAreInMargin = (room : Room) (g : Grid) → 0 < room.left → 0 < room.right → 0 < room.bottom → 0 < room.top
     → AllByRecursion (IsInMargin room) (all_marks room g)
 
 -- the whole stroke lies in a cell

@@ -1,7 +1,6 @@
 -- Read in this order: where sheets are cut and folded; which strokes mark it; lines for notes; the lines that draw strokes, and
 -- the dress that has these; numbers of pages; what holds of them.
--- Read in this order: sizes as they are printed; what a dress gives to sheets; sheets that were the first of their size; what
--- marks leave of what is found.
+-- Read in this order: sizes as they are printed; what marks leave of what is found.
 pub mod Places
 pub mod Strokes
 pub mod Ruled
@@ -10,6 +9,4 @@ pub mod Numbered
 pub mod Laws
 pub mod Between
 pub mod Sizes
-pub mod Dressings
-pub mod Firsts
 pub mod Quiet

@@ -3,7 +3,7 @@ use Rattle.std.specs.Prelude.{ℕ, ◌-◌, ◌*◌, ◌==◌, nat_le, nat_abs, 
 use Rattle.std.specs.Prelude.{List, [], ◌∷◌, ◌++◌, flat_map}
 use Rattle.std.specs.List.{range_with_len}
 use Rattle.layouts.specs.Placed.{Room}
-use Rattle.layouts.specs.Cells.{Grid}
+use Rattle.layouts.specs.Cells.{Grid, along_height, along_width}
 use Rattle.dressing.specs.Places.{gap_at, grains_in}
 use Rattle.dressing.specs.declared.strokes.Stroke.{Stroke}
 
@@ -11,40 +11,40 @@ use Rattle.dressing.specs.declared.strokes.Stroke.{Stroke}
 abbrev pub longest : ℕ
 longest = 1_800_000
 
--- how far from an edge of the sheet strokes end, in grains: where the margin ends, if there is one
-abbrev pub far_end : Room → ℕ
-far_end room = grains_in (if room.edge == 0 then longest else room.edge)
+-- how far from an edge of the sheet strokes end, in grains: where its margin ends, if there is one
+abbrev pub far_end : (edge : ℕ) → ℕ
+far_end edge = grains_in (if edge == 0 then longest else edge)
 
 -- and where they begin: they are as long as the margin is wide, but no longer than the longest
-abbrev pub near_end : Room → ℕ
-near_end room = far_end room - grains_in longest
+abbrev pub near_end : (edge : ℕ) → ℕ
+near_end edge = far_end edge - grains_in longest
 
 -- along a line that is so far from the left edge: at its lower end, and at its upper one
 abbrev pub upright_strokes : Room → (x : ℕ) → List Stroke
 upright_strokes room x =
-    record { start = (pos x, pos (near_end room)); end = (pos x, pos (far_end room)) }
+    record { start = (pos x, pos (near_end room.bottom)); end = (pos x, pos (far_end room.bottom)) }
     ∷ record {
-      start = (pos x, room.paper.height -ℤ pos (near_end room));
-      end = (pos x, room.paper.height -ℤ pos (far_end room));
+      start = (pos x, room.paper.height -ℤ pos (near_end room.top));
+      end = (pos x, room.paper.height -ℤ pos (far_end room.top));
     }
     ∷ []
 
 -- along a line that lies so far from the lower edge: at its left end, and at its right one
 abbrev pub level_strokes : Room → (y : ℕ) → List Stroke
 level_strokes room y =
-    record { start = (pos (near_end room), pos y); end = (pos (far_end room), pos y) }
+    record { start = (pos (near_end room.left), pos y); end = (pos (far_end room.left), pos y) }
     ∷ record {
-      start = (room.paper.width -ℤ pos (near_end room), pos y);
-      end = (room.paper.width -ℤ pos (far_end room), pos y);
+      start = (room.paper.width -ℤ pos (near_end room.right), pos y);
+      end = (room.paper.width -ℤ pos (far_end room.right), pos y);
     }
     ∷ []
 
 -- along the line before cell k of so many side by side, or one above another
 abbrev pub upright_at : Room → (parts k : ℕ) → List Stroke
-upright_at room parts k = upright_strokes room (gap_at room (nat_abs room.paper.width) parts k)
+upright_at room parts k = upright_strokes room (gap_at (along_width room) (nat_abs room.paper.width) parts k)
 
 abbrev pub level_at : Room → (parts k : ℕ) → List Stroke
-level_at room parts k = level_strokes room (gap_at room (nat_abs room.paper.height) parts k)
+level_at room parts k = level_strokes room (gap_at (along_height room) (nat_abs room.paper.height) parts k)
 
 -- how many cells are side by side, and how many one above another: a grid lies on its side if its pages do
 abbrev pub cells_across : Grid → ℕ
@@ -70,14 +70,20 @@ marks_round room g =
     ++ (level_at room (cells_up g) 0 ++ level_at room (cells_up g) (cells_up g))
 
 -- there is a margin, and it has room for half a gap
+abbrev pub has_room : (edge gap : ℕ) → Bool
+has_room edge gap = not (edge == 0) && nat_le gap (2 * edge)
+
+-- along all edges
 abbrev pub has_room_round : Room → Bool
-has_room_round room = not (room.edge == 0) && nat_le room.gap (2 * room.edge)
+has_room_round room =
+    (has_room room.left room.gap_across && has_room room.right room.gap_across)
+    && (has_room room.bottom room.gap_up && has_room room.top room.gap_up)
 
 -- a sheet is folded between its cells
 abbrev pub fold_marks : Room → Grid → List Stroke
 fold_marks room g = marks_between room g
 
--- one that is folded there is cut round its cells alone, if the margin has room for it
+-- one that is folded there is cut round its cells alone, if the margins have room for it
 abbrev pub outer_cut_marks : Room → Grid → List Stroke
 outer_cut_marks room g = if has_room_round room then marks_round room g else []
 

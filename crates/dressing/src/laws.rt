@@ -2,7 +2,7 @@
 ghost use Rattle.dressing.specs.Places.{PiecesAreLike};
 ghost use Rattle.dressing.specs.Between.{FoldMarksAreOnFold, MarksAreBetween};
 ghost use Rattle.dressing.specs.Laws.{DrawnIsTame, LinesAreBeside, LinesAreInCell, MarksAreInMargin, MarksAreOutside, MarksMissPages};
-ghost use Rattle.dressing.specs.Dressings.{DressingDresses, NoMarksAreTelling};
+ghost use Rattle.dressing.specs.Numbered.{NoMarksAreTelling};
 ghost use Rattle.dressing.specs.Quiet.{MarkedAreFound, MarksAreQuiet};
 
 /// Cut along all marks of a side, all pieces are as wide.
@@ -58,11 +58,6 @@ pub fn marks_are_quiet()
 /// In what was written of sheets, with marks or without, each one's own paper is found, as it is printed.
 pub fn marked_are_found()
     ensures { MarkedAreFound }
-{}
-
-/// Sheets with the lines that a dress gives them are the dressed sheets.
-pub fn dressing_dresses()
-    ensures { DressingDresses }
 {}
 
 /// If nothing is drawn sheets have the lines that report their papers, and no others.

@@ -1,4 +1,4 @@
-//! What sheets get besides their pages: lines that report their paper, marks for folds and cuts, lines for notes, numbers of pages.
+//! What sheets get besides their pages: papers that they report, marks for folds and cuts, lines for notes, numbers of pages.
 #![tactic(auto)]
 
 mod dress;
@@ -13,7 +13,7 @@ mod told;
 
 pub use dress::dress_of;
 pub use lines::mark_lines;
-pub use numbers::{Numbering, Numbers};
+pub use numbers::Numbering;
 pub use places::gap_at;
 pub use ruled::{cell_height, note_lines};
 pub use strokes::{Marks, Stroke, cut_marks, fold_marks, outer_cut_marks};

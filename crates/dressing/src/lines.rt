@@ -1,6 +1,7 @@
 //! The lines that draw marks.
 ghost use Rattle.std.specs.Prelude.{◌≡◌, ◌++◌, ◌∷◌, [], IfOk, OnOk, map};
-ghost use Rattle.dressing.specs.Drawn.{mark_lines as lines_of, point_text, stroke_line};
+ghost use Rattle.sheet_text.specs.PageNumbers.{point_text};
+ghost use Rattle.dressing.specs.Drawn.{mark_lines as lines_of, stroke_line};
 
 use crate::strokes::Stroke;
 use lengths::{Grains, print_points};
@@ -45,7 +46,7 @@ fn push_stroke(alloc: Global, lines: &mut Lines, stroke: &Stroke) -> Result<(), 
 }
 
 /// A point, in points.
-pub(crate) fn append_point(x: Grains, y: Grains, line: &mut Vec<u8>) -> Result<(), AllocError>
+fn append_point(x: Grains, y: Grains, line: &mut Vec<u8>) -> Result<(), AllocError>
     ensures { OnOk result (line.new.items ≡ line.old.items ++ point_text x y) }
 {
     print_points(x, line)?;

@@ -1,10 +1,14 @@
-//! Lines that report a paper.
-ghost use Rattle.std.specs.Prelude.{◌≡◌, ◌++◌, ◌∷◌, [], codes, fold, map, IfOk, OnOk, ℕ};
+//! The header's lines that report papers.
+ghost use Rattle.std.specs.Prelude.{◌≡◌, ◌++◌, ◌∷◌, [], codes, fold, nat_abs, IfOk, IsTrue, OnOk, ◌≤◌, ◌*◌, ◌^◌};
 ghost use Rattle.papers.specs.Own.{covering as covering_paper};
-ghost use Rattle.papers.specs.Told.{box_line, medium_line, medium_text, one_header, page_size_lines as size_lines};
-ghost use Rattle.papers.specs.Told.{several_header, sheet_lines as lines_of_sheet, setting_line, size_name, size_text, telling_of};
+ghost use Rattle.rules.specs.Numbers.{points_text};
+ghost use Rattle.rules.specs.Papers.{is_side};
+ghost use Rattle.papers.specs.Told.{box_line, box_lines, exact_box_line, is_whole as whole, whole_paper, whole_up as up_to_whole};
+ghost use Rattle.papers.specs.Told.{medium_line, medium_text, one_header};
+ghost use Rattle.papers.specs.Told.{several_header, size_name, size_text, telling_of};
 
-use lengths::{Paper, print_points};
+use crate::told::printed_parts;
+use lengths::{Grains, Paper, print_grains, print_points};
 use papers::covering;
 use sheet_text::Lines;
 use std::alloc::{AllocError, Global};
@@ -24,7 +28,7 @@ fn one_paper(alloc: Global, paper: &Paper) -> Result<Lines, AllocError>
     ensures { IfOk result (λ lines. lines ≡ one_header paper.now) }
 {
     let mut lines = Lines::new(alloc);
-    push_box(alloc, &mut lines, paper)?;
+    push_boxes(alloc, &mut lines, paper)?;
     push_medium(alloc, &mut lines, paper)?;
     Ok(lines)
 }
@@ -34,7 +38,7 @@ fn several_papers(alloc: Global, first: &Paper, others: &[Paper]) -> Result<Line
 {
     let mut lines = Lines::new(alloc);
     let large = covering_all(first, others);
-    push_box(alloc, &mut lines, &large)?;
+    push_boxes(alloc, &mut lines, &large)?;
     push_named_medium(alloc, &mut lines, first)?;
     for paper in others {
         push_continued(alloc, &mut lines, paper)?;
@@ -53,34 +57,54 @@ fn covering_all(first: &Paper, others: &[Paper]) -> Paper
     large
 }
 
-/// The lines at the start of a sheet of this paper: none, unless sheets have several.
-pub(crate) fn start_lines(alloc: Global, told: &[Paper], paper: &Paper) -> Result<Lines, AllocError>
-    ensures { IfOk result (λ lines. (sheet : ℕ) → lines ≡ (telling_of told.now).start sheet paper.now) }
+/// The box of a paper, in whole numbers, and after it as it is, if its sides aren't whole.
+fn push_boxes(alloc: Global, lines: &mut Lines, paper: &Paper) -> Result<(), AllocError>
+    ensures { OnOk result (lines.new ≡ lines.old ++ box_lines paper.now) }
 {
-    match told {
-        [] | [_] => Ok(Lines::new(alloc)),
-        [_, _, ..] => sheet_lines(alloc, paper),
+    push_box(alloc, lines, paper)?;
+    if is_whole(paper) {
+        return Ok(());
     }
+    push_exact_box(alloc, lines, paper)
 }
 
-/// The lines of a sheet of this paper, if sheets have several.
-pub(crate) fn sheet_lines(alloc: Global, paper: &Paper) -> Result<Lines, AllocError>
-    ensures { IfOk result (λ lines. lines ≡ lines_of_sheet paper.now) }
-{
-    let mut lines = Lines::new(alloc);
-    push_page_medium(alloc, &mut lines, paper)?;
-    push_page_size(alloc, &mut lines, paper)?;
-    Ok(lines)
-}
-
+/// The box of a paper, in whole numbers, rounded up.
 fn push_box(alloc: Global, lines: &mut Lines, paper: &Paper) -> Result<(), AllocError>
-    ensures { OnOk result (lines.new ≡ lines.old ++ box_line paper.now ∷ []) }
+    ensures { OnOk result (lines.new ≡ lines.old ++ box_line (whole_paper paper.now) ∷ []) }
 {
     let mut line = Vec::new(alloc);
     line.extend_from_slice(b"%%BoundingBox: 0 0 ")?;
+    append_whole_size(&mut line, paper)?;
+    lines.push(line.as_slice())?;
+    Ok(())
+}
+
+/// The box of a paper, as it is.
+fn push_exact_box(alloc: Global, lines: &mut Lines, paper: &Paper) -> Result<(), AllocError>
+    ensures { OnOk result (lines.new ≡ lines.old ++ exact_box_line paper.now ∷ []) }
+{
+    let mut line = Vec::new(alloc);
+    line.extend_from_slice(b"%%HiResBoundingBox: 0 0 ")?;
     append_size(&mut line, paper)?;
     lines.push(line.as_slice())?;
     Ok(())
+}
+
+/// Whether both sides are printed as whole points.
+fn is_whole(paper: &Paper) -> bool
+    ensures { result ≡ whole paper.now }
+{
+    printed_parts(paper.width()) % 100_000 == 0 && printed_parts(paper.height()) % 100_000 == 0
+}
+
+/// A side in whole points, rounded up from what is printed of it; in grains.
+fn whole_up(side: Grains) -> i128
+    requires { IsTrue (is_side side) }
+    ensures value { result ≡ up_to_whole side }
+    ensures few { nat_abs result ≤ 2 * 10 ^ 23 }
+{
+    let points = (printed_parts(side) + 99_999) / 100_000;
+    (points * 127_000_000_000) as i128
 }
 
 /// The one medium.
@@ -121,42 +145,6 @@ fn push_continued(alloc: Global, lines: &mut Lines, paper: &Paper) -> Result<(),
     Ok(())
 }
 
-/// The medium of a sheet.
-fn push_page_medium(alloc: Global, lines: &mut Lines, paper: &Paper) -> Result<(), AllocError>
-    ensures { OnOk result (lines.new
-        ≡ lines.old ++ (codes "%%PageMedia: " ++ size_name paper.now) ∷ []) }
-{
-    let mut line = Vec::new(alloc);
-    line.extend_from_slice(b"%%PageMedia: ")?;
-    append_name(&mut line, paper)?;
-    lines.push(line.as_slice())?;
-    Ok(())
-}
-
-/// The lines that set the device's page size.
-fn push_page_size(alloc: Global, lines: &mut Lines, paper: &Paper) -> Result<(), AllocError>
-    ensures { OnOk result (lines.new ≡ lines.old ++ size_lines paper.now) }
-{
-    lines.push(b"/PStoPSenablepage where {pop PStoPSenablepage}")?;
-    lines.push(
-        b"{userdict /showpage 2 copy known {get dup type /operatortype eq {pop true} {length 0 ne} ifelse} {pop pop true} ifelse} ifelse",
-    )?;
-    push_size_if_shown(alloc, lines, paper)?;
-    Ok(())
-}
-
-/// The last of them, which sets it.
-fn push_size_if_shown(alloc: Global, lines: &mut Lines, paper: &Paper) -> Result<(), AllocError>
-    ensures { OnOk result (lines.new ≡ lines.old ++ setting_line paper.now ∷ []) }
-{
-    let mut line = Vec::new(alloc);
-    line.extend_from_slice(b"systemdict /setpagedevice known and {1 dict dup /PageSize [")?;
-    append_size(&mut line, paper)?;
-    line.extend_from_slice(b"] put systemdict /setpagedevice get exec} if")?;
-    lines.push(line.as_slice())?;
-    Ok(())
-}
-
 /// What follows the name of a medium: its sides, and that nothing else is known.
 fn append_medium(line: &mut Vec<u8>, paper: &Paper) -> Result<(), AllocError>
     ensures { OnOk result (line.new.items ≡ line.old.items ++ medium_text [] paper.now) }
@@ -175,6 +163,23 @@ fn append_size(line: &mut Vec<u8>, paper: &Paper) -> Result<(), AllocError>
     line.extend_from_slice(b" ")?;
     print_points(paper.height(), line)?;
     Ok(())
+}
+
+/// Both sides in whole points, rounded up.
+fn append_whole_size(line: &mut Vec<u8>, paper: &Paper) -> Result<(), AllocError>
+    ensures { OnOk result (line.new.items ≡ line.old.items ++ size_text (whole_paper paper.now)) }
+{
+    append_whole(line, paper.width())?;
+    line.extend_from_slice(b" ")?;
+    append_whole(line, paper.height())?;
+    Ok(())
+}
+
+fn append_whole(line: &mut Vec<u8>, side: Grains) -> Result<(), AllocError>
+    requires { IsTrue (is_side side) }
+    ensures { OnOk result (line.new.items ≡ line.old.items ++ points_text (up_to_whole side)) }
+{
+    print_grains(whole_up(side), line)
 }
 
 /// The name of a medium that is named after its sides.

@@ -1,14 +1,14 @@
 //! Lines for notes beside pages.
 ghost use Rattle.std.specs.Prelude.{◌≡◌, ◌+◌, ◌-◌, ◌*◌, ◌^◌, ◌<◌, ◌≤◌, ◌++◌, pos, nat_abs, if◌then◌else◌, IfOk, IsTrue, OnOk};
 ghost use Rattle.rules.specs.Papers.{is_side};
-ghost use Rattle.layouts.specs.Cells.{high as high_of, kept as kept_of, step as step_of};
+ghost use Rattle.layouts.specs.Cells.{cell as cell_of, high as high_of, kept as kept_of, step as step_of};
 ghost use Rattle.dressing.specs.Places.{grains_in};
 ghost use Rattle.dressing.specs.Ruled.{line_count as count_of, note_cell, note_line as line_of};
 ghost use Rattle.dressing.specs.Ruled.{note_lines as lines_of, row_lines};
 
 use crate::places::{FINE, grains, kept, step};
 use crate::strokes::Stroke;
-use layouts::{Grid, Room};
+use layouts::{Along, Grid, Room};
 use lengths::Grains;
 use std::alloc::{AllocError, Global};
 
@@ -51,7 +51,8 @@ pub fn cell_height(room: &Room, grid: Grid) -> u128
     ensures value { result ≡ high_of room.now grid }
     ensures few { result ≤ 10 ^ 13 }
 {
-    part(room, read_height(room, grid), grid.rows)
+    let (_, down) = room.held(grid.turned);
+    part(&down, read_height(room, grid), grid.rows)
 }
 
 /// The side that is read as the sheet's height.
@@ -104,9 +105,14 @@ fn across(room: &Room, grid: Grid, row: u32) -> Span
     ensures few { (result.first ≤ 10 ^ 14) × (result.last ≤ 10 ^ 14) }
 {
     if grid.turned {
-        reach(room, room.paper.width(), grid.rows, row)
+        reach(&room.along_width(), room.paper.width(), grid.rows, row)
     } else {
-        reach(room, room.paper.width(), grid.columns, grid.columns - 1)
+        reach(
+            &room.along_width(),
+            room.paper.width(),
+            grid.columns,
+            grid.columns - 1,
+        )
     }
 }
 
@@ -118,35 +124,45 @@ fn up(room: &Room, grid: Grid, row: u32) -> Span
     ensures few { (result.first ≤ 10 ^ 14) × (result.last ≤ 10 ^ 14) }
 {
     if grid.turned {
-        reach(room, room.paper.height(), grid.columns, grid.columns - 1)
+        reach(
+            &room.along_height(),
+            room.paper.height(),
+            grid.columns,
+            grid.columns - 1,
+        )
     } else {
-        reach(room, room.paper.height(), grid.rows, grid.rows - (row + 1))
+        reach(
+            &room.along_height(),
+            room.paper.height(),
+            grid.rows,
+            grid.rows - (row + 1),
+        )
     }
 }
 
 /// What cell k of so many takes of a side.
-fn reach(room: &Room, side: Grains, parts: u32, k: u32) -> Span
+fn reach(along: &Along, side: Grains, parts: u32, k: u32) -> Span
     requires side { IsTrue (is_side side) }
     requires part { k < parts }
-    ensures first { result.first ≡ kept_of room.now room.now.edge + k * step_of room.now (nat_abs side) parts }
-    ensures last { result.last ≡ result.first + (step_of room.now (nat_abs side) parts - kept_of room.now room.now.gap) }
+    ensures first { result.first ≡ kept_of along.now.trim along.now.before + k * step_of along.now (nat_abs side) parts }
+    ensures last { result.last ≡ result.first + cell_of along.now (nat_abs side) parts }
     ensures few { (result.first ≤ 10 ^ 14) × (result.last ≤ 10 ^ 14) }
 {
-    let first = kept(room, room.edge) + u128::from(k) * step(room, side, parts);
+    let first = kept(along.trim, along.before) + u128::from(k) * step(along, side, parts);
     Span {
         first,
-        last: first + part(room, side, parts),
+        last: first + part(along, side, parts),
     }
 }
 
 /// How long what a cell takes of a side is; nothing if a gap takes it.
-fn part(room: &Room, side: Grains, parts: u32) -> u128
+fn part(along: &Along, side: Grains, parts: u32) -> u128
     requires side { IsTrue (is_side side) }
     requires some { 0 < parts }
-    ensures value { result ≡ step_of room.now (nat_abs side) parts - kept_of room.now room.now.gap }
+    ensures value { result ≡ cell_of along.now (nat_abs side) parts }
     ensures few { result ≤ 10 ^ 13 }
 {
-    step(room, side, parts).saturating_sub(kept(room, room.gap))
+    step(along, side, parts).saturating_sub(kept(along.trim, along.gap))
 }
 
 /// So many 10^-5 of a point.

@@ -2,7 +2,7 @@
 ghost use Rattle.std.specs.Prelude.{◌≡◌, ◌<◌, ◌≤◌, ◌-ℤ◌, ◌++◌, pos, nat_abs, IfOk, IsTrue, OnOk};
 ghost use Rattle.rules.specs.Papers.{is_side};
 ghost use Rattle.dressing.specs.Strokes.{cells_across as across_of, cells_up as up_of, far_end as far_of, near_end as near_of};
-ghost use Rattle.dressing.specs.Strokes.{cut_marks as cut_of, fold_marks as fold_of, has_room_round as has_room, longest};
+ghost use Rattle.dressing.specs.Strokes.{cut_marks as cut_of, fold_marks as fold_of, has_room as has_room_of, has_room_round as round_has_room, longest};
 ghost use Rattle.dressing.specs.Strokes.{outer_cut_marks as outer_cut_of};
 ghost use Rattle.dressing.specs.Strokes.{level_at, level_between, level_strokes, marks_between, marks_round};
 ghost use Rattle.dressing.specs.Strokes.{upright_at, upright_between, upright_strokes};
@@ -30,7 +30,7 @@ pub struct Stroke {
     pub end: (Grains, Grains),
 }
 
-/// The marks along which a sheet is cut between its cells, and round them if the margin has room for it.
+/// The marks along which a sheet is cut between its cells, and round them if the margins have room for it.
 pub fn cut_marks(alloc: Global, room: &Room, grid: Grid) -> Result<Vec<Stroke>, AllocError>
     ensures { IfOk result (λ strokes. strokes.items ≡ cut_of room.now grid) }
 {
@@ -40,7 +40,7 @@ pub fn cut_marks(alloc: Global, room: &Room, grid: Grid) -> Result<Vec<Stroke>, 
     Ok(strokes)
 }
 
-/// The marks along which a sheet is cut that is folded between its cells: round them alone, if the margin has room for it.
+/// The marks along which a sheet is cut that is folded between its cells: round them alone, if the margins have room for it.
 pub fn outer_cut_marks(alloc: Global, room: &Room, grid: Grid) -> Result<Vec<Stroke>, AllocError>
     ensures { IfOk result (λ strokes. strokes.items ≡ outer_cut_of room.now grid) }
 {
@@ -67,7 +67,7 @@ fn push_between(room: &Room, grid: Grid, strokes: &mut Vec<Stroke>) -> Result<()
     Ok(())
 }
 
-/// Adds those round all cells, if the margin has room for them.
+/// Adds those round all cells, if the margins have room for them.
 fn push_round_if_room(room: &Room, grid: Grid, strokes: &mut Vec<Stroke>) -> Result<(), AllocError>
     ensures { OnOk result (strokes.new.items ≡ strokes.old.items ++ outer_cut_of room.now grid) }
 {
@@ -122,11 +122,21 @@ fn cells_up(grid: Grid) -> u32
     if grid.turned { grid.columns } else { grid.rows }
 }
 
-/// Whether there is a margin that has room for half a gap.
+/// Whether there are margins along all edges that have room for half a gap.
 fn has_room_round(room: &Room) -> bool
-    ensures { result ≡ has_room room.now }
+    ensures { result ≡ round_has_room room.now }
 {
-    room.edge != 0 && room.gap <= 2 * room.edge
+    let beside = has_room(room.left, room.gap_across) && has_room(room.right, room.gap_across);
+    let above = has_room(room.bottom, room.gap_up) && has_room(room.top, room.gap_up);
+    beside && above
+}
+
+/// Whether there is a margin that has room for half of such a gap.
+fn has_room(edge: u64, gap: u64) -> bool
+    requires { edge ≤ 10_000_000_000 }
+    ensures { result ≡ has_room_of edge gap }
+{
+    edge != 0 && gap <= 2 * edge
 }
 
 /// Adds the marks between so many cells side by side.
@@ -166,14 +176,14 @@ fn push_upright(
     requires part { k ≤ parts }
     ensures { OnOk result (strokes.new.items ≡ strokes.old.items ++ upright_at room.now parts k) }
 {
-    let x = gap_at(room, room.paper.width(), parts, k);
+    let x = gap_at(&room.along_width(), room.paper.width(), parts, k);
     strokes.push(Stroke {
-        start: (x, near_end(room)),
-        end: (x, far_end(room)),
+        start: (x, near_end(room.bottom)),
+        end: (x, far_end(room.bottom)),
     })?;
     strokes.push(Stroke {
-        start: (x, from_far(room.paper.height(), near_end(room))),
-        end: (x, from_far(room.paper.height(), far_end(room))),
+        start: (x, from_far(room.paper.height(), near_end(room.top))),
+        end: (x, from_far(room.paper.height(), far_end(room.top))),
     })?;
     Ok(())
 }
@@ -184,36 +194,38 @@ fn push_level(room: &Room, parts: u32, k: u32, strokes: &mut Vec<Stroke>) -> Res
     requires part { k ≤ parts }
     ensures { OnOk result (strokes.new.items ≡ strokes.old.items ++ level_at room.now parts k) }
 {
-    let y = gap_at(room, room.paper.height(), parts, k);
+    let y = gap_at(&room.along_height(), room.paper.height(), parts, k);
     strokes.push(Stroke {
-        start: (near_end(room), y),
-        end: (far_end(room), y),
+        start: (near_end(room.left), y),
+        end: (far_end(room.left), y),
     })?;
     strokes.push(Stroke {
-        start: (from_far(room.paper.width(), near_end(room)), y),
-        end: (from_far(room.paper.width(), far_end(room)), y),
+        start: (from_far(room.paper.width(), near_end(room.right)), y),
+        end: (from_far(room.paper.width(), far_end(room.right)), y),
     })?;
     Ok(())
 }
 
-/// How far from an edge of the sheet strokes end.
-fn far_end(room: &Room) -> Grains
-    ensures value { result ≡ pos (far_of room.now) }
+/// How far from an edge with such a margin strokes end.
+fn far_end(edge: u64) -> Grains
+    requires { edge ≤ 10_000_000_000 }
+    ensures value { result ≡ pos (far_of edge) }
     ensures few { nat_abs result ≤ 12_700_000_000_000_000 }
 {
-    if room.edge == 0 {
+    if edge == 0 {
         grains(2_286_000_000_000)
     } else {
-        grains(i128::from(room.edge) * 1_270_000)
+        grains(i128::from(edge) * 1_270_000)
     }
 }
 
 /// And where they begin.
-fn near_end(room: &Room) -> Grains
-    ensures value { result ≡ pos (near_of room.now) }
+fn near_end(edge: u64) -> Grains
+    requires { edge ≤ 10_000_000_000 }
+    ensures value { result ≡ pos (near_of edge) }
     ensures few { nat_abs result ≤ 12_700_000_000_000_000 }
 {
-    let far = far_end(room).get().unsigned_abs();
+    let far = far_end(edge).get().unsigned_abs();
     grains(far.saturating_sub(2_286_000_000_000) as i128)
 }
 

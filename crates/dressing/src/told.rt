@@ -1,7 +1,7 @@
 //! The papers that sheets report.
-ghost use Rattle.std.specs.Prelude.{◌≡◌, IfOk, IsTrue, OnOk};
+ghost use Rattle.std.specs.Prelude.{◌≡◌, ◌≤◌, ◌^◌, nat_abs, IfOk, IsTrue, OnOk};
 ghost use Rattle.rules.specs.Papers.{is_side};
-ghost use Rattle.papers.specs.Told.{in_print as printed, papers_told};
+ghost use Rattle.papers.specs.Told.{in_print as printed, papers_told, printed_parts as parts_of};
 ghost use Rattle.dressing.specs.Sizes.{AreSizesOf, papers_of, size_of, with_paper};
 
 use lengths::{Grains, Paper};
@@ -11,9 +11,9 @@ use std::collections::BTreeSet;
 
 /// The sides of a paper as they are printed, in whole 10^-5 points.
 #[derive(Clone, Copy, Debug, PartialEq, Eq, PartialOrd, Ord)]
-pub(crate) struct Size {
-    pub(crate) width: i128,
-    pub(crate) height: i128,
+struct Size {
+    width: i128,
+    height: i128,
 }
 
 /// The papers that sheets report: each that is printed otherwise than all before it. Refused for memory alone, and if there
@@ -48,7 +48,7 @@ fn note(told: &mut Vec<Paper>, sizes: &mut BTreeSet<Size>, paper: &Paper) -> Res
 }
 
 /// The sides of a paper as they are printed.
-pub(crate) fn size_in_print(paper: &Paper) -> Size
+fn size_in_print(paper: &Paper) -> Size
     ensures { result ≡ size_of paper.now }
 {
     Size {
@@ -57,10 +57,20 @@ pub(crate) fn size_in_print(paper: &Paper) -> Size
     }
 }
 
+/// A side in whole 10^-5 points, as it is printed.
+pub(crate) fn printed_parts(side: Grains) -> u128
+    requires { IsTrue (is_side side) }
+    ensures value { result ≡ parts_of side }
+    ensures few { result ≤ 10 ^ 12 }
+{
+    in_print(side).unsigned_abs()
+}
+
 /// A side in whole 10^-5 points, rounded half away from zero.
 fn in_print(side: Grains) -> i128
     requires { IsTrue (is_side side) }
-    ensures { result ≡ printed side }
+    ensures value { result ≡ printed side }
+    ensures few { nat_abs result ≤ 10 ^ 12 }
 {
     let size = (2 * side.get().unsigned_abs() + 1_270_000) / (2 * 1_270_000);
     size as i128

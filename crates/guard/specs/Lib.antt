@@ -1,4 +1,5 @@
--- Read in this order: what is inserted, and where; what stays.
+-- Read in this order: what is inserted, and where; how a text with room is seen; what stays.
 pub mod PutIn
 pub mod Guard
+pub mod Texts
 pub mod Laws

@@ -3,6 +3,8 @@
 #![tactic(auto)]
 
 pub mod laws;
+mod roomy_text;
 mod text;
 
+pub use roomy_text::RoomyText;
 pub use text::{guarded, put_guard, put_guard_before};

@@ -3,7 +3,7 @@ use Rattle.std.specs.Prelude.{codes, if◌then◌else◌}
 use Rattle.std.specs.List.{list_any}
 use Rattle.std.specs.Ordering.{int_eq}
 use Rattle.std.proofs.lemmas.Bool.Decides.{Decides-int_eq}
-use Rattle.std.proofs.Common.{◌≡◌, refl, ap, ◌∙◌, true, false, ◌||◌, List, [], ◌∷◌, ◌++◌, map, length, ◌≤◌, arith}
+use Rattle.std.proofs.Common.{◌≡◌, refl, ap, ◌∙◌, Bool, ℕ, true, false, ◌||◌, List, [], ◌∷◌, ◌++◌, map, length, ◌≤◌, arith}
 use Rattle.rules.specs.Numbers.{points_text}
 use Rattle.rules.specs.Papers.{Paper}
 use Rattle.rules.specs.Parts.{NestedUnit}
@@ -11,7 +11,7 @@ use Rattle.made_sheets.specs.Made.{MadeSheet}
 use Rattle.dsc.specs.Units.{units_of}
 use Rattle.guard.specs.Guard.{guarded}
 use Rattle.guard.proofs.TheGuard.{guard_stays}
-use Rattle.papers.specs.Told.{telling, telling_of, papers_told, different_from, is_told_alike, in_print, size_text, box_line, medium_line}
+use Rattle.papers.specs.Told.{telling, telling_of, papers_told, different_from, is_told_alike, in_print, size_text, box_line, exact_box_line, exact_box_lines, is_whole, whole_paper, medium_line}
 use Rattle.pictures.specs.Imposed.{ends_nowhere, is_comment_line, are_comments, IsQuiet}
 use Rattle.pictures.proofs.Placed.{both_true}
 use Rattle.pictures.proofs.Comments.{points_stay, stay_both}
@@ -26,6 +26,11 @@ size_stays : (p : Paper) → ends_nowhere (size_text p) ≡ true
 size_stays p =
     stay_both (points_text p.width) (codes " " ++ points_text p.height) (points_stay p.width) (stay_both (codes " ") (points_text p.height) refl (points_stay p.height))
 
+-- the exact box is one too
+boxes_are_comments : (b : Bool) (p : Paper) (ls : List (List ℕ)) → are_comments ls ≡ true → are_comments ((if b then [] else exact_box_line p ∷ []) ++ ls) ≡ true
+boxes_are_comments true p ls e = e
+boxes_are_comments false p ls e = both_true (is_comment_line (exact_box_line p)) (are_comments ls) (size_stays p) e
+
 box_is_comment : (p : Paper) → is_comment_line (box_line p) ≡ true
 box_is_comment p = size_stays p
 
@@ -34,8 +39,9 @@ medium_is_comment p = stay_both (size_text p) (codes " 0 () ()") (size_stays p) 
 
 one_is_quiet : (p : Paper) → IsQuiet (telling_of (p ∷ []))
 one_is_quiet p = record {
-  header = both_true (is_comment_line (box_line p)) (are_comments (medium_line (codes "%%DocumentMedia: ") (codes "Plain") p ∷ [])) (box_is_comment p)
-      (both_true (is_comment_line (medium_line (codes "%%DocumentMedia: ") (codes "Plain") p)) true (medium_is_comment p) refl);
+  header = both_true (is_comment_line (box_line (whole_paper p))) (are_comments (exact_box_lines p ++ medium_line (codes "%%DocumentMedia: ") (codes "Plain") p ∷ [])) (box_is_comment (whole_paper p))
+      (boxes_are_comments (is_whole p) p (medium_line (codes "%%DocumentMedia: ") (codes "Plain") p ∷ [])
+      (both_true (is_comment_line (medium_line (codes "%%DocumentMedia: ") (codes "Plain") p)) true (medium_is_comment p) refl));
   start = λ s paper. refl;
   finish = λ s paper. refl;
 }

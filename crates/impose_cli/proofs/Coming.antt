@@ -17,11 +17,11 @@ use Rattle.row_runs.specs.SheetsRuns.{RefusesSheets, ReportsOn, told_output}
 use Rattle.row_runs.specs.declared.error.AskedError.{AskedError}
 use Rattle.impose_cli.specs.Faults.{of_asked}
 use Rattle.sheet_plan.specs.Places.{born_complete}
-use Rattle.imposer.specs.Gathering.{ReportsOf}
-use Rattle.imposer.specs.Outcomes.{AfterError}
-use Rattle.imposer.specs.declared.outcome.Report.{Report}
-use Rattle.imposer.specs.declared.outcome.RunError.{RunError}
-use Rattle.imposer.specs.declared.outcome.RunError.TheVariants as run
+use Rattle.planned_runs.specs.Gathering.{ReportsOf}
+use Rattle.planned_runs.specs.Outcomes.{AfterError}
+use Rattle.planned_runs.specs.declared.outcome.Report.{Report}
+use Rattle.planned_runs.specs.declared.outcome.RunError.{RunError}
+use Rattle.planned_runs.specs.declared.outcome.RunError.TheVariants as run
 use Rattle.impose_cli.specs.Abouts.{finished_by, reported_by}
 use Rattle.impose_cli.specs.Endings.{AfterWrite, Comes, HasFirst, HasFront, IsNotCreated, IsSaidOf, TellsCount, WritesJob}
 use Rattle.impose_cli.specs.declared.runs.About.{About}

@@ -16,12 +16,13 @@ use Rattle.sheet_plan.specs.Refusals.{Refuses, RefusesIn}
 use Rattle.sheet_plan.specs.declared.error.PlanError.{PlanError}
 use Rattle.sheet_text.specs.Jobs.{JobView, is_border, of_frame}
 use Rattle.sheet_writer.specs.Sinks.{fresh_sink}
-use Rattle.imposer.proofs.Made.{job_answers}
+use Rattle.imposer.proofs.Answered.{job_answers}
 use Rattle.imposer.proofs.Refusals.{refused_plan}
-use Rattle.imposer.specs.Outcomes.{of_plan}
+use Rattle.planned_runs.specs.Outcomes.{of_plan}
 use Rattle.imposer.specs.Runs.{Accepted, Reports, frame_of, request}
-use Rattle.imposer.specs.Workers.{AreOptions, AreWorkers}
-use Rattle.imposer.specs.declared.outcome.RunError.{RunError}
+use Rattle.imposer.specs.Options.{AreOptions}
+use Rattle.planned_runs.specs.Workers.{AreWorkers}
+use Rattle.planned_runs.specs.declared.outcome.RunError.{RunError}
 use Rattle.impose_said.specs.declared.fault.ImposeFault.{ImposeFault}
 use Rattle.impose_said.specs.declared.fault.ImposeFault.TheVariants as fault
 use Rattle.impose_said.specs.declared.finished.Done.{Done}
@@ -30,8 +31,10 @@ use Rattle.impose_cli.specs.Endings.{Comes, IsImposed, RefusesImposing, RefusesS
 use Rattle.impose_cli.specs.Refusals.{RefusesTask}
 use Rattle.impose_cli.specs.declared.runs.About.{About}
 use Rattle.impose_cli.proofs.Coming.{comes_as, comes_refused, comes_reported}
-use Rattle.imposer.specs.declared.outcome.Report.{Report}
-use Rattle.impose_cli.specs.ToldPages.{told_pages}
+use Rattle.planned_runs.specs.declared.outcome.Report.{Report}
+use Rattle.row_runs.specs.ToldPages.{told_pages}
+use Rattle.impose_cli.specs.Claims.{IsToldBy}
+use Rattle.impose_said.specs.declared.finished.Told.{Told}
 use Rattle.impose_cli.specs.Tasks.{FinishesSpec, IsPlaced, IsSpec, IsTask, asked_by}
 use Rattle.impose_words.specs.declared.request.Spacing.{Spacing}
 use Rattle.impose_words.specs.declared.request.Layout.{Layout}
@@ -53,7 +56,7 @@ placed_as_named (layout.Notes n) s named page_paper sheet_paper pages text sides
 placed_as_named (layout.Poster columns rows) s named page_paper sheet_paper pages text sides is h = absurd is
 placed_as_named (layout.Spec specs) s named page_paper sheet_paper pages text sides is h = (h.0 ∙ sym is, h.1)
 
-pub finishes : (r : ImposeRequest) (input : List ℕ) (task : Task) (told : Option ℕ) (old new : Option (List ℕ)) (report : Report) → ((text : List ℕ) × IsSpec r.layout text) → IsTask r input task → told ≡ told_pages input
+pub finishes : (r : ImposeRequest) (input : List ℕ) (task : Task) (told : Told) (old new : Option (List ℕ)) (report : Report) → ((text : List ℕ) × IsSpec r.layout text) → IsTask r input task → IsToldBy r input told
     → Accepted (asked_by task) (λ spec us. Appends old new (output (frame_of task.options) task.options.sides spec us) × Reports (frame_of task.options) task.options.sides spec us report)
     → FinishesSpec r input old new (record { report = report; page_paper = task.options.paper; origin = task.origin; cut = None; reach = task.counted.reach; behind = task.counted.behind; told = told })
 finishes r input task told old new report named is tells h =
@@ -106,12 +109,12 @@ pub spec_stops : (r : ImposeRequest) (input : List ℕ) (tells : Bool) (f : Impo
 spec_stops r input tells f outcome has_output written named is none why =
     comes_refused (RefusesImposing r.layout r input) (IsImposed r input) _ tells f outcome has_output written is none (by_spec r.layout named.0 r input f named.1 (inl why))
 
-abbrev pub about_spec : Task → (told : Option ℕ) → About
+abbrev pub about_spec : Task → (told : Told) → About
 about_spec t told = record { page_paper = t.options.paper; origin = t.origin; cut = None; reach = t.counted.reach; behind = t.counted.behind; told = told }
 
 -- what comes of its run comes of the request
-pub spec_runs : (r : ImposeRequest) (input : List ℕ) (t : Task) (told : Option ℕ) (tells : Bool) (outcome : Result Done ImposeFault) (left : Result Report ImposeFault) (has_output : Bool) (name written : Option (List ℕ))
-    → ((text : List ℕ) × IsSpec r.layout text) → IsTask r input t → told ≡ told_pages input → outcome ≡ reported_by (about_spec t told) left → name ≡ option_map string_bytes r.outfile
+pub spec_runs : (r : ImposeRequest) (input : List ℕ) (t : Task) (told : Told) (tells : Bool) (outcome : Result Done ImposeFault) (left : Result Report ImposeFault) (has_output : Bool) (name written : Option (List ℕ))
+    → ((text : List ℕ) × IsSpec r.layout text) → IsTask r input t → IsToldBy r input told → outcome ≡ reported_by (about_spec t told) left → name ≡ option_map string_bytes r.outfile
     → Comes (RefusesTaskRun t) (WritesTask t) name tells left has_output written → Runs r input tells outcome has_output written
 spec_runs r input t told tells outcome left has_output name written text is tells_it reports named h =
     subst (λ o. Runs r input tells o has_output written) (sym reports)

@@ -2,6 +2,7 @@ pub mod Placing
 pub mod RowOptions
 pub mod OnePaper
 pub mod Noted
+pub mod Uneven
 pub mod ZineCells
 pub mod Counted
 pub mod Coming
@@ -13,6 +14,5 @@ pub mod Again
 pub mod Examples
 pub mod Programs
 pub mod Ranges
-pub mod TrailerLines
 pub mod TakenPages
 pub mod ReachingTaken

@@ -76,12 +76,12 @@ refused_count r input f (inr spent) = inr (spent.1.0, spent.1.1, inl spent.2)
 pub refused_late : (r : ImposeRequest) (input : List ℕ) (n : ℕ) (f : ImposeFault) → HasPages input n → f ≡ without_memory → RefusesTask r input f
 refused_late r input n f has spent = inr (has.0, has.1, inl spent)
 
--- pages are chosen, or marks asked for
-pub refused_part : (r : ImposeRequest) (input : List ℕ) (n : ℕ) (f : ImposeFault) → HasPages input n → is_said r.choice r.marks ≡ false → f ≡ fault.NoSpecification → RefusesTask r input f
+-- pages are chosen or turned, or marks asked for
+pub refused_part : (r : ImposeRequest) (input : List ℕ) (n : ℕ) (f : ImposeFault) → HasPages input n → is_said r.choice r.turn r.marks ≡ false → f ≡ fault.NoSpecification → RefusesTask r input f
 refused_part r input n f has part is =
-    inr (has.0, has.1, inr (fails (is_said r.choice r.marks) fault.NoSpecification (of_papers r input has.0) part ∙ ap Some (sym is)))
+    inr (has.0, has.1, inr (fails (is_said r.choice r.turn r.marks) fault.NoSpecification (of_papers r input has.0) part ∙ ap Some (sym is)))
 
-pub refused_check : (r : ImposeRequest) (input : List ℕ) (n : ℕ) (f : ImposeFault) → HasPages input n → is_said r.choice r.marks ≡ true
+pub refused_check : (r : ImposeRequest) (input : List ℕ) (n : ℕ) (f : ImposeFault) → HasPages input n → is_said r.choice r.turn r.marks ≡ true
     → RefusesDocument input f ⊎ ((f ≡ without_memory) ⊎ ((f ≡ fault.SeveralPapers) × HasOtherPapers r input (paper_in r input)))
     → RefusesTask r input f
 refused_check r input n f has said (inl refused) = inl refused
@@ -90,22 +90,22 @@ refused_check r input n f has said (inr (inr other)) = inr (
   has.0,
   has.1,
   inr
-      (passes (is_said r.choice r.marks) fault.NoSpecification (of_papers r input has.0) (Some f) said
+      (passes (is_said r.choice r.turn r.marks) fault.NoSpecification (of_papers r input has.0) (Some f) said
       (fails (are_alike r input has.0 (paper_in r input)) fault.SeveralPapers (placed_in r input) (unlike r input has.0 (paper_in r input) has.1 other.1) ∙ ap Some (sym other.0))),
 )
 
 -- what is found of the layout is what is found of the request
-found_last : (r : ImposeRequest) (input : List ℕ) (us : List NestedUnit) (found : Option ImposeFault) → document_of input ≡ Ok us → is_said r.choice r.marks ≡ true → HasOnePaper r input (paper_in r input)
+found_last : (r : ImposeRequest) (input : List ℕ) (us : List NestedUnit) (found : Option ImposeFault) → document_of input ≡ Ok us → is_said r.choice r.turn r.marks ≡ true → HasOnePaper r input (paper_in r input)
     → placed_in r input ≡ found → why_no_task r input us ≡ found
 found_last r input us found read said one is =
-    passes (is_said r.choice r.marks) fault.NoSpecification (of_papers r input us) found said
+    passes (is_said r.choice r.turn r.marks) fault.NoSpecification (of_papers r input us) found said
     (passes (are_alike r input us (paper_in r input)) fault.SeveralPapers (placed_in r input) found (alike r input us (paper_in r input) read one) is)
 
-pub refused_placing : (r : ImposeRequest) (input : List ℕ) (n : ℕ) (f : ImposeFault) → HasPages input n → is_said r.choice r.marks ≡ true → HasOnePaper r input (paper_in r input)
+pub refused_placing : (r : ImposeRequest) (input : List ℕ) (n : ℕ) (f : ImposeFault) → HasPages input n → is_said r.choice r.turn r.marks ≡ true → HasOnePaper r input (paper_in r input)
     → RefusesFor (why_not_specified r.layout r.spacing (paper_in r input) (sheet_paper_found r.sheet_paper (paper_in r input))) f → RefusesTask r input f
 refused_placing r input n f has said one (inl spent) = refused_late r input n f has spent
 refused_placing r input n f has said one (inr why) = inr (has.0, has.1, inr (found_last r input has.0 (Some f) has.1 said one why))
 
-pub no_fault : (r : ImposeRequest) (input : List ℕ) (n : ℕ) → HasPages input n → is_said r.choice r.marks ≡ true → HasOnePaper r input (paper_in r input)
+pub no_fault : (r : ImposeRequest) (input : List ℕ) (n : ℕ) → HasPages input n → is_said r.choice r.turn r.marks ≡ true → HasOnePaper r input (paper_in r input)
     → why_not_specified r.layout r.spacing (paper_in r input) (sheet_paper_found r.sheet_paper (paper_in r input)) ≡ None → HasNoFault r input
 no_fault r input n has said one none = (has.0, has.1, found_last r input has.0 None has.1 said one none)

@@ -8,7 +8,7 @@ use Rattle.std.proofs.lemmas.Bool.Decides.{Decides-int_eq}
 use Rattle.layouts.specs.Refusals.{IsFault, first_of as first_fault_of, is_length, why_not_bound}
 use Rattle.layouts.specs.declared.arrangement.Binding.{Binding}
 use Rattle.layouts.specs.declared.error.ArrangementError.{ArrangementError}
-use Rattle.layouts.specs.declared.error.ArrangementError.TheVariants.{CellsOutOfRange, SideTooLong, LengthOutOfRange, NothingLeftOfPage, FoldOnLongEdge, NoRoom, ScaleOutOfRange, ScaleTooLarge, CreepOverFold, NoMemory}
+use Rattle.layouts.specs.declared.error.ArrangementError.TheVariants.{CellsOutOfRange, SideTooLong, LengthOutOfRange, NothingLeftOfPage, UnevenMargins, FoldOnLongEdge, NoRoom, ScaleOutOfRange, ScaleTooLarge, CreepOverFold, NoMemory}
 use Rattle.impose_said.specs.Faults.{of_layout, without_memory}
 use Rattle.rows.specs.Sewing.{signing_of}
 use Rattle.rows.specs.declared.sewing.Signing.{Signing}
@@ -40,6 +40,7 @@ refuses_layout found CellsOutOfRange h = inr (CellsOutOfRange, refl, unless foun
 refuses_layout found SideTooLong h = inr (SideTooLong, refl, unless found SideTooLong (λ bad. cc) h)
 refuses_layout found LengthOutOfRange h = inr (LengthOutOfRange, refl, unless found LengthOutOfRange (λ bad. cc) h)
 refuses_layout found NothingLeftOfPage h = inr (NothingLeftOfPage, refl, unless found NothingLeftOfPage (λ bad. cc) h)
+refuses_layout found UnevenMargins h = inr (UnevenMargins, refl, unless found UnevenMargins (λ bad. cc) h)
 refuses_layout found FoldOnLongEdge h = inr (FoldOnLongEdge, refl, unless found FoldOnLongEdge (λ bad. cc) h)
 refuses_layout found NoRoom h = inr (NoRoom, refl, unless found NoRoom (λ bad. cc) h)
 refuses_layout found ScaleOutOfRange h = inr (ScaleOutOfRange, refl, unless found ScaleOutOfRange (λ bad. cc) h)

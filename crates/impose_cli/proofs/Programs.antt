@@ -13,6 +13,7 @@ use Rattle.impose_cli.specs.Programs.{BreaksAt, CarriesOut, FailsToWrite, Gives,
 use Rattle.impose_cli.specs.RowTasks.{LaysRows}
 use Rattle.rules.specs.Papers.{Paper}
 use Rattle.impose_words.specs.Words.{Entered, MakesBy, Reads}
+use Rattle.impose_cli.specs.Printed.{printed_text}
 use Rattle.impose_cli.specs.Refusals.{HasNoFault}
 use Rattle.impose_cli.specs.Unread.{MayBeRead, RefusesRequest}
 use Rattle.impose_cli.specs.Tasks.{IsTask}
@@ -61,12 +62,19 @@ uncreated name text what tells f outcome has_output written told none =
     subst (λ o. Writes name text what tells o has_output written) (sym told) (inl none)
 
 -- the specification was printed to standard output
+printed_whole : (r : ImposeRequest) (input : List ℕ) (tells : Bool) (task : Task) (outcome : Result Done ImposeFault) (has_output : Bool)
+    (written : Option (List ℕ)) → IsTask r input task → HasNoFault r input
+    → Writes None (printed_text r task) done.Printed tells outcome has_output written → Prints r input tells outcome has_output written
+printed_whole r input tells task (Ok what) has_output written is_task none h =
+    subst (λ d. Prints r input tells (Ok d) has_output written) (sym h.0) (task, is_task, none, h.1)
+printed_whole r input tells task (Err f) has_output written is_task none h = inr (task, is_task, none, h)
+
 pub printed : (r : ImposeRequest) (input : List ℕ) (tells : Bool) (task : Task) (lines : List ℕ) (outcome : Result Done ImposeFault)
-    (has_output : Bool) (written : Option (List ℕ)) → IsTask r input task → HasNoFault r input
+    (has_output : Bool) (written : Option (List ℕ)) → lines ≡ printed_text r task → IsTask r input task → HasNoFault r input
     → Writes None lines done.Printed tells outcome has_output written → Prints r input tells outcome has_output written
-printed r input tells task lines (Ok what) has_output written is_task none h =
-    subst (λ d. Prints r input tells (Ok d) has_output written) (sym h.0) (task, lines, is_task, none, h.1)
-printed r input tells task lines (Err f) has_output written is_task none h = inr (task, lines, is_task, none, h)
+printed r input tells task lines outcome has_output written is is_task none h =
+    printed_whole r input tells task outcome has_output written is_task none
+    (subst (λ l. Writes None l done.Printed tells outcome has_output written) is h)
 
 -- the plan or the picture was written to the output of that name
 pub shown : (l : Overview) (name : Option (List ℕ)) (r : ImposeRequest) (input : List ℕ) (tells : Bool) (text : List ℕ)

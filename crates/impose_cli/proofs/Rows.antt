@@ -1,10 +1,10 @@
 -- What comes of a task with a row, and of a request.
 use Rattle.std.proofs.Common.{◌≡◌, ◌⊎◌, ◌∙◌, ap, sym, subst, refl, inl, inr, Bool, true, false, ◌∷◌, List, ℕ, Option, Some, None, Result, Ok, Err, ap₂}
-use Rattle.std.specs.Prelude.{IfSome, length, option_map, string_bytes}
+use Rattle.std.specs.Prelude.{IfSome, length, map, option_map, string_bytes}
 use Rattle.std.specs.Io.KnownBytes.{Appends}
 use Rattle.made_sheets.specs.Made.{MadeSheet}
 use Rattle.dressing.specs.Numbered.{Drawn}
-use Rattle.dressing.specs.declared.numbers.Numbers.{Numbers}
+use Rattle.sheet_text.specs.declared.numbers.Numbers.{Numbers}
 use Rattle.dressing.specs.declared.strokes.Stroke.{Stroke}
 use Rattle.rules.specs.Papers.{Paper}
 use Rattle.std.proofs.lemmas.List.{length-map}
@@ -15,29 +15,29 @@ use Rattle.dsc.proofs.Slices.{text_whole}
 use Rattle.rules.specs.Parts.{NestedUnit, bytes_of, pages}
 use Rattle.rules.specs.Run.{document_of}
 use Rattle.rows.specs.Sewing.{MayBeSewn}
-use Rattle.imposer.specs.declared.outcome.Report.{Report}
+use Rattle.planned_runs.specs.declared.outcome.Report.{Report}
 use Rattle.row_runs.specs.declared.run.RowJob.{RowJob}
-use Rattle.row_runs.specs.Runs.{Imposes, border_on, drawn_of, page_count}
-use Rattle.row_runs.specs.Sheets.{AreAsked}
+use Rattle.row_runs.specs.Runs.{AreTurned, Imposes, border_on, drawn_of, page_count}
 use Rattle.row_runs.specs.SheetsRuns.{ReportsOn, told_output}
-use Rattle.row_runs.specs.Standing.{StandAsLaid}
 use Rattle.row_runs.proofs.Refused.{sheets_refused}
 use Rattle.impose_cli.specs.Abouts.{reported_by}
 use Rattle.impose_cli.specs.Endings.{Comes, IsImposed, RefusesImposing, RefusesRow, RefusesRowJob, RefusesRowTaskRun, Runs}
 use Rattle.impose_cli.specs.declared.runs.About.{About}
 use Rattle.impose_cli.proofs.Coming.{RefusesThese, WritesThese, comes_as, comes_refused, comes_reported}
-use Rattle.papers.specs.AsOne.{as_one, kinds, paper_among}
+use Rattle.papers.specs.AsOne.{kinds, most_kinds, paper_among}
 use Rattle.papers.specs.declared.cuts.Cut.{Cut}
 use Rattle.papers.specs.Names.{paper_named}
 use Rattle.impose_said.specs.Faults.{without_memory}
 use Rattle.dsc.specs.PagesBehind.{pages_behind}
 use Rattle.impose_said.specs.declared.finished.PaperOrigin.{PaperOrigin}
-use Rattle.impose_cli.specs.ToldPages.{told_pages}
+use Rattle.row_runs.specs.ToldPages.{told_pages}
+use Rattle.impose_cli.specs.Claims.{IsToldBy}
+use Rattle.impose_said.specs.declared.finished.Told.{Told}
 use Rattle.impose_cli.specs.Tasks.{HasBehind, HasPages}
 use Rattle.impose_cli.specs.Refusals.{RefusesDocument, RefusesFor, RefusesOptions, RefusesRowTask}
-use Rattle.impose_cli.specs.Reaches.{HasReach, HasReachOver, reach_in, reach_over}
+use Rattle.impose_cli.specs.Reaches.{HasReachOver, reach_in, reach_over}
 use Rattle.papers.specs.declared.reach.Reach.{Reach}
-use Rattle.impose_cli.specs.RowTasks.{ArePapersOf, cut_in, papers_in, row_paper, text_for, why_no_row, FinishesRow, ImposesTask, IsJobOf, IsRowJob, IsRowPaper, IsRowTask, LaysRows}
+use Rattle.impose_cli.specs.RowTasks.{ArePapersOf, cut_in, papers_in, placed_in, row_paper, text_for, why_no_row, FinishesRow, ImposesTask, IsJobOf, IsRowJob, IsRowPaper, IsRowTask, LaysRows, HasReach, cells_paper, counted_in}
 use Rattle.impose_said.specs.declared.fault.ImposeFault.{ImposeFault}
 use Rattle.impose_words.specs.declared.request.Layout.{Layout}
 use Rattle.impose_words.specs.declared.request.Layout.TheVariants as layout
@@ -48,6 +48,7 @@ use Rattle.impose_said.specs.declared.finished.Done.{Done}
 pub is_row_job : (r : ImposeRequest) (input : List ℕ) (t : RowTask) (job : RowJob) → IsRowTask r input t → IsJobOf r t job → IsRowJob r input t.page_paper job
 is_row_job r input t job is of = record {
   document = ap (λ ps. document_of (text_for r ps t.page_paper input)) of.papers ∙ ap document_of (sym is.text) ∙ of.document;
+  turn = of.turn;
   choice = of.choice;
   signing = of.signing ∙ is.signing;
   laying = is.laying ∙ ap Some (sym of.laying);
@@ -72,9 +73,9 @@ pub is_row_paper : (r : ImposeRequest) (input : List ℕ) (us : List NestedUnit)
     → found ≡ row_paper r (bytes_of us) us → IsRowPaper r input found
 is_row_paper r input us found read e = (us, read, e ∙ ap (λ t. row_paper r t us) (whole input us read))
 
-pub has_reach : (r : ImposeRequest) (input : List ℕ) (us : List NestedUnit) (placed : List Paper) (reach : Option Reach) → document_of input ≡ Ok us
-    → reach ≡ reach_in true r placed (bytes_of us) us → HasReach r input placed reach
-has_reach r input us placed reach read e = (us, read, e ∙ ap (λ t. reach_in true r placed t us) (whole input us read))
+pub has_reach : (r : ImposeRequest) (input : List ℕ) (us : List NestedUnit) (reach : Option Reach) → document_of input ≡ Ok us
+    → reach ≡ reach_in true r (counted_in r (bytes_of us) us) (bytes_of us) us → HasReach r input reach
+has_reach r input us reach read e = (us, read, e ∙ ap (λ t. reach_in true r (counted_in r t us) t us) (whole input us read))
 
 pub has_reach_over : (r : ImposeRequest) (input : List ℕ) (us : List NestedUnit) (paper : Paper) (reach : Option Reach) → document_of input ≡ Ok us
     → reach ≡ reach_over r paper (bytes_of us) us → HasReachOver r input paper reach
@@ -92,10 +93,23 @@ pub papers_len : (named : Option Paper) (names : List ℕ → Option Paper) (hom
 papers_len (Some paper) names home text us = length-map (pages us) (λ page. paper)
 papers_len None names home text us = length-map (pages us) (own_paper names home (header text) (trailer_lines us))
 
-pub as_many : (r : ImposeRequest) (us : List NestedUnit) (first : Paper) (own papers : List Paper) (n : ℕ) → n ≡ length (pages us)
-    → own ≡ own_papers r.page_paper paper_named r.home_paper (bytes_of us) us → papers ≡ as_one first own → n ≡ length papers
-as_many r us first own papers n count is one = count
-    ∙ sym (ap length one ∙ length-map own (paper_among (kinds (first ∷ own))) ∙ ap length is ∙ papers_len r.page_paper paper_named r.home_paper (bytes_of us) us)
+placed_len : (l : Layout) (taken own : List Paper) → length (placed_in l taken own) ≡ length own
+placed_len layout.Selection taken own = length-map own (paper_among (kinds most_kinds taken))
+placed_len (layout.NUp cells) taken own = refl
+placed_len (layout.Cards cells) taken own = refl
+placed_len (layout.Stack cells duplex) taken own = refl
+placed_len (layout.Booklet signing long_edge) taken own = refl
+placed_len (layout.Notes n) taken own = refl
+placed_len (layout.Poster columns rows) taken own = refl
+placed_len layout.Zine taken own = refl
+placed_len (layout.Spec specs) taken own = refl
+placed_len (layout.SpecRow specs signing) taken own = refl
+
+pub as_many : (r : ImposeRequest) (us : List NestedUnit) (taken own counted papers : List Paper) (n : ℕ) → n ≡ length (pages us)
+    → own ≡ own_papers r.page_paper paper_named r.home_paper (bytes_of us) us → counted ≡ placed_in r.layout taken own → papers ≡ map (cells_paper r) counted
+    → n ≡ length papers
+as_many r us taken own counted papers n count is placed turned = count
+    ∙ sym (ap length turned ∙ length-map counted (cells_paper r) ∙ ap length placed ∙ placed_len r.layout taken own ∙ ap length is ∙ papers_len r.page_paper paper_named r.home_paper (bytes_of us) us)
 
 -- why there is no task for a document that is accepted, with sheets and cells for this paper
 abbrev pub RefusesAccepted : ImposeRequest → (page_paper : Paper) → ImposeFault → Type 0
@@ -112,7 +126,7 @@ refused_found r input f h = elim h [
   | inr spent ↦ let us = spent.1.0 in refused_after r input (row_paper r input us) f (us, spent.1.1, refl) (inl (inl spent.2))
 ]
 
-pub finishes_row : (r : ImposeRequest) (input : List ℕ) (t : RowTask) (told : Option ℕ) (old new : Option (List ℕ)) (report : Report) → IsRowTask r input t → told ≡ told_pages input → ImposesTask r t old new report
+pub finishes_row : (r : ImposeRequest) (input : List ℕ) (t : RowTask) (told : Told) (old new : Option (List ℕ)) (report : Report) → IsRowTask r input t → IsToldBy r input told → ImposesTask r t old new report
     → FinishesRow r input old new (record { report = report; page_paper = t.page_paper; origin = t.origin; cut = t.cut; reach = t.reach; behind = t.behind; told = told })
 finishes_row r input t told old new report is tells h = record {
   page_paper = is.page_paper;
@@ -120,7 +134,7 @@ finishes_row r input t told old new report is tells h = record {
   told = tells;
   job = h.0;
   papers = subst (λ ps. ArePapersOf r input ps t.cut) (sym h.1.papers) is.papers;
-  reach = subst (λ ps. HasReach r input ps t.reach) (sym h.1.papers) is.reach;
+  reach = is.reach;
   is_job = is_row_job r input t h.0 is h.1;
   imposes = h.2;
 }
@@ -145,12 +159,12 @@ row_stops r input tells f outcome has_output written rows is none why =
     comes_refused (RefusesImposing r.layout r input) (IsImposed r input) _ tells f outcome has_output written is none (on_row r.layout r input f rows (inl why))
 
 -- what is reported of a task with a row
-abbrev pub about_row : RowTask → (told : Option ℕ) → About
+abbrev pub about_row : RowTask → (told : Told) → About
 about_row t told = record { page_paper = t.page_paper; origin = t.origin; cut = t.cut; reach = t.reach; behind = t.behind; told = told }
 
 -- what comes of its run comes of the request
-pub row_runs : (r : ImposeRequest) (input : List ℕ) (t : RowTask) (told : Option ℕ) (tells : Bool) (outcome : Result Done ImposeFault) (left : Result Report ImposeFault) (has_output : Bool) (written : Option (List ℕ))
-    → LaysRows r.layout → IsRowTask r input t → told ≡ told_pages input → outcome ≡ reported_by (about_row t told) left
+pub row_runs : (r : ImposeRequest) (input : List ℕ) (t : RowTask) (told : Told) (tells : Bool) (outcome : Result Done ImposeFault) (left : Result Report ImposeFault) (has_output : Bool) (written : Option (List ℕ))
+    → LaysRows r.layout → IsRowTask r input t → IsToldBy r input told → outcome ≡ reported_by (about_row t told) left
     → Comes (RefusesRowTaskRun r t) (ImposesTask r t) (option_map string_bytes r.outfile) tells left has_output written → Runs r input tells outcome has_output written
 row_runs r input t told tells outcome left has_output written rows is tells_it reports h =
     subst (λ o. Runs r input tells o has_output written) (sym reports)
@@ -167,15 +181,15 @@ both_drawn e f = ap₂ with_both e f
 
 -- what comes of its sheets, if these are asked for, comes of a job
 pub made_comes : (job : RowJob) (made : List MadeSheet) (drawn : Drawn) (name : Option (List ℕ)) (tells : Bool) (outcome : Result Report ImposeFault) (has_output : Bool) (written : Option (List ℕ))
-    → AreAsked (page_count job) job.papers.now job.asked made → StandAsLaid job.asked.laying made → drawn ≡ drawn_of job
+    → AreTurned job made → drawn ≡ drawn_of job
     → Comes (RefusesThese (page_count job) made) (WritesThese (page_count job) (border_on job) drawn made job.document.now) name tells outcome has_output written
     → Comes (RefusesRowJob job) (Imposes job) name tells outcome has_output written
-made_comes job made drawn name tells outcome has_output written asked stand marked h =
+made_comes job made drawn name tells outcome has_output written are marked h =
     comes_as (RefusesThese (page_count job) made) (RefusesRowJob job) (WritesThese (page_count job) (border_on job) drawn made job.document.now) (Imposes job) name tells outcome has_output written
-    (λ f why. (why.0, why.1, sheets_refused job made why.0 asked why.2))
+    (λ f why. (why.0, why.1, sheets_refused job made why.0 are why.2))
     (λ old new report done. record {
       made = made;
-      planned = record { asked = asked; stand = stand; planned = done.0 };
+      planned = record { are = are; planned = done.0 };
       written = subst (λ s. Appends old new (told_output (border_on job) s made job.document.now)) marked done.1;
       report = subst (λ s. ReportsOn (border_on job) s made job.document.now report) marked done.2;
     }) h

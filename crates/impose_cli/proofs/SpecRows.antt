@@ -4,7 +4,7 @@ use Rattle.std.specs.Prelude.{IfSome, option_map, string_bytes}
 use Rattle.made_sheets.specs.Made.{MadeSheet}
 use Rattle.rows.specs.Sewing.{MayBeSewn}
 use Rattle.rules.specs.Run.{document_of}
-use Rattle.imposer.specs.declared.outcome.Report.{Report}
+use Rattle.planned_runs.specs.declared.outcome.Report.{Report}
 use Rattle.dressing.specs.Numbered.{nothing_drawn}
 use Rattle.row_runs.specs.BySpec.{AreBySpec, ImposesBySpec, border_by_spec, pages_of}
 use Rattle.row_runs.specs.declared.by_spec.SpecJob.{SpecJob}
@@ -13,7 +13,9 @@ use Rattle.impose_cli.specs.Abouts.{reported_by}
 use Rattle.impose_cli.specs.Endings.{Comes, IsImposed, RefusesImposing, Runs}
 use Rattle.impose_cli.specs.SpecRows.{FinishesSpecRow, ImposesSpecTask, IsSpecJobOf, IsSpecRowTask, LaysSpecRow, TakesNamed, RefusesSpecRowJob, RefusesSpecRowRun, RefusesSpecRowTask, RefusesSpecTaskRun}
 use Rattle.impose_cli.specs.declared.runs.About.{About}
-use Rattle.impose_cli.specs.ToldPages.{told_pages}
+use Rattle.row_runs.specs.ToldPages.{told_pages}
+use Rattle.impose_cli.specs.Claims.{IsToldBy}
+use Rattle.impose_said.specs.declared.finished.Told.{Told}
 use Rattle.impose_cli.specs.Tasks.{taken_text}
 use Rattle.impose_said.specs.declared.fault.ImposeFault.{ImposeFault}
 use Rattle.impose_words.specs.declared.request.Layout.{Layout}
@@ -23,7 +25,7 @@ use Rattle.impose_cli.specs.declared.spec_row.SpecRowTask.{SpecRowTask}
 use Rattle.impose_said.specs.declared.finished.Done.{Done}
 use Rattle.impose_cli.proofs.Coming.{RefusesThese, WritesThese, comes_as, comes_refused, comes_reported}
 
-pub finishes_spec_row : (r : ImposeRequest) (input : List ℕ) (t : SpecRowTask) (told : Option ℕ) (old new : Option (List ℕ)) (report : Report) → IsSpecRowTask r input t → told ≡ told_pages input → ImposesSpecTask r t old new report
+pub finishes_spec_row : (r : ImposeRequest) (input : List ℕ) (t : SpecRowTask) (told : Told) (old new : Option (List ℕ)) (report : Report) → IsSpecRowTask r input t → IsToldBy r input told → ImposesSpecTask r t old new report
     → FinishesSpecRow r input old new (record { report = report; page_paper = t.page_paper; origin = t.origin; cut = None; reach = t.counted.reach; behind = t.counted.behind; told = told })
 finishes_spec_row r input t told old new report is tells h =
     let of = h.1 in
@@ -65,12 +67,12 @@ spec_row_stops r input tells f outcome has_output written rows is none why =
     comes_refused (RefusesImposing r.layout r input) (IsImposed r input) _ tells f outcome has_output written is none (on_spec_row r.layout r input f rows (inl why))
 
 -- what is reported of a task
-abbrev pub about_spec_row : SpecRowTask → (told : Option ℕ) → About
+abbrev pub about_spec_row : SpecRowTask → (told : Told) → About
 about_spec_row t told = record { page_paper = t.page_paper; origin = t.origin; cut = None; reach = t.counted.reach; behind = t.counted.behind; told = told }
 
 -- what comes of its run comes of the request
-pub spec_row_runs : (r : ImposeRequest) (input : List ℕ) (t : SpecRowTask) (told : Option ℕ) (tells : Bool) (outcome : Result Done ImposeFault) (left : Result Report ImposeFault) (has_output : Bool) (written : Option (List ℕ))
-    → LaysSpecRow r.layout → IsSpecRowTask r input t → told ≡ told_pages input → outcome ≡ reported_by (about_spec_row t told) left
+pub spec_row_runs : (r : ImposeRequest) (input : List ℕ) (t : SpecRowTask) (told : Told) (tells : Bool) (outcome : Result Done ImposeFault) (left : Result Report ImposeFault) (has_output : Bool) (written : Option (List ℕ))
+    → LaysSpecRow r.layout → IsSpecRowTask r input t → IsToldBy r input told → outcome ≡ reported_by (about_spec_row t told) left
     → Comes (RefusesSpecTaskRun r t) (ImposesSpecTask r t) (option_map string_bytes r.outfile) tells left has_output written → Runs r input tells outcome has_output written
 spec_row_runs r input t told tells outcome left has_output written rows is tells_it reports h =
     subst (λ o. Runs r input tells o has_output written) (sym reports)

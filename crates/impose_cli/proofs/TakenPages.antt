@@ -1,13 +1,13 @@
 -- Pages that a row takes, an entry or a page at a time.
 use Rattle.std.proofs.Common.{Bool, true, false, ◌≡◌, ◌∙◌, ℕ, zero, suc, ◌+◌, ◌<◌, ◌≤◌, List, [], ◌∷◌, ◌++◌, length, take, set, refl, ap, arith, sym}
-use Rattle.std.specs.Prelude.{Option, None, get_or, ◌||◌, ◌==◌, if◌then◌else◌}
+use Rattle.std.specs.Prelude.{Option, None, Some, option_and_then, slice_get, get_or, ◌||◌, ◌==◌, if◌then◌else◌}
 use Rattle.std.proofs.lemmas.Bool.{eqb-true, eqb-false}
 use Rattle.dsc.proofs.Cases.{by_test}
 use Rattle.std.proofs.lemmas.List.{take_more, length-take-le, get_or-set_same, get_or-set_other}
 use Rattle.rules.specs.Papers.{Paper}
 use Rattle.made_sheets.specs.Rows.{Row}
 use Rattle.impose_cli.specs.Reaches.{is_page, takes}
-use Rattle.impose_cli.specs.RowTasks.{taken_from}
+use Rattle.impose_cli.specs.RowTasks.{or_without, row_papers, taken_from}
 
 swapped : (a b c : Bool) → (a || (b || c)) ≡ (b || (a || c))
 swapped true true c = refl
@@ -51,6 +51,28 @@ pub past_marks : (xs : List Bool) (i k : ℕ) → k < length xs → length xs �
 past_marks xs i k l past = by_test (i == k)
     (λ is. let e = eqb-true i k is in absurd (omega (arith, l, past, e)))
     (λ isnt. rw isnt refl)
+
+-- the papers of a row with one entry more
+or_after : (found : Option Paper) (ps qs : List Paper) → or_without found ps ++ qs ≡ or_without found (ps ++ qs)
+or_after None ps qs = refl
+or_after (Some p) ps qs = refl
+
+entry_more : (row : Row) (e : Option ℕ) (own : List Paper)
+    → row_papers (row ++ e ∷ []) own ≡ row_papers row own ++ or_without (option_and_then (slice_get own) e) []
+entry_more [] e own = refl
+entry_more (first ∷ row) e own =
+    let found = option_and_then (slice_get own) first in
+    ap (or_without found) (entry_more row e own)
+    ∙ sym (or_after found (row_papers row own) (or_without (option_and_then (slice_get own) e) []))
+
+pub entry_taken : (row : Row) (i : ℕ) (e : Option ℕ) (own : List Paper) (found : Option Paper) (old new : List Paper) → i < length row
+    → e ≡ get_or row i None → found ≡ option_and_then (slice_get own) e → old ≡ row_papers (take i row) own → new ≡ old ++ or_without found []
+    → new ≡ row_papers (take (i + 1) row) own
+entry_taken row i e own found old new l at is before pushed =
+    pushed ∙ ap (λ ps. ps ++ or_without found []) before
+    ∙ ap (λ f. row_papers (take i row) own ++ or_without f []) (is ∙ ap (option_and_then (slice_get own)) at)
+    ∙ sym (entry_more (take i row) (get_or row i None) own)
+    ∙ ap (λ r. row_papers r own) (sym (take_more row i None l))
 
 -- the paper of one page more was taken
 pub page_taken : (row : Row) (other : Paper) (own : List Paper) (i : ℕ) (p made : Paper) (is : Bool) (old new : List Paper) → i < length own

@@ -7,11 +7,11 @@ use Rattle.rules.specs.Output.{output}
 use Rattle.made_sheets.specs.MadePlans.{made_plan_of}
 use Rattle.sheet_text.specs.Jobs.{JobView, output_of}
 use Rattle.world.specs.Outputs.{told_if}
-use Rattle.imposer.specs.Gathering.{ReportsOf}
+use Rattle.planned_runs.specs.Gathering.{ReportsOf}
 use Rattle.imposer.specs.Runs.{Accepted, IsRefusal, IsUnwritten, Reports, frame_of}
-use Rattle.imposer.specs.declared.outcome.Report.{Report}
-use Rattle.imposer.specs.declared.outcome.RunError.{RunError}
-use Rattle.imposer.specs.declared.outcome.RunError.TheVariants as run
+use Rattle.planned_runs.specs.declared.outcome.Report.{Report}
+use Rattle.planned_runs.specs.declared.outcome.RunError.{RunError}
+use Rattle.planned_runs.specs.declared.outcome.RunError.TheVariants as run
 use Rattle.row_runs.specs.Runs.{RefusesRun, page_count}
 use Rattle.row_runs.specs.SheetsRuns.{RefusesSheets, ReportsIn, output_in}
 use Rattle.row_runs.specs.declared.error.AskedError.{AskedError}

@@ -1,7 +1,6 @@
 -- Read in this order: what a document's error makes of a request; what a request comes to with a document, and what is refused;
--- what its run leaves; what a look shows; what is checked unread; laws; the whole program.
-pub mod Texts
-pub mod ToldPages
+-- what its run leaves; what a look shows; what is printed; what is checked unread; laws; the whole program.
+pub mod Claims
 pub mod Reaches
 pub mod Faults
 pub mod Tasks
@@ -11,6 +10,7 @@ pub mod SpecRows
 pub mod Endings
 pub mod Abouts
 pub mod Looks
+pub mod Printed
 pub mod Unread
 pub mod Laws
 pub mod Programs

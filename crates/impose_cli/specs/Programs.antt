@@ -10,6 +10,7 @@ use Rattle.papers.specs.Home.{home_paper}
 use Rattle.impose_cli.specs.Endings.{AfterWrite, IsUncreated, RefusesRow, Runs}
 use Rattle.impose_said.specs.Faults.{without_memory}
 use Rattle.impose_cli.specs.Looks.{TellsRow}
+use Rattle.impose_cli.specs.Printed.{printed_text}
 use Rattle.impose_cli.specs.Refusals.{HasNoFault, RefusesTask}
 use Rattle.impose_said.specs.Statuses.{fault_status}
 use Rattle.impose_cli.specs.Tasks.{IsTask}
@@ -85,13 +86,13 @@ abbrev pub Prints : ImposeRequest → (input : List ℕ) → (tells : Bool) → 
     → (written : Option (List ℕ)) → Type 0
 Prints r input tells (Ok (done.Imposed finished)) has_output written = ⊥
 Prints r input tells (Ok done.Printed) has_output written =
-    (task : Task) × (lines : List ℕ) × IsTask r input task × HasNoFault r input
-    × Appends (told_if tells None []) written lines
+    (task : Task) × IsTask r input task × HasNoFault r input
+    × Appends (told_if tells None []) written (printed_text r task)
 Prints r input tells (Ok done.Shown) has_output written = ⊥
 Prints r input tells (Err f) has_output written =
     ((RefusesTask r input f ⊎ (f ≡ without_memory)) × (has_output ≡ false))
-    ⊎ ((task : Task) × (lines : List ℕ) × IsTask r input task × HasNoFault r input
-    × FailsToWrite None lines tells f has_output written)
+    ⊎ ((task : Task) × IsTask r input task × HasNoFault r input
+    × FailsToWrite None (printed_text r task) tells f has_output written)
 
 -- What comes of a request to show the sheets for this input: the output of this name has exactly the text that reports on the
 -- sheets that would be imposed; or the request is refused as its run would be, and nothing was created; or there is such a

@@ -37,11 +37,6 @@ abbrev pub reach_in : (cut_apart : Bool) → ImposeRequest → (placed : List Pa
 reach_in apart r placed input us =
     reach_on apart (imposed_row (length (pages us)) (choice_in r.choice) None) placed (told_own r input us) (page_boxes input us)
 
--- the document is accepted, and these of its pages reach beyond the papers by which they are placed
-abbrev pub HasReach : ImposeRequest → (input : List ℕ) → (placed : List Paper) → Option Reach → Type 0
-HasReach r input placed reach =
-    (us : List NestedUnit) × (document_of input ≡ Ok us) × (reach ≡ reach_in true r placed input us)
-
 -- the same of pages that are all placed by one paper, where none is reported apart
 abbrev pub reach_over : ImposeRequest → Paper → (input : List ℕ) → List NestedUnit → Option Reach
 reach_over r paper input us = reach_in false r (map (λ page. paper) (pages us)) input us

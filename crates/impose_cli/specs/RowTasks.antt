@@ -1,6 +1,7 @@
 -- What is imposed of a row of pages, and how: a request for a document, if its layout lays rows on sheets.
-use Rattle.std.specs.Prelude.{◌≡◌, ⊤, ℕ, ◌+◌, Bool, true, false, ◌&&◌, if◌then◌else◌, List, [], ◌∷◌, length, Option, Some, None, Result, Ok, Err, IfSome, option_map}
+use Rattle.std.specs.Prelude.{◌≡◌, ⊤, ℕ, ◌+◌, Bool, true, false, ◌&&◌, if◌then◌else◌, List, [], ◌∷◌, length, Option, Some, None, Result, Ok, Err, IfSome, option_map, option_and_then, slice_get, ◌||◌, not}
 use Rattle.std.specs.List.{list_all}
+use Rattle.std.specs.Ordering.{int_eq}
 use Rattle.rules.specs.Papers.{Paper}
 use Rattle.rules.specs.Parts.{NestedUnit, pages}
 use Rattle.rules.specs.Run.{document_of}
@@ -13,6 +14,7 @@ use Rattle.rows.specs.declared.sewing.Signing.{Signing}
 use Rattle.layouts.specs.Fitted.{binding_setting_of, setting_of}
 use Rattle.layouts.specs.Grids.{count_of, rounded_down, rounded_up}
 use Rattle.layouts.specs.Refusals.{first_of, is_length, why_not_arranged, why_not_bound}
+use Rattle.layouts.specs.declared.arrangement.Free.{Free}
 use Rattle.layouts.specs.declared.setting.Setting.{Setting}
 use Rattle.layouts.specs.declared.error.ArrangementError.TheVariants as why
 use Rattle.papers.specs.Names.{paper_named}
@@ -23,7 +25,7 @@ use Rattle.papers.specs.declared.cuts.Cut.{Cut}
 use Rattle.row_runs.specs.Runs.{Imposes}
 use Rattle.row_runs.specs.Sheets.{MayBeLaid}
 use Rattle.sheet_text.specs.Jobs.{is_border}
-use Rattle.imposer.specs.declared.outcome.Report.{Report}
+use Rattle.planned_runs.specs.declared.outcome.Report.{Report}
 use Rattle.row_runs.specs.declared.asked.Laying.{Laying}
 use Rattle.row_runs.specs.declared.asked.Laying.TheVariants as laying
 use Rattle.row_runs.specs.declared.run.RowJob.{RowJob}
@@ -32,8 +34,12 @@ use Rattle.row_sheets.specs.Posters.{why_no_poster}
 use Rattle.row_sheets.specs.declared.poster.Poster.{Poster}
 use Rattle.impose_words.specs.Spacings.{arrangement_in, binding_in, notes_in, zine_in}
 use Rattle.impose_words.specs.declared.request.Spacing.{Spacing}
-use Rattle.impose_cli.specs.ToldPages.{told_pages}
-use Rattle.impose_cli.specs.Reaches.{HasReach, takes}
+use Rattle.row_runs.specs.ToldPages.{told_pages}
+use Rattle.impose_cli.specs.Claims.{IsToldBy}
+use Rattle.impose_cli.specs.Reaches.{reach_in, takes}
+use Rattle.pagespec.specs.Items.{turn_of}
+use Rattle.row_runs.specs.Turning.{turned_paper}
+use Rattle.papers.specs.declared.reach.Reach.{Reach}
 use Rattle.impose_cli.specs.Tasks.{HasBehind, page_paper_found, sheet_paper_found, taken_text}
 use Rattle.impose_said.specs.Said.{is_same}
 use Rattle.impose_said.specs.declared.fault.ImposeFault.{ImposeFault}
@@ -66,13 +72,13 @@ abbrev pub stacked : (duplex : Bool) → Setting → (cells : ℕ) → Laying
 stacked false t cells = laying.Stack t cells
 stacked true t cells = laying.Leaves t
 
--- so many columns and rows of sheets of a paper: of margin and overlap none is lost
+-- so many columns and rows of sheets of a paper, with one margin along all edges: of it and of the overlap none is lost
 abbrev pub poster_in : Spacing → (columns rows : ℕ) → (sheet : Paper) → Poster
 poster_in s columns rows sheet = record {
   sheet = sheet;
   columns = columns;
   rows = rows;
-  edge = rounded_up s.margin;
+  edge = rounded_up s.free.left;
   overlap = rounded_up s.overlap;
 }
 
@@ -95,29 +101,54 @@ laying_in layout.Selection s page_paper sheet_paper = Some (laying.AsTheyAre she
 laying_in (layout.Spec specs) s page_paper sheet_paper = None
 laying_in (layout.SpecRow specs signing) s page_paper sheet_paper = None
 
--- the fault that says why it can't (RULES, 16, step 9)
+-- as much is kept free along opposite edges, or along all
+abbrev pub has_even_margins : Free → Bool
+has_even_margins f = int_eq f.left f.right && int_eq f.bottom f.top
+
+abbrev pub may_be_stacked : (duplex : Bool) → Free → Bool
+may_be_stacked duplex f = not duplex || has_even_margins f
+
+abbrev pub has_one_margin : Free → Bool
+has_one_margin f = has_even_margins f && int_eq f.left f.bottom
+
+-- the fault that says why it can't: what is behind a part of a sheet, or turned by half, needs even margins
+-- (RULES, 16, step 9)
 abbrev pub why_not_laid : Layout → Spacing → (page_paper sheet_paper : Paper) → Option ImposeFault
 why_not_laid (layout.NUp cells) s page_paper sheet_paper =
     option_map fault.Layout (why_not_arranged page_paper sheet_paper (arrangement_in s cells))
 why_not_laid (layout.Cards cells) s page_paper sheet_paper =
     option_map fault.Layout (why_not_arranged page_paper sheet_paper (arrangement_in s cells))
-why_not_laid (layout.Stack cells duplex) s page_paper sheet_paper =
-    option_map fault.Layout (why_not_arranged page_paper sheet_paper (arrangement_in s cells))
+why_not_laid (layout.Stack cells duplex) s page_paper sheet_paper = option_map fault.Layout
+    (first_of (may_be_stacked duplex s.free) why.UnevenMargins
+    (why_not_arranged page_paper sheet_paper (arrangement_in s cells)))
 why_not_laid (layout.Booklet signing long_edge) s page_paper sheet_paper = option_map fault.Layout
     (first_of (is_length s.creep) why.LengthOutOfRange (why_not_bound page_paper sheet_paper (binding_in s long_edge)))
 why_not_laid (layout.Notes pages) s page_paper sheet_paper =
     option_map fault.Layout (why_not_arranged page_paper sheet_paper (notes_in s pages))
-why_not_laid (layout.Poster columns rows) s page_paper sheet_paper = if is_length s.margin && is_length s.overlap
+why_not_laid (layout.Poster columns rows) s page_paper sheet_paper = if has_one_margin s.free
+    then (if is_length s.free.left && is_length s.overlap
     then option_map fault.Poster (why_no_poster page_paper (poster_in s columns rows sheet_paper))
-    else Some (fault.Layout why.LengthOutOfRange)
-why_not_laid layout.Zine s page_paper sheet_paper = option_map fault.Layout (why_not_arranged page_paper sheet_paper (zine_in s))
+    else Some (fault.Layout why.LengthOutOfRange))
+    else Some (fault.Layout why.UnevenMargins)
+why_not_laid layout.Zine s page_paper sheet_paper = option_map fault.Layout
+    (first_of (has_even_margins s.free) why.UnevenMargins (why_not_arranged page_paper sheet_paper (zine_in s)))
 why_not_laid layout.Selection s page_paper sheet_paper = None
 why_not_laid (layout.Spec specs) s page_paper sheet_paper = None
 why_not_laid (layout.SpecRow specs signing) s page_paper sheet_paper = None
 
--- why a request can't lay pages of this paper on its sheets
+-- the paper of the pages once they are turned
+abbrev pub cells_paper : ImposeRequest → (page_paper : Paper) → Paper
+cells_paper r page_paper = turned_paper (turn_of r.turn) page_paper
+
+-- how a request lays pages of this paper on its sheets, if it does
+abbrev pub laying_by : ImposeRequest → (page_paper : Paper) → Option Laying
+laying_by r page_paper = let paper = cells_paper r page_paper in
+    laying_in r.layout r.spacing paper (sheet_paper_in r.layout r.sheet_paper paper)
+
+-- and why it can't
 abbrev pub why_no_row : ImposeRequest → (page_paper : Paper) → Option ImposeFault
-why_no_row r page_paper = why_not_laid r.layout r.spacing page_paper (sheet_paper_in r.layout r.sheet_paper page_paper)
+why_no_row r page_paper = let paper = cells_paper r page_paper in
+    why_not_laid r.layout r.spacing paper (sheet_paper_in r.layout r.sheet_paper paper)
 
 -- the paper of a selection's first sheet; blank sheets have this one
 abbrev pub first_paper : Result Row RowFault → (papers : List Paper) → (blank : Paper) → Paper
@@ -132,7 +163,7 @@ guarded_in other first sheet_paper = sheet_paper
 -- the paper for which the guard sets the page size: that of the sheets, and of a selection that of its first sheet, since
 -- sheets of several papers set their own (RULES, 15)
 abbrev pub guarded_paper : ImposeRequest → (papers : List Paper) → (page_paper : Paper) → Paper
-guarded_paper r papers page_paper = let sheet_paper = sheet_paper_in r.layout r.sheet_paper page_paper in
+guarded_paper r papers page_paper = let sheet_paper = sheet_paper_in r.layout r.sheet_paper (cells_paper r page_paper) in
     guarded_in r.layout (first_paper (imposed_row (length papers) (choice_in r.choice) None) papers sheet_paper) sheet_paper
 
 -- the document, with the guard in it if it is asked for
@@ -143,25 +174,56 @@ text_for r papers page_paper input = taken_text r.is_guarded (guarded_paper r pa
 abbrev pub own_in : ImposeRequest → (input : List ℕ) → List NestedUnit → List Paper
 own_in r input us = own_papers r.page_paper paper_named r.home_paper input us
 
+-- the row that is imposed, before it is sewn; an empty one if there is no such row, which the run says
+abbrev pub row_or_none : Result Row RowFault → Row
+row_or_none (Ok row) = row
+row_or_none (Err fault) = []
+
+abbrev pub row_in : ImposeRequest → List NestedUnit → Row
+row_in r us = row_or_none (imposed_row (length (pages us)) (choice_in r.choice) None)
+
+abbrev pub or_without : Option Paper → List Paper → List Paper
+or_without None papers = papers
+or_without (Some paper) papers = paper ∷ papers
+
+-- the papers of a row's pages, in its order
+abbrev pub row_papers : Row → (own : List Paper) → List Paper
+row_papers [] own = []
+row_papers (entry ∷ row) own = or_without (option_and_then (slice_get own) entry) (row_papers row own)
+
 -- what is taken for the document's paper, if it is that of no page: the first page's
 abbrev pub or_first : Paper × PaperOrigin → Option Paper → Paper × PaperOrigin
 or_first found None = found
 or_first found (Some first) = (first, FirstPage)
 
-abbrev pub paper_for : Paper × PaperOrigin → (own : List Paper) → Paper × PaperOrigin
-paper_for found own = or_first found (first_instead_of found.0 own)
+abbrev pub paper_for : Paper × PaperOrigin → (taken : List Paper) → Paper × PaperOrigin
+paper_for found taken = or_first found (first_instead_of found.0 taken)
 
--- the paper for which sheets and cells are made, and where it was found: the document's, if a page has it or one that
--- counts as the same, and else the first page's own (RULES, 12.5)
+-- the paper for which sheets and cells are made, and where it was found: the document's, if a page of the row has it or one
+-- near to it, and else that of the row's first page (RULES, 12.5)
 abbrev pub row_paper : ImposeRequest → (input : List ℕ) → List NestedUnit → Paper × PaperOrigin
-row_paper r input us = paper_for (page_paper_found r.page_paper r.home_paper input) (own_in r input us)
+row_paper r input us =
+    paper_for (page_paper_found r.page_paper r.home_paper input) (row_papers (row_in r us) (own_in r input us))
 
 abbrev pub IsRowPaper : ImposeRequest → (input : List ℕ) → Paper × PaperOrigin → Type 0
 IsRowPaper r input found = (us : List NestedUnit) × (document_of input ≡ Ok us) × (found ≡ row_paper r input us)
 
--- the papers by which the pages are placed: with those that count as one taken as one (RULES, 12.4)
+-- the papers of the pages: each its own. A selection puts pages whose papers count as one on one (RULES, 12.4)
+abbrev pub placed_in : Layout → (taken own : List Paper) → List Paper
+placed_in layout.Selection taken own = as_one taken own
+placed_in other taken own = own
+
+abbrev pub counted_in : ImposeRequest → (input : List ℕ) → List NestedUnit → List Paper
+counted_in r input us = let own = own_in r input us in placed_in r.layout (row_papers (row_in r us) own) own
+
+-- by which the pages are placed, once they are turned
 abbrev pub papers_in : ImposeRequest → (input : List ℕ) → List NestedUnit → List Paper
-papers_in r input us = as_one (row_paper r input us).0 (own_in r input us)
+papers_in r input us = map (cells_paper r) (counted_in r input us)
+
+-- the document is accepted, and these of its pages reach beyond their papers
+abbrev pub HasReach : ImposeRequest → (input : List ℕ) → Option Reach → Type 0
+HasReach r input reach =
+    (us : List NestedUnit) × (document_of input ≡ Ok us) × (reach ≡ reach_in true r (counted_in r input us) input us)
 
 -- a specification is made for the layout
 abbrev pub has_specification : Layout → Bool
@@ -183,19 +245,18 @@ abbrev pub taken_from : Row → (other : Paper) → (first : ℕ) → (own : Lis
 taken_from row other n [] = []
 taken_from row other n (p ∷ ps) = (if takes row n then p else other) ∷ taken_from row other (n + 1) ps
 
--- the pages of a row that a paper cuts; without a row there are none
-abbrev pub cut_on : Result Row RowFault → (paper : Paper) → (own : List Paper) → Option Cut
-cut_on (Ok row) paper own = cut_of paper (taken_from row paper 0 own)
-cut_on (Err fault) paper own = None
+-- the pages of a row that a paper cuts
+abbrev pub cut_on : Row → (paper : Paper) → (own : List Paper) → Option Cut
+cut_on row paper own = cut_of paper (taken_from row paper 0 own)
 
 -- the pages that the named paper cuts, of those that are taken: one that names no paper has the named one
-abbrev pub cut_by_named : Option Paper → Result Row RowFault → (input : List ℕ) → List NestedUnit → Option Cut
+abbrev pub cut_by_named : Option Paper → Row → (input : List ℕ) → List NestedUnit → Option Cut
 cut_by_named None row input us = None
 cut_by_named (Some named) row input us = cut_on row named (own_papers None paper_named named input us)
 
 -- RULES, 17
 abbrev pub cut_in : ImposeRequest → (input : List ℕ) → List NestedUnit → Option Cut
-cut_in r input us = cut_by_named r.page_paper (imposed_row (length (pages us)) (choice_in r.choice) None) input us
+cut_in r input us = cut_by_named r.page_paper (row_in r us) input us
 
 -- the document is accepted, and its pages have these papers, of which the named one cuts these
 pub record ArePapersOf (r : ImposeRequest) (input : List ℕ) (papers : List Paper) (cut : Option Cut) : Type 0 where
@@ -213,11 +274,11 @@ LaysRows other = ⊤
 -- the task is what the request asks for with this document
 pub record IsRowTask (r : ImposeRequest) (input : List ℕ) (t : RowTask) : Type 0 where
   pub papers : ArePapersOf r input t.papers.items t.cut
-  pub reach : HasReach r input t.papers.items t.reach
+  pub reach : HasReach r input t.reach
   pub page_paper : IsRowPaper r input (t.page_paper, t.origin)
   pub behind : HasBehind input t.behind
   pub text : t.text.items ≡ text_for r t.papers.items t.page_paper input
-  pub laying : laying_in r.layout r.spacing t.page_paper (sheet_paper_in r.layout r.sheet_paper t.page_paper) ≡ Some t.laying
+  pub laying : laying_by r t.page_paper ≡ Some t.laying
   pub possible : why_no_row r t.page_paper ≡ None
   pub may_be_laid : MayBeLaid t.laying
   pub signing : t.signing ≡ signing_in r.layout
@@ -227,13 +288,14 @@ pub record IsRowTask (r : ImposeRequest) (input : List ℕ) (t : RowTask) : Type
 -- the job is the run of such a task
 pub record IsJobOf (r : ImposeRequest) (t : RowTask) (job : RowJob) : Type 0 where
   pub document : document_of t.text.items ≡ Ok job.document.now
+  pub turn : job.turn ≡ r.turn
   pub papers : job.papers.now ≡ t.papers.items
   pub choice : choice_of job.asked.choice ≡ choice_in r.choice
   pub signing : job.asked.signing ≡ t.signing
   pub laying : job.asked.laying ≡ t.laying
   pub same_scale : job.asked.same_scale ≡ r.spacing.same_scale
   pub border : job.border ≡ r.border
-  pub inset : job.inset ≡ r.spacing.trim
+  pub inset : job.inset ≡ r.spacing.free.trim
   pub marks : job.marks ≡ r.marks
 
 abbrev pub ImposesTask : ImposeRequest → RowTask → (old new : Option (List ℕ)) → Report → Type 0
@@ -243,14 +305,15 @@ ImposesTask r t old new report = (job : RowJob) × IsJobOf r t job × Imposes jo
 -- its cells, these papers and its options it had to be refused
 pub record IsRowJob (r : ImposeRequest) (input : List ℕ) (page_paper : Paper) (job : RowJob) : Type 0 where
   pub document : document_of (text_for r job.papers.now page_paper input) ≡ Ok job.document.now
+  pub turn : job.turn ≡ r.turn
   pub choice : choice_of job.asked.choice ≡ choice_in r.choice
   pub signing : job.asked.signing ≡ signing_in r.layout
-  pub laying : laying_in r.layout r.spacing page_paper (sheet_paper_in r.layout r.sheet_paper page_paper) ≡ Some job.asked.laying
+  pub laying : laying_by r page_paper ≡ Some job.asked.laying
   pub possible : why_no_row r page_paper ≡ None
   pub options : HasOptions r
   pub same_scale : job.asked.same_scale ≡ r.spacing.same_scale
   pub border : job.border ≡ r.border
-  pub inset : job.inset ≡ r.spacing.trim
+  pub inset : job.inset ≡ r.spacing.free.trim
   pub marks : job.marks ≡ r.marks
 
 -- The request was carried out for this document: exactly the output was appended of the sheets on which its layout lays
@@ -258,9 +321,9 @@ pub record IsRowJob (r : ImposeRequest) (input : List ℕ) (page_paper : Paper) 
 pub record FinishesRow (r : ImposeRequest) (input : List ℕ) (old new : Option (List ℕ)) (done : Finished) : Type 0 where
   pub page_paper : IsRowPaper r input (done.page_paper, done.origin)
   pub behind : HasBehind input done.behind
-  pub told : done.told ≡ told_pages input
+  pub told : IsToldBy r input done.told
   pub job : RowJob
   pub papers : ArePapersOf r input job.papers.now done.cut
-  pub reach : HasReach r input job.papers.now done.reach
+  pub reach : HasReach r input done.reach
   pub is_job : IsRowJob r input done.page_paper job
   pub imposes : Imposes job old new done.report

@@ -6,7 +6,7 @@ use Rattle.rules.specs.Run.{document_of}
 use Rattle.rows.specs.Choices.{choice_of}
 use Rattle.rows.specs.Sewing.{MayBeSewn}
 use Rattle.sheet_text.specs.Jobs.{is_border}
-use Rattle.imposer.specs.declared.outcome.Report.{Report}
+use Rattle.planned_runs.specs.declared.outcome.Report.{Report}
 use Rattle.row_runs.specs.BySpec.{ImposesBySpec, RefusesBySpec, pages_of}
 use Rattle.row_runs.specs.declared.by_spec.SpecJob.{SpecJob}
 use Rattle.row_runs.specs.declared.error.AskedError.{AskedError}
@@ -16,7 +16,8 @@ use Rattle.impose_cli.specs.Faults.{of_asked}
 use Rattle.impose_cli.specs.Refusals.{RefusesDocument, RefusesOptions, RefusesText}
 use Rattle.impose_cli.specs.RowTasks.{HasOptions, signing_in}
 use Rattle.impose_cli.specs.Tasks.{HasBehind, HasPages, page_paper_found, sheet_paper_found, taken_text}
-use Rattle.impose_cli.specs.ToldPages.{told_pages}
+use Rattle.row_runs.specs.ToldPages.{told_pages}
+use Rattle.impose_cli.specs.Claims.{IsToldBy}
 use Rattle.impose_cli.specs.Reaches.{HasReachOver}
 use Rattle.impose_cli.specs.Unread.{RefusesSpecification}
 use Rattle.impose_said.specs.declared.fault.ImposeFault.{ImposeFault}
@@ -77,7 +78,7 @@ ImposesSpecTask r t old new report = (job : SpecJob) × IsSpecJobOf r t job × I
 pub record FinishesSpecRow (r : ImposeRequest) (input : List ℕ) (old new : Option (List ℕ)) (done : Finished) : Type 0 where
   pub page_paper : (done.page_paper, done.origin) ≡ page_paper_found r.page_paper r.home_paper input
   pub behind : HasBehind input done.behind
-  pub told : done.told ≡ told_pages input
+  pub told : IsToldBy r input done.told
   pub job : SpecJob
   pub spec : TakesNamed r.layout job.spec.now
   pub signing : job.signing ≡ signing_in r.layout

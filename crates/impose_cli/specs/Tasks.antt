@@ -8,7 +8,8 @@ use Rattle.rules.specs.Parts.{NestedUnit, pages}
 use Rattle.rules.specs.Run.{document_of, plan_in}
 use Rattle.rules.specs.Sheets.{sheets}
 use Rattle.dsc.specs.PagesBehind.{pages_behind}
-use Rattle.impose_cli.specs.ToldPages.{told_pages}
+use Rattle.row_runs.specs.ToldPages.{told_pages}
+use Rattle.impose_cli.specs.Claims.{IsToldBy}
 use Rattle.impose_cli.specs.Reaches.{HasReachOver}
 use Rattle.made_sheets.specs.Choice.{sides_for}
 use Rattle.rows.specs.Sewing.{signing_of}
@@ -90,7 +91,7 @@ pub record IsTask (request : ImposeRequest) (input : List ℕ) (task : Task) : T
   pub document : HasPages input page_count
   pub behind : HasBehind input task.counted.behind
   pub reach : HasReachOver request input task.options.paper task.counted.reach
-  pub said : is_said request.choice request.marks ≡ true
+  pub said : is_said request.choice request.turn request.marks ≡ true
   pub page_paper : (task.options.paper, task.origin) ≡ page_paper_found request.page_paper request.home_paper input
   pub placed : IsPlaced request.layout request.spacing task.options.paper (sheet_paper_found request.sheet_paper task.options.paper)
       page_count (string_bytes task.spec) task.options.sides
@@ -122,7 +123,7 @@ pub record FinishesSpec (r : ImposeRequest) (input : List ℕ) (old new : Option
   pub page_paper : (done.page_paper, done.origin) ≡ page_paper_found r.page_paper r.home_paper input
   pub text : List ℕ
   pub is_text : IsSpec r.layout text
-  pub said : is_said r.choice r.marks ≡ true
+  pub said : is_said r.choice r.turn r.marks ≡ true
   pub border : is_border r.border ≡ true
   pub spec : Spec
   pub takes : Takes most_slots text spec
@@ -131,7 +132,7 @@ pub record FinishesSpec (r : ImposeRequest) (input : List ℕ) (old new : Option
   pub cut : done.cut ≡ None
   pub reach : HasReachOver r input done.page_paper done.reach
   pub behind : HasBehind input done.behind
-  pub told : done.told ≡ told_pages input
+  pub told : IsToldBy r input done.told
   pub plan : plan_in None spec (length (pages units)) ≡ Ok (sheets spec (length (pages units)))
   pub written : Appends old new (output (frame_used r done) None spec units)
   pub report : Reports (frame_used r done) None spec units done.report

@@ -8,8 +8,8 @@ use Rattle.made_sheets.specs.Choice.{NotARange, row_of_text}
 use Rattle.rows.specs.declared.error.RowError.TheVariants as row
 use Rattle.pagespec.specs.Refusals.{IsPlaced, IsRefusal}
 use Rattle.pagespec.specs.declared.error.SpecError.{SpecError}
-use Rattle.imposer.specs.Outcomes.{of_spec}
-use Rattle.impose_cli.specs.RowTasks.{sheet_paper_in, why_not_laid}
+use Rattle.planned_runs.specs.Outcomes.{of_spec}
+use Rattle.impose_cli.specs.RowTasks.{cells_paper, sheet_paper_in, why_not_laid}
 use Rattle.impose_cli.specs.Refusals.{RefusesLaying}
 use Rattle.impose_words.specs.declared.request.Spacing.{Spacing}
 use Rattle.impose_words.specs.declared.request.Layout.{Layout}
@@ -19,6 +19,7 @@ use Rattle.impose_words.specs.declared.request.Product.{Product}
 use Rattle.impose_words.specs.declared.request.Product.TheVariants as product
 use Rattle.impose_words.specs.declared.request.ImposeRequest.{ImposeRequest}
 use Rattle.layouts.specs.Grids.{count_of}
+use Rattle.layouts.specs.declared.arrangement.Free.{Free}
 use Rattle.impose_said.specs.declared.fault.IdleOption.{IdleOption}
 use Rattle.impose_said.specs.declared.fault.IdleOption.TheVariants.{Sheet, CutMarks}
 use Rattle.impose_said.specs.declared.fault.ImposeFault.{ImposeFault}
@@ -73,14 +74,18 @@ is_cut_outside (layout.Booklet signing long_edge) = true
 is_cut_outside other = false
 
 -- there is a margin, of half the gap at least
-abbrev pub has_margin : Spacing → Bool
-has_margin s = int_lt (pos 0) s.margin && int_le s.gap (s.margin +ℤ s.margin)
+abbrev pub has_room : (margin gap : ℤ) → Bool
+has_room margin gap = int_lt (pos 0) margin && int_le gap (margin +ℤ margin)
+
+-- along all edges
+abbrev pub has_margins : Free → Bool
+has_margins f = (has_room f.left f.across && has_room f.right f.across) && (has_room f.bottom f.up && has_room f.top f.up)
 
 -- the first such option: a paper for sheets that keep their own, and marks outside of pages that have no room for them
 -- (RULES, 16, step 4)
 abbrev pub idle_option : ImposeRequest → Option IdleOption
 idle_option r = if keeps_papers r.layout && is_some r.sheet_paper then Some Sheet
-    else (if r.marks.cut && (is_cut_outside r.layout && not (has_margin r.spacing)) then Some CutMarks else None)
+    else (if r.marks.cut && (is_cut_outside r.layout && not (has_margins r.spacing.free)) then Some CutMarks else None)
 
 -- ---- a file that is read and written
 
@@ -99,15 +104,19 @@ abbrev pub option_fault : ImposeRequest → Option ImposeFault
 option_fault r = if is_drawn_over r.product (option_map string_bytes r.infile) then Some fault.OverInput
     else option_map fault.Idle (idle_option r)
 
+-- the paper that is named for pages, as they are turned
+abbrev pub cells_named : ImposeRequest → Option Paper
+cells_named r = option_map (cells_paper r) r.page_paper
+
 -- the request is none that can be refused unread
 pub record MayBeRead (r : ImposeRequest) : Type 0 where
   pub options : option_fault r ≡ None
-  pub layout : IsPossible r.layout r.spacing r.page_paper r.sheet_paper
+  pub layout : IsPossible r.layout r.spacing (cells_named r) r.sheet_paper
   pub ranges : AreRanges r.choice
 
 -- its options are refused; or they aren't, and its layout is; or it isn't, and its ranges are
 -- (RULES, 16, steps 4 and 5)
 abbrev pub RefusesRequest : ImposeRequest → ImposeFault → Type 0
 RefusesRequest r f = (option_fault r ≡ Some f)
-    ⊎ ((option_fault r ≡ None) × (RefusesUnread r.layout r.spacing r.page_paper r.sheet_paper f
-    ⊎ (IsPossible r.layout r.spacing r.page_paper r.sheet_paper × RefusesRanges r.choice f)))
+    ⊎ ((option_fault r ≡ None) × (RefusesUnread r.layout r.spacing (cells_named r) r.sheet_paper f
+    ⊎ (IsPossible r.layout r.spacing (cells_named r) r.sheet_paper × RefusesRanges r.choice f)))

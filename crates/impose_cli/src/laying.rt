@@ -9,25 +9,28 @@ ghost use Rattle.sheet_text.specs.Jobs.{is_border};
 ghost use Rattle.row_runs.specs.Sheets.{MayBeLaid};
 ghost use Rattle.impose_cli.specs.Refusals.{RefusesLaying, RefusesOptions};
 ghost use Rattle.impose_words.specs.Spacings.{arrangement_in};
-ghost use Rattle.impose_cli.specs.RowTasks.{laying_in, sheet_paper_in, signing_in, why_not_laid};
+ghost use Rattle.impose_cli.specs.RowTasks.{has_even_margins as are_even, has_one_margin as are_one, may_be_stacked as may_be_stacked_so};
+ghost use Rattle.impose_cli.specs.RowTasks.{cells_paper, laying_in, sheet_paper_in, signing_in, why_not_laid};
 ghost use Rattle.impose_words.specs.declared.request.Layout.TheVariants as layout;
 
 use impose_said::ImposeFault;
 use impose_words::{ImposeRequest, Layout, Spacing};
 use imposer::RunError;
-use layouts::{ArrangementError, Cells, Papers, Setting};
+use layouts::{ArrangementError, Cells, Free, Papers, Setting};
 use lengths::{Grains, Paper};
-use row_runs::Laying;
+use row_runs::{Laying, turned_paper};
 use row_sheets::{Poster, check_poster};
 use rows::Signing;
 use sheet_plan::are_sides;
 
-/// The papers of the pages and of the sheets of a layout. A selection keeps its pages on their own paper.
-pub(crate) fn papers_for(layout: &Layout, named: Option<Paper>, page: Paper) -> Papers
-    ensures page { result.page ≡ page }
-    ensures sheet { result.sheet ≡ sheet_paper_in layout.now named page }
+/// The papers of the pages, once they are turned, and of the sheets. A selection keeps its pages on their own paper.
+pub(crate) fn papers_for(request: &ImposeRequest, page_paper: &Paper) -> Papers
+    ensures page { result.page ≡ cells_paper request.now page_paper.now }
+    ensures sheet { result.sheet ≡ sheet_paper_in request.now.layout request.now.sheet_paper
+        (cells_paper request.now page_paper.now) }
 {
-    let sheet = match (layout, named) {
+    let page = turned_paper(request.turn, page_paper);
+    let sheet = match (&request.layout, request.sheet_paper) {
         (Layout::Selection, _) => page,
         (_, Some(sheet)) => sheet,
         (_, None) => page,
@@ -112,6 +115,9 @@ fn stack_laying(
     ensures refused { IfErr result
         (RefusesLaying (layout.Stack cells duplex) spacing.now papers.now.page papers.now.sheet) }
 {
+    if !may_be_stacked(duplex, &spacing.free) {
+        return Err(ImposeFault::Layout(ArrangementError::UnevenMargins));
+    }
     match cells_for(cells, spacing, papers) {
         Ok((setting, cells)) => if duplex {
             Ok(Some(Laying::Leaves { setting }))
@@ -199,6 +205,9 @@ fn zine_laying(spacing: &Spacing, papers: &Papers) -> Result<Option<Laying>, Imp
     ensures possible { OnOk result (why_not_laid layout.Zine spacing.now papers.now.page papers.now.sheet ≡ None) }
     ensures refused { IfErr result (RefusesLaying layout.Zine spacing.now papers.now.page papers.now.sheet) }
 {
+    if !has_even_margins(&spacing.free) {
+        return Err(ImposeFault::Layout(ArrangementError::UnevenMargins));
+    }
     match Setting::of(papers, &spacing.zine()) {
         Ok(setting) => Ok(Some(Laying::Zine { setting })),
         Err(error) => Err(ImposeFault::Layout(error)),
@@ -219,20 +228,45 @@ fn poster_laying(
     ensures refused { IfErr result
         (RefusesLaying (layout.Poster columns rows) spacing.now papers.now.page papers.now.sheet) }
 {
-    if !(is_length(spacing.margin) && is_length(spacing.overlap)) {
+    if !has_one_margin(&spacing.free) {
+        return Err(ImposeFault::Layout(ArrangementError::UnevenMargins));
+    }
+    let margin = spacing.free.left;
+    if !(is_length(margin) && is_length(spacing.overlap)) {
         return Err(ImposeFault::Layout(ArrangementError::LengthOutOfRange));
     }
     let poster = Poster {
         sheet: papers.sheet,
         columns,
         rows,
-        edge: rounded_up(spacing.margin),
+        edge: rounded_up(margin),
         overlap: rounded_up(spacing.overlap),
     };
     match check_poster(&poster, &papers.page) {
         Ok(()) => Ok(Some(Laying::Poster { poster })),
         Err(error) => Err(ImposeFault::Poster(error)),
     }
+}
+
+/// Whether as much is kept free along opposite edges.
+fn has_even_margins(free: &Free) -> bool
+    ensures { result ≡ are_even free.now }
+{
+    free.left.get() == free.right.get() && free.bottom.get() == free.top.get()
+}
+
+/// Whether parts of sheets lie behind one another: on one side they needn't.
+fn may_be_stacked(duplex: bool, free: &Free) -> bool
+    ensures { result ≡ may_be_stacked_so duplex free.now }
+{
+    !duplex || has_even_margins(free)
+}
+
+/// Whether as much is kept free along all edges.
+fn has_one_margin(free: &Free) -> bool
+    ensures { result ≡ are_one free.now }
+{
+    has_even_margins(free) && free.left.get() == free.bottom.get()
 }
 
 /// Whether a length is from 0 to 99,999 points and five nines after the dot.

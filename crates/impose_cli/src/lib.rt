@@ -1,7 +1,7 @@
 //! The command of impose: its words are read, and what they ask for is made of a document and written.
 #![tactic(auto)]
 
-mod keeping_reader;
+mod claims;
 pub mod laws;
 mod laying;
 mod left;
@@ -9,17 +9,16 @@ mod look;
 mod printed;
 mod program;
 mod reach;
-mod roomy_text;
 mod row_task;
 mod runs;
 mod spec_row;
 mod taken;
 mod task;
-mod told_pages;
 mod unread;
 
+pub use guard::RoomyText;
 pub use impose_said::{
-    Done, Finished, IdleOption, ImposeFault, Packing, PaperOrigin, behind_text, command_text,
+    Done, Finished, IdleOption, ImposeFault, Packing, PaperOrigin, Told, behind_text, command_text,
     cut_text, fault_status, fault_text, note_text, report_text, text_said, told_text, words_text,
 };
 pub use impose_words::{
@@ -30,6 +29,5 @@ pub use impose_words::{
 pub use look::{Overview, look_text};
 pub use printed::printed_task;
 pub use program::{Ended, impose};
-pub use roomy_text::RoomyText;
 pub use task::{Task, check_layout, task_for};
 pub use unread::check_request;

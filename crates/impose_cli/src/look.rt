@@ -7,9 +7,9 @@ ghost use Rattle.impose_cli.specs.Endings.{RefusesRow, RefusesRowTaskRun};
 ghost use Rattle.impose_cli.specs.Looks.{Tells, TellsRow, TellsTask};
 ghost use Rattle.impose_cli.specs.RowTasks.{LaysRows};
 
-use crate::roomy_text::RoomyText;
 use crate::row_task::{RowTask, asked_fault_of, row_task};
 use dsc::Document;
+use guard::RoomyText;
 use impose_said::ImposeFault;
 use impose_words::ImposeRequest;
 use imposer::RunError;
@@ -69,6 +69,7 @@ fn task_text(
     let pages = document.pages();
     let job = RowJob {
         document: &document,
+        turn: request.turn,
         papers: task.papers.as_slice(),
         asked: Asked {
             choice: request.choice.as_choice(),
@@ -77,7 +78,7 @@ fn task_text(
             same_scale: request.spacing.same_scale,
         },
         border: request.border,
-        inset: request.spacing.trim,
+        inset: request.spacing.free.trim,
         marks: request.marks,
     };
     match job_text(alloc, &job, look) {

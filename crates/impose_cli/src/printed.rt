@@ -1,8 +1,14 @@
 //! The specification of a task as it is printed, with the line of pstops that does the same.
+ghost use Rattle.std.specs.Prelude.{◌≡◌, ◌++◌, IfOk, OnOk};
+ghost use Rattle.impose_cli.specs.Printed.{call_text, command_text, comments_text, is_border_trimmed};
+ghost use Rattle.impose_cli.specs.Printed.{options_text, printed_text, spec_text};
+
 use crate::task::Task;
+use command_words::{
+    append_border, append_files, append_if, append_length, append_sides, begins_with_minus, name_of,
+};
 use impose_words::ImposeRequest;
 use imposer::Options;
-use lengths::{Grains, Number, print_number};
 use std::alloc::{AllocError, Global};
 
 /// The specification on a line, on a second one the command line of pstops that imposes by it with these options, and
@@ -11,26 +17,57 @@ pub fn printed_task(
     alloc: Global,
     request: &ImposeRequest,
     task: &Task,
-) -> Result<Vec<u8>, AllocError> {
+) -> Result<Vec<u8>, AllocError>
+    ensures { IfOk result (λ lines. lines.items ≡ printed_text request.now task.now) }
+{
     let mut out = Vec::new(alloc);
     append_spec(task.spec.as_str(), &mut out)?;
-    out.extend_from_slice(b"\npstops")?;
-    if request.is_quiet {
-        out.extend_from_slice(b" -q")?;
-    }
-    append_options(&task.options, &mut out)?;
-    out.extend_from_slice(b" '")?;
-    append_spec(task.spec.as_str(), &mut out)?;
-    out.push(b'\'')?;
-    append_files(request, &mut out)?;
-    out.push(b'\n')?;
-    if task.options.border.is_some() && request.spacing.trim.get() != 0 {
-        out.extend_from_slice(TRIM_COMMENT)?;
-    }
-    if request.is_guarded {
-        out.extend_from_slice(GUARD_COMMENT)?;
-    }
+    out.extend_from_slice(b"\n")?;
+    append_command(request, task, &mut out)?;
+    out.extend_from_slice(b"\n")?;
+    append_comments(request, task, &mut out)?;
     Ok(out)
+}
+
+fn append_command(request: &ImposeRequest, task: &Task, out: &mut Vec<u8>) -> Result<(), AllocError>
+    ensures { OnOk result (out.new.items ≡ out.old.items ++ command_text request.now task.now) }
+{
+    append_call(request, &task.options, out)?;
+    out.extend_from_slice(b" '")?;
+    append_spec(task.spec.as_str(), out)?;
+    out.extend_from_slice(b"'")?;
+    append_files(name_of(&request.infile), name_of(&request.outfile), out)
+}
+
+/// The command with its options.
+fn append_call(
+    request: &ImposeRequest,
+    options: &Options,
+    out: &mut Vec<u8>,
+) -> Result<(), AllocError>
+    ensures { OnOk result (out.new.items ≡ out.old.items ++ call_text request.now options.now) }
+{
+    out.extend_from_slice(b"pstops")?;
+    append_if(request.is_quiet, b" -q", out)?;
+    append_options(options, out)
+}
+
+fn append_comments(
+    request: &ImposeRequest,
+    task: &Task,
+    out: &mut Vec<u8>,
+) -> Result<(), AllocError>
+    ensures { OnOk result (out.new.items ≡ out.old.items ++ comments_text request.now task.now) }
+{
+    append_if(has_trimmed_border(request, task), TRIM_COMMENT, out)?;
+    append_if(request.is_guarded, GUARD_COMMENT, out)
+}
+
+/// Whether a border is drawn round pages that are trimmed.
+fn has_trimmed_border(request: &ImposeRequest, task: &Task) -> bool
+    ensures { result ≡ is_border_trimmed request.now task.now }
+{
+    task.options.border.is_some() && request.spacing.free.trim.get() != 0
 }
 
 const TRIM_COMMENT: &[u8] =
@@ -41,80 +78,20 @@ const GUARD_COMMENT: &[u8] =
 
 /// A specification has no byte that the shell reads in quotes. One that begins with a minus sign is written with its
 /// modulo, as pstops would take it for an option.
-fn append_spec(spec: &str, out: &mut Vec<u8>) -> Result<(), AllocError> {
-    if spec.as_bytes().starts_with(b"-") {
-        out.extend_from_slice(b"1:")?;
-    }
+fn append_spec(spec: &str, out: &mut Vec<u8>) -> Result<(), AllocError>
+    ensures { OnOk result (out.new.items ≡ out.old.items ++ spec_text spec.now) }
+{
+    append_if(begins_with_minus(spec), b"1:", out)?;
     out.extend_from_slice(spec.as_bytes())
 }
 
-fn append_options(options: &Options, out: &mut Vec<u8>) -> Result<(), AllocError> {
-    if let Some(sides) = options.sides {
-        let alloc = *out.allocator();
-        let text = format!(in alloc; " -s {sides}")?;
-        out.extend_from_slice(text.as_str().as_bytes())?;
-    }
-    append_length(b" -w ", options.paper.width(), out)?;
-    append_length(b" -h ", options.paper.height(), out)?;
-    match options.border {
-        Some(width) => append_length(b" -d ", width, out),
-        None => Ok(()),
-    }
-}
-
-fn append_files(request: &ImposeRequest, out: &mut Vec<u8>) -> Result<(), AllocError> {
-    match (&request.infile, &request.outfile) {
-        (None, None) => Ok(()),
-        (Some(infile), None) => append_file(infile.as_str(), out),
-        // pstops has no word for standard input but a file of the system's.
-        (None, Some(outfile)) => {
-            append_file("/dev/stdin", out)?;
-            append_file(outfile.as_str(), out)
-        }
-        (Some(infile), Some(outfile)) => {
-            append_file(infile.as_str(), out)?;
-            append_file(outfile.as_str(), out)
-        }
-    }
-}
-
-/// How many grains a 10^-9 of a unit has, and the unit's name.
-const UNITS: [(i128, &str); 4] = [(127, "pt"), (360, "mm"), (9_144, "in"), (3_600, "cm")];
-
-/// Appends a length in the first unit of which it is a number with at most nine decimals.
-fn append_length(before: &[u8], length: Grains, out: &mut Vec<u8>) -> Result<(), AllocError> {
-    out.extend_from_slice(before)?;
-    for (grains, unit) in UNITS {
-        if length.get() % grains == 0 {
-            if let Some(number) = number_of(length.get() / grains) {
-                print_number(number, out)?;
-                return out.extend_from_slice(unit.as_bytes());
-            }
-        }
-    }
-    Ok(())
-}
-
-fn number_of(billionths: i128) -> Option<Number> {
-    match i64::try_from(billionths) {
-        Ok(billionths) => Number::new(billionths),
-        Err(_) => None,
-    }
-}
-
-/// Appends a file's name for the shell, in quotes. One that begins with a minus sign isn't to be taken for an option.
-fn append_file(name: &str, out: &mut Vec<u8>) -> Result<(), AllocError> {
-    out.extend_from_slice(b" '")?;
-    if name.as_bytes().starts_with(b"-") {
-        out.extend_from_slice(b"./")?;
-    }
-    for byte in name.as_bytes() {
-        if *byte == b'\'' {
-            out.extend_from_slice(b"'\\''")?;
-        } else {
-            out.push(*byte)?;
-        }
-    }
-    out.push(b'\'')?;
-    Ok(())
+fn append_options(options: &Options, out: &mut Vec<u8>) -> Result<(), AllocError>
+    ensures { OnOk result (out.new.items ≡ out.old.items ++ options_text options.now) }
+{
+    append_sides(options.sides, out)?;
+    out.extend_from_slice(b" -w ")?;
+    append_length(options.paper.width(), out)?;
+    out.extend_from_slice(b" -h ")?;
+    append_length(options.paper.height(), out)?;
+    append_border(options.border, out)
 }

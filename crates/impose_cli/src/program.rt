@@ -9,15 +9,14 @@ ghost use Rattle.impose_cli.specs.Programs.{Prints, Shows, Writes, most_home_byt
 ghost use Rattle.impose_cli.specs.RowTasks.{LaysRows};
 ghost use Rattle.impose_said.specs.declared.fault.ImposeFault.TheVariants as faults;
 
-use crate::keeping_reader::KeepingReader;
 use crate::left::{Left, closed, stopped};
 use crate::look::{Overview, look_text};
 use crate::printed::printed_task;
-use crate::roomy_text::RoomyText;
 use crate::runs::run_request;
 use crate::task::task_for;
 use crate::unread::check_request;
 use command_words::name_of;
+use guard::RoomyText;
 use impose_said::{Done, ImposeFault, fault_status};
 use impose_words::{ImposeRequest, Product, read_command};
 use lengths::Paper;
@@ -27,7 +26,7 @@ use std::io;
 use std::io::{ErrorKind, Read, Write};
 use std::sync::Wait;
 use std::thread::Threads;
-use world::{ReadFault, ReadSource, World, read_input, read_input_behind};
+use world::{KeepingReader, ReadFault, ReadSource, World, read_input, read_input_behind};
 
 /// How the program ended.
 #[derive(Drop)]

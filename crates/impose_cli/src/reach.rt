@@ -1,13 +1,16 @@
 //! Pages that reach beyond the papers by which they are placed.
-ghost use Rattle.std.specs.Prelude.{◌≡◌, IfOk, Ok};
+ghost use Rattle.std.specs.Prelude.{◌≡◌, IfOk, Ok, true};
 ghost use Rattle.rules.specs.Parts.{bytes_of};
+ghost use Rattle.papers.specs.Names.{paper_named};
+ghost use Rattle.papers.specs.Own.{own_papers};
+ghost use Rattle.papers.specs.Reach.{page_boxes};
 ghost use Rattle.impose_cli.specs.Reaches as meaning;
 
 use crate::taken::pages_taken;
 use dsc::Document;
 use impose_words::ImposeRequest;
 use lengths::Paper;
-use papers::{Edges, PlacedPages, Reach, own_papers, page_boxes, reach_beyond};
+use papers::{PlacedPages, Reach, own_papers, reach_beyond};
 use rows::{RowError, imposed_row};
 use std::alloc::{AllocError, Global};
 
@@ -23,28 +26,42 @@ fn told_own(
     own_papers(alloc, document, None, &usual)
 }
 
-/// The pages that reach beyond the papers by which they are placed, of those that are taken. Of pages that their papers cut, it
-/// says whether they are reported apart.
-pub(crate) fn reach_of_pages(
+/// The pages that reach beyond the papers by which they are placed, of those that are taken, where these are the papers that
+/// a request finds for pages. Those that the paper cuts which is named are reported apart.
+pub(crate) fn reach_of_row(
     alloc: Global,
     request: &ImposeRequest,
     document: &Document<'_>,
     papers: &[Paper],
+    own: &[Paper],
+) -> Result<Option<Reach>, AllocError>
+    requires { own.now ≡ own_papers request.now.page_paper paper_named request.now.home_paper (bytes_of document.now) document.now }
+    ensures { IfOk result (λ reach. reach ≡ meaning.reach_in true request.now papers.now (bytes_of document.now) document.now) }
+{
+    match request.page_paper {
+        Some(_) => {
+            let told = told_own(alloc, request, document)?;
+            reach_of_pages(alloc, request, document, papers, told.as_slice(), true)
+        }
+        None => reach_of_pages(alloc, request, document, papers, own, true),
+    }
+}
+
+/// The pages that reach beyond the papers by which they are placed, of those that are taken, where these are their own. Of
+/// pages that their papers cut, it says whether they are reported apart.
+fn reach_of_pages(
+    alloc: Global,
+    request: &ImposeRequest,
+    document: &Document<'_>,
+    papers: &[Paper],
+    own: &[Paper],
     cut_apart: bool,
 ) -> Result<Option<Reach>, AllocError>
+    requires { own.now ≡ meaning.told_own request.now (bytes_of document.now) document.now }
     ensures { IfOk result (λ reach. reach ≡ meaning.reach_in cut_apart request.now papers.now (bytes_of document.now) document.now) }
 {
-    let own = told_own(alloc, request, document)?;
-    let boxes = page_boxes(alloc, document)?;
     match imposed_row(alloc, document.pages(), &request.choice.as_choice(), None) {
-        Ok(row) => reach_on_row(
-            alloc,
-            row.as_slice(),
-            papers,
-            own.as_slice(),
-            boxes.as_slice(),
-            cut_apart,
-        ),
+        Ok(row) => reach_on_row(alloc, document, row.as_slice(), papers, own, cut_apart),
         Err(RowError::NoMemory) => Err(AllocError),
         // There is no such row, which the run will say.
         Err(_) => Ok(None),
@@ -53,20 +70,21 @@ pub(crate) fn reach_of_pages(
 
 fn reach_on_row(
     alloc: Global,
+    document: &Document<'_>,
     row: &[Option<u32>],
     papers: &[Paper],
     own: &[Paper],
-    boxes: &[Option<Edges>],
     cut_apart: bool,
 ) -> Result<Option<Reach>, AllocError>
-    ensures { IfOk result (λ reach. reach ≡ meaning.reach_on cut_apart (Ok row.now) papers.now own.now boxes.now) }
+    ensures { IfOk result (λ reach. reach
+        ≡ meaning.reach_on cut_apart (Ok row.now) papers.now own.now (page_boxes (bytes_of document.now) document.now)) }
 {
     let taken = pages_taken(alloc, row, papers.len())?;
     Ok(reach_beyond(&PlacedPages {
+        document,
         taken: taken.as_slice(),
         papers,
         own,
-        boxes,
         cut_apart,
     }))
 }
@@ -81,5 +99,13 @@ pub(crate) fn reach_over(
     ensures { IfOk result (λ reach. reach ≡ meaning.reach_over request.now paper.now (bytes_of document.now) document.now) }
 {
     let papers = own_papers(alloc, document, Some(*paper), paper)?;
-    reach_of_pages(alloc, request, document, papers.as_slice(), false)
+    let told = told_own(alloc, request, document)?;
+    reach_of_pages(
+        alloc,
+        request,
+        document,
+        papers.as_slice(),
+        told.as_slice(),
+        false,
+    )
 }

@@ -12,31 +12,31 @@ ghost use Rattle.rules.specs.Run.{most_pages};
 ghost use Rattle.made_sheets.specs.Choice.{imposed_row as row_of};
 ghost use Rattle.impose_words.specs.Choices.{choice_in};
 ghost use Rattle.impose_cli.specs.RowTasks.{guarded_in, first_paper as first_paper_of};
-ghost use Rattle.impose_cli.specs.RowTasks.{ArePapersOf, ImposesTask, IsRowPaper, IsRowTask, LaysRows};
+ghost use Rattle.impose_cli.specs.RowTasks.{ArePapersOf, HasReach, ImposesTask, IsRowPaper, IsRowTask, LaysRows, counted_in};
 ghost use Rattle.std.specs.List.{list_all};
 ghost use Rattle.impose_cli.specs.RowTasks.{TellsOnePaper};
 ghost use Rattle.impose_said.specs.Said.{is_same as are_same};
-ghost use Rattle.impose_cli.specs.RowTasks.{cut_in, cut_on, paper_for, papers_in as papers_found, row_paper};
-ghost use Rattle.impose_cli.specs.Reaches.{HasReach, reach_in};
+ghost use Rattle.impose_cli.specs.RowTasks.{cut_by_named, cut_in, paper_for, papers_in as papers_found, placed_in, row_paper};
+ghost use Rattle.impose_cli.specs.Reaches.{reach_in};
 ghost use Rattle.impose_cli.specs.Refusals.{RefusesDocument, RefusesRowTask};
 ghost use Rattle.impose_cli.specs.Tasks.{HasBehind, HasPages, page_paper_found};
 ghost use Rattle.dsc.specs.PagesBehind.{pages_behind};
 
 use crate::laying::{laying_for, papers_for, signing_for};
 use crate::left::{Left, stopped};
-use crate::reach::reach_of_pages;
-use crate::roomy_text::RoomyText;
+use crate::reach::reach_of_row;
 use crate::runs::impose_job;
-use crate::taken::papers_taken;
-use crate::task::{of_document, paper_of_pages, text_to_impose};
+use crate::taken::{papers_on_row, papers_taken, row_of_choice};
+use crate::task::{paper_of_pages, text_to_impose};
 use command_words::name_of;
 use dsc::Document;
-use impose_said::{ImposeFault, PaperOrigin};
+use guard::RoomyText;
+use impose_said::{ImposeFault, PaperOrigin, of_document};
 use impose_words::{ImposeRequest, Layout, PageChoice};
 use imposer::{Report, RunError};
 use lengths::Paper;
 use papers::{Cut, Reach, as_one, cut_by, first_instead_of, own_papers};
-use row_runs::{Asked, AskedError, Laying, RowJob};
+use row_runs::{Asked, AskedError, Laying, RowJob, turned_papers};
 use rows::{RowError, Signing, imposed_row};
 use std::alloc::{AllocError, Global};
 use std::sync::Wait;
@@ -50,7 +50,7 @@ pub struct RowTask {
     pub(crate) text: RoomyText,
     pub(crate) page_paper: Paper,
     pub(crate) origin: PaperOrigin,
-    /// The papers of its pages.
+    /// The papers of its pages, once they are turned.
     pub(crate) papers: Vec<Paper>,
     /// The pages that the paper cuts which is named for them.
     pub(crate) cut: Option<Cut>,
@@ -77,7 +77,7 @@ pub(crate) fn row_task(
         Ok(found) => found,
         Err(fault) => return Err(fault),
     };
-    let papers = papers_for(&request.layout, request.sheet_paper, found.page_paper);
+    let papers = papers_for(request, &found.page_paper);
     let laying = match laying_for(&request.layout, &request.spacing, &papers) {
         Ok(Some(laying)) => laying,
         Ok(None) => unreachable!(),
@@ -116,7 +116,7 @@ struct FoundPapers {
     page_paper: Paper,
     /// Where that was found.
     origin: PaperOrigin,
-    /// The papers by which the pages are placed.
+    /// The papers by which the pages are placed, once they are turned.
     papers: Vec<Paper>,
     /// The pages that the paper cuts which is named for them.
     cut: Option<Cut>,
@@ -134,7 +134,7 @@ fn papers_of(
 ) -> Result<FoundPapers, ImposeFault>
     ensures found { IfOk result (λ found. ArePapersOf request.now input.now found.papers.items found.cut) }
     ensures paper { IfOk result (λ found. IsRowPaper request.now input.now (found.page_paper, found.origin)) }
-    ensures reach { IfOk result (λ found. HasReach request.now input.now found.papers.items found.reach) }
+    ensures reach { IfOk result (λ found. HasReach request.now input.now found.reach) }
     ensures behind { IfOk result (λ found. HasBehind input.now found.behind) }
     ensures count { IfOk result (λ found. found.pages ≡ length found.papers.items) }
     ensures few { IfOk result (λ found. found.pages ≤ most_pages) }
@@ -203,16 +203,20 @@ fn papers_in(
     ensures cut { IfOk result (λ found.
         found.cut ≡ cut_in request.now (bytes_of document.now) document.now) }
     ensures reach { IfOk result (λ found.
-        found.reach ≡ reach_in true request.now found.papers.items (bytes_of document.now) document.now) }
+        found.reach ≡ reach_in true request.now (counted_in request.now (bytes_of document.now) document.now)
+        (bytes_of document.now) document.now) }
     ensures behind { IfOk result (λ found. found.behind ≡ pages_behind document.now) }
     ensures count { IfOk result (λ found. found.pages ≡ length found.papers.items) }
     ensures few { IfOk result (λ found. found.pages ≤ most_pages) }
 {
     let own = own_papers(alloc, document, request.page_paper, &request.home_paper)?;
-    let (page_paper, origin) = paper_of_row(request, document.text(), own.as_slice());
-    let papers = as_one(alloc, &page_paper, own.as_slice())?;
-    let cut = cut_pages(alloc, request, document)?;
-    let reach = reach_of_pages(alloc, request, document, papers.as_slice(), true)?;
+    let row = row_of_choice(alloc, document.pages(), &request.choice)?;
+    let taken = papers_on_row(alloc, row.as_slice(), own.as_slice())?;
+    let (page_paper, origin) = paper_of_row(request, document.text(), taken.as_slice());
+    let counted = papers_placed(alloc, &request.layout, taken.as_slice(), own.as_slice())?;
+    let cut = cut_pages(alloc, request, document, row.as_slice())?;
+    let reach = reach_of_row(alloc, request, document, counted.as_slice(), own.as_slice())?;
+    let papers = turned_papers(alloc, request.turn, counted)?;
     Ok(FoundPapers {
         pages: document.pages(),
         page_paper,
@@ -224,49 +228,53 @@ fn papers_in(
     })
 }
 
-/// The paper for which sheets and cells are made: that of the pages, if a page has it or one that counts as the same,
-/// and else the first page's own.
-fn paper_of_row(request: &ImposeRequest, input: &[u8], own: &[Paper]) -> (Paper, PaperOrigin)
-    ensures { result ≡ paper_for (page_paper_found request.now.page_paper request.now.home_paper input.now) own.now }
+/// The paper for which sheets and cells are made: the document's, if a page that is taken has it or one near to it, and else
+/// that of the first one taken.
+fn paper_of_row(request: &ImposeRequest, input: &[u8], taken: &[Paper]) -> (Paper, PaperOrigin)
+    ensures { result ≡ paper_for (page_paper_found request.now.page_paper request.now.home_paper input.now) taken.now }
 {
     let (page_paper, origin) = paper_of_pages(request, input);
-    match first_instead_of(&page_paper, own) {
+    match first_instead_of(&page_paper, taken) {
         Some(first) => (first, PaperOrigin::FirstPage),
         None => (page_paper, origin),
     }
 }
 
-/// The pages that the paper cuts which is named for them, of those that are taken.
+/// The papers by which pages are placed: each its own. A selection puts pages whose papers count as one on one.
+fn papers_placed(
+    alloc: Global,
+    layout: &Layout,
+    taken: &[Paper],
+    own: &[Paper],
+) -> Result<Vec<Paper>, AllocError>
+    ensures { IfOk result (λ papers. papers.items ≡ placed_in layout.now taken.now own.now) }
+{
+    match layout {
+        Layout::Selection => as_one(alloc, taken, own),
+        _ => {
+            let mut papers = Vec::new(alloc);
+            papers.extend_from_slice(own)?;
+            Ok(papers)
+        }
+    }
+}
+
+/// The pages that the paper cuts which is named for them, of those that the row takes.
 fn cut_pages(
     alloc: Global,
     request: &ImposeRequest,
     document: &Document<'_>,
+    row: &[Option<u32>],
 ) -> Result<Option<Cut>, AllocError>
-    ensures { IfOk result (λ cut. cut ≡ cut_in request.now (bytes_of document.now) document.now) }
+    ensures { IfOk result (λ cut. cut ≡ cut_by_named request.now.page_paper row.now (bytes_of document.now) document.now) }
 {
     let Some(named) = request.page_paper else {
         return Ok(None);
     };
     // A page that names no paper has the one that is named, which doesn't cut it.
     let own = own_papers(alloc, document, None, &named)?;
-    match imposed_row(alloc, document.pages(), &request.choice.as_choice(), None) {
-        Ok(row) => cut_on_row(alloc, row.as_slice(), own.as_slice(), &named),
-        Err(RowError::NoMemory) => Err(AllocError),
-        // There is no such row, which the run will say.
-        Err(_) => Ok(None),
-    }
-}
-
-fn cut_on_row(
-    alloc: Global,
-    row: &[Option<u32>],
-    own: &[Paper],
-    named: &Paper,
-) -> Result<Option<Cut>, AllocError>
-    ensures { IfOk result (λ cut. cut ≡ cut_on (Ok row.now) named.now own.now) }
-{
-    let taken = papers_taken(alloc, row, own, named)?;
-    Ok(cut_by(named, taken.as_slice()))
+    let taken = papers_taken(alloc, row, own.as_slice(), &named)?;
+    Ok(cut_by(&named, taken.as_slice()))
 }
 
 /// The paper for which the guard sets the page size: that of the sheets, and of a selection that of its first sheet.
@@ -343,6 +351,7 @@ pub(crate) fn impose_task<R: Threads + Wait + Sync, W: World>(
     };
     let job = RowJob {
         document: &document,
+        turn: request.turn,
         papers: task.papers.as_slice(),
         asked: Asked {
             choice: request.choice.as_choice(),
@@ -351,7 +360,7 @@ pub(crate) fn impose_task<R: Threads + Wait + Sync, W: World>(
             same_scale: request.spacing.same_scale,
         },
         border: request.border,
-        inset: request.spacing.trim,
+        inset: request.spacing.free.trim,
         marks: request.marks,
     };
     impose_job(rt, alloc, &job, name_of(&request.outfile), world)

@@ -4,9 +4,10 @@ ghost use Rattle.rules.specs.Admissible.{Takes, most_slots};
 ghost use Rattle.rules.specs.Run.{document_of};
 ghost use Rattle.rows.specs.Sewing.{MayBeSewn};
 ghost use Rattle.sheet_text.specs.Jobs.{is_border};
-ghost use Rattle.imposer.specs.Outcomes.{IsNoRefusal};
+ghost use Rattle.planned_runs.specs.Outcomes.{IsNoRefusal};
 ghost use Rattle.imposer.specs.Runs.{IsRefusal, IsUnwritten, request as asked};
-ghost use Rattle.imposer.specs.Workers.{AreOptions, AreWorkers};
+ghost use Rattle.imposer.specs.Options.{AreOptions};
+ghost use Rattle.planned_runs.specs.Workers.{AreWorkers};
 ghost use Rattle.row_runs.specs.BySpec.{ImposesBySpec};
 ghost use Rattle.row_runs.specs.Runs.{Imposes};
 ghost use Rattle.row_runs.specs.Sheets.{MayBeAsked};
@@ -18,22 +19,22 @@ ghost use Rattle.impose_cli.specs.Endings.{IsSaidOf, WritesJob, WritesSheets, Wr
 ghost use Rattle.impose_cli.specs.Abouts.{reported_by};
 ghost use Rattle.impose_said.specs.declared.fault.ImposeFault.TheVariants as faults;
 
+use crate::claims::told_by;
 use crate::laying::is_drawn;
 use crate::left::{Left, closed, stopped};
-use crate::roomy_text::RoomyText;
 use crate::row_task::{asked_fault_of, impose_task, row_task};
 use crate::spec_row::{impose_spec_task, spec_row_task};
 use crate::task::{Task, WORKERS, task_for};
-use crate::told_pages::told_pages;
 use command_words::name_of;
 use dsc::Document;
-use impose_said::{Done, Finished, ImposeFault, PaperOrigin};
+use guard::RoomyText;
+use impose_said::{Done, Finished, ImposeFault, PaperOrigin, Told};
 use impose_words::{ImposeRequest, Layout};
 use imposer::{Job, Open, Options, Report, RunError, run_plan};
 use lengths::{Grains, Paper};
 use pagespec::{Spec, read_spec};
 use papers::{Cut, Reach};
-use row_runs::{PlannedSheets, RowJob, SheetJob, SpecJob};
+use row_runs::{PlannedSheets, RowJob, SheetJob, SpecJob, told_pages};
 use sheet_plan::Plan;
 use std::alloc::Global;
 use std::io::ErrorKind;
@@ -74,7 +75,7 @@ fn run_row<R: Threads + Wait + Sync, W: World>(
     ensures { Runs request.now input.items (W.tells world) result.outcome
         (is_some result.output) (option_and_then W.Output.contents result.output) }
 {
-    let told = told_pages(input.as_slice());
+    let told = told_by(alloc, request, input.as_slice());
     let task = match row_task(alloc, request, input) {
         Ok(task) => task,
         Err(fault) => return stopped(fault, world),
@@ -133,7 +134,7 @@ fn run_spec_row<R: Threads + Wait + Sync, W: World>(
     ensures { Runs request.now input.items (W.tells world) result.outcome
         (is_some result.output) (option_and_then W.Output.contents result.output) }
 {
-    let told = told_pages(input.as_slice());
+    let told = told_by(alloc, request, input.as_slice());
     let task = match spec_row_task(alloc, request, input) {
         Ok(task) => task,
         Err(fault) => return stopped(fault, world),
@@ -192,7 +193,7 @@ fn run_spec<R: Threads + Wait + Sync, W: World>(
     ensures { Runs request.now input.items (W.tells world) result.outcome
         (is_some result.output) (option_and_then W.Output.contents result.output) }
 {
-    let told = told_pages(input.as_slice());
+    let told = told_by(alloc, request, input.as_slice());
     let task = match task_for(alloc, request, input) {
         Ok(task) => task,
         Err(fault) => return stopped(fault, world),
@@ -266,7 +267,7 @@ struct About {
     cut: Option<Cut>,
     reach: Option<Reach>,
     behind: usize,
-    told: Option<usize>,
+    told: Told,
 }
 
 /// What came of a run, with what is reported of it.

@@ -8,11 +8,11 @@ ghost use Rattle.impose_cli.specs.SpecRows.{RefusesNamed, RefusesSpecRowTask, Re
 
 use crate::laying::signing_for;
 use crate::left::{Left, stopped};
-use crate::roomy_text::RoomyText;
 use crate::runs::impose_spec_job;
 use crate::task::{CountedPages, pages_of, paper_of_pages, paper_of_sheets, text_to_impose};
 use command_words::name_of;
 use dsc::Document;
+use guard::RoomyText;
 use impose_said::{ImposeFault, PaperOrigin};
 use impose_words::{ImposeRequest, Layout};
 use imposer::{Report, RunError};

@@ -1,10 +1,69 @@
-//! Pages that a row takes.
-ghost use Rattle.std.specs.Prelude.{◌≡◌, ℕ, ◌<◌, ◌==◌, ◌||◌, if◌then◌else◌, IfOk, length, get_or, false};
+//! The row of pages that is taken.
+ghost use Rattle.std.specs.Prelude.{◌≡◌, ℕ, ◌<◌, ◌≤◌, ◌==◌, ◌||◌, if◌then◌else◌, IfOk, OnOk, None, length, get_or, false};
+ghost use Rattle.std.specs.Prelude.{[], ◌++◌, option_and_then, slice_get};
+ghost use Rattle.made_sheets.specs.Choice.{imposed_row as row_of, most_entries};
+ghost use Rattle.impose_words.specs.Choices.{choice_in};
 ghost use Rattle.impose_cli.specs.Reaches.{is_page, takes};
-ghost use Rattle.impose_cli.specs.RowTasks.{taken_from};
+ghost use Rattle.impose_cli.specs.RowTasks.{or_without, row_or_none, row_papers, taken_from};
 
+use impose_words::PageChoice;
 use lengths::Paper;
+use rows::{RowError, imposed_row};
 use std::alloc::{AllocError, Global};
+
+/// The row of these pages that is imposed, before it is sewn. It is empty if there is no such row, which the run says.
+pub(crate) fn row_of_choice(
+    alloc: Global,
+    pages: u32,
+    choice: &PageChoice,
+) -> Result<Vec<Option<u32>>, AllocError>
+    requires { pages ≤ most_entries }
+    ensures { IfOk result (λ row. row.items ≡ row_or_none (row_of pages (choice_in choice.now) None)) }
+{
+    match imposed_row(alloc, pages, &choice.as_choice(), None) {
+        Ok(row) => Ok(row),
+        Err(RowError::NoMemory) => Err(AllocError),
+        Err(_) => Ok(Vec::new(alloc)),
+    }
+}
+
+/// The papers of a row's pages, in its order.
+pub(crate) fn papers_on_row(
+    alloc: Global,
+    row: &[Option<u32>],
+    own: &[Paper],
+) -> Result<Vec<Paper>, AllocError>
+    ensures { IfOk result (λ papers. papers.items ≡ row_papers row.now own.now) }
+{
+    let mut papers = Vec::new(alloc);
+    for entry in row {
+        push_paper(&mut papers, own, entry)?;
+    }
+    Ok(papers)
+}
+
+/// Appends the paper of an entry's page, if it has one.
+fn push_paper(papers: &mut Vec<Paper>, own: &[Paper], entry: &Option<u32>) -> Result<(), AllocError>
+    ensures { OnOk result (papers.new.items
+        ≡ papers.old.items ++ or_without (option_and_then (slice_get own.now) entry.now) []) }
+{
+    if let Some(paper) = paper_of_entry(own, *entry) {
+        papers.push(paper)?;
+    }
+    Ok(())
+}
+
+fn paper_of_entry(own: &[Paper], entry: Option<u32>) -> Option<Paper>
+    ensures { result ≡ option_and_then (slice_get own.now) entry }
+{
+    match entry {
+        Some(page) => match own.get(page as usize) {
+            Some(paper) => Some(*paper),
+            None => None,
+        },
+        None => None,
+    }
+}
 
 /// The papers of pages, with another one for each page that the row doesn't take.
 pub(crate) fn papers_taken(

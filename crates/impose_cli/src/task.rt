@@ -9,29 +9,28 @@ ghost use Rattle.layouts.specs.Laws.{IsBound};
 ghost use Rattle.layouts.specs.Refusals.{why_not_bound};
 ghost use Rattle.layouts.specs.declared.error.ArrangementError.{ArrangementError};
 ghost use Rattle.impose_said.specs.Faults.{without_memory};
-ghost use Rattle.impose_cli.specs.Faults.{of_document as document_fault, of_other_input, of_unpacked, packing_of as packed_by};
 ghost use Rattle.impose_cli.specs.RowTasks.{has_specification as is_made_for};
 ghost use Rattle.impose_cli.specs.Tasks.{HasBehind, HasPages, IsPlaced, IsTask, IsWritten, page_paper_found};
 ghost use Rattle.impose_cli.specs.Tasks.{sheet_paper_found, taken_text};
 ghost use Rattle.impose_cli.specs.Reaches.{HasReachOver};
 ghost use Rattle.impose_cli.specs.Refusals.{HasNoFault, HasOnePaper, HasOtherPapers, RefusesDocument, RefusesFor, RefusesTask, why_not_specified};
 ghost use Rattle.impose_words.specs.Choices.{is_said as says};
-ghost use Rattle.impose_cli.specs.Unread.{IsPossible, IsSpecification, RefusesSpecification, RefusesUnread};
+ghost use Rattle.impose_cli.specs.Unread.{IsPossible, IsSpecification, RefusesSpecification, RefusesUnread, cells_named};
 ghost use Rattle.impose_words.specs.declared.request.Layout.TheVariants as layout;
 ghost use Rattle.impose_said.specs.declared.fault.ImposeFault.TheVariants as faults;
 
 use crate::laying::{laying_for, papers_for};
 use crate::reach::reach_over;
-use crate::roomy_text::RoomyText;
 use crate::row_task::has_one_paper;
 use dressing::Marks;
-use dsc::{Document, DscError};
-use impose_said::{ImposeFault, Packing, PaperOrigin};
+use dsc::Document;
+use guard::RoomyText;
+use impose_said::{ImposeFault, PaperOrigin, of_document};
 use impose_words::{ImposeRequest, Layout, PageChoice, Spacing};
 use imposer::{Options, RunError, Workers};
 use layouts::{Binding, Cells, Papers, arrange, bind};
 use lengths::Paper;
-use pagespec::{Spec, read_spec, write_spec};
+use pagespec::{Spec, Turn, read_spec, write_spec};
 use papers::{Reach, document_paper};
 use rows::{Signing, auto_sides};
 use std::alloc::{AllocError, Global};
@@ -71,16 +70,16 @@ pub(crate) const WORKERS: Workers = Workers {
 /// specification, and if the paper of the pages is named those of pages on sheets.
 pub fn check_layout(alloc: Global, request: &ImposeRequest) -> Result<(), ImposeFault>
     ensures possible { OnOk result
-        (IsPossible request.now.layout request.now.spacing request.now.page_paper request.now.sheet_paper) }
+        (IsPossible request.now.layout request.now.spacing (cells_named request.now) request.now.sheet_paper) }
     ensures refused { IfErr result
-        (RefusesUnread request.now.layout request.now.spacing request.now.page_paper request.now.sheet_paper) }
+        (RefusesUnread request.now.layout request.now.spacing (cells_named request.now) request.now.sheet_paper) }
 {
     match (&request.layout, &request.page_paper) {
         (Layout::Spec(specs), _) => check_spec(alloc, specs.as_str()),
         (Layout::SpecRow { specs, .. }, _) => check_spec(alloc, specs.as_str()),
         (_, None) => Ok(()),
         (layout, Some(page_paper)) => {
-            let papers = papers_for(layout, request.sheet_paper, *page_paper);
+            let papers = papers_for(request, page_paper);
             match laying_for(layout, &request.spacing, &papers) {
                 Ok(_) => Ok(()),
                 Err(fault) => Err(fault),
@@ -99,15 +98,17 @@ fn check_spec(alloc: Global, specs: &str) -> Result<(), ImposeFault>
     }
 }
 
-/// Whether a specification says which pages there are, and with which marks.
-fn is_said(choice: &PageChoice, marks: Marks) -> bool
-    ensures { result ≡ says choice.now marks }
+/// Whether a specification says which pages there are, how they are turned, and with which marks.
+fn is_said(choice: &PageChoice, turn: Turn, marks: Marks) -> bool
+    ensures { result ≡ says choice.now turn marks }
 {
-    choice.is_whole() && !(marks.fold || marks.cut || marks.ruled || marks.numbers.is_some())
+    choice.is_whole()
+        && turn == Turn::None
+        && !(marks.fold || marks.cut || marks.ruled || marks.numbers.is_some())
 }
 
 /// The specification that says what a request asks for, with what a run by it takes; and the fault if there is none: a
-/// document that is refused, then pages that are chosen or marks, then pages of other papers than the specification would
+/// document that is refused, then pages that are chosen or turned, or marks, then pages of other papers than the specification would
 /// have, then a layout that there isn't, or that no specification says.
 pub fn task_for(
     alloc: Global,
@@ -124,7 +125,7 @@ pub fn task_for(
         Ok(counted) => counted,
         Err(fault) => return Err(fault),
     };
-    if !is_said(&request.choice, request.marks) {
+    if !is_said(&request.choice, request.turn, request.marks) {
         return Err(ImposeFault::NoSpecification);
     }
     let sheet_paper = *paper_of_sheets(&request.sheet_paper, &page_paper);
@@ -257,65 +258,6 @@ pub(crate) fn pages_of(
             reach,
         }),
         Err(_) => Err(ImposeFault::no_memory()),
-    }
-}
-
-/// A document's refusal. What is empty, a PDF, compressed or a job for a printer is called so; and what is too long by
-/// itself, as a guard may make it so later.
-pub(crate) fn of_document(error: DscError, input: &[u8]) -> ImposeFault
-    ensures { result ≡ document_fault error input.now }
-{
-    match error {
-        DscError::NotPostScript => not_postscript(input),
-        DscError::TooLong => ImposeFault::TooLong,
-        error => ImposeFault::Run(RunError::from(error)),
-    }
-}
-
-fn not_postscript(input: &[u8]) -> ImposeFault
-    ensures { result ≡ of_other_input input.now }
-{
-    if input.is_empty() {
-        ImposeFault::NoInput
-    } else if input.starts_with(b"%PDF-") {
-        ImposeFault::Pdf
-    } else {
-        match packing_of(input) {
-            Some(packing) => ImposeFault::Compressed(packing),
-            None => unpacked_fault(input),
-        }
-    }
-}
-
-/// The same of one that is neither empty, a PDF nor compressed.
-fn unpacked_fault(input: &[u8]) -> ImposeFault
-    ensures { result ≡ of_unpacked input.now }
-{
-    if input.starts_with(b"\x1b%-12345X") {
-        ImposeFault::JobLanguage
-    } else if input.starts_with(b"\xc5\xd0\xd3\xc6") {
-        ImposeFault::DosEps
-    } else if input.starts_with(b"\xff\xfe") || input.starts_with(b"\xfe\xff") {
-        ImposeFault::Utf16
-    } else {
-        ImposeFault::Run(RunError::Document(DscError::NotPostScript))
-    }
-}
-
-/// By what an input is compressed, as its first bytes show.
-fn packing_of(input: &[u8]) -> Option<Packing>
-    ensures { result ≡ packed_by input.now }
-{
-    if input.starts_with(b"\x1f\x8b") {
-        Some(Packing::Gzip)
-    } else if input.starts_with(b"BZh") {
-        Some(Packing::Bzip2)
-    } else if input.starts_with(b"\xfd7zXZ\0") {
-        Some(Packing::Xz)
-    } else if input.starts_with(b"PK\x03\x04") {
-        Some(Packing::Zip)
-    } else {
-        None
     }
 }
 

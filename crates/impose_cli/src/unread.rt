@@ -6,7 +6,9 @@ ghost use Rattle.impose_cli.specs.Unread.{AreRanges, MayBeRead, RefusesRanges, R
 use crate::task::check_layout;
 use command_words::name_of;
 use impose_said::{IdleOption, ImposeFault};
-use impose_words::{ImposeRequest, Layout, PageChoice, Product, Spacing};
+use impose_words::{ImposeRequest, Layout, PageChoice, Product};
+use layouts::Free;
+use lengths::Grains;
 use rows::{RowError, read_row};
 use std::alloc::Global;
 
@@ -66,7 +68,7 @@ fn idle_option(request: &ImposeRequest) -> Option<IdleOption>
     if keeps_papers(&request.layout) && request.sheet_paper.is_some() {
         Some(IdleOption::Sheet)
     } else if request.marks.cut
-        && (is_cut_outside(&request.layout) && !has_margin(&request.spacing))
+        && (is_cut_outside(&request.layout) && !has_margins(&request.spacing.free))
     {
         Some(IdleOption::CutMarks)
     } else {
@@ -94,12 +96,20 @@ fn is_cut_outside(layout: &Layout) -> bool
     }
 }
 
-/// Whether there is a margin, of half the gap at least.
-fn has_margin(spacing: &Spacing) -> bool
-    ensures { result ≡ meaning.has_margin spacing.now }
+/// Whether there are margins, of half the gap at least.
+fn has_margins(free: &Free) -> bool
+    ensures { result ≡ meaning.has_margins free.now }
 {
-    let margin = spacing.margin.get();
-    0 < margin && spacing.gap.get() <= margin + margin
+    let beside = has_room(free.left, free.across) && has_room(free.right, free.across);
+    let above = has_room(free.bottom, free.up) && has_room(free.top, free.up);
+    beside && above
+}
+
+fn has_room(margin: Grains, gap: Grains) -> bool
+    ensures { result ≡ meaning.has_room margin gap }
+{
+    let margin = margin.get();
+    0 < margin && gap.get() <= margin + margin
 }
 
 /// Whether pages are named by ranges. What is no range in a document without pages is none in any other.

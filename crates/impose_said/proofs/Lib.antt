@@ -1,3 +1,5 @@
 pub mod Lines
 pub mod Points
+pub mod Names
 pub mod Examples
+mod InputExamples

@@ -1,4 +1,5 @@
--- Read in this order: faults; with which status the program ends; what is said of its end.
+-- Read in this order: faults, also of inputs; with which status the program ends; what is said of its end.
 pub mod Faults
+pub mod Inputs
 pub mod Statuses
 pub mod Said

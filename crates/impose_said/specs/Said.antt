@@ -1,7 +1,8 @@
 -- What is said on standard error of how the program ended: which lines, in which order, and what is in those of a finished run. What
 -- a fault's message is no word here says, nor what is said of words that the command doesn't take.
 use Rattle.std.specs.Prelude.{⊤, ◌≡◌, ◌==◌, ◌⊎◌, ◌++◌, if◌then◌else◌, ℕ, List, [], Bool, true, false, Option, Some, None, Result, Ok, Err}
-use Rattle.std.specs.Prelude.{◌+◌, ◌-◌, ◌*◌, ◌/◌, ℤ, pos, int_le, codes, decimal, nat_eq, ◌||◌, ◌&&◌, option_map, string_bytes}
+use Rattle.std.specs.Prelude.{◌+◌, ◌-◌, ◌*◌, ◌/◌, ℤ, pos, int_le, codes, decimal, nat_eq, nat_le, nat_lt, ◌||◌, ◌&&◌, option_map, string_bytes}
+use Rattle.std.specs.Prelude.{length, map, min, take}
 use Rattle.std.specs.List.{ends_with}
 use Rattle.std.specs.IoError.{error_kind}
 use Rattle.std.specs.declared.io.ErrorKind.{ErrorKind}
@@ -17,7 +18,7 @@ use Rattle.papers.specs.declared.media.Comment.TheVariants as comment
 use Rattle.papers.specs.declared.boxes.Edges.{Edges}
 use Rattle.papers.specs.declared.cuts.Cut.{Cut}
 use Rattle.papers.specs.declared.reach.Reach.{Reach}
-use Rattle.imposer.specs.declared.outcome.Report.{Report}
+use Rattle.planned_runs.specs.declared.outcome.Report.{Report}
 use Rattle.impose_said.specs.Statuses.{words_status}
 use Rattle.impose_words.specs.declared.fault.RequestFault.TheVariants as command
 use Rattle.impose_said.specs.declared.fault.ImposeFault.{ImposeFault}
@@ -41,7 +42,7 @@ origin_text (origin.ByComment comment.DocumentMedia) = codes "by its %%DocumentM
 origin_text (origin.ByComment comment.DocumentPaperSizes) = codes "by its %%DocumentPaperSizes"
 origin_text (origin.ByComment comment.BoundingBox) = codes "by its %%BoundingBox"
 origin_text origin.AtHome = codes "the usual one here, as the document names none"
-origin_text origin.FirstPage = codes "that of page 1, as no page has the document's"
+origin_text origin.FirstPage = codes "that of the first page taken, as none has the document's"
 
 -- both sides of a paper, and how far something reaches, in points
 abbrev pub sides_text : (width height : ℤ) → List ℕ
@@ -94,6 +95,23 @@ sheets_text (Some sheet) page_paper =
 abbrev pub report_text : Finished → ImposeRequest → List ℕ
 report_text finished r = counts_text finished.report r ++ (codes "; pages of " ++ (size_text finished.page_paper
     ++ (codes " pt, " ++ (origin_text finished.origin ++ sheets_text r.sheet_paper finished.page_paper))))
+
+-- a byte of a name as it is shown: what isn't a printable one of ASCII is a question mark
+abbrev pub shown_byte : ℕ → ℕ
+shown_byte b = if nat_le 32 b && nat_le b 126 then b else 63
+
+-- as much of a name as is shown
+abbrev pub front_of : (name : List ℕ) → List ℕ
+front_of name = take (min (length name) 100) name
+
+-- a name as it is shown, with two dots if there is more
+abbrev pub shown_name : (name : List ℕ) → List ℕ
+shown_name name = map shown_byte (front_of name) ++ (if nat_lt 100 (length name) then codes ".." else [])
+
+-- of a document whose paper has a name that isn't known
+abbrev pub unknown_text : (name : Option (List ℕ)) → Option (List ℕ)
+unknown_text None = None
+unknown_text (Some name) = Some (codes "the document names an unknown paper, " ++ shown_name name)
 
 abbrev pub some_pages_text : (pages first last : ℕ) → List ℕ
 some_pages_text pages first last = decimal pages ++ (codes " pages from " ++ (decimal first ++ (codes " to " ++ decimal last)))
@@ -186,22 +204,25 @@ AddsLine message before after = (text : List ℕ) × IsLineOf message text × (a
 
 -- ---- all of it
 
--- Of a finished run six lines are said, in this order: the report, then that pages are cut, that pages reach beyond their
--- papers, that pages follow the trailer, that not as many were found as the document says, and that the output is no PDF.
+-- Of a finished run seven lines are said, in this order: the report, then that the document names an unknown paper, that pages
+-- are cut, that pages reach beyond their papers, that pages follow the trailer, that not as many were found as the document
+-- says, and that the output is no PDF.
 pub record SaysLines (finished : Finished) (r : ImposeRequest) (text : List ℕ) : Type 0 where
   pub report : List ℕ
+  pub unknown : List ℕ
   pub cut : List ℕ
   pub reach : List ℕ
   pub behind : List ℕ
   pub told : List ℕ
   pub note : List ℕ
   pub reports : IsLineOf (Some (report_text finished r)) report
+  pub names_unknown : IsLineOf (unknown_text (option_map (λ name. name.items) finished.told.unknown)) unknown
   pub cuts : IsLineOf (cut_text finished.cut finished.page_paper) cut
   pub reaches : IsLineOf (reach_text finished.reach) reach
   pub tells_behind : IsLineOf (behind_text finished.behind) behind
-  pub tells_count : IsLineOf (told_text finished.told finished.report.pages) told
+  pub tells_count : IsLineOf (told_text finished.told.pages finished.report.pages) told
   pub notes : MaySay (IsNote (option_map string_bytes r.outfile)) note
-  pub in_order : text ≡ report ++ (cut ++ (reach ++ (behind ++ (told ++ note))))
+  pub in_order : text ≡ report ++ (unknown ++ (cut ++ (reach ++ (behind ++ (told ++ note)))))
 
 -- a quiet request says nothing
 abbrev pub SaysUnless : (quiet : Bool) → Finished → ImposeRequest → (text : List ℕ) → Type 0

@@ -12,12 +12,21 @@ pub enum PaperOrigin {
     ByComment(Comment),
     /// Nothing names it, and so it is the paper at home.
     AtHome,
-    /// It is the first page's own, as no page has the document's.
+    /// It is that of the first page that is taken, as none has the document's.
     FirstPage,
 }
 
+/// What the document says of itself, as far as it is reported.
+#[derive(Drop)]
+pub struct Told {
+    /// How many pages it has, if it says so.
+    pub pages: Option<usize>,
+    /// The name of its paper, if that isn't known.
+    pub unknown: Option<Vec<u8>>,
+}
+
 /// How a request was carried out.
-#[derive(Clone, Copy)]
+#[derive(Drop)]
 pub struct Finished {
     pub report: Report,
     /// The paper of the pages.
@@ -30,12 +39,12 @@ pub struct Finished {
     pub reach: Option<Reach>,
     /// How many pages follow the document's trailer, which aren't imposed.
     pub behind: usize,
-    /// How many pages the document says that it has, if it does.
-    pub told: Option<usize>,
+    /// What the document says of itself.
+    pub told: Told,
 }
 
 /// What was done.
-#[derive(Clone, Copy)]
+#[derive(Drop)]
 pub enum Done {
     /// The pages were imposed.
     Imposed(Finished),

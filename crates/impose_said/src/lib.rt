@@ -1,9 +1,9 @@
 //! What impose says of how it ended, and with which exit status.
 #![tactic(auto)]
 
-mod caret;
 mod fault;
 mod finished;
+mod inputs;
 mod messages;
 mod mistakes;
 mod reports;
@@ -11,8 +11,11 @@ mod said;
 mod shown;
 
 pub use fault::{IdleOption, ImposeFault, Packing};
-pub use finished::{Done, Finished, PaperOrigin};
+pub use finished::{Done, Finished, PaperOrigin, Told};
+pub use inputs::of_document;
 pub use messages::{command_text, fault_status, fault_text};
 pub use mistakes::words_text;
-pub use reports::{behind_text, cut_text, note_text, reach_text, report_text, told_text};
+pub use reports::{
+    behind_text, cut_text, note_text, reach_text, report_text, told_text, unknown_text,
+};
 pub use said::text_said;

@@ -2,12 +2,11 @@
 ghost use Rattle.std.specs.Prelude.{◌≡◌};
 ghost use Rattle.impose_said.specs.Statuses.{fault_status as status_of_fault, words_status as status_of_words};
 
-use crate::caret::{caret_below, group_place, item_place, large_place, range_place};
 use crate::fault::{IdleOption, ImposeFault, Packing};
 use crate::mistakes::looks_like_file;
 use crate::shown::shown_word;
 use clap::error::ErrorKind;
-use command_words::name_of;
+use command_words::{caret_below, group_place, item_place, large_place, name_of, range_place};
 use dsc::DscError;
 use impose_words::{
     GridCommand, ImposeRequest, Layout, Opt, PageChoice, Product, ProductOption, RequestFault,
@@ -112,7 +111,7 @@ pub fn fault_text(
 
 const NO_SPECIFICATION: &str =
     "--print-spec: no specification says a selection, a zine, cards, a stack, notes or a poster, nor --pages, --odd, --even, --reverse, \
-    --creep, --marks or --numbers; leave it out";
+    --turn, --creep, --marks or --numbers; leave it out";
 
 const SEVERAL_PAPERS: &str =
     "--print-spec: a specification has one paper, and not all pages have the document's: name one by --paper, or leave \
@@ -144,7 +143,7 @@ fn unread_text(
             "{name} is empty; name a file with a PostScript document, or pipe one in"
         ),
         ImposeFault::Pdf => format!(in alloc;
-            "{name} is a PDF, not PostScript; use: pdftops in.pdf - | impose .. -"
+            "{name} is a PDF, not PostScript; use: impose-pdf .. in.pdf out.pdf, or pdftops in.pdf - | impose .. -"
         ),
         ImposeFault::Compressed(packing) => {
             let unpacked = unpacked_by(*packing);
@@ -275,16 +274,23 @@ fn value_text(alloc: Global, option: Opt, text: &str) -> Result<String, AllocErr
     match option {
         Opt::Paper | Opt::Sheet => paper_text(alloc, option.id(), text),
         Opt::Border => length_text(alloc, option.id(), text, "1pt, .5mm or .02in"),
-        Opt::Margin | Opt::Gap | Opt::Trim | Opt::Creep | Opt::Overlap => {
+        Opt::Trim | Opt::Creep | Opt::Overlap => {
             length_text(alloc, option.id(), text, "5mm, .2in or 14pt")
         }
+        Opt::Margin => length_text(
+            alloc,
+            option.id(),
+            text,
+            "5mm, SIDES,ENDS, TOP,RIGHT,BOTTOM,LEFT, or left=2cm,top=1cm",
+        ),
+        Opt::Gap => length_text(alloc, option.id(), text, "5mm, or 5mm,1cm"),
         Opt::Numbers => length_text(alloc, option.id(), text, "10pt or 4mm, up to 72pt"),
         Opt::Count(command) => cells_text(alloc, command, text),
         Opt::Signature => signature_text(alloc, text),
         Opt::Order | Opt::Turned | Opt::Scale | Opt::BookletMarks | Opt::CutMarks => {
             word_text(alloc, option, text)
         }
-        Opt::NumbersFrom => word_text(alloc, option, text),
+        Opt::Turn | Opt::NumbersFrom => word_text(alloc, option, text),
         Opt::Outfile => outfile_text(alloc, text),
         Opt::Preview => picture_text(alloc, text),
     }
@@ -409,6 +415,9 @@ fn word_text(alloc: Global, option: Opt, text: &str) -> Result<String, AllocErro
     match option {
         Opt::Order => format!(in alloc;
             "unknown order '{text}' after --order: give right-down, down-right, left-down or down-left"
+        ),
+        Opt::Turn => format!(in alloc;
+            "unknown turn '{text}' after --turn: give left, right or half"
         ),
         Opt::Turned => format!(in alloc;
             "unknown side '{text}' after --turned: give left or right"
@@ -589,6 +598,9 @@ fn layout_message(error: &ArrangementError) -> &'static str {
         }
         ArrangementError::NothingLeftOfPage =>
             "nothing is left of a page that is trimmed so: trim less",
+        ArrangementError::UnevenMargins => {
+            "margins are alike along opposite edges of what is folded or printed on both sides, and along all edges of a poster"
+        }
         ArrangementError::FoldOnLongEdge => fold_message(None),
         ArrangementError::NoRoom => "margins and gaps leave no room for pages: take smaller ones",
         ArrangementError::ScaleOutOfRange => {

@@ -159,9 +159,7 @@ fn tip_on_command(word: &str) -> Option<&'static str> {
 /// What other programs have a command for.
 fn tip_on_wish(word: &str) -> Option<&'static str> {
     if word == "rotate" || word == "turn" {
-        Some(
-            "pages are turned by a specification, as to the left by: impose spec 'L(1h,0)' --sheet a4-landscape in.ps out.ps",
-        )
+        Some(TIP_ON_TURNS)
     } else if word == "split" || word == "cut" {
         Some(
             "some of the pages are taken by: impose select 1-3 in.ps out.ps; each page is put over several sheets by: \
@@ -248,12 +246,17 @@ fn tip_on_option(command: &str, word: &str) -> Option<&'static str> {
         Some("--plan prints which page is where on each sheet, and imposes nothing")
     } else if word == "--landscape" {
         Some("a sheet on its side is named so, as in: --sheet a4-landscape")
+    } else if word == "--rotate" {
+        Some(TIP_ON_TURNS)
     } else if word == "--version" {
         Some("the version is printed without a command: impose --version")
     } else {
         tip_on_order(command, word)
     }
 }
+
+const TIP_ON_TURNS: &str =
+    "pages are turned by --turn, as to the left by: impose select 1- --turn left in.ps out.ps";
 
 /// What only some of the commands have.
 fn tip_on_order(command: &str, word: &str) -> Option<&'static str> {
@@ -268,6 +271,10 @@ fn tip_on_order(command: &str, word: &str) -> Option<&'static str> {
     } else if word == "--marks" {
         Some(
             "nup, cards, stack and booklet have marks, as in: impose cards 8 --marks cut in.ps out.ps",
+        )
+    } else if word == "--turn" {
+        Some(
+            "a specification turns pages itself, as to the left by: impose spec 'L(1h,0)' --sheet a4-landscape in.ps out.ps",
         )
     } else if word == "--numbers" && (command == "poster" || command == "spec") {
         Some(

@@ -1,5 +1,5 @@
 //! What is said of a finished run.
-ghost use Rattle.std.specs.Prelude.{◌≡◌, ◌+◌, ◌/◌, IfOk, if◌then◌else◌, [], option_map, string_bytes};
+ghost use Rattle.std.specs.Prelude.{◌≡◌, ◌+◌, ◌/◌, IfOk, if◌then◌else◌, [], codes, length, map, nat_lt, option_map, string_bytes};
 ghost use Rattle.std.specs.Str.{IsAscii};
 ghost use Rattle.rules.specs.Numbers.{points_text as text_of_points};
 ghost use Rattle.impose_said.specs.Said.{IsNote, behind_text as text_of_behind};
@@ -12,6 +12,7 @@ ghost use Rattle.impose_said.specs.Said.{is_same as are_same, report_text as tex
 ghost use Rattle.impose_said.specs.Said.{sides_text as text_of_sides, size_text as text_of_size};
 ghost use Rattle.impose_said.specs.Said.{found_text as text_of_found, pages_text as text_of_pages, told_text as text_of_told};
 ghost use Rattle.impose_said.specs.Said.{is_pdf_name as names_pdf, origin_text as text_of_origin};
+ghost use Rattle.impose_said.specs.Said.{front_of as front, shown_byte as byte_shown, shown_name as text_of_name, unknown_text as text_of_unknown};
 
 use crate::finished::{Finished, PaperOrigin};
 use crate::shown::shown_word;
@@ -176,6 +177,69 @@ fn ascii_text(bytes: Vec<u8>) -> String
     }
 }
 
+/// What is said of a document whose paper has a name that isn't known.
+pub fn unknown_text(alloc: Global, done: &Finished) -> Result<Option<String>, AllocError>
+    ensures { IfOk result (λ text. option_map string_bytes text
+        ≡ text_of_unknown (option_map (λ name. name.items) done.now.told.unknown)) }
+{
+    let Some(name) = &done.told.unknown else {
+        return Ok(None);
+    };
+    let name = shown_name(alloc, name.as_slice())?;
+    let name = name.as_str();
+    Ok(Some(format!(in alloc; "the document names an unknown paper, {name}")?))
+}
+
+/// How many bytes of a name are shown.
+const MOST_OF_A_NAME: usize = 100;
+
+/// A name as it is shown: its front, and two dots if there is more.
+fn shown_name(alloc: Global, name: &[u8]) -> Result<String, AllocError>
+    ensures { IfOk result (λ text. string_bytes text ≡ text_of_name name.now) }
+{
+    let front = printable_text(alloc, front_of(name))?;
+    let front = front.as_str();
+    let dots = dots_after(name);
+    format!(in alloc; "{front}{dots}")
+}
+
+/// These bytes, with a question mark for each that isn't a printable one of ASCII.
+fn printable_text(alloc: Global, bytes: &[u8]) -> Result<String, AllocError>
+    ensures { IfOk result (λ text. string_bytes text ≡ map byte_shown bytes.now) }
+{
+    let mut shown = Vec::new(alloc);
+    for b in bytes {
+        shown.push(shown_byte(*b))?;
+    }
+    Ok(ascii_text(shown))
+}
+
+/// As much of a name as is shown.
+fn front_of(name: &[u8]) -> &[u8]
+    ensures { result.now ≡ front name.now }
+{
+    let (front, _) = name.split_at(name.len().min(MOST_OF_A_NAME));
+    front
+}
+
+/// Two dots, if a name has more than is shown.
+fn dots_after(name: &[u8]) -> &'static str
+    ensures { result.now ≡ (if nat_lt 100 (length name.now) then codes ".." else []) }
+{
+    if name.len() > MOST_OF_A_NAME {
+        ".."
+    } else {
+        ""
+    }
+}
+
+/// A byte of a name: what isn't a printable one of ASCII is a question mark.
+fn shown_byte(b: u8) -> u8
+    ensures { result ≡ byte_shown b }
+{
+    if 32 <= b && b <= 126 { b } else { b'?' }
+}
+
 /// What is said of pages that the paper cuts which is named for them.
 pub fn cut_text(alloc: Global, done: &Finished) -> Result<Option<String>, AllocError>
     ensures { IfOk result (λ text. option_map string_bytes text ≡ text_of_cut done.now.cut done.now.page_paper) }
@@ -299,9 +363,9 @@ pub fn behind_text(alloc: Global, done: &Finished) -> Result<Option<String>, All
 
 /// What is said if the document says another number of its pages than were found.
 pub fn told_text(alloc: Global, done: &Finished) -> Result<Option<String>, AllocError>
-    ensures { IfOk result (λ text. option_map string_bytes text ≡ text_of_told done.now.told done.now.report.pages) }
+    ensures { IfOk result (λ text. option_map string_bytes text ≡ text_of_told done.now.told.pages done.now.report.pages) }
 {
-    let Some(told) = done.told else {
+    let Some(told) = done.told.pages else {
         return Ok(None);
     };
     let found = done.report.pages as usize;
@@ -365,6 +429,6 @@ fn origin_text(origin: PaperOrigin) -> &'static str
         PaperOrigin::ByComment(Comment::DocumentPaperSizes) => "by its %%DocumentPaperSizes",
         PaperOrigin::ByComment(Comment::BoundingBox) => "by its %%BoundingBox",
         PaperOrigin::AtHome => "the usual one here, as the document names none",
-        PaperOrigin::FirstPage => "that of page 1, as no page has the document's",
+        PaperOrigin::FirstPage => "that of the first page taken, as none has the document's",
     }
 }

@@ -6,7 +6,9 @@ use crate::fault::ImposeFault;
 use crate::finished::{Done, Finished};
 use crate::messages::fault_text;
 use crate::mistakes::words_text;
-use crate::reports::{behind_text, cut_text, note_text, reach_text, report_text, told_text};
+use crate::reports::{
+    behind_text, cut_text, note_text, reach_text, report_text, told_text, unknown_text,
+};
 use clap::Error as WordsError;
 use impose_words::{ImposeRequest, RequestFault};
 use std::alloc::Global;
@@ -44,6 +46,7 @@ fn text_of_run(alloc: Global, done: &Finished, request: &ImposeRequest) -> Strin
         return said;
     }
     add_line(alloc, &mut said, report_text(alloc, done, request).ok());
+    add_line(alloc, &mut said, unknown_text(alloc, done).unwrap_or(None));
     add_line(alloc, &mut said, cut_text(alloc, done).unwrap_or(None));
     add_line(alloc, &mut said, reach_text(alloc, done).unwrap_or(None));
     add_line(alloc, &mut said, behind_text(alloc, done).unwrap_or(None));

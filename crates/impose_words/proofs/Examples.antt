@@ -3,7 +3,7 @@ use Rattle.std.proofs.Common.{◌≡◌, true, false, [], ◌∷◌, refl, map}
 use Rattle.std.specs.Prelude.{codes, negsuc, pos, None, Some}
 use Rattle.lengths.specs.Reading.{number_at}
 use Rattle.rules.specs.Papers.{points}
-use Rattle.layouts.specs.Grids.{plain_order}
+use Rattle.layouts.specs.Grids.{nothing_free, plain_order}
 use Rattle.layouts.specs.declared.arrangement.Cells.TheVariants.{AtLeast, Exactly}
 use Rattle.layouts.specs.declared.arrangement.Order.{Order}
 use Rattle.layouts.specs.declared.arrangement.Run.{Run}
@@ -12,6 +12,7 @@ use Rattle.layouts.specs.declared.arrangement.Turned.TheVariants.{Upright, Left,
 use Rattle.rows.specs.declared.choices.Part.TheVariants.{All, Odd, Even}
 use Rattle.rows.specs.declared.sewing.Signing.TheVariants.{OfSides, Auto}
 use Rattle.papers.specs.Names.{papers}
+use Rattle.impose_words.specs.Edges.{gaps_named, margins_named}
 use Rattle.impose_words.specs.Signatures.{signing_named}
 use Rattle.impose_words.specs.Sizes.{border_with_unit, length_with_unit, number_alone, size_named}
 use Rattle.impose_words.specs.Arranging.{booklet_marks_named, cells_named, cut_marks_named, noted_alone, number_size_named, run_named, turned_named}
@@ -41,6 +42,37 @@ no_lengths = refl
 borders : map border_with_unit (codes "1pt" ∷ codes "0" ∷ codes "1" ∷ codes "-1pt" ∷ []) ≡ Some (Some (pos 127_000_000_000)) ∷ Some None ∷ None ∷ None ∷ []
 unfolding number_at
 borders = refl
+
+-- What is kept free: one length, several, or edges by their names.
+
+one_margin : margins_named (codes "1in") ≡ Some (record nothing_free { left = pos 9_144_000_000_000; right = pos 9_144_000_000_000; bottom = pos 9_144_000_000_000; top = pos 9_144_000_000_000 })
+unfolding number_at
+one_margin = refl
+
+two_margins : margins_named (codes "1in,2in") ≡ Some (record nothing_free { left = pos 9_144_000_000_000; right = pos 9_144_000_000_000; bottom = pos 18_288_000_000_000; top = pos 18_288_000_000_000 })
+unfolding number_at
+two_margins = refl
+
+four_margins : margins_named (codes "1in,2in,3in,0") ≡ Some (record nothing_free { left = pos 0; right = pos 18_288_000_000_000; bottom = pos 27_432_000_000_000; top = pos 9_144_000_000_000 })
+unfolding number_at
+four_margins = refl
+
+some_edges : margins_named (codes "left=1in,top=2in") ≡ Some (record nothing_free { left = pos 9_144_000_000_000; right = pos 0; bottom = pos 0; top = pos 18_288_000_000_000 })
+unfolding number_at
+some_edges = refl
+
+all_edges : margins_named (codes "bottom=1in,left=0,right=2in,top=3in") ≡ Some (record nothing_free { left = pos 0; right = pos 18_288_000_000_000; bottom = pos 9_144_000_000_000; top = pos 27_432_000_000_000 })
+unfolding number_at
+all_edges = refl
+
+no_margin : map margins_named (codes "1" ∷ codes "1in," ∷ codes "1in,2in,3in" ∷ codes "1in,2in,3in,4in,5in" ∷ codes "left=1" ∷ codes "middle=1in" ∷ codes "left=1in,2in" ∷ []) ≡ None ∷ None ∷ None ∷ None ∷ None ∷ None ∷ None ∷ []
+unfolding number_at
+no_margin = refl
+
+gaps : map gaps_named (codes "1in" ∷ codes "1in,0" ∷ codes "1in,2in,3in" ∷ codes ",1in" ∷ [])
+    ≡ Some (record nothing_free { across = pos 9_144_000_000_000; up = pos 9_144_000_000_000 }) ∷ Some (record nothing_free { across = pos 9_144_000_000_000; up = pos 0 }) ∷ None ∷ None ∷ []
+unfolding number_at
+gaps = refl
 
 -- Files and flags.
 

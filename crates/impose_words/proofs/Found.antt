@@ -11,12 +11,15 @@ use Rattle.impose_words.specs.Faults.{wrong_lines, wrong_numbers, wrong_order, w
 use Rattle.impose_words.specs.Words.{ChoosesBy, Entered, Enters, Reads, ReadsSizes, SpacesBy, file_asked, given, has_flag, is_outfile}
 use Rattle.impose_words.specs.Arranging.{numbering, with_numbers}
 use Rattle.impose_words.specs.Words.{first_found, has_numbers, lines_found, number_size_found, numbers_found}
-use Rattle.impose_words.specs.Words.{length_found, marks_found, order_by, order_found, run_found, scale_found, turned_found}
+use Rattle.impose_words.specs.Words.{gaps_found, length_found, margins_found, marks_found, order_by, order_found, run_found, scale_found, turned_found}
+use Rattle.layouts.specs.declared.arrangement.Free.{Free}
+use Rattle.impose_words.specs.Edges.{spaced}
 use Rattle.impose_words.specs.declared.request.Layout.{Layout}
 use Rattle.impose_words.specs.declared.request.Layout.TheVariants as layout
 use Rattle.impose_words.specs.declared.request.PageChoice.{PageChoice}
 use Rattle.impose_words.specs.declared.request.ImposeRequest.{ImposeRequest}
 use Rattle.impose_words.specs.declared.request.Spacing.{Spacing}
+use Rattle.pagespec.specs.declared.item.Turn.{Turn}
 use Rattle.dressing.specs.declared.numbers.Numbering.{Numbering}
 use Rattle.dressing.specs.declared.strokes.Marks.{Marks}
 use Rattle.layouts.specs.declared.arrangement.Order.{Order}
@@ -109,8 +112,8 @@ says_next found f a b is h = subst (λ o. Says found f (first o b)) (sym is) h
 
 -- ---- nothing is wrong with what was read
 
-pub sizes_right : (found : List Row) (page_paper sheet_paper : Option Paper) (border : Option ℤ) → ReadsSizes found page_paper sheet_paper border → wrong_sizes found ≡ None
-sizes_right found page_paper sheet_paper border r = past _ r.page_paper_is (past _ r.sheet_paper_is (past _ r.border_is refl))
+pub sizes_right : (found : List Row) (page_paper sheet_paper : Option Paper) (border : Option ℤ) (turn : Turn) → ReadsSizes found page_paper sheet_paper border turn → wrong_sizes found ≡ None
+sizes_right found page_paper sheet_paper border turn r = past _ r.page_paper_is (past _ r.sheet_paper_is (past _ r.border_is (past _ r.turn_is refl)))
 
 -- an order that is read has parts that are
 order_parts : (run : Option (Run × Bool)) (rtl : Bool) (turned : Option Turned) (order : Order) (w v : Wrong) → order_by run rtl turned ≡ Some order
@@ -122,18 +125,27 @@ order_parts (Some run) rtl (Some turned) order w v e = refl
 pub order_right : (found : List Row) (order : Order) → order_found found ≡ Some order → wrong_order found ≡ None
 order_right found order e = order_parts (run_found found) (has_flag (codes "rtl") found) (turned_found found) order _ _ e
 
+-- so has what is kept free
+free_parts : (margins gaps : Option Free) (trim : Option ℤ) (free : Free) (w v u : Wrong) {e : Option Wrong} → spaced margins gaps trim ≡ Some free → e ≡ None
+    → (if is_some margins then (if is_some gaps then (if is_some trim then e else Some w) else Some v) else Some u) ≡ None
+free_parts None gaps trim free w v u s h = cc
+free_parts (Some margins) None trim free w v u s h = cc
+free_parts (Some margins) (Some gaps) None free w v u s h = cc
+free_parts (Some margins) (Some gaps) (Some trim) free w v u s h = h
+
 pub spacing_right : (keeps : Bool) (found : List Row) (s : Spacing) → SpacesBy keeps found s → wrong_spacing keeps found ≡ None
 spacing_right false found s k = refl
 spacing_right true found s k =
-    next (past _ k.0 (past _ k.1 (past _ k.2 (past _ k.3 (past _ k.4 refl))))) (next (order_right found s.order k.5) (past _ k.6 refl))
+    next (free_parts (margins_found found) (gaps_found found) (length_found opt.Trim found) s.free _ _ _ k.0 (past _ k.1 (past _ k.2 refl)))
+    (next (order_right found s.order k.3) (past _ k.4 refl))
 
 -- the scale alone is wrong
-pub scale_wrong : (keeps : Bool) (found : List Row) (margin gap trim creep overlap : ℤ) (order : Order) → true ≡ keeps
-    → length_found opt.Margin found ≡ Some margin → length_found opt.Gap found ≡ Some gap → length_found opt.Trim found ≡ Some trim
+pub scale_wrong : (keeps : Bool) (found : List Row) (margins gaps : Free) (trim creep overlap : ℤ) (order : Order) → true ≡ keeps
+    → margins_found found ≡ Some margins → gaps_found found ≡ Some gaps → length_found opt.Trim found ≡ Some trim
     → length_found opt.Creep found ≡ Some creep → length_found opt.Overlap found ≡ Some overlap → order_found found ≡ Some order → scale_found found ≡ None
     → wrong_spacing keeps found ≡ Some (NoValue opt.Scale)
-scale_wrong false found margin gap trim creep overlap order keeps m g t c o r s = absurd (true≢false keeps)
-scale_wrong true found margin gap trim creep overlap order keeps m g t c o r s =
+scale_wrong false found margins gaps trim creep overlap order keeps m g t c o r s = absurd (true≢false keeps)
+scale_wrong true found margins gaps trim creep overlap order keeps m g t c o r s =
     next (past _ m (past _ g (past _ t (past _ c (past _ o refl))))) (next (order_right found order r) (stop _ _ s))
 
 pub lines_right : (l : Layout) (found : List Row) (marks : Marks) → lines_found l found ≡ Some marks → wrong_lines l found ≡ None
@@ -199,6 +211,7 @@ reads_at_home name found r home h = record {
   page_paper = h.page_paper;
   sheet_paper = h.sheet_paper;
   border = h.border;
+  turn = h.turn;
   marks = h.marks;
   guarded = h.guarded;
   product = h.product;

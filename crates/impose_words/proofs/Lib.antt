@@ -1,3 +1,4 @@
 pub mod Commands
+pub mod Cutting
 pub mod Found
 pub mod Examples

@@ -15,6 +15,8 @@ use Rattle.layouts.specs.declared.arrangement.Run.{Run}
 use Rattle.layouts.specs.declared.arrangement.Run.TheVariants.{Rows, Columns}
 use Rattle.layouts.specs.declared.arrangement.Turned.{Turned}
 use Rattle.layouts.specs.declared.arrangement.Turned.TheVariants.{Left, Right}
+use Rattle.pagespec.specs.declared.item.Turn.{Turn}
+use Rattle.pagespec.specs.declared.item.Turn.TheVariants as turn
 
 -- ---- cells: a number of them, or columns and rows with an x between them
 
@@ -69,6 +71,13 @@ run_named text =
     else (if bytes_eq text (codes "down-right") then Some (Columns, false)
     else (if bytes_eq text (codes "left-down") then Some (Rows, true)
     else (if bytes_eq text (codes "down-left") then Some (Columns, true) else None)))
+
+-- how pages are turned before they are placed (RULES, 13.7)
+abbrev pub turn_named : List ℕ → Option Turn
+turn_named text =
+    if bytes_eq text (codes "left") then Some turn.Left
+    else (if bytes_eq text (codes "right") then Some turn.Right
+    else (if bytes_eq text (codes "half") then Some turn.Half else None))
 
 -- to which side one turns the pages to read them
 abbrev pub turned_named : List ℕ → Option Turned

@@ -5,6 +5,8 @@ use Rattle.rows.specs.Choices.{part_named}
 use Rattle.rows.specs.declared.choices.Part.{Part}
 use Rattle.rows.specs.declared.choices.Part.TheVariants.{All, Odd, Even}
 use Rattle.dressing.specs.declared.strokes.Marks.{Marks}
+use Rattle.pagespec.specs.declared.item.Turn.{Turn}
+use Rattle.pagespec.specs.declared.item.Turn.TheVariants as turned
 use Rattle.impose_words.specs.declared.request.PageChoice.{PageChoice}
 
 -- as the row's definition has it
@@ -20,7 +22,13 @@ is_all Even = false
 abbrev pub is_whole : PageChoice → Bool
 is_whole c = is_none c.ranges && is_all c.part && not c.backwards
 
--- a specification says which pages there are, and with which marks: all, in their order, and with none
+-- no page is turned
+abbrev pub is_unturned : Turn → Bool
+is_unturned turned.None = true
+is_unturned other = false
+
+-- a specification says which pages there are, and with which marks: all, in their order, unturned, and with none
 -- (RULES, 16, step 8)
-abbrev pub is_said : PageChoice → Marks → Bool
-is_said choice marks = is_whole choice && not (marks.fold || marks.cut || marks.ruled || is_some marks.numbers)
+abbrev pub is_said : PageChoice → Turn → Marks → Bool
+is_said choice turn marks =
+    is_whole choice && is_unturned turn && not (marks.fold || marks.cut || marks.ruled || is_some marks.numbers)

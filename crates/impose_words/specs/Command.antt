@@ -50,13 +50,13 @@ common_rules =
 abbrev pub subcommand_app : (name : Text) → (own shared : List Rule) → App
 subcommand_app name own shared = fold with_rule (fold with_rule (fold with_rule (new_app name) own) shared) common_rules
 
--- what reports on the sheets in place of them
+-- how pages are turned, and what reports on the sheets in place of them
 abbrev pub look_rules : List Rule
-look_rules = flag_rule (codes "plan") ∷ option_rule (codes "preview") ∷ []
+look_rules = option_rule (codes "turn") ∷ flag_rule (codes "plan") ∷ option_rule (codes "preview") ∷ []
 
 -- the same, and which of the pages
 abbrev pub laid_rules : List Rule
-laid_rules = flag_rule (codes "plan") ∷ option_rule (codes "preview") ∷ option_rule (codes "pages") ∷ []
+laid_rules = option_rule (codes "turn") ∷ flag_rule (codes "plan") ∷ option_rule (codes "preview") ∷ option_rule (codes "pages") ∷ []
 
 -- a number of pages, or columns and rows
 abbrev pub count_rule : Rule

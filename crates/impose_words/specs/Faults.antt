@@ -8,8 +8,8 @@ use Rattle.impose_words.specs.Command.{impose}
 use Rattle.impose_words.specs.Products.{is_picture_file, lays_rows}
 use Rattle.impose_words.specs.Spacings.{keeps_room}
 use Rattle.impose_words.specs.Words.{AsksFor, Entered, asked, border_found, cells_found, file_asked, first_found, given, has_numbers}
-use Rattle.impose_words.specs.Words.{is_outfile, length_found, number_size_found, part_found, picture_found, ranges_id, row_asked, run_found, scale_found, signing_found, size_found}
-use Rattle.impose_words.specs.Words.{turned_found, two_found}
+use Rattle.impose_words.specs.Words.{gaps_found, is_outfile, margins_found, length_found, number_size_found, part_found, picture_found, ranges_id, row_asked, run_found, scale_found, signing_found, size_found}
+use Rattle.impose_words.specs.Words.{turn_found, turned_found, two_found}
 use Rattle.impose_words.specs.declared.fault.RequestFault.{RequestFault}
 use Rattle.impose_words.specs.declared.fault.RequestFault.TheVariants as fault
 use Rattle.impose_words.specs.declared.fault.GridCommand.{GridCommand}
@@ -45,10 +45,11 @@ abbrev pub is_value : Opt → (found : List Row) → Bool
 is_value opt.Paper found = is_some (size_found opt.Paper found)
 is_value opt.Sheet found = is_some (size_found opt.Sheet found)
 is_value opt.Border found = is_some (border_found found)
+is_value opt.Turn found = is_some (turn_found found)
 is_value (opt.Count command) found = is_some (cells_found command found)
 is_value opt.Signature found = is_some (signing_found found)
-is_value opt.Margin found = is_some (length_found opt.Margin found)
-is_value opt.Gap found = is_some (length_found opt.Gap found)
+is_value opt.Margin found = is_some (margins_found found)
+is_value opt.Gap found = is_some (gaps_found found)
 is_value opt.Trim found = is_some (length_found opt.Trim found)
 is_value opt.Creep found = is_some (length_found opt.Creep found)
 is_value opt.Overlap found = is_some (length_found opt.Overlap found)
@@ -69,9 +70,9 @@ wrong_among (option ∷ options) found = if is_value option found then wrong_amo
 
 -- ---- in their order
 
--- the papers and the border
+-- the papers, the border and the turn
 abbrev pub wrong_sizes : (found : List Row) → Option Wrong
-wrong_sizes found = wrong_among (opt.Paper ∷ opt.Sheet ∷ opt.Border ∷ []) found
+wrong_sizes found = wrong_among (opt.Paper ∷ opt.Sheet ∷ opt.Border ∷ opt.Turn ∷ []) found
 
 -- the argument isn't there, or this is wrong
 abbrev pub missing_or : (id : Text) → (found : List Row) → Option Wrong → Option Wrong
@@ -158,7 +159,7 @@ Says found fault.NoMemory wrong = ⊤
 Says found (fault.Words error) wrong = ⊥
 Says found fault.NoText wrong = ⊥
 
--- a refusal of what was found: of the papers, the border or what asks for a layout; or of what comes after the layout that they ask
+-- a refusal of what was found: of the papers, the border, the turn or what asks for a layout; or of what comes after the layout that they ask
 -- for
 abbrev pub RefusesFound : (name : Text) → (found : List Row) → RequestFault → Type 0
 RefusesFound name found f = Says found f (first (wrong_sizes found) (wrong_layout name found))

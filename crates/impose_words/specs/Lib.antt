@@ -1,7 +1,8 @@
--- Read in this order: the command and its values, sizes, signatures, cells, choices of pages, what is kept free and what is made
+-- Read in this order: the command and its values, sizes, edges, signatures, cells, choices of pages, what is kept free and what is made
 -- among them; what the words ask for; what is refused.
 pub mod Command
 pub mod Sizes
+pub mod Edges
 pub mod Signatures
 pub mod Arranging
 pub mod Choices

@@ -1,7 +1,7 @@
 -- What is kept free on the sheets of a request, how far leaves creep and sheets overlap, in which order one reads sheets, and
 -- at which scale the pages are.
 use Rattle.std.specs.Prelude.{ℕ, ℤ, pos, int_lt, Bool, true, false, if◌then◌else◌, None}
-use Rattle.layouts.specs.Grids.{leaf_order, plain, plain_order}
+use Rattle.layouts.specs.Grids.{leaf_order, nothing_free, plain, plain_order}
 use Rattle.layouts.specs.declared.arrangement.Arrangement.{Arrangement}
 use Rattle.layouts.specs.declared.arrangement.Binding.{Binding}
 use Rattle.layouts.specs.declared.arrangement.Cells.{Cells}
@@ -30,9 +30,7 @@ keeps_room (layout.SpecRow specs signing) = false
 abbrev pub nothing_kept : Spacing
 nothing_kept =
     record {
-      margin = pos 0;
-      gap = pos 0;
-      trim = pos 0;
+      free = nothing_free;
       creep = pos 0;
       overlap = pos 0;
       order = plain_order;
@@ -42,14 +40,7 @@ nothing_kept =
 
 -- these cells
 abbrev pub arrangement_in : Spacing → Cells → Arrangement
-arrangement_in s cells = record {
-  cells = cells;
-  margin = s.margin;
-  gap = s.gap;
-  order = s.order;
-  scale = s.scale;
-  trim = s.trim;
-}
+arrangement_in s cells = record { cells = cells; free = s.free; order = s.order; scale = s.scale }
 
 -- from the top down, and then in the next column
 abbrev pub down_right : Order
@@ -60,20 +51,17 @@ down_right = record { run = Columns; right_to_left = false; turned = Upright }
 abbrev pub notes_in : Spacing → (pages : ℕ) → Arrangement
 notes_in s pages = record (arrangement_in s (Exactly 2 pages)) { order = down_right }
 
--- the gap, or else the least length: a zine's rows are rounded each in its own way
+-- a gap, or else the least length: a zine's rows are rounded each in its own way
 abbrev pub some_gap : (gap : ℤ) → ℤ
 some_gap gap = if int_lt (pos 0) gap then gap else pos 1
 
 -- two rows of four cells, that one reads from the left, or from the right (RULES, 14.4)
 abbrev pub zine_in : Spacing → Arrangement
-zine_in s = record (plain (Exactly 4 2)) { margin = s.margin; gap = some_gap s.gap; order = leaf_order s.order.right_to_left }
+zine_in s = record (plain (Exactly 4 2)) {
+  free = record s.free { across = some_gap s.free.across; up = some_gap s.free.up; trim = pos 0 };
+  order = leaf_order s.order.right_to_left;
+}
 
 -- the halves of a sheet (RULES, 14.1)
 abbrev pub binding_in : Spacing → (long_edge : Bool) → Binding
-binding_in s long_edge = record {
-  margin = s.margin;
-  gap = s.gap;
-  right_to_left = s.order.right_to_left;
-  trim = s.trim;
-  long_edge = long_edge;
-}
+binding_in s long_edge = record { free = s.free; right_to_left = s.order.right_to_left; long_edge = long_edge }

@@ -13,6 +13,8 @@ use Rattle.layouts.specs.declared.arrangement.Run.{Run}
 use Rattle.layouts.specs.declared.arrangement.Run.TheVariants.{Rows}
 use Rattle.layouts.specs.declared.arrangement.Turned.{Turned}
 use Rattle.layouts.specs.declared.arrangement.Turned.TheVariants.{Upright}
+use Rattle.pagespec.specs.declared.item.Turn.{Turn}
+use Rattle.pagespec.specs.declared.item.Turn.TheVariants as turn
 use Rattle.rows.specs.declared.sewing.Signing.{Signing}
 use Rattle.rows.specs.declared.sewing.Signing.TheVariants.{InOne}
 use Rattle.rows.specs.declared.choices.Part.{Part}
@@ -20,8 +22,11 @@ use Rattle.rows.specs.declared.choices.Part.TheVariants.{All, Odd, Even}
 use Rattle.dressing.specs.declared.numbers.Numbering.{Numbering}
 use Rattle.dressing.specs.declared.strokes.Marks.{Marks}
 use Rattle.impose_words.specs.Arranging.{booklet_marks_named, cells_named, cut_marks_named, exact_alone, lines_alone, no_marks, noted_alone}
-use Rattle.impose_words.specs.Arranging.{number_size_named, numbering, run_named, turned_named, with_numbers}
+use Rattle.impose_words.specs.Arranging.{number_size_named, numbering, run_named, turn_named, turned_named, with_numbers}
 use Rattle.impose_words.specs.Choices.{is_whole}
+use Rattle.layouts.specs.Grids.{nothing_free}
+use Rattle.layouts.specs.declared.arrangement.Free.{Free}
+use Rattle.impose_words.specs.Edges.{gaps_named, margins_named, spaced}
 use Rattle.impose_words.specs.declared.request.PageChoice.{PageChoice}
 use Rattle.impose_words.specs.Command.{impose}
 use Rattle.impose_words.specs.Signatures.{signing_named}
@@ -51,6 +56,7 @@ abbrev pub opt_id : Opt → Text
 opt_id opt.Paper = codes "paper"
 opt_id opt.Sheet = codes "sheet"
 opt_id opt.Border = codes "border"
+opt_id opt.Turn = codes "turn"
 opt_id (opt.Count command) = codes "count"
 opt_id opt.Signature = codes "signature"
 opt_id opt.Margin = codes "margin"
@@ -83,8 +89,21 @@ size_found option found = asked None (λ text. option_map (λ size. Some size) (
 abbrev pub border_found : (found : List Row) → Option (Option ℤ)
 border_found found = asked None border_with_unit (given opt.Border found)
 
+abbrev pub turn_found : (found : List Row) → Option Turn
+turn_found found = asked turn.None turn_named (given opt.Turn found)
+
 abbrev pub length_found : Opt → (found : List Row) → Option ℤ
 length_found option found = asked (pos 0) length_with_unit (given option found)
+
+-- what is kept free along edges, and between cells
+abbrev pub margins_found : (found : List Row) → Option Free
+margins_found found = asked nothing_free margins_named (given opt.Margin found)
+
+abbrev pub gaps_found : (found : List Row) → Option Free
+gaps_found found = asked nothing_free gaps_named (given opt.Gap found)
+
+abbrev pub free_found : (found : List Row) → Option Free
+free_found found = spaced (margins_found found) (gaps_found found) (length_found opt.Trim found)
 
 -- how leaves are sewn, if anything is asked for
 abbrev pub signing_found : (found : List Row) → Option (Option Signing)
@@ -253,8 +272,7 @@ ChoosesBy (Some id) found choice = (first_of id found ≡ option_map string_byte
 -- keeps room; or nothing is
 abbrev pub SpacesBy : (keeps : Bool) → (found : List Row) → Spacing → Type 0
 SpacesBy false found s = s ≡ nothing_kept
-SpacesBy true found s = (length_found opt.Margin found ≡ Some s.margin) × (length_found opt.Gap found ≡ Some s.gap)
-    × (length_found opt.Trim found ≡ Some s.trim) × (length_found opt.Creep found ≡ Some s.creep)
+SpacesBy true found s = (free_found found ≡ Some s.free) × (length_found opt.Creep found ≡ Some s.creep)
     × (length_found opt.Overlap found ≡ Some s.overlap) × (order_found found ≡ Some s.order) × (scale_found found ≡ Some s.scale)
     × (has_flag (codes "same-scale") found ≡ s.same_scale)
 
@@ -270,11 +288,12 @@ pub record NamesPicture (name : Text) (p : Product) : Type 0 where
   pub pictured : Some (file_of name) ≡ picture_in p
   pub is_picture : is_picture_file (file_of name) ≡ true
 
--- these papers and this border are asked for
-pub record ReadsSizes (found : List Row) (page_paper sheet_paper : Option Paper) (border : Option ℤ) : Type 0 where
+-- these papers, this border and this turn are asked for
+pub record ReadsSizes (found : List Row) (page_paper sheet_paper : Option Paper) (border : Option ℤ) (turn : Turn) : Type 0 where
   pub page_paper_is : size_found opt.Paper found ≡ Some page_paper
   pub sheet_paper_is : size_found opt.Sheet found ≡ Some sheet_paper
   pub border_is : border_found found ≡ Some border
+  pub turn_is : turn_found found ≡ Some turn
 
 -- the request is what was found (RULES, 11 to 15)
 pub record Reads (name : Text) (found : List Row) (r : ImposeRequest) : Type 0 where
@@ -284,6 +303,7 @@ pub record Reads (name : Text) (found : List Row) (r : ImposeRequest) : Type 0 w
   pub page_paper : size_found opt.Paper found ≡ Some r.page_paper
   pub sheet_paper : size_found opt.Sheet found ≡ Some r.sheet_paper
   pub border : border_found found ≡ Some r.border
+  pub turn : turn_found found ≡ Some r.turn
   pub marks : marks_found r.layout found ≡ Some r.marks
   pub guarded : r.is_guarded ≡ not (has_flag (codes "unguarded") found)
   pub product : MakesBy (lays_rows r.layout) found r.product

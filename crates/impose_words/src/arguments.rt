@@ -28,7 +28,7 @@ Examples:
   impose poster 2x2 in.ps out.ps      each page over four sheets, to be glued together
   impose select 9-3,12- in.ps out.ps  pages 9 down to 3, then 12 to the last
   impose booklet --pages 3-14 in.ps out.ps
-  pdftops in.pdf - | impose nup 4 --sheet a3 - | ps2pdf - out.pdf";
+  impose-pdf booklet in.pdf out.pdf   a booklet of a PDF";
 
 /// The command with its subcommands.
 pub(crate) fn command<'a>(alloc: Global) -> Result<Command<'a>, AllocError>
@@ -101,7 +101,13 @@ fn stack<'a>(alloc: Global) -> Result<Command<'a>, AllocError>
         "Several pages on each sheet: cut the pile, lay its parts on one another, and the pages run on";
     let help = "How many pages, from 1 to 1024, or columns and rows, as 2x4";
     let duplex = flag(alloc, "duplex").help("For sheets that are printed on both sides");
-    let laid = vec![in alloc; duplex, plan(alloc), preview(alloc), pages(alloc)]?;
+    let laid = vec![in alloc;
+        duplex,
+        turn(alloc),
+        plan(alloc),
+        preview(alloc),
+        pages(alloc),
+    ]?;
     subcommand(alloc, "stack", about, cell_args(alloc, help)?, laid)
 }
 
@@ -203,7 +209,7 @@ fn select<'a>(alloc: Global) -> Result<Command<'a>, AllocError>
         numbers(alloc),
         numbers_from(alloc),
     ]?;
-    let look = vec![in alloc; plan(alloc), preview(alloc)]?;
+    let look = vec![in alloc; turn(alloc), plan(alloc), preview(alloc)]?;
     subcommand(alloc, "select", about, own, look)
 }
 
@@ -240,7 +246,10 @@ fn cell_args<'a>(alloc: Global, help: &'a str) -> Result<Vec<Arg<'a>>, AllocErro
         ),
         same_scale(alloc),
         margin(alloc),
-        gap(alloc, "Keep so much free between pages"),
+        gap(
+            alloc,
+            "Keep so much free between pages, as 5mm, or 5mm,1cm side by side and one above another"
+        ),
         trim(alloc),
         marks(alloc, "Draw short lines where sheets are cut: cut"),
         numbers(alloc),
@@ -254,7 +263,7 @@ fn cell_args<'a>(alloc: Global, help: &'a str) -> Result<Vec<Arg<'a>>, AllocErro
 fn laid_args<'a>(alloc: Global) -> Result<Vec<Arg<'a>>, AllocError>
     ensures { IfOk result (λ v. map rule_of v.items ≡ laid_rules) }
 {
-    Ok(vec![in alloc; plan(alloc), preview(alloc), pages(alloc)]?)
+    Ok(vec![in alloc; turn(alloc), plan(alloc), preview(alloc), pages(alloc)]?)
 }
 
 fn count<'a>(alloc: Global, help: &'a str) -> Arg<'a>
@@ -288,13 +297,15 @@ fn creep<'a>(alloc: Global) -> Arg<'a>
 fn margin<'a>(alloc: Global) -> Arg<'a>
     ensures { rule_of result ≡ option_rule (codes "margin") }
 {
-    option(alloc, "margin", "LENGTH").help("Keep so much free along each edge of a sheet, as 5mm")
+    option(alloc, "margin", "LENGTHS").help(
+        "Keep so much free along the edges of a sheet: 5mm, SIDES,ENDS, TOP,RIGHT,BOTTOM,LEFT, or left=2cm",
+    )
 }
 
 fn gap<'a>(alloc: Global, help: &'a str) -> Arg<'a>
     ensures { rule_of result ≡ option_rule (codes "gap") }
 {
-    option(alloc, "gap", "LENGTH").help(help)
+    option(alloc, "gap", "LENGTHS").help(help)
 }
 
 fn trim<'a>(alloc: Global) -> Arg<'a>
@@ -347,6 +358,14 @@ fn reverse<'a>(alloc: Global) -> Arg<'a>
     ensures { rule_of result ≡ flag_rule (codes "reverse") }
 {
     flag(alloc, "reverse").help("The last of these first")
+}
+
+fn turn<'a>(alloc: Global) -> Arg<'a>
+    ensures { rule_of result ≡ option_rule (codes "turn") }
+{
+    option(alloc, "turn", "SIDE").help(
+        "Turn each page before it is placed: to the left, to the right, or by half",
+    )
 }
 
 fn plan<'a>(alloc: Global) -> Arg<'a>

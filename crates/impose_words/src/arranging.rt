@@ -6,6 +6,7 @@ use crate::sizes::length_with_unit;
 use dressing::Marks;
 use layouts::{Cells, Run, Turned};
 use lengths::{Grains, read_digits};
+use pagespec::Turn;
 
 /// How many cells a sheet has at most.
 const MOST_CELLS: u64 = 1_024;
@@ -97,6 +98,21 @@ pub fn run_named(text: &str) -> Option<(Run, bool)>
         Some((Run::Rows, true))
     } else if text == "down-left" {
         Some((Run::Columns, true))
+    } else {
+        None
+    }
+}
+
+/// How the text says that pages are turned.
+pub fn turn_named(text: &str) -> Option<Turn>
+    ensures { result ≡ meaning.turn_named text.now }
+{
+    if text == "left" {
+        Some(Turn::Left)
+    } else if text == "right" {
+        Some(Turn::Right)
+    } else if text == "half" {
+        Some(Turn::Half)
     } else {
         None
     }

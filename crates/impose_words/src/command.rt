@@ -3,10 +3,11 @@ ghost use Rattle.std.specs.Prelude.{◌≡◌, [], ◌∷◌, IfOk, IfErr, None,
 ghost use Rattle.clap.specs.Words.{Text, fault_of, first_of, found_of, is_simple, rows_of, subcommand_of, subcommand_rows_of};
 ghost use Rattle.impose_words.specs.Command.{impose};
 ghost use Rattle.impose_words.specs.Words.{AsksFor, Entered, ReadsSizes, Reads, border_found, file_asked, given, is_outfile};
+ghost use Rattle.impose_words.specs.Words.{gaps_found, margins_found};
 ghost use Rattle.impose_words.specs.Words.{ChoosesBy, MakesBy, NamesPicture, SpacesBy, length_found, ranges_id, part_by as of_both};
 ghost use Rattle.impose_words.specs.Words.{cells_in as cells_of_command, command_name, order_found, run_found, scale_found};
 ghost use Rattle.impose_words.specs.Words.{first_found, has_numbers, lines_found, number_size_found, numbers_found};
-ghost use Rattle.impose_words.specs.Words.{marks_found, row_asked, signing_found, size_found, turned_found};
+ghost use Rattle.impose_words.specs.Words.{marks_found, row_asked, signing_found, size_found, turn_found, turned_found};
 ghost use Rattle.impose_words.specs.Products.{is_plan, is_specification, lays_rows, picture_in};
 ghost use Rattle.impose_words.specs.Spacings.{keeps_room};
 ghost use Rattle.impose_words.specs.Faults.{NoValue, ParseRefuses, Wrong, Refuses, RefusesFound, Says, wrong_among, wrong_cells, wrong_choice};
@@ -17,8 +18,9 @@ ghost use Rattle.impose_words.specs.declared.fault.Opt.TheVariants as opt;
 use crate::arguments::command;
 use crate::arranging::{
     NO_MARKS, booklet_marks_named, cells_named, cut_marks_named, exact_cells, noted_cells,
-    number_size_named, run_named, turned_named,
+    number_size_named, run_named, turn_named, turned_named,
 };
+use crate::edges::{gaps_named, margins_named};
 use crate::fault::{GridCommand, Opt, ProductOption, RequestFault};
 use crate::request::{ImposeRequest, Layout, PageChoice, Product, Spacing};
 use crate::signature::{number_in, signing_named};
@@ -27,8 +29,9 @@ use clap::ArgMatches;
 use clap::error::ErrorKind;
 use command_words::{is_set, owned, text_of};
 use dressing::{Marks, Numbering};
-use layouts::{Cells, Order, Run, Turned};
+use layouts::{Cells, Free, Order, Run, Turned};
 use lengths::{Grains, Number, Paper, a4};
+use pagespec::Turn;
 use rows::{Part, Signing};
 use std::alloc::Global;
 
@@ -37,8 +40,8 @@ use std::alloc::Global;
 ///
 /// Words that the command doesn't take are `Words`, with clap's message, and so is a call for help or for the version.
 /// Among words that it takes, the first of these is the fault: a paper that there isn't, after `--paper`, then after
-/// `--sheet`; a border that is no length, or below zero; cells that a sheet doesn't take, or a signature that leaves can't have;
-/// a margin, a gap, a trim, a creep or an overlap that is no length; an order that there isn't, no side after `--turned`, no number after
+/// `--sheet`; a border that is no length, or below zero; a turn that there isn't; cells that a sheet doesn't take, or a signature that leaves can't have;
+/// margins or gaps that aren't lengths as these options take them; a trim, a creep or an overlap that is no length; an order that there isn't, no side after `--turned`, no number after
 /// `--scale`; marks that sheets of the layout don't have; no size after `--numbers`, or no first number; odd and even entries together; an OUTFILE that begins with a minus sign; two of
 /// `--print-spec`, `--plan` and `--preview`; a picture whose file isn't named as an SVG is.
 #[tactic(auto, using(crate::proofs::Commands::impose_is_simple))]
@@ -106,7 +109,7 @@ fn request_for(
     layout: Layout,
     found: &ArgMatches<'_>,
 ) -> Result<ImposeRequest, RequestFault>
-    requires sizes { ReadsSizes (rows_of (found_of found.now)) sizes.page_paper sizes.sheet_paper sizes.border }
+    requires sizes { ReadsSizes (rows_of (found_of found.now)) sizes.page_paper sizes.sheet_paper sizes.border sizes.turn }
     ensures read { (name : Text) → AsksFor name (rows_of (found_of found.now)) layout
         → IfOk result (Reads name (rows_of (found_of found.now))) }
     ensures refused { IfErr result (λ f. Says (rows_of (found_of found.now)) f (wrong_for layout (rows_of (found_of found.now)))) }
@@ -136,6 +139,7 @@ fn request_for(
         layout,
         spacing,
         choice,
+        turn: sizes.turn,
         page_paper: sizes.page_paper,
         home_paper: a4(),
         sheet_paper: sizes.sheet_paper,
@@ -149,18 +153,19 @@ fn request_for(
     })
 }
 
-/// The papers and the border that are asked for.
+/// The papers, the border and the turn that are asked for.
 #[derive(Clone, Copy, Drop)]
 struct Sizes {
     page_paper: Option<Paper>,
     sheet_paper: Option<Paper>,
     border: Option<Grains>,
+    turn: Turn,
 }
 
 /// The first of them that names none is at fault.
 fn sizes_of(found: &ArgMatches<'_>) -> Result<Sizes, Opt>
     ensures read { IfOk result (λ sizes.
-        ReadsSizes (rows_of (found_of found.now)) sizes.page_paper sizes.sheet_paper sizes.border) }
+        ReadsSizes (rows_of (found_of found.now)) sizes.page_paper sizes.sheet_paper sizes.border sizes.turn) }
     ensures refused { IfErr result (λ option. wrong_sizes (rows_of (found_of found.now)) ≡ Some (NoValue option)) }
 {
     let Some(page_paper) = paper_of(found, Opt::Paper) else {
@@ -172,10 +177,14 @@ fn sizes_of(found: &ArgMatches<'_>) -> Result<Sizes, Opt>
     let Some(border) = border_of(found) else {
         return Err(Opt::Border);
     };
+    let Some(turn) = turn_of(found) else {
+        return Err(Opt::Turn);
+    };
     Ok(Sizes {
         page_paper,
         sheet_paper,
         border,
+        turn,
     })
 }
 
@@ -196,6 +205,16 @@ fn border_of(found: &ArgMatches<'_>) -> Option<Option<Grains>>
     match text_of(found, "border") {
         None => Some(None),
         Some(text) => border_with_unit(text),
+    }
+}
+
+/// How pages are turned.
+fn turn_of(found: &ArgMatches<'_>) -> Option<Turn>
+    ensures { result ≡ turn_found (rows_of (found_of found.now)) }
+{
+    match text_of(found, "turn") {
+        None => Some(Turn::None),
+        Some(text) => turn_named(text),
     }
 }
 
@@ -353,10 +372,10 @@ fn spacing_of(layout: &Layout, found: &ArgMatches<'_>) -> Result<Spacing, Opt>
     if !layout.keeps_room() {
         return Ok(Spacing::none());
     }
-    let Some(margin) = length_of(found, Opt::Margin) else {
+    let Some(margins) = margins_of(found) else {
         return Err(Opt::Margin);
     };
-    let Some(gap) = length_of(found, Opt::Gap) else {
+    let Some(gaps) = gaps_of(found) else {
         return Err(Opt::Gap);
     };
     let Some(trim) = length_of(found, Opt::Trim) else {
@@ -376,9 +395,12 @@ fn spacing_of(layout: &Layout, found: &ArgMatches<'_>) -> Result<Spacing, Opt>
         return Err(Opt::Scale);
     };
     Ok(Spacing {
-        margin,
-        gap,
-        trim,
+        free: Free {
+            across: gaps.across,
+            up: gaps.up,
+            trim,
+            ..margins
+        },
         creep,
         overlap,
         order,
@@ -387,12 +409,32 @@ fn spacing_of(layout: &Layout, found: &ArgMatches<'_>) -> Result<Spacing, Opt>
     })
 }
 
+/// What is kept free along the edges of a sheet; nothing if `--margin` isn't there.
+fn margins_of(found: &ArgMatches<'_>) -> Option<Free>
+    ensures { result ≡ margins_found (rows_of (found_of found.now)) }
+{
+    match text_of(found, Opt::Margin.id()) {
+        None => Some(Free::none()),
+        Some(text) => margins_named(text),
+    }
+}
+
+/// What is kept free between cells; nothing if `--gap` isn't there.
+fn gaps_of(found: &ArgMatches<'_>) -> Option<Free>
+    ensures { result ≡ gaps_found (rows_of (found_of found.now)) }
+{
+    match text_of(found, Opt::Gap.id()) {
+        None => Some(Free::none()),
+        Some(text) => gaps_named(text),
+    }
+}
+
 /// The length that an option names; 0 if it isn't there.
 fn length_of(found: &ArgMatches<'_>, option: Opt) -> Option<Grains>
     ensures { result ≡ length_found option (rows_of (found_of found.now)) }
 {
     match text_of(found, option.id()) {
-        None => Some(Spacing::none().margin),
+        None => Some(Free::none().trim),
         Some(text) => length_with_unit(text),
     }
 }

@@ -18,6 +18,7 @@ pub enum Opt {
     Paper,
     Sheet,
     Border,
+    Turn,
     /// What comes after such a command.
     Count(GridCommand),
     Signature,
@@ -51,6 +52,7 @@ impl Opt {
             Opt::Paper => "paper",
             Opt::Sheet => "sheet",
             Opt::Border => "border",
+            Opt::Turn => "turn",
             Opt::Count(_) => "count",
             Opt::Signature => "signature",
             Opt::Margin => "margin",

@@ -4,6 +4,7 @@
 mod arguments;
 mod arranging;
 mod command;
+mod edges;
 mod fault;
 mod request;
 mod signature;

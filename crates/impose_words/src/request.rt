@@ -7,8 +7,9 @@ ghost use Rattle.impose_words.specs.Spacings.{arrangement_in, binding_in, keeps_
 ghost use Rattle.impose_words.specs.Words.{has_numbers};
 
 use dressing::Marks;
-use layouts::{Arrangement, Binding, Cells, Order, Run, Turned};
+use layouts::{Arrangement, Binding, Cells, Free, Order, Run, Turned};
 use lengths::{Grains, Number, Paper};
+use pagespec::Turn;
 use rows::{Choice, Part, Signing};
 
 /// How the pages are laid out.
@@ -91,12 +92,7 @@ impl Layout {
 /// What is kept free on sheets, how far leaves creep, in which order one reads sheets, and at which scale the pages are.
 #[derive(Clone, Copy, Debug, PartialEq, Eq)]
 pub struct Spacing {
-    /// Kept free along each edge of a sheet.
-    pub margin: Grains,
-    /// Kept free between pages; in a booklet half of it on each side of the fold.
-    pub gap: Grains,
-    /// A page counts as smaller by this along each of its sides; what is there may reach over its neighbours.
-    pub trim: Grains,
+    pub free: Free,
     /// Pages of a booklet's innermost leaves are moved towards the fold by this.
     pub creep: Grains,
     /// Neighbouring sheets of a poster overlap by this.
@@ -115,12 +111,11 @@ impl Spacing {
         ensures { result ≡ nothing_kept }
     {
         let plain = Arrangement::plain(Cells::AtLeast(1));
+        let free = plain.free;
         Spacing {
-            margin: plain.margin,
-            gap: plain.gap,
-            trim: plain.trim,
-            creep: plain.trim,
-            overlap: plain.trim,
+            free,
+            creep: free.trim,
+            overlap: free.trim,
             order: plain.order,
             scale: plain.scale,
             same_scale: false,
@@ -133,11 +128,9 @@ impl Spacing {
     {
         Arrangement {
             cells,
-            margin: self.margin,
-            gap: self.gap,
+            free: self.free,
             order: self.order,
             scale: self.scale,
-            trim: self.trim,
         }
     }
 
@@ -173,11 +166,17 @@ impl Spacing {
             right_to_left: self.order.right_to_left,
             turned: Turned::Upright,
         };
+        let plain = Arrangement::plain(cells);
+        let free = Free {
+            across: some_gap(self.free.across),
+            up: some_gap(self.free.up),
+            trim: plain.free.trim,
+            ..self.free
+        };
         Arrangement {
+            free,
             order,
-            margin: self.margin,
-            gap: some_gap(self.gap),
-            ..Arrangement::plain(cells)
+            ..plain
         }
     }
 
@@ -186,16 +185,14 @@ impl Spacing {
         ensures { result ≡ binding_in self.now long_edge }
     {
         Binding {
-            margin: self.margin,
-            gap: self.gap,
+            free: self.free,
             right_to_left: self.order.right_to_left,
-            trim: self.trim,
             long_edge,
         }
     }
 }
 
-/// The gap, or else the least length.
+/// A gap, or else the least length.
 fn some_gap(gap: Grains) -> Grains
     ensures { result ≡ some_gap_of gap }
 {
@@ -280,6 +277,8 @@ pub struct ImposeRequest {
     pub spacing: Spacing,
     /// Which pages are laid out; those of a specification are all.
     pub choice: PageChoice,
+    /// How each page is turned before it is placed.
+    pub turn: Turn,
     /// The paper of the pages, if it is named.
     pub page_paper: Option<Paper>,
     /// The paper of the pages if neither the words nor the document name one: the usual one where the program runs.

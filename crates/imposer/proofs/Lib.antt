@@ -1,13 +1,5 @@
 pub mod Examples
-pub mod Made
 pub mod Refusals
-pub mod Held
-pub mod ByRight
-mod RoomForAll
-pub mod OwnPages
-pub mod TextBytes
-pub mod Texts
-pub mod Holdings
-pub mod HandedOn
-pub mod Ends
+pub mod Answered
 pub mod RunStatuses
+pub mod Piped

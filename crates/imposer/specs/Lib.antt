@@ -1,14 +1,6 @@
--- Read in this order. Who asks what a run answers may stop after `Runs`, and who asks what `gather` leaves after
--- `Gathering`; what follows is of the workers. What a delivery and an imposition call is in the crate `run_steps`.
-pub mod Workers
+-- Read in this order. What is said of threads is in the crate `planned_runs`, and of a delivery and an imposition in `run_steps`.
+pub mod Options
 pub mod Faults
-pub mod Outcomes
 pub mod Statuses
 pub mod Runs
-pub mod Gathering
-pub mod Tokens
-pub mod Rooms
-pub mod Windows
-pub mod Joining
-pub mod Desks
-pub mod Promises
+pub mod Again

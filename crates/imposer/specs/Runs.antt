@@ -10,16 +10,16 @@ use Rattle.rules.specs.Parts.{NestedUnit, pages}
 use Rattle.rules.specs.Output.{Frame, framed, output}
 use Rattle.rules.specs.Run.{document_of, plan_in}
 use Rattle.dsc.specs.Faults as dsc
-use Rattle.imposer.specs.Workers.{AreOptions}
+use Rattle.imposer.specs.Options.{AreOptions}
 use Rattle.pagespec.specs.Faults.{fault_named}
 use Rattle.sheet_plan.specs.Plans.{planned_in}
 use Rattle.sheet_plan.specs.Places.{born_complete}
 use Rattle.imposer.specs.Faults.{plan_fault_told}
-use Rattle.imposer.specs.Outcomes.{AfterError}
-use Rattle.imposer.specs.declared.outcome.RunError.{RunError}
-use Rattle.imposer.specs.declared.outcome.RunError.TheVariants as error
+use Rattle.planned_runs.specs.Outcomes.{AfterError, FailedIn}
+use Rattle.planned_runs.specs.declared.outcome.RunError.{RunError}
+use Rattle.planned_runs.specs.declared.outcome.RunError.TheVariants as error
 use Rattle.imposer.specs.declared.options.Options.{Options}
-use Rattle.imposer.specs.declared.outcome.Report.{Report}
+use Rattle.planned_runs.specs.declared.outcome.Report.{Report}
 use Rattle.imposer.specs.declared.runs.Given.{Given}
 
 -- how pages are placed
@@ -71,13 +71,6 @@ WrotePart r old new written =
 abbrev pub HasWritten : Request → (old new : SinkView) → RunError → Type 0
 HasWritten r old new e = AfterError e (Keeps old.bytes new.bytes)
     (λ written. ((written ≡ 0) × Keeps old.bytes new.bytes) ⊎ WrotePart r old new written) (WrotePart r old new)
-
--- how often the sink had failed before a run that ended so, and after it: a failed write is one failure, and out of
--- memory may have met one too
-abbrev pub FailedIn : RunError → (old new : SinkView) → Type 0
-FailedIn e old new = AfterError e (new.failures ≡ old.failures)
-    (λ written. (new.failures ≡ old.failures) ⊎ (new.failures ≡ old.failures + 1))
-    (λ written. new.failures ≡ old.failures + 1)
 
 -- the numbers of a report
 pub record Reports (frame : Frame) (sides : Option ℕ) (spec : Spec) (us : List NestedUnit)

@@ -2,26 +2,11 @@
 ghost use Rattle.std.specs.Prelude.{◌≡◌, ◌↔◌, IsTrue};
 ghost use Rattle.rules.specs.Signatures.{AreSidesIfGiven};
 ghost use Rattle.sheet_text.specs.Jobs.{is_border};
-ghost use Rattle.imposer.specs.Workers.{AreWorkers, AreOptions};
+ghost use Rattle.imposer.specs.Options.{AreOptions};
 
 use lengths::{Grains, Paper};
+use planned_runs::Workers;
 use sheet_plan::are_sides;
-
-/// How many threads prepare pages and how many impose sheets, from 1 to 16 each.
-#[derive(Clone, Copy, Debug, PartialEq, Eq)]
-pub struct Workers {
-    pub preparers: u32,
-    pub imposers: u32,
-}
-
-impl Workers {
-    /// Both counts lie from 1 to 16.
-    pub fn are_valid(self) -> bool
-        ensures { IsTrue result ↔ AreWorkers self }
-    {
-        (1..=16).contains(&self.preparers) && (1..=16).contains(&self.imposers)
-    }
-}
 
 /// The paper that pages are made for, the width of a border round each placed page, if one is asked for, the number of
 /// sides of a signature, if the pages are to be put into signatures, and the numbers of workers. A signature has a

@@ -1,11 +1,10 @@
 -- Cells of a grid, and a page in its cell, along one side. The numbers are plain here: a side of a sheet is cut into c
--- cells, which begin p from one another, less a gap of D; E is kept free at both ends; s is a page's scale, and v what
+-- cells, which begin p from one another, less a gap of D; E is kept free before them; s is a page's scale, and v what
 -- counts of its side.
 use Rattle.std.proofs.Common.{arith, rules, ◌≡◌, ℕ, false, suc, zero, ◌+◌, ◌-◌, ◌*◌, ◌/◌, ◌<◌, ◌≤◌, ap}
 use Rattle.std.specs.Prelude.{◌==◌, if◌then◌else◌}
 use Rattle.std.proofs.Math.Nat.{mul-div-le, div-mul-le_self, lt-div-mul-add, mul-le-mul_right, mul_assoc, mul_left_comm, suc-mul, zero-div, mul-add}
-use Rattle.layouts.specs.Placed.{Room}
-use Rattle.layouts.specs.Cells.{part, fitting, slack, step, left_free, kept, whole}
+use Rattle.layouts.specs.Cells.{Along, part, fitting, slack, step, cell, left_free, kept, whole}
 
 -- the parts of a side are no longer than the side
 pub parts_fit : (side parts : ℕ) → 1_270_000 * (parts * part side parts) ≤ side
@@ -61,27 +60,27 @@ pub whole_at_least : (side n : ℕ) → 1_270_000 * n ≤ side → n ≤ whole s
 whole_at_least side n h = omega (arith, h, lt-div-mul-add {a = side} {b = 1_270_000} (omega arith))
 
 -- the cells with their gaps, and what is kept free at both ends, are no longer than the side and one more gap
-pub cells_fit : (room : Room) (w c j : ℕ) → 0 < step room w c - kept room room.gap → j < c
-    → c * step room w c + 2 * kept room room.edge ≤ whole w + kept room room.gap
-cells_fit room w c j some before =
-    let p = step room w c in
-    let D = kept room room.gap in
-    let E = kept room room.edge in
-    let fit = parts_fit (left_free room w + 1_270_000 * D) c in
+pub cells_fit : (a : Along) (w c j : ℕ) → 0 < cell a w c → j < c
+    → c * step a w c + (kept a.trim a.before + kept a.trim a.after) ≤ whole w + kept a.trim a.gap
+cells_fit a w c j some before =
+    let p = step a w c in
+    let D = kept a.trim a.gap in
+    let E = kept a.trim a.before + kept a.trim a.after in
+    let fit = parts_fit (left_free a w + 1_270_000 * D) c in
     let one = cell_ends j c p before in
-    omega (arith, some, whole_at_least w (c * p + 2 * E - D) (omega (arith, some, fit, one)))
+    omega (arith, some, whole_at_least w (c * p + E - D) (omega (arith, some, fit, one)))
 
 -- a page in cell j ends within what is kept free
-pub in_side : (room : Room) (w c v s j : ℕ) → 0 < step room w c - kept room room.gap → s * v ≤ 1_270_000_000_000_000 * (step room w c - kept room room.gap) → j < c
-    → 1_270_000_000_000_000 * (kept room room.edge + j * step room w c + slack (step room w c - kept room room.gap) v s) + s * v + 1_270_000_000_000_000 * kept room room.edge ≤ 1_270_000_000_000_000 * whole w
-in_side room w c v s j some fits before =
-    omega (arith, some, in_cell (step room w c - kept room room.gap) v s fits, cell_ends j c (step room w c) before, cells_fit room w c j some before)
+pub in_side : (a : Along) (w c v s j : ℕ) → 0 < cell a w c → s * v ≤ 1_270_000_000_000_000 * cell a w c → j < c
+    → 1_270_000_000_000_000 * (kept a.trim a.before + j * step a w c + slack (cell a w c) v s) + s * v + 1_270_000_000_000_000 * kept a.trim a.after ≤ 1_270_000_000_000_000 * whole w
+in_side a w c v s j some fits before =
+    omega (arith, some, in_cell (cell a w c) v s fits, cell_ends j c (step a w c) before, cells_fit a w c j some before)
 
 -- and so does one that is counted from its cell's other end
-pub in_side_back : (room : Room) (w c v s j : ℕ) → 0 < step room w c - kept room room.gap → s * v ≤ 1_270_000_000_000_000 * (step room w c - kept room room.gap) → j < c
-    → 1_270_000_000_000_000 * (kept room room.edge + j * step room w c + (step room w c - kept room room.gap - slack (step room w c - kept room room.gap) v s)) + 1_270_000_000_000_000 * kept room room.edge ≤ 1_270_000_000_000_000 * whole w
-in_side_back room w c v s j some fits before =
-    omega (arith, some, in_cell (step room w c - kept room room.gap) v s fits, cell_ends j c (step room w c) before, cells_fit room w c j some before)
+pub in_side_back : (a : Along) (w c v s j : ℕ) → 0 < cell a w c → s * v ≤ 1_270_000_000_000_000 * cell a w c → j < c
+    → 1_270_000_000_000_000 * (kept a.trim a.before + j * step a w c + (cell a w c - slack (cell a w c) v s)) + 1_270_000_000_000_000 * kept a.trim a.after ≤ 1_270_000_000_000_000 * whole w
+in_side_back a w c v s j some fits before =
+    omega (arith, some, in_cell (cell a w c) v s fits, cell_ends j c (step a w c) before, cells_fit a w c j some before)
 
 pub behind_edge : (p D E v s j : ℕ) → s * v ≤ 1_270_000_000_000_000 * (p - D)
     → 1_270_000_000_000_000 * E + s * v ≤ 1_270_000_000_000_000 * (E + j * p + (p - D - slack (p - D) v s))

@@ -1,6 +1,6 @@
 -- Two pages in different cells are apart by the gap.
-use Rattle.std.proofs.Common.{arith, ◌≡◌, inl, inr, ℕ, suc, zero, ◌*◌, ◌/◌, ◌%◌, ◌<◌, Bool, true, false, refl, ap}
-use Rattle.std.specs.Prelude.{ℤ, neg_ℤ, ◌≤ℤ◌, ◌+ℤ◌}
+use Rattle.std.proofs.Common.{arith, ◌≡◌, inl, inr, ℕ, suc, zero, ◌*◌, ◌/◌, ◌%◌, ◌<◌, Bool, true, false, refl, ap, subst, ◌∙◌}
+use Rattle.std.specs.Prelude.{ℤ, pos, neg_ℤ, nat_abs, ◌≤ℤ◌, ◌+ℤ◌}
 use Rattle.std.proofs.Math.Nat.{div-add-mod}
 use Rattle.std.proofs.lemmas.Int.{ints}
 use Rattle.rules.specs.Papers.{Paper}
@@ -12,6 +12,7 @@ use Rattle.layouts.specs.declared.arrangement.Turned.TheVariants as sideways
 use Rattle.layouts.specs.Placed.{Room, fine, stands, held, read, across, up, ComesFirst, AreApart, IsAbove}
 use Rattle.layouts.specs.Cells.{item_in, run_in}
 use Rattle.layouts.specs.Laws.{IsBeside, ComesInRun, ComesInRunBefore, GridIsApart}
+use Rattle.layouts.proofs.Sides.{abs_neg}
 use Rattle.layouts.proofs.InOrder.{grid_in_order}
 
 -- less, more or the same
@@ -30,18 +31,20 @@ other_way room page page' one other (inl (inr h)) = inl (inl h)
 other_way room page page' one other (inr (inl h)) = inr (inr h)
 other_way room page page' one other (inr (inr h)) = inr (inl h)
 
-back : (a b c : ℤ) → (neg_ℤ a +ℤ c) ≤ℤ neg_ℤ b → (b +ℤ c) ≤ℤ a
-back a b c h = omega (arith, ints)
+back : (a b c : ℤ) → (neg_ℤ a +ℤ fine (nat_abs (neg_ℤ c))) ≤ℤ neg_ℤ b → (b +ℤ fine (nat_abs c)) ≤ℤ a
+back a b c h = let there = subst (λ n. (neg_ℤ a +ℤ fine n) ≤ℤ neg_ℤ b) (abs_neg c) h in omega (arith, ints, there)
 
-twice : (a b c : ℤ) → (neg_ℤ (neg_ℤ a) +ℤ c) ≤ℤ neg_ℤ (neg_ℤ b) → (a +ℤ c) ≤ℤ b
-twice a b c h = omega (arith, ints)
+twice : (a b c : ℤ) → (neg_ℤ (neg_ℤ a) +ℤ fine (nat_abs (neg_ℤ (neg_ℤ c)))) ≤ℤ neg_ℤ (neg_ℤ b) → (a +ℤ fine (nat_abs c)) ≤ℤ b
+twice a b c h =
+    let there = subst (λ n. (neg_ℤ (neg_ℤ a) +ℤ fine n) ≤ℤ neg_ℤ (neg_ℤ b)) (abs_neg (neg_ℤ c) ∙ abs_neg c) h in
+    omega (arith, ints, there)
 
 -- which of the two comes first, if it does so measured along one of the four directions of a sheet
 backwards : (room : Room) (page page' : Paper) (one other : Item) → ComesFirst (λ p. neg_ℤ p.x) room page one page' other → ComesFirst across room page' other page one
-backwards room page page' one other h p q of of' = back _ _ _ (h q p of' of)
+backwards room page page' one other h p q of of' = back _ _ (pos room.gap_across) (h q p of' of)
 
 downwards : (room : Room) (page page' : Paper) (one other : Item) → ComesFirst (λ p. neg_ℤ p.y) room page one page' other → ComesFirst up room page' other page one
-downwards room page page' one other h p q of of' = back _ _ _ (h q p of' of)
+downwards room page page' one other h p q of of' = back _ _ (pos room.gap_up) (h q p of' of)
 
 -- of two pages of one turn
 across_apart : (t : Turned) (turn : Turn) (room : Room) (page page' : Paper) (one other : Item) → ComesFirst (λ p. across (read t (held turn p))) room page one page' other → AreApart room page one page' other
@@ -50,8 +53,8 @@ across_apart sideways.Upright Left room page page' one other h = inr (inl h)
 across_apart sideways.Upright Half room page page' one other h = inl (inr (backwards room page page' one other h))
 across_apart sideways.Upright Right room page page' one other h = inr (inr (downwards room page page' one other h))
 across_apart sideways.Left Upright room page page' one other h = inr (inr (downwards room page page' one other h))
-across_apart sideways.Left Left room page page' one other h = inl (inl (λ p q of of'. twice (stands page one p).x (stands page' other q).x (fine room.gap) (h p q of of')))
-across_apart sideways.Left Half room page page' one other h = inr (inl (λ p q of of'. twice (stands page one p).y (stands page' other q).y (fine room.gap) (h p q of of')))
+across_apart sideways.Left Left room page page' one other h = inl (inl (λ p q of of'. twice (stands page one p).x (stands page' other q).x (pos room.gap_across) (h p q of of')))
+across_apart sideways.Left Half room page page' one other h = inr (inl (λ p q of of'. twice (stands page one p).y (stands page' other q).y (pos room.gap_up) (h p q of of')))
 across_apart sideways.Left Right room page page' one other h = inl (inr (backwards room page page' one other h))
 across_apart sideways.Right Upright room page page' one other h = inr (inl h)
 across_apart sideways.Right Left room page page' one other h = inl (inr (backwards room page page' one other h))
@@ -69,8 +72,8 @@ up_apart sideways.Left Half room page page' one other h = inl (inr (backwards ro
 up_apart sideways.Left Right room page page' one other h = inr (inr (downwards room page page' one other h))
 up_apart sideways.Right Upright room page page' one other h = inl (inr (backwards room page page' one other h))
 up_apart sideways.Right Left room page page' one other h = inr (inr (downwards room page page' one other h))
-up_apart sideways.Right Half room page page' one other h = inl (inl (λ p q of of'. twice (stands page one p).x (stands page' other q).x (fine room.gap) (h p q of of')))
-up_apart sideways.Right Right room page page' one other h = inr (inl (λ p q of of'. twice (stands page one p).y (stands page' other q).y (fine room.gap) (h p q of of')))
+up_apart sideways.Right Half room page page' one other h = inl (inl (λ p q of of'. twice (stands page one p).x (stands page' other q).x (pos room.gap_across) (h p q of of')))
+up_apart sideways.Right Right room page page' one other h = inr (inl (λ p q of of'. twice (stands page one p).y (stands page' other q).y (pos room.gap_up) (h p q of of')))
 
 beside_apart : (t : Turned) (b : Bool) (room : Room) (page page' : Paper) (one other : Item) → IsBeside room t b page one page' other → AreApart room page one page' other
 beside_apart t false room page page' one other h = across_apart t one.turn room page page' one other h

@@ -7,11 +7,11 @@ use Rattle.rules.specs.Specification.{Item, Upright, Left}
 use Rattle.rules.specs.Placement.{Point}
 use Rattle.layouts.specs.declared.arrangement.Order.{Order}
 use Rattle.layouts.specs.declared.arrangement.Turned.TheVariants as sideways
-use Rattle.layouts.specs.Placed.{Room, stands, fine, IsLeftOf, AreApart}
+use Rattle.layouts.specs.Placed.{IsEven, Room, stands, fine, IsLeftOf, AreApart}
 use Rattle.layouts.specs.Cells.{half_turned, item_in, back_in, to_right, to_top, whole, row_of, column_of}
 use Rattle.layouts.specs.Grids.{beside}
 use Rattle.layouts.specs.Laws.{BackIsInside, BackIsHalfTurn, IsHalfTurnOf}
-use Rattle.layouts.proofs.Sides.{placed, LiesIn}
+use Rattle.layouts.proofs.Sides.{abs_neg, placed, LiesIn}
 use Rattle.layouts.proofs.InGrid.{in_whole, on_sheet}
 use Rattle.layouts.proofs.InOrder.{place_fits}
 
@@ -31,31 +31,32 @@ back_is_half_turn page room g o s n k =
     record { across = λ p. (half p).0; up = λ p. (half p).1 }
 
 -- turned by half about the middle of the whole 10^-5 of a point
-turned_back : (m n e : ℕ) (x y x' y' : ℤ) → LiesIn m n e (record { x = x; y = y }) → x' ≡ (pos 1_270_000_000_000_000 *ℤ pos m) -ℤ x → y' ≡ (pos 1_270_000_000_000_000 *ℤ pos n) -ℤ y
-    → LiesIn m n e (record { x = x'; y = y' })
-turned_back m n e x y x' y' lies across up =
+turned_back : (room : Room) (x y x' y' : ℤ) → IsEven room → LiesIn room (record { x = x; y = y }) → x' ≡ (pos 1_270_000_000_000_000 *ℤ pos (whole (nat_abs room.paper.width))) -ℤ x
+    → y' ≡ (pos 1_270_000_000_000_000 *ℤ pos (whole (nat_abs room.paper.height))) -ℤ y → LiesIn room (record { x = x'; y = y' })
+turned_back room x y x' y' even lies across up =
     let left = lies.left in let right = lies.right in let bottom = lies.bottom in let top = lies.top in
+    let beside = even.across in let above = even.up in
     record {
-      left = omega (arith, ints, right, across);
-      right = omega (arith, ints, left, across);
-      bottom = omega (arith, ints, top, up);
-      top = omega (arith, ints, bottom, up);
+      left = omega (arith, ints, right, across, beside);
+      right = omega (arith, ints, left, across, beside);
+      bottom = omega (arith, ints, top, up, above);
+      top = omega (arith, ints, bottom, up, above);
     }
 
 pub back_inside : BackIsInside
-back_inside page room g o s n k is on place within p of =
+back_inside page room g o s n k is on even place within p of =
     let fit = place_fits o.run o.right_to_left o.turned g k within in
     let half = back_is_half_turn page room g o s n k in
     let front = stands page (item_in page room g o s k) p in
     let back = stands page (back_in page room g o s n k) p in
-    on_sheet room.paper room.edge back on
-    (turned_back (whole (nat_abs room.paper.width)) (whole (nat_abs room.paper.height)) room.edge front.x front.y back.x back.y
-    (in_whole page room g s k (row_of o g k) (column_of o g k) is on place fit.0 fit.1 p of) (half.across p) (half.up p))
+    on_sheet room back on
+    (turned_back room front.x front.y back.x back.y even
+    (in_whole page room g s k (row_of o g k) (column_of o g k) is place fit.0 fit.1 p of) (half.across p) (half.up p))
 
 -- and as one holds it, the one back is left of the other if its front is
 
-same_order : (a b c d H e : ℤ) → (a +ℤ e) ≤ℤ b → c ≡ H -ℤ a → d ≡ H -ℤ b → (neg_ℤ c +ℤ e) ≤ℤ neg_ℤ d
-same_order a b c d H e h is is' = omega (arith, ints, h, is, is')
+same_order : (a b c d H : ℤ) (e : ℕ) → (a +ℤ fine e) ≤ℤ b → c ≡ H -ℤ a → d ≡ H -ℤ b → (neg_ℤ c +ℤ fine (nat_abs (neg_ℤ (pos e)))) ≤ℤ neg_ℤ d
+same_order a b c d H e h is is' = rw (abs_neg (pos e)) (omega (arith, ints, h, is, is'))
 
 pub back_left : (page : Paper) (room : Room) (o : Order) (s n k l : ℕ)
     → IsLeftOf room sideways.Upright page (item_in page room (beside true) o s k) page (item_in page room (beside true) o s l)
@@ -63,7 +64,7 @@ pub back_left : (page : Paper) (room : Room) (o : Order) (s n k l : ℕ)
 back_left page room o s n k l h p q of of' =
     let one = back_is_half_turn page room (beside true) o s n k in
     let other = back_is_half_turn page room (beside true) o s n l in
-    same_order _ _ _ _ (pos 1_270_000_000_000_000 *ℤ pos (whole (nat_abs room.paper.height))) (fine room.gap) (h p q of of') (one.up p) (other.up q)
+    same_order _ _ _ _ (pos 1_270_000_000_000_000 *ℤ pos (whole (nat_abs room.paper.height))) room.gap_up (h p q of of') (one.up p) (other.up q)
 
 -- two pages that are apart still are if the sheet is turned
 
@@ -73,10 +74,10 @@ half_turned_first H a b a' b' e h is is' = omega (arith, ints, h, is, is')
 pub half_turned_apart : (room : Room) (page page' : Paper) (one other one' other' : Item) → IsHalfTurnOf page room.paper one one' → IsHalfTurnOf page' room.paper other other'
     → AreApart room page one page' other → AreApart room page one' page' other'
 half_turned_apart room page page' one other one' other' half half' (inl (inl h)) =
-    inl (inr (λ q p of' of. half_turned_first (pos 1_270_000_000_000_000 *ℤ pos (whole (nat_abs room.paper.width))) _ _ _ _ (fine room.gap) (h p q of of') (half.across p) (half'.across q)))
+    inl (inr (λ q p of' of. half_turned_first (pos 1_270_000_000_000_000 *ℤ pos (whole (nat_abs room.paper.width))) _ _ _ _ (fine room.gap_across) (h p q of of') (half.across p) (half'.across q)))
 half_turned_apart room page page' one other one' other' half half' (inl (inr h)) =
-    inl (inl (λ p q of of'. half_turned_first (pos 1_270_000_000_000_000 *ℤ pos (whole (nat_abs room.paper.width))) _ _ _ _ (fine room.gap) (h q p of' of) (half'.across q) (half.across p)))
+    inl (inl (λ p q of of'. half_turned_first (pos 1_270_000_000_000_000 *ℤ pos (whole (nat_abs room.paper.width))) _ _ _ _ (fine room.gap_across) (h q p of' of) (half'.across q) (half.across p)))
 half_turned_apart room page page' one other one' other' half half' (inr (inl h)) =
-    inr (inr (λ q p of' of. half_turned_first (pos 1_270_000_000_000_000 *ℤ pos (whole (nat_abs room.paper.height))) _ _ _ _ (fine room.gap) (h p q of of') (half.up p) (half'.up q)))
+    inr (inr (λ q p of' of. half_turned_first (pos 1_270_000_000_000_000 *ℤ pos (whole (nat_abs room.paper.height))) _ _ _ _ (fine room.gap_up) (h p q of of') (half.up p) (half'.up q)))
 half_turned_apart room page page' one other one' other' half half' (inr (inr h)) =
-    inr (inl (λ p q of of'. half_turned_first (pos 1_270_000_000_000_000 *ℤ pos (whole (nat_abs room.paper.height))) _ _ _ _ (fine room.gap) (h q p of' of) (half'.up q) (half.up p)))
+    inr (inl (λ p q of of'. half_turned_first (pos 1_270_000_000_000_000 *ℤ pos (whole (nat_abs room.paper.height))) _ _ _ _ (fine room.gap_up) (h q p of' of) (half'.up q) (half.up p)))

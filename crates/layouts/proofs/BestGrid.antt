@@ -8,9 +8,9 @@ use Rattle.rules.specs.Papers.{Paper}
 use Rattle.layouts.specs.declared.arrangement.Turned.{Turned}
 use Rattle.layouts.specs.declared.arrangement.Turned.TheVariants as sideways
 use Rattle.layouts.specs.Placed.{Room}
-use Rattle.layouts.specs.Cells.{Grid, fitting, held_width, held_height, left_free, kept, step, wide, high, counted, exact_along, exact_scale, scale_in, size}
+use Rattle.layouts.specs.Cells.{Along, Grid, cell, fitting, held_across, held_down, held_width, held_height, left_free, kept, step, wide, high, counted, exact_along, exact_scale, scale_in, size}
 use Rattle.layouts.specs.Grids.{grid, is_better, better, best_of, best_grid, formed, best_formed}
-use Rattle.layouts.specs.Laws.{IsAsGood, BestIsBest, BestHasCells, BestIsLarge, Allows, IsNotTiny}
+use Rattle.layouts.specs.Laws.{IsAsGood, BestIsBest, BestHasCells, BestIsLarge, Allows, AllowsAlong, IsNotTiny}
 use Rattle.layouts.proofs.InGrid.{cells, room_in}
 
 -- fewer parts are no smaller
@@ -26,17 +26,17 @@ no_page : (page a b : ℕ) → 0 < b → page * b ≡ 0 → page * a ≡ 0
 no_page zero a b some e = zero-mul a
 no_page (suc page) a b some e = absurd (omega (arith, some, e, suc-mul page b))
 
-exact_le : (room : Room) (side a b page : ℕ) → 0 < b → b ≤ a → exact_along room side a page ≤ exact_along room side b page
-exact_le room side a b page some fewer =
-    let d = kept room room.gap in
-    let gaps : d * b ≤ d * a = mul-le-mul_left d fewer in
-    over_le (1_000_000_000 * left_free room side + 1_270_000_000_000_000 * d - 1_270_000_000_000_000 * (d * a))
-    (1_000_000_000 * left_free room side + 1_270_000_000_000_000 * d - 1_270_000_000_000_000 * (d * b)) (page * a) (page * b)
-    (omega (arith, gaps)) (mul-le-mul_left page fewer) (no_page page a b some)
+exact_le : (a : Along) (side m n page : ℕ) → 0 < n → n ≤ m → exact_along a side m page ≤ exact_along a side n page
+exact_le a side m n page some fewer =
+    let d = kept a.trim a.gap in
+    let gaps : d * n ≤ d * m = mul-le-mul_left d fewer in
+    over_le (1_000_000_000 * left_free a side + 1_270_000_000_000_000 * d - 1_270_000_000_000_000 * (d * m))
+    (1_000_000_000 * left_free a side + 1_270_000_000_000_000 * d - 1_270_000_000_000_000 * (d * n)) (page * m) (page * n)
+    (omega (arith, gaps)) (mul-le-mul_left page fewer) (no_page page m n some)
 
 scale_le : (page : Paper) (room : Room) (r c r' c' : ℕ) (b : Bool) → 0 < r' → 0 < c' → r' ≤ r → c' ≤ c → exact_scale page room (cells r c b) ≤ exact_scale page room (cells r' c' b)
 scale_le page room r c r' c' b some_rows some_columns rows columns =
-    omega (arith, exact_le room (held_width b room.paper) c c' (counted room page.width) some_columns columns, exact_le room (held_height b room.paper) r r' (counted room page.height) some_rows rows)
+    omega (arith, exact_le (held_across b room) (held_width b room.paper) c c' (counted room page.width) some_columns columns, exact_le (held_down b room) (held_height b room.paper) r r' (counted room page.height) some_rows rows)
 
 -- the better of two
 
@@ -210,14 +210,14 @@ pub best_has_cells : BestHasCells
 best_has_cells page room n some = either_enough n (best_of page room false n n) (best_of page room true n n) _ (first_enough page room false n n) (first_enough page room true n n)
 
 -- one side: what an exact part allows is little more than what fits its cell
-nearly : (room : Room) (side parts page t : ℕ) → 1_397_000_000_000 ≤ page → 0 < parts
-    → t * page * parts + 1_270_000_000_000_000 * (kept room room.gap * parts) ≤ 1_000_000_000 * (side - 2_540_000 * kept room room.edge) + 1_270_000_000_000_000 * kept room room.gap
-    → t < fitting (step room side parts - kept room room.gap) page + 1_000
-nearly room side parts page t large some allows =
-    let p = step room side parts in
-    let d = kept room room.gap in
+nearly : (a : Along) (side parts page t : ℕ) → 1_397_000_000_000 ≤ page → 0 < parts
+    → AllowsAlong a side parts page t
+    → t < fitting (cell a side parts) page + 1_000
+nearly a side parts page t large some allows =
+    let p = step a side parts in
+    let d = kept a.trim a.gap in
     let q = fitting (p - d) page in
-    let free = left_free room side + 1_270_000 * d in
+    let free = left_free a side + 1_270_000 * d in
     let cut : free < p * (1_270_000 * parts) + 1_270_000 * parts = lt-div-mul-add {a = free} {b = 1_270_000 * parts} (omega (arith, some)) in
     let one : parts * (t * page + 1_270_000_000_000_000 * d) ≡ t * page * parts + 1_270_000_000_000_000 * (d * parts) =
     omega (arith, mul-add parts (t * page) (1_270_000_000_000_000 * d), mul_comm (t * page) parts, mul_left_comm parts 1_270_000_000_000_000 d, mul_comm d parts) in
@@ -232,8 +232,8 @@ nearly room side parts page t large some allows =
 pub allowed : (page : Paper) (room : Room) (g : Grid) (t : ℕ) → IsNotTiny page room → 0 < g.rows → 0 < g.columns → Allows page room g t
     → t < scale_in page room g + 1_000
 allowed page room g t sides rows columns allows =
-    let across : t < fitting (wide room g) (counted room page.width) + 1_000 = nearly room (held_width g.turned room.paper) g.columns (counted room page.width) t sides.0 columns allows.wide in
-    let down : t < fitting (high room g) (counted room page.height) + 1_000 = nearly room (held_height g.turned room.paper) g.rows (counted room page.height) t sides.1 rows allows.high in
+    let across : t < fitting (wide room g) (counted room page.width) + 1_000 = nearly (held_across g.turned room) (held_width g.turned room.paper) g.columns (counted room page.width) t sides.0 columns allows.wide in
+    let down : t < fitting (high room g) (counted room page.height) + 1_000 = nearly (held_down g.turned room) (held_height g.turned room.paper) g.rows (counted room page.height) t sides.1 rows allows.high in
     omega (arith, across, down)
 
 -- and what exact parts allow at most is, too
@@ -241,34 +241,34 @@ product : (a b : ℕ) → 0 < a → 0 < b → 0 < a * b
 product zero b some some' = absurd (omega (arith, some))
 product (suc a) b some some' = omega (arith, some', suc-mul a b)
 
-near_by : (room : Room) (side parts page t : ℕ) → 1_397_000_000_000 ≤ page → 0 < parts
-    → t * (page * parts) ≤ 1_000_000_000 * (side - 2_540_000 * kept room room.edge) + 1_270_000_000_000_000 * kept room room.gap - 1_270_000_000_000_000 * (kept room room.gap * parts)
-    → t < fitting (step room side parts - kept room room.gap) page + 1_000
-near_by room side parts page zero large some fits = omega arith
-near_by room side parts page (suc t) large some fits =
+near_by : (a : Along) (side parts page t : ℕ) → 1_397_000_000_000 ≤ page → 0 < parts
+    → t * (page * parts) ≤ 1_000_000_000 * left_free a side + 1_270_000_000_000_000 * kept a.trim a.gap - 1_270_000_000_000_000 * (kept a.trim a.gap * parts)
+    → t < fitting (cell a side parts) page + 1_000
+near_by a side parts page zero large some fits = omega arith
+near_by a side parts page (suc t) large some fits =
     let here = product page parts (omega (arith, large)) some in
-    nearly room side parts page (suc t) large some (omega (arith, fits, here, suc-mul t (page * parts), mul_assoc (suc t) page parts))
+    nearly a side parts page (suc t) large some (omega (arith, fits, here, suc-mul t (page * parts), mul_assoc (suc t) page parts))
 
-near_along : (room : Room) (side parts page : ℕ) → 1_397_000_000_000 ≤ page → 0 < parts
-    → exact_along room side parts page < fitting (step room side parts - kept room room.gap) page + 1_000
-near_along room side parts page large some =
-    near_by room side parts page (exact_along room side parts page) large some
-    (div-mul-le_self (1_000_000_000 * left_free room side + 1_270_000_000_000_000 * kept room room.gap - 1_270_000_000_000_000 * (kept room room.gap * parts)) (page * parts))
+near_along : (a : Along) (side parts page : ℕ) → 1_397_000_000_000 ≤ page → 0 < parts
+    → exact_along a side parts page < fitting (cell a side parts) page + 1_000
+near_along a side parts page large some =
+    near_by a side parts page (exact_along a side parts page) large some
+    (div-mul-le_self (1_000_000_000 * left_free a side + 1_270_000_000_000_000 * kept a.trim a.gap - 1_270_000_000_000_000 * (kept a.trim a.gap * parts)) (page * parts))
 
 near_exact : (page : Paper) (room : Room) (g : Grid) → IsNotTiny page room → 0 < g.rows → 0 < g.columns → exact_scale page room g < scale_in page room g + 1_000
 near_exact page room g sides rows columns =
-    omega (arith, near_along room (held_width g.turned room.paper) g.columns (counted room page.width) sides.0 columns, near_along room (held_height g.turned room.paper) g.rows (counted room page.height) sides.1 rows)
+    omega (arith, near_along (held_across g.turned room) (held_width g.turned room.paper) g.columns (counted room page.width) sides.0 columns, near_along (held_down g.turned room) (held_height g.turned room.paper) g.rows (counted room page.height) sides.1 rows)
 
-within_along : (room : Room) (side parts page t : ℕ) → 1_397_000_000_000 ≤ page → 0 < parts
-    → t * page * parts + 1_270_000_000_000_000 * (kept room room.gap * parts) ≤ 1_000_000_000 * (side - 2_540_000 * kept room room.edge) + 1_270_000_000_000_000 * kept room room.gap
-    → t ≤ exact_along room side parts page
-within_along room side parts page t large some allows =
-    le-div t (1_000_000_000 * left_free room side + 1_270_000_000_000_000 * kept room room.gap - 1_270_000_000_000_000 * (kept room room.gap * parts)) (page * parts)
+within_along : (a : Along) (side parts page t : ℕ) → 1_397_000_000_000 ≤ page → 0 < parts
+    → AllowsAlong a side parts page t
+    → t ≤ exact_along a side parts page
+within_along a side parts page t large some allows =
+    le-div t (1_000_000_000 * left_free a side + 1_270_000_000_000_000 * kept a.trim a.gap - 1_270_000_000_000_000 * (kept a.trim a.gap * parts)) (page * parts)
     (product page parts (omega (arith, large)) some) (omega (arith, allows, mul_assoc t page parts))
 
 within_exact : (page : Paper) (room : Room) (g : Grid) (t : ℕ) → IsNotTiny page room → 0 < g.rows → 0 < g.columns → Allows page room g t → t ≤ exact_scale page room g
 within_exact page room g t sides rows columns allows =
-    omega (arith, within_along room (held_width g.turned room.paper) g.columns (counted room page.width) t sides.0 columns allows.wide, within_along room (held_height g.turned room.paper) g.rows (counted room page.height) t sides.1 rows allows.high)
+    omega (arith, within_along (held_across g.turned room) (held_width g.turned room.paper) g.columns (counted room page.width) t sides.0 columns allows.wide, within_along (held_down g.turned room) (held_height g.turned room.paper) g.rows (counted room page.height) t sides.1 rows allows.high)
 
 pub best_is_large : BestIsLarge
 best_is_large page room n g t sides many h allows =
@@ -328,9 +328,13 @@ next_best page room turned n k best other result e f g =
 
 -- ---- one page on a sheet of its own paper
 
-along_one : (sheet : Paper) (side d page : ℕ) → exact_along (room_in sheet 0 d 0) side 1 page ≡ 1_000_000_000 * side / page
-along_one sheet side d page =
-    let all : 1_000_000_000 * left_free (room_in sheet 0 d 0) side + 1_270_000_000_000_000 * d - 1_270_000_000_000_000 * (d * 1) ≡ 1_000_000_000 * side = omega arith in
+-- a gap alone
+abbrev gap_in : (d : ℕ) → Along
+gap_in d = record { before = 0; after = 0; gap = d; trim = 0 }
+
+along_one : (side d page : ℕ) → exact_along (gap_in d) side 1 page ≡ 1_000_000_000 * side / page
+along_one side d page =
+    let all : 1_000_000_000 * left_free (gap_in d) side + 1_270_000_000_000_000 * d - 1_270_000_000_000_000 * (d * 1) ≡ 1_000_000_000 * side = omega arith in
     let one : page * 1 ≡ page = omega arith in
     ap (λ n. n / (page * 1)) all ∙ ap (λ m. 1_000_000_000 * side / m) one
 
@@ -351,26 +355,25 @@ either_less w h wide high =
       | inr less ↦ omega (arith, a, b, at_most_whole h w wide less)
     ]
 
-upright_as_large : (page sheet : Paper) (d : ℕ) → nat_abs page.width ≡ nat_abs sheet.width → nat_abs page.height ≡ nat_abs sheet.height → 0 < nat_abs page.width → 0 < nat_abs page.height
-    → exact_scale page (room_in sheet 0 d 0) (cells 1 1 true) ≤ exact_scale page (room_in sheet 0 d 0) (cells 1 1 false)
-upright_as_large page sheet d same same' wide high =
+upright_as_large : (page sheet : Paper) (d d' : ℕ) → nat_abs page.width ≡ nat_abs sheet.width → nat_abs page.height ≡ nat_abs sheet.height → 0 < nat_abs page.width → 0 < nat_abs page.height
+    → exact_scale page (room_in sheet d d') (cells 1 1 true) ≤ exact_scale page (room_in sheet d d') (cells 1 1 false)
+upright_as_large page sheet d d' same same' wide high =
     let w = nat_abs page.width in
     let h = nat_abs page.height in
-    let r = room_in sheet 0 d 0 in
-    let all_wide : counted (room_in sheet 0 d 0) page.width ≡ nat_abs page.width = omega arith in
-    let all_high : counted (room_in sheet 0 d 0) page.height ≡ nat_abs page.height = omega arith in
-    let one : exact_scale page (room_in sheet 0 d 0) (cells 1 1 true) ≡ min (1_000_000_000 * h / w) (1_000_000_000 * w / h) =
-    ap (λ x. min (exact_along r (nat_abs sheet.height) 1 x) (exact_along r (nat_abs sheet.width) 1 (counted r page.height))) all_wide
-    ∙ (ap (λ y. min (exact_along r (nat_abs sheet.height) 1 w) (exact_along r (nat_abs sheet.width) 1 y)) all_high
-    ∙ (ap (λ x. min x (exact_along r (nat_abs sheet.width) 1 h)) (along_one sheet (nat_abs sheet.height) d w ∙ ap (λ m. 1_000_000_000 * m / w) (sym same'))
-    ∙ ap (λ y. min (1_000_000_000 * h / w) y) (along_one sheet (nat_abs sheet.width) d h ∙ ap (λ m. 1_000_000_000 * m / h) (sym same)))) in
-    let two : exact_scale page (room_in sheet 0 d 0) (cells 1 1 false) ≡ min (1_000_000_000 * w / w) (1_000_000_000 * h / h) =
-    ap (λ x. min (exact_along r (nat_abs sheet.width) 1 x) (exact_along r (nat_abs sheet.height) 1 (counted r page.height))) all_wide
-    ∙ (ap (λ y. min (exact_along r (nat_abs sheet.width) 1 w) (exact_along r (nat_abs sheet.height) 1 y)) all_high
-    ∙ (ap (λ x. min x (exact_along r (nat_abs sheet.height) 1 h)) (along_one sheet (nat_abs sheet.width) d w ∙ ap (λ m. 1_000_000_000 * m / w) (sym same))
-    ∙ ap (λ y. min (1_000_000_000 * w / w) y) (along_one sheet (nat_abs sheet.height) d h ∙ ap (λ m. 1_000_000_000 * m / h) (sym same')))) in
+    let all_wide : counted (room_in sheet d d') page.width ≡ nat_abs page.width = omega arith in
+    let all_high : counted (room_in sheet d d') page.height ≡ nat_abs page.height = omega arith in
+    let one : exact_scale page (room_in sheet d d') (cells 1 1 true) ≡ min (1_000_000_000 * h / w) (1_000_000_000 * w / h) =
+    ap (λ x. min (exact_along (gap_in d') (nat_abs sheet.height) 1 x) (exact_along (gap_in d) (nat_abs sheet.width) 1 (counted (room_in sheet d d') page.height))) all_wide
+    ∙ (ap (λ y. min (exact_along (gap_in d') (nat_abs sheet.height) 1 w) (exact_along (gap_in d) (nat_abs sheet.width) 1 y)) all_high
+    ∙ (ap (λ x. min x (exact_along (gap_in d) (nat_abs sheet.width) 1 h)) (along_one (nat_abs sheet.height) d' w ∙ ap (λ m. 1_000_000_000 * m / w) (sym same'))
+    ∙ ap (λ y. min (1_000_000_000 * h / w) y) (along_one (nat_abs sheet.width) d h ∙ ap (λ m. 1_000_000_000 * m / h) (sym same)))) in
+    let two : exact_scale page (room_in sheet d d') (cells 1 1 false) ≡ min (1_000_000_000 * w / w) (1_000_000_000 * h / h) =
+    ap (λ x. min (exact_along (gap_in d) (nat_abs sheet.width) 1 x) (exact_along (gap_in d') (nat_abs sheet.height) 1 (counted (room_in sheet d d') page.height))) all_wide
+    ∙ (ap (λ y. min (exact_along (gap_in d) (nat_abs sheet.width) 1 w) (exact_along (gap_in d') (nat_abs sheet.height) 1 y)) all_high
+    ∙ (ap (λ x. min x (exact_along (gap_in d') (nat_abs sheet.height) 1 h)) (along_one (nat_abs sheet.width) d w ∙ ap (λ m. 1_000_000_000 * m / w) (sym same))
+    ∙ ap (λ y. min (1_000_000_000 * w / w) y) (along_one (nat_abs sheet.height) d' h ∙ ap (λ m. 1_000_000_000 * m / h) (sym same')))) in
     let done = either_less w h wide high in
-    subst (λ m. m ≤ exact_scale page (room_in sheet 0 d 0) (cells 1 1 false)) (sym one)
+    subst (λ m. m ≤ exact_scale page (room_in sheet d d') (cells 1 1 false)) (sym one)
     (subst (λ m. min (1_000_000_000 * h / w) (1_000_000_000 * w / h) ≤ m) (sym two) done)
 
 -- the first of two grids is kept if the other isn't larger, and has no fewer cells
@@ -386,10 +389,10 @@ kept_first page room one other large few =
     first_kept page room one other (nat_lt (exact_scale page room one) (exact_scale page room other)) (exact_scale page room one == exact_scale page room other) (nat_lt (size other) (size one)) refl refl large few
 
 -- so it is upright
-pub one_upright : (page sheet : Paper) (d : ℕ) → nat_abs page.width ≡ nat_abs sheet.width → nat_abs page.height ≡ nat_abs sheet.height → 0 < nat_abs page.width → 0 < nat_abs page.height
-    → better page (room_in sheet 0 d 0) (cells 1 1 false) (cells 1 1 true) ≡ cells 1 1 false
-one_upright page sheet d same same' wide high =
-    kept_first page (room_in sheet 0 d 0) (cells 1 1 false) (cells 1 1 true) (upright_as_large page sheet d same same' wide high) (omega arith)
+pub one_upright : (page sheet : Paper) (d d' : ℕ) → nat_abs page.width ≡ nat_abs sheet.width → nat_abs page.height ≡ nat_abs sheet.height → 0 < nat_abs page.width → 0 < nat_abs page.height
+    → better page (room_in sheet d d') (cells 1 1 false) (cells 1 1 true) ≡ cells 1 1 false
+one_upright page sheet d d' same same' wide high =
+    kept_first page (room_in sheet d d') (cells 1 1 false) (cells 1 1 true) (upright_as_large page sheet d d' same same' wide high) (omega arith)
 
 pub best_of_one : (page : Paper) (room : Room) (b : Bool) → best_of page room b 1 1 ≡ cells 1 1 b
 best_of_one page room b = kept_first page room (cells 1 1 b) (cells 1 1 b) (omega arith) (omega arith)

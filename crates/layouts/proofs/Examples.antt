@@ -13,7 +13,7 @@ use Rattle.layouts.specs.declared.arrangement.Order.{Order}
 use Rattle.layouts.specs.declared.error.ArrangementError.TheVariants as why
 use Rattle.layouts.specs.Placed.{bare}
 use Rattle.layouts.specs.Cells.{scale_in}
-use Rattle.layouts.specs.Grids.{best_grid, best_formed, arranged, bound, plain, plain_binding}
+use Rattle.layouts.specs.Grids.{best_grid, best_formed, arranged, bound, nothing_free, plain, plain_binding, plain_order}
 use Rattle.layouts.specs.Refusals.{is_count, is_reached, is_scale, is_length, why_no_scale, why_not_arranged, why_not_bound}
 
 two_on_a4 : best_grid (points 595 842) (bare (points 595 842)) 2 ≡ record { rows = 1; columns = 2; turned = true }
@@ -112,7 +112,7 @@ a4 : Paper
 a4 = points 595 842
 
 four : Order → Arrangement
-four order = record { cells = AtLeast 4; margin = pos 0; gap = pos 0; order = order; scale = None; trim = pos 0 }
+four order = record { cells = AtLeast 4; free = nothing_free; order = order; scale = None }
 
 by_columns : canonical (arranged a4 a4 (four (record { run = Columns; right_to_left = false; turned = sideways.Upright }))) ≡ codes "4:0@.5(0,421)+1@.5+2@.5(297.5,421)+3@.5(297.5,0)"
 unfolding digits a4 four
@@ -135,11 +135,9 @@ read_to_the_right = refl
 asked : Cells → (margin gap trim : ℤ) → Option ℤ → Arrangement
 asked cells margin gap trim scale = record {
   cells = cells;
-  margin = margin;
-  gap = gap;
+  free = record { left = margin; right = margin; bottom = margin; top = margin; across = gap; up = gap; trim = trim };
   order = record { run = Rows; right_to_left = false; turned = sideways.Upright };
   scale = scale;
-  trim = trim;
 }
 
 roomy : canonical (arranged a4 a4 (asked (Exactly 2 4) (pos 3_600_000_000_000) (pos 1_800_000_000_000) (pos 0) None)) ≡ codes "8:0@.220542565(93.7685,627.95667)+1@.220542565(370.00865,627.95667)+2@.220542565(93.7685,428.0866)+3@.220542565(370.00865,428.0866)+4@.220542565(93.7685,228.21653)+5@.220542565(370.00865,228.21653)+6@.220542565(93.7685,28.34646)+7@.220542565(370.00865,28.34646)"
@@ -166,13 +164,44 @@ unfolding digits a4
 five_in_a_row = refl
 
 -- leaves that are bound at the right, and leaves with 20 pt at the fold
-at_the_right : canonical (bound a4 a4 (record { margin = pos 0; gap = pos 0; right_to_left = true; trim = pos 0; long_edge = false })) ≡ codes "2:0L@.706650831(595,421.27137)+1L@.706650831(595,.27137)"
+at_the_right : canonical (bound a4 a4 (record { free = nothing_free; right_to_left = true; long_edge = false })) ≡ codes "2:0L@.706650831(595,421.27137)+1L@.706650831(595,.27137)"
 unfolding digits a4
 at_the_right = refl
 
-gap_at_the_fold : canonical (bound a4 a4 (record { margin = pos 0; gap = pos 2_540_000_000_000; right_to_left = false; trim = pos 0; long_edge = false })) ≡ codes "2:0L@.690756302(588.30841,0)+1L@.690756302(588.30841,431)"
+gap_at_the_fold : canonical (bound a4 a4 (record { free = record nothing_free { up = pos 2_540_000_000_000 }; right_to_left = false; long_edge = false })) ≡ codes "2:0L@.690756302(588.30841,0)+1L@.690756302(588.30841,431)"
 unfolding digits a4
 gap_at_the_fold = refl
+
+-- 10, 20, 30 and 40 pt at the left, the right, the foot and the head, and 6 and 8 pt between cells side by side and one above
+-- another; on a sheet that is held turned too
+each_edge : Cells → Arrangement
+each_edge cells = record {
+  cells = cells;
+  free = record {
+    left = pos 1_270_000_000_000;
+    right = pos 2_540_000_000_000;
+    bottom = pos 3_810_000_000_000;
+    top = pos 5_080_000_000_000;
+    across = pos 762_000_000_000;
+    up = pos 1_016_000_000_000;
+    trim = pos 0;
+  };
+  order = plain_order;
+  scale = None;
+}
+
+edges_text : canonical (arranged (points 100 100) (points 236 386) (each_edge (Exactly 2 3))) ≡ codes "6:0(10,246)+1(116,246)+2(10,138)+3(116,138)+4(10,30)+5(116,30)"
+unfolding digits each_edge
+edges_text = refl
+
+turned_edges_text : canonical (arranged (points 200 100) (points 236 478) (each_edge (Exactly 2 1))) ≡ codes "2:0L(163,30)+1L(163,238)"
+unfolding digits each_edge
+turned_edges_text = refl
+
+-- a leaf has even margins
+uneven_leaf : why_not_bound a4 a4 (record { free = record nothing_free { left = pos 1_270_000 }; right_to_left = false; long_edge = false }) ≡ Some why.UnevenMargins
+unfolding a4
+uneven_leaf = refl
 
 -- refusals, in their order
 too_many_cells : why_not_arranged a4 a4 (asked (Exactly 33 32) (pos 0) (pos 0) (pos 0) None) ≡ Some why.CellsOutOfRange

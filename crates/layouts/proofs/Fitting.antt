@@ -17,10 +17,10 @@ use Rattle.layouts.specs.declared.arrangement.Order.{Order}
 use Rattle.layouts.specs.declared.error.ArrangementError.{ArrangementError}
 use Rattle.layouts.specs.declared.error.ArrangementError.TheVariants as why
 use Rattle.layouts.specs.declared.setting.Setting.{Setting}
-use Rattle.layouts.specs.Placed.{Room, IsInside, AreApart, stands}
-use Rattle.layouts.specs.Cells.{Grid, size, kept, scale_in, item_in, run_in, read_rows, row_of, column_of}
-use Rattle.layouts.specs.Grids.{beside, leaf_order, alone, is_same, is_itself, room_of, grid, grid_of, better, best_grid, best_of, best_formed, scale_for, count_of, rounded_up, rounded_down, arranged, bound, sides_in}
-use Rattle.layouts.specs.Refusals.{first_of, is_count, are_reached, is_length, is_shown, why_no_scale, why_not_arranged, why_not_bound, folds_short, IsFault}
+use Rattle.layouts.specs.Placed.{IsEven, Room, IsInside, AreApart, stands}
+use Rattle.layouts.specs.Cells.{Grid, along_height, size, kept, scale_in, item_in, run_in, read_rows, row_of, column_of}
+use Rattle.layouts.specs.Grids.{beside, has_bare_edges, leaf_order, alone, is_same, is_itself, room_of, grid, grid_of, better, best_grid, best_of, best_formed, scale_for, count_of, rounded_up, rounded_down, arranged, bound, sides_in}
+use Rattle.layouts.specs.Refusals.{first_of, is_count, is_even, are_lengths, are_reached, is_shown, why_no_scale, why_not_arranged, why_not_bound, folds_short, IsFault}
 use Rattle.layouts.specs.Laws.{IsArranged, IsBound, IsPaper, HasPlace, IsExact, IsHalfTurnOf, IsInCell, IsInMiddle, cell_at, ComesInRun, ComesInRunBefore, IsNotTiny, Allows, IsChosen}
 use Rattle.layouts.specs.Fitted.{is_whole, past_cell, scale_on, fitted, fitted_back, setting_of, binding_setting_of, why_no_scale_on, why_not_fitted, IsFitted, FittedStands, FittedIsApart, FittedIsInOrder, ArrangedIsFitted, HaveOneFold, halves, BoundIsFitted}
 use Rattle.layouts.proofs.Folds.{fold, in_middle as fold_in_middle, fold_on_sheet, lies_before, lies_behind, turned_behind, turned_before}
@@ -33,7 +33,7 @@ use Rattle.layouts.proofs.Backs.{back_inside, back_is_half_turn, half_turned_apa
 use Rattle.layouts.proofs.BestGrid.{allowed, best_has_cells, best_of_one, one_upright}
 use Rattle.layouts.proofs.Printing.{printed_as_it_is}
 use Rattle.layouts.proofs.LaidOut.{SameSides, same_sides, one_each, itself_in, itself_exact, itself_large_at, some_each, read_best, read_square, is_chosen, enough}
-use Rattle.layouts.proofs.Possible.{at_most, passed, one_way, either_way, no_scale, good_scale, made, cells_made, cells_laid_out, itself_made, itself_laid_out, is_alone, leaves_laid_out}
+use Rattle.layouts.proofs.Possible.{at_most, bare_edges, even_room, passed, one_way, either_way, no_scale, good_scale, made, cells_made, cells_laid_out, itself_made, itself_laid_out, is_alone, leaves_laid_out}
 use Rattle.layouts.proofs.Writable.{IsMade, grid_writable, itself_writable, leaves_writable}
 
 -- ---- a page on a sheet of its own paper
@@ -41,23 +41,20 @@ use Rattle.layouts.proofs.Writable.{IsMade, grid_writable, itself_writable, leav
 record IsWholePage (t : Setting) (page : Paper) : Type 0 where
   pub one : size t.grid ≡ 1
   pub same : SameSides page t.room.paper
-  pub edge : t.room.edge ≡ 0
-  pub trim : t.room.trim ≡ 0
+  pub bare : has_bare_edges t.room ≡ true
   pub scale : t.scale ≡ None
 
 whole_page : (t : Setting) (page : Paper) → is_whole t page ≡ true → IsWholePage t page
 whole_page t page h =
-    let five = both_true ((size t.grid == 1) && is_same page t.room.paper && (t.room.edge == 0) && (t.room.trim == 0) && is_none t.scale) (not t.grid.turned) h in
-    let four = both_true ((size t.grid == 1) && is_same page t.room.paper && (t.room.edge == 0) && (t.room.trim == 0)) (is_none t.scale) five.0 in
-    let three = both_true ((size t.grid == 1) && is_same page t.room.paper && (t.room.edge == 0)) (t.room.trim == 0) four.0 in
-    let two = both_true ((size t.grid == 1) && is_same page t.room.paper) (t.room.edge == 0) three.0 in
+    let four = both_true ((size t.grid == 1) && is_same page t.room.paper && has_bare_edges t.room && is_none t.scale) (not t.grid.turned) h in
+    let three = both_true ((size t.grid == 1) && is_same page t.room.paper && has_bare_edges t.room) (is_none t.scale) four.0 in
+    let two = both_true ((size t.grid == 1) && is_same page t.room.paper) (has_bare_edges t.room) three.0 in
     let one = both_true (size t.grid == 1) (is_same page t.room.paper) two.0 in
     record {
       one = same_byte (size t.grid) 1 one.0;
       same = same_sides page t.room.paper one.1;
-      edge = same_byte t.room.edge 0 two.1;
-      trim = same_byte t.room.trim 0 three.1;
-      scale = no_scale t.scale four.1;
+      bare = two.1;
+      scale = no_scale t.scale three.1;
     }
 
 -- what holds of it
@@ -68,34 +65,33 @@ record StandsWhole (page : Paper) (room : Room) (g : Grid) (o : Order) (k : ℕ)
   pub exact : IsExact page (alone k)
   pub large : (s : ℕ) → IsNotTiny page room → Allows page room g s → s < 1_000_001_000
 
-stands_whole : (page sheet : Paper) (e d l r c : ℕ) (b : Bool) (o : Order) (k : ℕ) → IsPaper page → IsPaper sheet → SameSides page sheet → e ≡ 0 → l ≡ 0 → r * c ≡ 1 → k < r * c
-    → StandsWhole page (room_in sheet e d l) (cells r c b) o k
-stands_whole page sheet (suc e) d l r c b o k is on same edge trim one within = absurd (omega (arith, edge))
-stands_whole page sheet zero d (suc l) r c b o k is on same edge trim one within = absurd (omega (arith, trim))
-stands_whole page sheet zero d zero zero c b o k is on same edge trim one within = absurd (omega (arith, one))
-stands_whole page sheet zero d zero (suc zero) zero b o k is on same edge trim one within = absurd (omega (arith, one))
-stands_whole page sheet zero d zero (suc zero) (suc zero) b o zero is on same edge trim one within =
-    let at = itself_in page sheet d b o is on same in
+stands_whole : (page sheet : Paper) (d d' r c : ℕ) (b : Bool) (o : Order) (k : ℕ) → IsPaper page → IsPaper sheet → SameSides page sheet → r * c ≡ 1 → k < r * c
+    → StandsWhole page (room_in sheet d d') (cells r c b) o k
+stands_whole page sheet d d' zero c b o k is on same one within = absurd (omega (arith, one))
+stands_whole page sheet d d' (suc zero) zero b o k is on same one within = absurd (omega (arith, one))
+stands_whole page sheet d d' (suc zero) (suc zero) b o zero is on same one within =
+    let at = itself_in page sheet d d' b o is on same in
     record {
       inside = at.0;
       in_cell = at.2;
       middle = at.1;
       exact = itself_exact page;
-      large = λ s sides allows. itself_large_at page sheet d 1 1 b s same sides (omega arith) (omega arith) allows;
+      large = λ s sides allows. itself_large_at page sheet d d' 1 1 b s same sides (omega arith) (omega arith) allows;
     }
-stands_whole page sheet zero d zero (suc zero) (suc zero) b o (suc k) is on same edge trim one within = absurd (omega (arith, within))
-stands_whole page sheet zero d zero (suc zero) (suc (suc c)) b o k is on same edge trim one within = absurd (omega (arith, one))
-stands_whole page sheet zero d zero (suc (suc r)) zero b o k is on same edge trim one within = absurd (omega (arith, one))
-stands_whole page sheet zero d zero (suc (suc r)) (suc zero) b o k is on same edge trim one within = absurd (omega (arith, one))
-stands_whole page sheet zero d zero (suc (suc r)) (suc (suc c)) b o k is on same edge trim one within = absurd (omega (arith, one))
+stands_whole page sheet d d' (suc zero) (suc zero) b o (suc k) is on same one within = absurd (omega (arith, within))
+stands_whole page sheet d d' (suc zero) (suc (suc c)) b o k is on same one within = absurd (omega (arith, one))
+stands_whole page sheet d d' (suc (suc r)) zero b o k is on same one within = absurd (omega (arith, one))
+stands_whole page sheet d d' (suc (suc r)) (suc zero) b o k is on same one within = absurd (omega (arith, one))
+stands_whole page sheet d d' (suc (suc r)) (suc (suc c)) b o k is on same one within = absurd (omega (arith, one))
 
 pub whole_fitted : (t : Setting) (page : Paper) (k : ℕ) → IsPaper page → IsPaper t.room.paper → k < size t.grid → is_whole t page ≡ true → IsFitted t page k (alone k)
 whole_fitted t page k is on within h =
     let whole = whole_page t page h in
-    let stands = stands_whole page t.room.paper t.room.edge t.room.gap t.room.trim t.grid.rows t.grid.columns t.grid.turned t.order k is on whole.same whole.edge whole.trim whole.one within in
+    let stands = bare_edges (λ room. StandsWhole page room t.grid t.order k) t.room whole.bare
+    (stands_whole page t.room.paper t.room.gap_across t.room.gap_up t.grid.rows t.grid.columns t.grid.turned t.order k is on whole.same whole.one within) in
     record {
       inside = stands.inside;
-      in_cell = subst (λ n. IsInCell t.room page (cell_at t.room t.grid (row_of t.order t.grid k) (column_of t.order t.grid k)) n (alone k)) (sym (one_way (is_whole t page) 1 (kept t.room 0) h)) stands.in_cell;
+      in_cell = subst (λ n. IsInCell t.room page (cell_at t.room t.grid (row_of t.order t.grid k) (column_of t.order t.grid k)) n (alone k)) (sym (one_way (is_whole t page) 1 (kept t.room.trim 0) h)) stands.in_cell;
       middle = stands.middle;
       exact = stands.exact;
       scale = 1_000_000_000;
@@ -118,7 +114,7 @@ cell_fitted t page k is on within h =
     let some = some_each t.grid.rows t.grid.columns (omega (arith, within)) in
     record {
       inside = grid_inside page t.room t.grid t.order (scale_on t page) k is on has within;
-      in_cell = λ p of. farther (cell_at t.room t.grid (row_of t.order t.grid k) (column_of t.order t.grid k)) (kept t.room 0) (past_cell t page) (stands page (item_in page t.room t.grid t.order (scale_on t page) k) p)
+      in_cell = λ p of. farther (cell_at t.room t.grid (row_of t.order t.grid k) (column_of t.order t.grid k)) (kept t.room.trim 0) (past_cell t page) (stands page (item_in page t.room t.grid t.order (scale_on t page) k) p)
           (past_is t.room (is_whole t page)) (grid_in_cell page t.room t.grid t.order (scale_on t page) k is has p of);
       middle = grid_in_middle page t.room t.grid t.order (scale_on t page) k is has;
       exact = (printed_as_it_is page t.room t.grid t.order (scale_on t page) 0 k).0;
@@ -132,7 +128,7 @@ cell_fitted t page k is on within h =
 
 -- and one that is turned by half
 pub record StandsBack (t : Setting) (page : Paper) (k : ℕ) (item : Item) : Type 0 where
-  pub inside : IsInside t.room page item
+  pub inside : IsEven t.room → IsInside t.room page item
   pub turned : is_whole t page ≡ false → IsHalfTurnOf page t.room.paper (fitted t page k) item
   pub exact : IsExact page item
 
@@ -144,7 +140,7 @@ front_turned t page k e =
 pub stands_back : (t : Setting) (page : Paper) (k : ℕ) → IsPaper page → IsPaper t.room.paper → k < size t.grid → why_no_scale_on t page ≡ None → StandsBack t page k (fitted_back t page k)
 stands_back t page k is on within h =
     let s = scale_on t page in record {
-      inside = back_inside page t.room t.grid t.order s 0 k is on (has_scale t page h).place within;
+      inside = λ even. back_inside page t.room t.grid t.order s 0 k is on even (has_scale t page h).place within;
       turned = front_turned t page k;
       exact = (printed_as_it_is page t.room t.grid t.order s 0 k).1;
     }
@@ -267,22 +263,22 @@ record NothingRefuses (page sheet : Paper) (a : Arrangement) : Type 0 where
   pub some : 1 ≤ count_of a.cells
   pub few : count_of a.cells ≤ 1_024
   pub reached : are_reached page && are_reached sheet ≡ true
-  pub shown : is_shown page (room_of sheet a.margin a.gap a.trim) ≡ true
-  pub behind : (let room = room_of sheet a.margin a.gap a.trim in
+  pub shown : is_shown page (room_of sheet a.free) ≡ true
+  pub behind : (let room = room_of sheet a.free in
       let largest = scale_in page room (grid_of page room a.order.turned a.cells) in
       (if is_itself page sheet a then None else why_no_scale room (scale_for a.scale largest) largest) ≡ None)
 
 nothing_refuses : (page sheet : Paper) (a : Arrangement) → why_not_arranged page sheet a ≡ None → NothingRefuses page sheet a
 nothing_refuses page sheet a h =
-    let room = room_of sheet a.margin a.gap a.trim in
+    let room = room_of sheet a.free in
     let largest = scale_in page room (grid_of page room a.order.turned a.cells) in
     let last : Option ArrangementError = if is_itself page sheet a then None else why_no_scale room (scale_for a.scale largest) largest in
     let third = first_of (is_shown page room) why.NothingLeftOfPage last in
-    let second = first_of (is_length a.margin && is_length a.gap && is_length a.trim) why.LengthOutOfRange third in
+    let second = first_of (are_lengths a.free) why.LengthOutOfRange third in
     let first = first_of (are_reached page && are_reached sheet) why.SideTooLong second in
     let one = passed (is_count (count_of a.cells)) why.CellsOutOfRange first h in
     let two = passed (are_reached page && are_reached sheet) why.SideTooLong second one.1 in
-    let three = passed (is_length a.margin && is_length a.gap && is_length a.trim) why.LengthOutOfRange third two.1 in
+    let three = passed (are_lengths a.free) why.LengthOutOfRange third two.1 in
     let four = passed (is_shown page room) why.NothingLeftOfPage last three.1 in
     let n = counts (count_of a.cells) one.0 in
     record { some = n.0; few = n.1; reached = two.0; shown = four.0; behind = four.1 }
@@ -309,47 +305,46 @@ cells_so page sheet a holds e not =
     )
 
 -- one page on a sheet of its own paper is upright
-alone_formed : (page sheet : Paper) (d : ℕ) (t : Turned) → SameSides page sheet → 0 < nat_abs page.width → 0 < nat_abs page.height → best_formed page (room_in sheet 0 d 0) t 1 1 ≡ cells 1 1 false
-alone_formed page sheet d sideways.Upright same wide high = one_upright page sheet d same.wide same.high wide high
-alone_formed page sheet d sideways.Left same wide high = one_upright page sheet d same.wide same.high wide high
-alone_formed page sheet d sideways.Right same wide high = one_upright page sheet d same.wide same.high wide high
+alone_formed : (page sheet : Paper) (d d' : ℕ) (t : Turned) → SameSides page sheet → 0 < nat_abs page.width → 0 < nat_abs page.height → best_formed page (room_in sheet d d') t 1 1 ≡ cells 1 1 false
+alone_formed page sheet d d' sideways.Upright same wide high = one_upright page sheet d d' same.wide same.high wide high
+alone_formed page sheet d d' sideways.Left same wide high = one_upright page sheet d d' same.wide same.high wide high
+alone_formed page sheet d d' sideways.Right same wide high = one_upright page sheet d d' same.wide same.high wide high
 
-alone_best : (page sheet : Paper) (d : ℕ) → SameSides page sheet → 0 < nat_abs page.width → 0 < nat_abs page.height → best_grid page (room_in sheet 0 d 0) 1 ≡ cells 1 1 false
-alone_best page sheet d same wide high =
-    let room = room_in sheet 0 d 0 in
+alone_best : (page sheet : Paper) (d d' : ℕ) → SameSides page sheet → 0 < nat_abs page.width → 0 < nat_abs page.height → best_grid page (room_in sheet d d') 1 ≡ cells 1 1 false
+alone_best page sheet d d' same wide high =
+    let room = room_in sheet d d' in
     ap (λ g. better page room g (best_of page room true 1 1)) (best_of_one page room false)
-    ∙ (ap (λ g. better page room (cells 1 1 false) g) (best_of_one page room true) ∙ one_upright page sheet d same.wide same.high wide high)
+    ∙ (ap (λ g. better page room (cells 1 1 false) g) (best_of_one page room true) ∙ one_upright page sheet d d' same.wide same.high wide high)
 
-alone_grid : (page sheet : Paper) (e d l : ℕ) (t : Turned) (c : Cells) → count_of c ≡ 1 → SameSides page sheet → e ≡ 0 → l ≡ 0 → 0 < nat_abs page.width → 0 < nat_abs page.height
-    → grid_of page (room_in sheet e d l) t c ≡ cells 1 1 false
-alone_grid page sheet (suc e) d l t c one same edge trim wide high = absurd (omega (arith, edge))
-alone_grid page sheet zero d (suc l) t c one same edge trim wide high = absurd (omega (arith, trim))
-alone_grid page sheet zero d zero t (AtLeast n) one same edge trim wide high =
-    ap (λ m. best_grid page (room_in sheet 0 d 0) m) one ∙ alone_best page sheet d same wide high
-alone_grid page sheet zero d zero t (Exactly columns rows) one same edge trim wide high =
+alone_grid : (page sheet : Paper) (d d' : ℕ) (t : Turned) (c : Cells) → count_of c ≡ 1 → SameSides page sheet → 0 < nat_abs page.width → 0 < nat_abs page.height
+    → grid_of page (room_in sheet d d') t c ≡ cells 1 1 false
+alone_grid page sheet d d' t (AtLeast n) one same wide high =
+    ap (λ m. best_grid page (room_in sheet d d') m) one ∙ alone_best page sheet d d' same wide high
+alone_grid page sheet d d' t (Exactly columns rows) one same wide high =
     let (in_columns, in_rows) = one_each columns rows one in
-    ap (λ m. best_formed page (room_in sheet 0 d 0) t m rows) in_columns
-    ∙ (ap (λ m. best_formed page (room_in sheet 0 d 0) t 1 m) in_rows ∙ alone_formed page sheet d t same wide high)
+    ap (λ m. best_formed page (room_in sheet d d') t m rows) in_columns
+    ∙ (ap (λ m. best_formed page (room_in sheet d d') t 1 m) in_rows ∙ alone_formed page sheet d d' t same wide high)
 
 some_sides_of : (trim : ℕ) (v : ℕ) → nat_lt (2_540_000 * trim) v ≡ true → 0 < v
 some_sides_of trim v h = let less : 2_540_000 * trim < v = search (rules, h) in omega (arith, less)
 
-alone_upright : (page sheet : Paper) (a : Arrangement) → is_shown page (room_of sheet a.margin a.gap a.trim) ≡ true → is_itself page sheet a ≡ true → (setting_of page sheet a).grid.turned ≡ false
+alone_upright : (page sheet : Paper) (a : Arrangement) → is_shown page (room_of sheet a.free) ≡ true → is_itself page sheet a ≡ true → (setting_of page sheet a).grid.turned ≡ false
 alone_upright page sheet a shown e =
     let alone = is_alone page sheet a e in
-    let trim = rounded_down a.trim in
+    let trim = rounded_down a.free.trim in
     let sides = both_true (nat_lt (2_540_000 * trim) (nat_abs page.width)) (nat_lt (2_540_000 * trim) (nat_abs page.height)) shown in
     ap (λ (g : Grid). g.turned)
-    (alone_grid page sheet (rounded_up a.margin) (rounded_up a.gap) trim a.order.turned a.cells alone.one alone.same alone.edge alone.trim
-    (some_sides_of trim (nat_abs page.width) sides.0) (some_sides_of trim (nat_abs page.height) sides.1))
+    (bare_edges (λ room. grid_of page room a.order.turned a.cells ≡ cells 1 1 false) (room_of sheet a.free) alone.bare
+    (alone_grid page sheet (rounded_up a.free.across) (rounded_up a.free.up) a.order.turned a.cells alone.one alone.same
+    (some_sides_of trim (nat_abs page.width) sides.0) (some_sides_of trim (nat_abs page.height) sides.1)))
 
 pub arranged_is_fitted : ArrangedIsFitted
 arranged_is_fitted page sheet a h =
     let holds = nothing_refuses page sheet a h in
-    let room = room_of sheet a.margin a.gap a.trim in
+    let room = room_of sheet a.free in
     let g = grid_of page room a.order.turned a.cells in
-    let same : ((size g == 1) && is_same page sheet && (rounded_up a.margin == 0) && (rounded_down a.trim == 0) && is_none a.scale) ≡ is_itself page sheet a =
-    ap (λ b. b && is_same page sheet && (rounded_up a.margin == 0) && (rounded_down a.trim == 0) && is_none a.scale) (same_test page room a.order.turned a.cells holds.some) in
+    let same : ((size g == 1) && is_same page sheet && has_bare_edges room && is_none a.scale) ≡ is_itself page sheet a =
+    ap (λ b. b && is_same page sheet && has_bare_edges room && is_none a.scale) (same_test page room a.order.turned a.cells holds.some) in
     by_test (is_itself page sheet a)
     (λ e. whole_so page sheet a e (ap (λ b. b && not g.turned) (same ∙ e) ∙ ap not (alone_upright page sheet a holds.shown e)))
     (λ e. cells_so page sheet a holds e (ap (λ b. b && not g.turned) (same ∙ e)))
@@ -361,7 +356,7 @@ Stands page sheet a = IsWritable most_slots (arranged page sheet a) × IsArrange
 pub arranged_stands : (page sheet : Paper) (a : Arrangement) → IsPaper page → IsPaper sheet → why_not_arranged page sheet a ≡ None → Stands page sheet a
 arranged_stands page sheet a is on h =
     let holds = nothing_refuses page sheet a h in
-    let room = room_of sheet a.margin a.gap a.trim in
+    let room = room_of sheet a.free in
     let g = grid_of page room a.order.turned a.cells in
     let largest = scale_in page room g in
     let s = scale_for a.scale largest in
@@ -397,29 +392,43 @@ no_fault one other e none (inr h) = absurd (none_some e (sym none ∙ h))
 -- ---- leaves
 
 -- the halves of a sheet, by their parts
-pub halves_made : (sheet : Paper) (b : Binding) (room : Room) (g : Grid) (o : Order) → room ≡ room_of sheet b.margin b.gap b.trim → g ≡ beside true → o ≡ leaf_order b.right_to_left
+pub halves_made : (sheet : Paper) (b : Binding) (room : Room) (g : Grid) (o : Order) → room ≡ room_of sheet b.free → g ≡ beside true → o ≡ leaf_order b.right_to_left
     → record { room = room; grid = g; order = o; scale = None } ≡ binding_setting_of sheet b
 halves_made sheet b room g o e f h = cc (e, f, h)
 
 -- what nothing refuses for leaves, nothing refuses in their halves
-leaves_fit : (page sheet : Paper) (b : Binding) → why_not_bound page sheet b ≡ None
-    → (folds_short page (room_of sheet b.margin b.gap b.trim) ≡ true) × (why_no_scale_on (binding_setting_of sheet b) page ≡ None)
+record LeavesFit (page sheet : Paper) (b : Binding) : Type 0 where
+  pub even : is_even (room_of sheet b.free) ≡ true
+  pub folds : folds_short page (room_of sheet b.free) ≡ true
+  pub scaled : why_no_scale_on (binding_setting_of sheet b) page ≡ None
+
+leaves_fit : (page sheet : Paper) (b : Binding) → why_not_bound page sheet b ≡ None → LeavesFit page sheet b
 leaves_fit page sheet b h =
-    let room = room_of sheet b.margin b.gap b.trim in
+    let room = room_of sheet b.free in
     let largest = scale_in page room (beside true) in
-    let fourth = first_of (folds_short page room) why.FoldOnLongEdge (why_no_scale room largest largest) in
+    let fifth = first_of (folds_short page room) why.FoldOnLongEdge (why_no_scale room largest largest) in
+    let fourth = first_of (is_even room) why.UnevenMargins fifth in
     let third = first_of (is_shown page room) why.NothingLeftOfPage fourth in
-    let second = first_of (is_length b.margin && is_length b.gap && is_length b.trim) why.LengthOutOfRange third in
+    let second = first_of (are_lengths b.free) why.LengthOutOfRange third in
     let one = passed (are_reached page && are_reached sheet) why.SideTooLong second h in
-    let two = passed (is_length b.margin && is_length b.gap && is_length b.trim) why.LengthOutOfRange third one.1 in
+    let two = passed (are_lengths b.free) why.LengthOutOfRange third one.1 in
     let three = passed (is_shown page room) why.NothingLeftOfPage fourth two.1 in
-    let four = passed (folds_short page room) why.FoldOnLongEdge (why_no_scale room largest largest) three.1 in
-    (four.0, one_way (are_reached page && are_reached sheet) _ _ one.0 ∙ (one_way (is_shown page room) _ _ three.0 ∙ four.1))
+    let four = passed (is_even room) why.UnevenMargins fifth three.1 in
+    let five = passed (folds_short page room) why.FoldOnLongEdge (why_no_scale room largest largest) four.1 in
+    record {
+      even = four.0;
+      folds = five.0;
+      scaled = one_way (are_reached page && are_reached sheet) _ _ one.0 ∙ (one_way (is_shown page room) _ _ three.0 ∙ five.1);
+    }
+
+-- as much is kept free along their opposite edges
+pub leaves_even : (page sheet : Paper) (b : Binding) → why_not_bound page sheet b ≡ None → IsEven (room_of sheet b.free)
+leaves_even page sheet b h = even_room (room_of sheet b.free) (leaves_fit page sheet b h).even
 
 pub halves_fit : (page sheet : Paper) (b : Binding) → why_not_bound page sheet b ≡ None → why_no_scale_on (binding_setting_of sheet b) page ≡ None
-halves_fit page sheet b h = (leaves_fit page sheet b h).1
+halves_fit page sheet b h = (leaves_fit page sheet b h).scaled
 
-sides_fitted : (page : Paper) (sheet : Paper) (b : Binding) (e : Bool) → sides_in page (room_of sheet b.margin b.gap b.trim) (leaf_order b.right_to_left) e ≡ halves (binding_setting_of sheet b) page e
+sides_fitted : (page : Paper) (sheet : Paper) (b : Binding) (e : Bool) → sides_in page (room_of sheet b.free) (leaf_order b.right_to_left) e ≡ halves (binding_setting_of sheet b) page e
 sides_fitted page sheet b false = refl
 sides_fitted page sheet b true = refl
 
@@ -430,9 +439,9 @@ bound_is_fitted page sheet b h = (halves_fit page sheet b h, sides_fitted page s
 pub bound_stands : (page sheet : Paper) (b : Binding) → IsPaper page → IsPaper sheet → why_not_bound page sheet b ≡ None → IsWritable most_slots (bound page sheet b) × IsBound page sheet b (bound page sheet b)
 bound_stands page sheet b is on h =
     let fit = leaves_fit page sheet b h in
-    let fits = has_scale (binding_setting_of sheet b) page fit.1 in (
-      leaves_writable most_slots page (room_of sheet b.margin b.gap b.trim) (leaf_order b.right_to_left) b.long_edge (omega arith) fits,
-      leaves_laid_out page sheet b is on fit.0 fits.place,
+    let fits = has_scale (binding_setting_of sheet b) page fit.scaled in (
+      leaves_writable most_slots page (room_of sheet b.free) (leaf_order b.right_to_left) b.long_edge (omega arith) fits,
+      leaves_laid_out page sheet b is on (leaves_even page sheet b h) fit.folds fits.place,
     )
 
 -- it is each page in its half
@@ -455,16 +464,18 @@ one_fold page sheet b h =
     let side = nat_abs sheet.height in
     let has : (o : Paper) → why_no_scale_on t o ≡ None → HasPlace o room (beside true) (scale_on t o) = λ o e. (has_scale t o e).place in
     let some = (fits page room (beside true) (scale_on t page) (has page (halves_fit page sheet b h))).some_wide in
-    let middle = fold_in_middle room side some in
-    let on = fold_on_sheet room side some in
+    let a = along_height room in
+    let even = (leaves_even page sheet b h).up in
+    let middle = fold_in_middle a side even some in
+    let on = fold_on_sheet a side even some in
     record {
-      twice = fold room side;
+      twice = fold a side;
       no_farther = middle.0;
       no_nearer = middle.1;
       before = λ o is e. lies_before o room r (scale_on t o) is (has o e);
       behind = λ o is e. lies_behind o room r (scale_on t o) is (has o e);
-      turned_behind = λ o is e. turned_behind room (fold room side) o _ _ on (lies_before o room r (scale_on t o) is (has o e))
+      turned_behind = λ o is e. turned_behind room (fold a side) o _ _ on (lies_before o room r (scale_on t o) is (has o e))
           (back_is_half_turn o room (beside true) (leaf_order r) (scale_on t o) 0 (if r then 1 else 0));
-      turned_before = λ o is e. turned_before room (fold room side) o _ _ on (lies_behind o room r (scale_on t o) is (has o e))
+      turned_before = λ o is e. turned_before room (fold a side) o _ _ on (lies_behind o room r (scale_on t o) is (has o e))
           (back_is_half_turn o room (beside true) (leaf_order r) (scale_on t o) 0 (if r then 0 else 1));
     }

@@ -6,11 +6,11 @@ use Rattle.rules.specs.Papers.{Paper}
 use Rattle.rules.specs.Specification.{Upright, Left}
 use Rattle.rules.specs.Placement.{Point}
 use Rattle.layouts.specs.Placed.{Room, fine, stands, IsOfPage}
-use Rattle.layouts.specs.Cells.{Grid, kept, step, trimmed, to_right, to_top, item_at, row_of, column_of}
+use Rattle.layouts.specs.Cells.{Along, Grid, along_height, along_width, cell, kept, step, to_right, to_top, item_at, row_of, column_of}
 use Rattle.layouts.specs.Laws.{Cell, HasPlace, LiesInCell, IsInCell, GridIsInCell, cell_at}
 use Rattle.layouts.proofs.AlongSide.{in_cell, moved_back}
 use Rattle.layouts.proofs.Sides.{of_sides, placed, point, far, start, end, between}
-use Rattle.layouts.proofs.OnSide.{HasCell, cell, shown, from_start, from_end, ends}
+use Rattle.layouts.proofs.OnSide.{HasCell, shown, trimmed, from_start, from_end, ends}
 use Rattle.layouts.proofs.InGrid.{cells, fits, sides_are}
 
 -- ---- a page between four lines
@@ -54,33 +54,33 @@ left_box_at v u l k s x y e f g h left right bottom top (pos a) (negsuc b) of = 
 -- ---- along a side
 
 -- a page that is counted from the start of cell j begins in it, and ends in it, to what the rounding leaves
-starts_in : (room : Room) (w c v s j : ℕ) → HasCell room w c v s
-    → fine (kept room room.edge + j * step room w c) ≤ℤ (far (pos (from_start room w c v s j) -ℤ pos (trimmed room s)) +ℤ pos (start room.trim s))
-starts_in room w c v s j h =
-    let back = moved_back room.trim s in
+starts_in : (a : Along) (w c v s j : ℕ) → HasCell a w c v s
+    → fine (kept a.trim a.before + j * step a w c) ≤ℤ (far (pos (from_start a w c v s j) -ℤ pos (trimmed a s)) +ℤ pos (start a.trim s))
+starts_in a w c v s j h =
+    let back = moved_back a.trim s in
     omega (arith, ints, back)
 
-ends_in : (room : Room) (w c v s j : ℕ) → HasCell room w c v s
-    → (far (pos (from_start room w c v s j) -ℤ pos (trimmed room s)) +ℤ pos (end room.trim v s)) ≤ℤ fine (kept room room.edge + j * step room w c + cell room w c + kept room 0)
-ends_in room w c v s j h =
-    let is = (ends room v s 0 h.left).end in
-    let more = (ends room v s 0 h.left).kept in
-    let most = in_cell (cell room w c) (shown room v) s h.fits in
+ends_in : (a : Along) (w c v s j : ℕ) → HasCell a w c v s
+    → (far (pos (from_start a w c v s j) -ℤ pos (trimmed a s)) +ℤ pos (end a.trim v s)) ≤ℤ fine (kept a.trim a.before + j * step a w c + cell a w c + kept a.trim 0)
+ends_in a w c v s j h =
+    let is = (ends a v s 0 h.left).end in
+    let more = (ends a v s 0 h.left).kept in
+    let most = in_cell (cell a w c) (shown a v) s h.fits in
     omega (arith, ints, is, more, most)
 
 -- and one that is counted from the other end of the cell
-starts_in_turned : (room : Room) (w c v s j : ℕ) → HasCell room w c v s
-    → ((fine (kept room room.edge + j * step room w c) -ℤ fine (kept room 0)) +ℤ pos (end room.trim v s)) ≤ℤ far (pos (from_end room w c v s j) +ℤ pos (trimmed room s))
-starts_in_turned room w c v s j h =
-    let is = (ends room v s 0 h.left).end in
-    let more = (ends room v s 0 h.left).kept in
-    let most = in_cell (cell room w c) (shown room v) s h.fits in
+starts_in_turned : (a : Along) (w c v s j : ℕ) → HasCell a w c v s
+    → ((fine (kept a.trim a.before + j * step a w c) -ℤ fine (kept a.trim 0)) +ℤ pos (end a.trim v s)) ≤ℤ far (pos (from_end a w c v s j) +ℤ pos (trimmed a s))
+starts_in_turned a w c v s j h =
+    let is = (ends a v s 0 h.left).end in
+    let more = (ends a v s 0 h.left).kept in
+    let most = in_cell (cell a w c) (shown a v) s h.fits in
     omega (arith, ints, is, more, most)
 
-ends_in_turned : (room : Room) (w c v s j : ℕ) → HasCell room w c v s
-    → far (pos (from_end room w c v s j) +ℤ pos (trimmed room s)) ≤ℤ (fine (kept room room.edge + j * step room w c + cell room w c) +ℤ pos (start room.trim s))
-ends_in_turned room w c v s j h =
-    let back = moved_back room.trim s in
+ends_in_turned : (a : Along) (w c v s j : ℕ) → HasCell a w c v s
+    → far (pos (from_end a w c v s j) +ℤ pos (trimmed a s)) ≤ℤ (fine (kept a.trim a.before + j * step a w c + cell a w c) +ℤ pos (start a.trim s))
+ends_in_turned a w c v s j h =
+    let back = moved_back a.trim s in
     omega (arith, ints, back)
 
 -- ---- in a cell
@@ -102,40 +102,40 @@ more_past : (z y : ℤ) (n past : ℕ) → z ≤ℤ (fine n +ℤ y) → z ≤ℤ
 more_past z y n past h = omega (arith, ints, h)
 
 in_cell_at : (v u : ℕ) (room : Room) (r c : ℕ) (b : Bool) (s k row column : ℕ) → HasPlace (of_sides v u) room (cells r c b) s
-    → IsInCell room (of_sides v u) (cell_at room (cells r c b) row column) (kept room 0) (item_at (of_sides v u) room (cells r c b) s k row column)
+    → IsInCell room (of_sides v u) (cell_at room (cells r c b) row column) (kept room.trim 0) (item_at (of_sides v u) room (cells r c b) s k row column)
 in_cell_at v u room r c false s k row column place p of =
     let f = fits (of_sides v u) room (cells r c false) s place in
     let w = nat_abs room.paper.width in
     let h = nat_abs room.paper.height in
-    let past = kept room 0 in
+    let past = kept room.trim 0 in
     let g = cells r c false in
     let at = cell_at room g row column in
-    let across : HasCell room w c v s = record { some = f.some_wide; fits = f.is_wide; left = place.some_wide } in
-    let down : HasCell room h r u s = record { some = f.some_high; fits = f.is_high; left = place.some_high } in
+    let across : HasCell (along_width room) w c v s = record { some = f.some_wide; fits = f.is_wide; left = place.some_wide } in
+    let down : HasCell (along_height room) h r u s = record { some = f.some_high; fits = f.is_high; left = place.some_high } in
     in_box at past (stands (of_sides v u) (item_at (of_sides v u) room g s k row column) p)
     (upright_box_at v u room.trim k s (to_right (of_sides v u) room g s row column) (to_top (of_sides v u) room g s row column)
     (fine at.left -ℤ fine past) (fine (at.left + at.width + past)) (fine at.bottom -ℤ fine past) (fine (at.bottom + at.height + past))
-    (less_past (fine at.left) _ past (starts_in room w c v s column across)) (ends_in room w c v s column across)
-    (less_past (fine at.bottom) _ past (starts_in room h r u s (r - (row + 1)) down)) (ends_in room h r u s (r - (row + 1)) down)
+    (less_past (fine at.left) _ past (starts_in (along_width room) w c v s column across)) (ends_in (along_width room) w c v s column across)
+    (less_past (fine at.bottom) _ past (starts_in (along_height room) h r u s (r - (row + 1)) down)) (ends_in (along_height room) h r u s (r - (row + 1)) down)
     p.x p.y of)
 in_cell_at v u room r c true s k row column place p of =
     let f = fits (of_sides v u) room (cells r c true) s place in
     let w = nat_abs room.paper.width in
     let h = nat_abs room.paper.height in
-    let past = kept room 0 in
+    let past = kept room.trim 0 in
     let g = cells r c true in
     let at = cell_at room g row column in
-    let across : HasCell room h c v s = record { some = f.some_wide; fits = f.is_wide; left = place.some_wide } in
-    let down : HasCell room w r u s = record { some = f.some_high; fits = f.is_high; left = place.some_high } in
+    let across : HasCell (along_height room) h c v s = record { some = f.some_wide; fits = f.is_wide; left = place.some_wide } in
+    let down : HasCell (along_width room) w r u s = record { some = f.some_high; fits = f.is_high; left = place.some_high } in
     in_box at past (stands (of_sides v u) (item_at (of_sides v u) room g s k row column) p)
     (left_box_at v u room.trim k s (to_right (of_sides v u) room g s row column) (to_top (of_sides v u) room g s row column)
     (fine at.left -ℤ fine past) (fine (at.left + at.width + past)) (fine at.bottom -ℤ fine past) (fine (at.bottom + at.height + past))
-    (starts_in_turned room w r u s row down) (more_past _ (pos (start room.trim s)) (at.left + at.width) past (ends_in_turned room w r u s row down))
-    (less_past (fine at.bottom) _ past (starts_in room h c v s column across)) (ends_in room h c v s column across)
+    (starts_in_turned (along_width room) w r u s row down) (more_past _ (pos (start room.trim s)) (at.left + at.width) past (ends_in_turned (along_width room) w r u s row down))
+    (less_past (fine at.bottom) _ past (starts_in (along_height room) h c v s column across)) (ends_in (along_height room) h c v s column across)
     p.x p.y of)
 
 abbrev InCellIf : (room : Room) (g : Grid) (s k row column : ℕ) → Paper → Type 0
-InCellIf room g s k row column o = HasPlace o room g s → IsInCell room o (cell_at room g row column) (kept room 0) (item_at o room g s k row column)
+InCellIf room g s k row column o = HasPlace o room g s → IsInCell room o (cell_at room g row column) (kept room.trim 0) (item_at o room g s k row column)
 
 pub grid_in_cell : GridIsInCell
 grid_in_cell page room g o s k is place =
@@ -159,6 +159,6 @@ kept_one : (b : Bool) → (if b then 0 else 0 + 1) ≤ 1
 kept_one true = omega arith
 kept_one false = omega arith
 
-pub past_is : (room : Room) (b : Bool) → kept room 0 ≤ (if b then 1 else kept room 0)
+pub past_is : (room : Room) (b : Bool) → kept room.trim 0 ≤ (if b then 1 else kept room.trim 0)
 past_is room true = kept_one (room.trim == 0)
 past_is room false = omega arith

@@ -1,14 +1,14 @@
--- Pages in the cells of a grid: where they are. A page has the sides v and u, its sheet w and h, and its scale is s; the
--- other page's are v', u' and s'.
+-- Pages in the cells of a grid: where they are. A page has the sides v and u, and its scale is s; the other page's are v',
+-- u' and s'.
 use Rattle.std.proofs.Common.{arith, rules, ◌≡◌, ℕ, ◌+◌, ◌-◌, ◌*◌, ◌<◌, ◌≤◌, Bool, true, false, refl, sym, subst}
-use Rattle.std.specs.Prelude.{ℤ, pos, negsuc, nat_abs, IsTrue, ◌&&◌}
+use Rattle.std.specs.Prelude.{ℤ, pos, negsuc, ◌+ℤ◌, ◌*ℤ◌, ◌≤ℤ◌, nat_abs, IsTrue, ◌&&◌}
 use Rattle.std.proofs.Math.Nat.{min-le_left, min-le_right, div-mul-le_self}
 use Rattle.std.proofs.lemmas.Int.{ints}
 use Rattle.rules.specs.Papers.{Paper, is_side}
 use Rattle.rules.specs.Placement.{Point}
 use Rattle.layouts.specs.declared.arrangement.Turned.TheVariants as sideways
-use Rattle.layouts.specs.Placed.{Room, stands, IsOfPage, LiesWithin, IsLeftOf, IsAbove}
-use Rattle.layouts.specs.Cells.{Grid, wide, high, counted, fitting, whole, to_right, to_top, item_at}
+use Rattle.layouts.specs.Placed.{Room, fine, stands, IsOfPage, LiesWithin, IsLeftOf, IsAbove}
+use Rattle.layouts.specs.Cells.{Grid, along_height, along_width, held_across, held_down, held_height, held_width, wide, high, counted, fitting, whole, to_right, to_top, item_at}
 use Rattle.layouts.specs.Laws.{IsPaper, HasPlace}
 use Rattle.layouts.specs.Refusals.{is_reached}
 use Rattle.layouts.proofs.AlongSide.{scaled_fits, some_cell}
@@ -18,8 +18,10 @@ use Rattle.layouts.proofs.OnSide.{HasCell, begins, finishes, comes_before, begin
 abbrev pub cells : (r c : ℕ) → Bool → Grid
 cells r c turned = record { rows = r; columns = c; turned = turned }
 
-abbrev pub room_in : Paper → (e d l : ℕ) → Room
-room_in q e d l = record { paper = q; edge = e; gap = d; trim = l }
+-- with gaps alone
+abbrev pub room_in : Paper → (d d' : ℕ) → Room
+room_in q d d' =
+    record { paper = q; left = 0; right = 0; bottom = 0; top = 0; gap_across = d; gap_up = d'; trim = 0 }
 
 -- what the place of a page says in numbers
 pub record Fits (page : Paper) (room : Room) (g : Grid) (s : ℕ) : Type 0 where
@@ -44,28 +46,22 @@ fits page room g s place =
     }
 
 -- across and down, in a grid that is upright or turned
-abbrev Across : (v u w h e d l r c : ℕ) (b : Bool) (s : ℕ) → Type 0
-Across v u w h e d l r c false s = HasCell (room_in (of_sides w h) e d l) w c v s
-Across v u w h e d l r c true s = HasCell (room_in (of_sides w h) e d l) h c v s
-
-abbrev Down : (v u w h e d l r c : ℕ) (b : Bool) (s : ℕ) → Type 0
-Down v u w h e d l r c false s = HasCell (room_in (of_sides w h) e d l) h r u s
-Down v u w h e d l r c true s = HasCell (room_in (of_sides w h) e d l) w r u s
-
-across_of : (v u w h e d l r c : ℕ) (b : Bool) (s : ℕ) → HasPlace (of_sides v u) (room_in (of_sides w h) e d l) (cells r c b) s → Across v u w h e d l r c b s
-across_of v u w h e d l r c false s place =
-    let f = fits (of_sides v u) (room_in (of_sides w h) e d l) (cells r c false) s place in
+across_of : (v u : ℕ) (room : Room) (r c : ℕ) (b : Bool) (s : ℕ) → HasPlace (of_sides v u) room (cells r c b) s
+    → HasCell (held_across b room) (held_width b room.paper) c v s
+across_of v u room r c false s place =
+    let f = fits (of_sides v u) room (cells r c false) s place in
     record { some = f.some_wide; fits = f.is_wide; left = place.some_wide }
-across_of v u w h e d l r c true s place =
-    let f = fits (of_sides v u) (room_in (of_sides w h) e d l) (cells r c true) s place in
+across_of v u room r c true s place =
+    let f = fits (of_sides v u) room (cells r c true) s place in
     record { some = f.some_wide; fits = f.is_wide; left = place.some_wide }
 
-down_of : (v u w h e d l r c : ℕ) (b : Bool) (s : ℕ) → HasPlace (of_sides v u) (room_in (of_sides w h) e d l) (cells r c b) s → Down v u w h e d l r c b s
-down_of v u w h e d l r c false s place =
-    let f = fits (of_sides v u) (room_in (of_sides w h) e d l) (cells r c false) s place in
+down_of : (v u : ℕ) (room : Room) (r c : ℕ) (b : Bool) (s : ℕ) → HasPlace (of_sides v u) room (cells r c b) s
+    → HasCell (held_down b room) (held_height b room.paper) r u s
+down_of v u room r c false s place =
+    let f = fits (of_sides v u) room (cells r c false) s place in
     record { some = f.some_high; fits = f.is_high; left = place.some_high }
-down_of v u w h e d l r c true s place =
-    let f = fits (of_sides v u) (room_in (of_sides w h) e d l) (cells r c true) s place in
+down_of v u room r c true s place =
+    let f = fits (of_sides v u) room (cells r c true) s place in
     record { some = f.some_high; fits = f.is_high; left = place.some_high }
 
 -- ---- inside
@@ -73,26 +69,28 @@ down_of v u w h e d l r c true s place =
 -- each point lies on the whole 10^-5 of a point of the sheet
 abbrev pub InWhole : (page : Paper) (room : Room) (g : Grid) (s k row column : ℕ) → Type 0
 InWhole page room g s k row column = (p : Point) → IsOfPage room.trim page p
-    → LiesIn (whole (nat_abs room.paper.width)) (whole (nat_abs room.paper.height)) room.edge (stands page (item_at page room g s k row column) p)
+    → LiesIn room (stands page (item_at page room g s k row column) p)
 
-in_whole_at : (v u w h e d l r c : ℕ) (b : Bool) (s k row column : ℕ) → HasPlace (of_sides v u) (room_in (of_sides w h) e d l) (cells r c b) s → row < r → column < c
-    → InWhole (of_sides v u) (room_in (of_sides w h) e d l) (cells r c b) s k row column
-in_whole_at v u w h e d l r c false s k row column place in_rows in_columns =
-    let room = room_in (of_sides w h) e d l in
+in_whole_at : (v u : ℕ) (room : Room) (r c : ℕ) (b : Bool) (s k row column : ℕ) → HasPlace (of_sides v u) room (cells r c b) s → row < r → column < c
+    → InWhole (of_sides v u) room (cells r c b) s k row column
+in_whole_at v u room r c false s k row column place in_rows in_columns =
     let g = cells r c false in
-    let a = across_of v u w h e d l r c false s place in
-    let b = down_of v u w h e d l r c false s place in
-    within_upright v u (whole w) (whole h) e l k s (to_right (of_sides v u) room g s row column) (to_top (of_sides v u) room g s row column)
-    (begins room w c v s column a) (finishes room w c v s column a in_columns)
-    (begins room h r u s (r - (row + 1)) b) (finishes room h r u s (r - (row + 1)) b (omega (arith, in_rows)))
-in_whole_at v u w h e d l r c true s k row column place in_rows in_columns =
-    let room = room_in (of_sides w h) e d l in
+    let a = across_of v u room r c false s place in
+    let b = down_of v u room r c false s place in
+    let w = nat_abs room.paper.width in
+    let h = nat_abs room.paper.height in
+    within_upright v u room k s (to_right (of_sides v u) room g s row column) (to_top (of_sides v u) room g s row column)
+    (begins (along_width room) w c v s column a) (finishes (along_width room) w c v s column a in_columns)
+    (begins (along_height room) h r u s (r - (row + 1)) b) (finishes (along_height room) h r u s (r - (row + 1)) b (omega (arith, in_rows)))
+in_whole_at v u room r c true s k row column place in_rows in_columns =
     let g = cells r c true in
-    let a = across_of v u w h e d l r c true s place in
-    let b = down_of v u w h e d l r c true s place in
-    within_left v u (whole w) (whole h) e l k s (to_right (of_sides v u) room g s row column) (to_top (of_sides v u) room g s row column)
-    (begins_turned room w r u s row b) (finishes_turned room w r u s row b in_rows)
-    (begins room h c v s column a) (finishes room h c v s column a in_columns)
+    let a = across_of v u room r c true s place in
+    let b = down_of v u room r c true s place in
+    let w = nat_abs room.paper.width in
+    let h = nat_abs room.paper.height in
+    within_left v u room k s (to_right (of_sides v u) room g s row column) (to_top (of_sides v u) room g s row column)
+    (begins_turned (along_width room) w r u s row b) (finishes_turned (along_width room) w r u s row b in_rows)
+    (begins (along_height room) h c v s column a) (finishes (along_height room) h c v s column a in_columns)
 
 -- ---- papers by their sides
 
@@ -121,40 +119,34 @@ pub with_sides : (P : Paper → Paper → Type 0) (page sheet : Paper) → IsPap
 with_sides P page sheet is on h =
     subst (λ o. P o sheet) (sym (sides_are page is)) (subst (λ q. P (of_sides (nat_abs page.width) (nat_abs page.height)) q) (sym (sides_are sheet on)) h)
 
-with_three : (P : Paper → Paper → Paper → Type 0) (page page' sheet : Paper) → IsPaper page → IsPaper page' → IsPaper sheet
-    → P (of_sides (nat_abs page.width) (nat_abs page.height)) (of_sides (nat_abs page'.width) (nat_abs page'.height)) (of_sides (nat_abs sheet.width) (nat_abs sheet.height))
-    → P page page' sheet
-with_three P page page' sheet is is' on h =
-    subst (λ o. P o page' sheet) (sym (sides_are page is))
-    (with_sides (λ o q. P (of_sides (nat_abs page.width) (nat_abs page.height)) o q) page' sheet is' on h)
-
 -- ---- inside, of any papers
 
-abbrev InWholeIf : (g : Grid) (e d l s k row column : ℕ) → (o q : Paper) → Type 0
-InWholeIf g e d l s k row column o q = HasPlace o (room_in q e d l) g s → InWhole o (room_in q e d l) g s k row column
+abbrev InWholeIf : (room : Room) (g : Grid) (s k row column : ℕ) → Paper → Type 0
+InWholeIf room g s k row column o = HasPlace o room g s → InWhole o room g s k row column
 
-pub in_whole : (page : Paper) (room : Room) (g : Grid) (s k row column : ℕ) → IsPaper page → IsPaper room.paper → HasPlace page room g s → row < g.rows → column < g.columns
+pub in_whole : (page : Paper) (room : Room) (g : Grid) (s k row column : ℕ) → IsPaper page → HasPlace page room g s → row < g.rows → column < g.columns
     → InWhole page room g s k row column
-in_whole page room g s k row column is on place in_rows in_columns =
-    with_sides (InWholeIf g room.edge room.gap room.trim s k row column) page room.paper is on
-    (λ here. in_whole_at (nat_abs page.width) (nat_abs page.height) (nat_abs room.paper.width) (nat_abs room.paper.height) room.edge room.gap room.trim g.rows g.columns g.turned s k row column here in_rows in_columns)
+in_whole page room g s k row column is place in_rows in_columns =
+    subst (InWholeIf room g s k row column) (sym (sides_are page is))
+    (λ here. in_whole_at (nat_abs page.width) (nat_abs page.height) room g.rows g.columns g.turned s k row column here in_rows in_columns)
     place
 
 -- and so on the sheet
-on_sheet_at : (w h e : ℕ) (p : Point) → LiesIn (whole w) (whole h) e p → LiesWithin (of_sides w h) e p
-on_sheet_at w h e p lies =
-    let right = lies.right in
-    let top = lies.top in
+up_to : (z side : ℤ) (e : ℕ) → side ≡ pos (nat_abs side) → (z +ℤ fine e) ≤ℤ fine (whole (nat_abs side)) → (z +ℤ fine e) ≤ℤ (pos 1_000_000_000 *ℤ side)
+up_to z side e is h = rw is (most (nat_abs side) h)
+  where
+    most : (w : ℕ) → (z +ℤ fine e) ≤ℤ fine (whole w) → (z +ℤ fine e) ≤ℤ (pos 1_000_000_000 *ℤ pos w)
+    most w h = omega (arith, ints, h, div-mul-le_self w 1_270_000)
+
+pub on_sheet : (room : Room) (p : Point) → IsPaper room.paper → LiesIn room p → LiesWithin room p
+on_sheet room p on lies =
+    let (w, v) = both_true (is_side room.paper.width) (is_side room.paper.height) on in
     record {
       left = lies.left;
-      right = omega (arith, ints, right, div-mul-le_self w 1_270_000);
+      right = up_to p.x room.paper.width room.right (side_is room.paper.width w) lies.right;
       bottom = lies.bottom;
-      top = omega (arith, ints, top, div-mul-le_self h 1_270_000);
+      top = up_to p.y room.paper.height room.top (side_is room.paper.height v) lies.top;
     }
-
-pub on_sheet : (sheet : Paper) (e : ℕ) (p : Point) → IsPaper sheet → LiesIn (whole (nat_abs sheet.width)) (whole (nat_abs sheet.height)) e p → LiesWithin sheet e p
-on_sheet sheet e p on lies =
-    subst (λ q. LiesWithin q e p) (sym (sides_are sheet on)) (on_sheet_at (nat_abs sheet.width) (nat_abs sheet.height) e p lies)
 
 -- ---- one left of another, or above it, as one holds the sheet for its pages to be upright
 
@@ -166,62 +158,58 @@ abbrev pub AboveIn : (g : Grid) (room : Room) (s s' k k' row column row' column'
 AboveIn g room s s' k k' row column row' column' o o' =
     IsAbove room sideways.Upright o (item_at o room g s k row column) o' (item_at o' room g s' k' row' column')
 
-left_at : (v u v' u' w h e d l r c : ℕ) (b : Bool) (s s' k k' row column row' column' : ℕ)
-    → HasPlace (of_sides v u) (room_in (of_sides w h) e d l) (cells r c b) s → HasPlace (of_sides v' u') (room_in (of_sides w h) e d l) (cells r c b) s' → column < column'
-    → LeftIn (cells r c b) (room_in (of_sides w h) e d l) s s' k k' row column row' column' (of_sides v u) (of_sides v' u')
-left_at v u v' u' w h e d l r c false s s' k k' row column row' column' place place' before =
-    let room = room_in (of_sides w h) e d l in
+left_at : (v u v' u' : ℕ) (room : Room) (r c : ℕ) (b : Bool) (s s' k k' row column row' column' : ℕ)
+    → HasPlace (of_sides v u) room (cells r c b) s → HasPlace (of_sides v' u') room (cells r c b) s' → column < column'
+    → LeftIn (cells r c b) room s s' k k' row column row' column' (of_sides v u) (of_sides v' u')
+left_at v u v' u' room r c false s s' k k' row column row' column' place place' before =
     let g = cells r c false in
     let o = of_sides v u in
     let o' = of_sides v' u' in
-    left_by_upright v u v' u' d l k k' s s' (to_right o room g s row column) (to_top o room g s row column) (to_right o' room g s' row' column') (to_top o' room g s' row' column')
-    (comes_before room w c v s v' s' column column' (across_of v u w h e d l r c false s place) (across_of v' u' w h e d l r c false s' place') before)
-left_at v u v' u' w h e d l r c true s s' k k' row column row' column' place place' before =
-    let room = room_in (of_sides w h) e d l in
+    left_by_upright v u v' u' room.gap_across room.trim k k' s s' (to_right o room g s row column) (to_top o room g s row column) (to_right o' room g s' row' column') (to_top o' room g s' row' column')
+    (comes_before (along_width room) (nat_abs room.paper.width) c v s v' s' column column' (across_of v u room r c false s place) (across_of v' u' room r c false s' place') before)
+left_at v u v' u' room r c true s s' k k' row column row' column' place place' before =
     let g = cells r c true in
     let o = of_sides v u in
     let o' = of_sides v' u' in
-    left_by_left v u v' u' d l k k' s s' (to_right o room g s row column) (to_top o room g s row column) (to_right o' room g s' row' column') (to_top o' room g s' row' column')
-    (comes_before room h c v s v' s' column column' (across_of v u w h e d l r c true s place) (across_of v' u' w h e d l r c true s' place') before)
+    left_by_left v u v' u' room.gap_up room.trim k k' s s' (to_right o room g s row column) (to_top o room g s row column) (to_right o' room g s' row' column') (to_top o' room g s' row' column')
+    (comes_before (along_height room) (nat_abs room.paper.height) c v s v' s' column column' (across_of v u room r c true s place) (across_of v' u' room r c true s' place') before)
 
-above_at : (v u v' u' w h e d l r c : ℕ) (b : Bool) (s s' k k' row column row' column' : ℕ)
-    → HasPlace (of_sides v u) (room_in (of_sides w h) e d l) (cells r c b) s → HasPlace (of_sides v' u') (room_in (of_sides w h) e d l) (cells r c b) s' → row < row' → row' < r
-    → AboveIn (cells r c b) (room_in (of_sides w h) e d l) s s' k k' row column row' column' (of_sides v u) (of_sides v' u')
-above_at v u v' u' w h e d l r c false s s' k k' row column row' column' place place' before last =
-    let room = room_in (of_sides w h) e d l in
+above_at : (v u v' u' : ℕ) (room : Room) (r c : ℕ) (b : Bool) (s s' k k' row column row' column' : ℕ)
+    → HasPlace (of_sides v u) room (cells r c b) s → HasPlace (of_sides v' u') room (cells r c b) s' → row < row' → row' < r
+    → AboveIn (cells r c b) room s s' k k' row column row' column' (of_sides v u) (of_sides v' u')
+above_at v u v' u' room r c false s s' k k' row column row' column' place place' before last =
     let g = cells r c false in
     let o = of_sides v u in
     let o' = of_sides v' u' in
-    below_by_upright v' u' v u d l k' k s' s (to_right o' room g s' row' column') (to_top o' room g s' row' column') (to_right o room g s row column) (to_top o room g s row column)
-    (comes_before room h r u' s' u s (r - (row' + 1)) (r - (row + 1)) (down_of v' u' w h e d l r c false s' place') (down_of v u w h e d l r c false s place) (omega (arith, before, last)))
-above_at v u v' u' w h e d l r c true s s' k k' row column row' column' place place' before last =
-    let room = room_in (of_sides w h) e d l in
+    below_by_upright v' u' v u room.gap_up room.trim k' k s' s (to_right o' room g s' row' column') (to_top o' room g s' row' column') (to_right o room g s row column) (to_top o room g s row column)
+    (comes_before (along_height room) (nat_abs room.paper.height) r u' s' u s (r - (row' + 1)) (r - (row + 1)) (down_of v' u' room r c false s' place') (down_of v u room r c false s place) (omega (arith, before, last)))
+above_at v u v' u' room r c true s s' k k' row column row' column' place place' before last =
     let g = cells r c true in
     let o = of_sides v u in
     let o' = of_sides v' u' in
-    above_by_left v u v' u' d l k k' s s' (to_right o room g s row column) (to_top o room g s row column) (to_right o' room g s' row' column') (to_top o' room g s' row' column')
-    (comes_before_turned room w r u s u' s' row row' (down_of v u w h e d l r c true s place) (down_of v' u' w h e d l r c true s' place') before)
+    above_by_left v u v' u' room.gap_across room.trim k k' s s' (to_right o room g s row column) (to_top o room g s row column) (to_right o' room g s' row' column') (to_top o' room g s' row' column')
+    (comes_before_turned (along_width room) (nat_abs room.paper.width) r u s u' s' row row' (down_of v u room r c true s place) (down_of v' u' room r c true s' place') before)
 
-abbrev LeftIf : (g : Grid) (e d l s s' k k' row column row' column' : ℕ) → (o o' q : Paper) → Type 0
-LeftIf g e d l s s' k k' row column row' column' o o' q =
-    HasPlace o (room_in q e d l) g s → HasPlace o' (room_in q e d l) g s' → LeftIn g (room_in q e d l) s s' k k' row column row' column' o o'
+abbrev LeftIf : (room : Room) (g : Grid) (s s' k k' row column row' column' : ℕ) → (o o' : Paper) → Type 0
+LeftIf room g s s' k k' row column row' column' o o' =
+    HasPlace o room g s → HasPlace o' room g s' → LeftIn g room s s' k k' row column row' column' o o'
 
-abbrev AboveIf : (g : Grid) (e d l s s' k k' row column row' column' : ℕ) → (o o' q : Paper) → Type 0
-AboveIf g e d l s s' k k' row column row' column' o o' q =
-    HasPlace o (room_in q e d l) g s → HasPlace o' (room_in q e d l) g s' → AboveIn g (room_in q e d l) s s' k k' row column row' column' o o'
+abbrev AboveIf : (room : Room) (g : Grid) (s s' k k' row column row' column' : ℕ) → (o o' : Paper) → Type 0
+AboveIf room g s s' k k' row column row' column' o o' =
+    HasPlace o room g s → HasPlace o' room g s' → AboveIn g room s s' k k' row column row' column' o o'
 
-pub is_left : (page page' : Paper) (room : Room) (g : Grid) (s s' k k' row column row' column' : ℕ) → IsPaper page → IsPaper page' → IsPaper room.paper → HasPlace page room g s → HasPlace page' room g s' → column < column'
+pub is_left : (page page' : Paper) (room : Room) (g : Grid) (s s' k k' row column row' column' : ℕ) → IsPaper page → IsPaper page' → HasPlace page room g s → HasPlace page' room g s' → column < column'
     → LeftIn g room s s' k k' row column row' column' page page'
-is_left page page' room g s s' k k' row column row' column' is is' on place place' before =
-    with_three (LeftIf g room.edge room.gap room.trim s s' k k' row column row' column') page page' room.paper is is' on
-    (λ here here'. left_at (nat_abs page.width) (nat_abs page.height) (nat_abs page'.width) (nat_abs page'.height) (nat_abs room.paper.width) (nat_abs room.paper.height) room.edge room.gap room.trim g.rows g.columns g.turned s s' k k' row column row' column' here here' before)
+is_left page page' room g s s' k k' row column row' column' is is' place place' before =
+    with_sides (LeftIf room g s s' k k' row column row' column') page page' is is'
+    (λ here here'. left_at (nat_abs page.width) (nat_abs page.height) (nat_abs page'.width) (nat_abs page'.height) room g.rows g.columns g.turned s s' k k' row column row' column' here here' before)
     place place'
 
-pub is_above : (page page' : Paper) (room : Room) (g : Grid) (s s' k k' row column row' column' : ℕ) → IsPaper page → IsPaper page' → IsPaper room.paper → HasPlace page room g s → HasPlace page' room g s' → row < row' → row' < g.rows
+pub is_above : (page page' : Paper) (room : Room) (g : Grid) (s s' k k' row column row' column' : ℕ) → IsPaper page → IsPaper page' → HasPlace page room g s → HasPlace page' room g s' → row < row' → row' < g.rows
     → AboveIn g room s s' k k' row column row' column' page page'
-is_above page page' room g s s' k k' row column row' column' is is' on place place' before last =
-    with_three (AboveIf g room.edge room.gap room.trim s s' k k' row column row' column') page page' room.paper is is' on
-    (λ here here'. above_at (nat_abs page.width) (nat_abs page.height) (nat_abs page'.width) (nat_abs page'.height) (nat_abs room.paper.width) (nat_abs room.paper.height) room.edge room.gap room.trim g.rows g.columns g.turned s s' k k' row column row' column' here here' before last)
+is_above page page' room g s s' k k' row column row' column' is is' place place' before last =
+    with_sides (AboveIf room g s s' k k' row column row' column') page page' is is'
+    (λ here here'. above_at (nat_abs page.width) (nat_abs page.height) (nat_abs page'.width) (nat_abs page'.height) room g.rows g.columns g.turned s s' k k' row column row' column' here here' before last)
     place place'
 
 -- ---- the sides, where offsets reach across

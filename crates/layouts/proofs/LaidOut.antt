@@ -13,7 +13,7 @@ use Rattle.layouts.specs.declared.arrangement.Cells.TheVariants.{AtLeast, Exactl
 use Rattle.layouts.specs.declared.arrangement.Turned.{Turned}
 use Rattle.layouts.specs.declared.arrangement.Turned.TheVariants as sideways
 use Rattle.layouts.specs.declared.arrangement.Order.{Order}
-use Rattle.layouts.specs.Placed.{Room, IsInside, AreApart, fine, stands}
+use Rattle.layouts.specs.Placed.{IsEven, Room, IsInside, AreApart, fine, stands}
 use Rattle.layouts.specs.Cells.{Grid, size, item_in, back_in, in_grid, scale_in, turn_in, run_in, read_columns, read_rows, row_of, column_of}
 use Rattle.layouts.specs.Grids.{formed, best_formed, grid_of, count_of, scale_for, beside, leaf_order, alone, is_same, sides_in}
 use Rattle.layouts.specs.Laws.{IsPaper, HasPlace, IsNotTiny, Allows, EachTwo, IsInOrder, IsLike, IsExact, IsLaidOut, ArePages, IsChosen, IsArrangedIn, AreInMiddle, IsInCell, IsInMiddle, cell_at, AreSidesIn, AreFolded}
@@ -165,16 +165,16 @@ one_of_many t w d c W some h =
     let gap : d * 1 ≤ d * c = mul-le-mul_left d some in
     omega (arith, h, one, gap)
 
-pub itself_large_at : (page sheet : Paper) (d r c : ℕ) (b : Bool) (t : ℕ) → SameSides page sheet → IsNotTiny page (room_in sheet 0 d 0) → 0 < r → 0 < c → Allows page (room_in sheet 0 d 0) (cells r c b) t
+pub itself_large_at : (page sheet : Paper) (d d' r c : ℕ) (b : Bool) (t : ℕ) → SameSides page sheet → IsNotTiny page (room_in sheet d d') → 0 < r → 0 < c → Allows page (room_in sheet d d') (cells r c b) t
     → t < 1_000_001_000
-itself_large_at page sheet d r c false t same sides some_r some_c allows =
+itself_large_at page sheet d d' r c false t same sides some_r some_c allows =
     let wide = one_of_many t (nat_abs page.width - 2_540_000 * 0) d c (nat_abs sheet.width - 2_540_000 * 0) some_c allows.wide in
-    let high = one_of_many t (nat_abs page.height - 2_540_000 * 0) d r (nat_abs sheet.height - 2_540_000 * 0) some_r allows.high in
+    let high = one_of_many t (nat_abs page.height - 2_540_000 * 0) d' r (nat_abs sheet.height - 2_540_000 * 0) some_r allows.high in
     let most = at_most_one t (nat_abs page.width - 2_540_000 * 0) (nat_abs page.height - 2_540_000 * 0) (nat_abs sheet.width - 2_540_000 * 0) (nat_abs sheet.height - 2_540_000 * 0) (omega (arith, sides.0)) (omega (arith, sides.1))
     wide high (inl (ap (λ n. n - 2_540_000 * 0) (sym same.wide), ap (λ n. n - 2_540_000 * 0) (sym same.high))) in
     omega (arith, most)
-itself_large_at page sheet d r c true t same sides some_r some_c allows =
-    let wide = one_of_many t (nat_abs page.width - 2_540_000 * 0) d c (nat_abs sheet.height - 2_540_000 * 0) some_c allows.wide in
+itself_large_at page sheet d d' r c true t same sides some_r some_c allows =
+    let wide = one_of_many t (nat_abs page.width - 2_540_000 * 0) d' c (nat_abs sheet.height - 2_540_000 * 0) some_c allows.wide in
     let high = one_of_many t (nat_abs page.height - 2_540_000 * 0) d r (nat_abs sheet.width - 2_540_000 * 0) some_r allows.high in
     let most = at_most_one t (nat_abs page.width - 2_540_000 * 0) (nat_abs page.height - 2_540_000 * 0) (nat_abs sheet.height - 2_540_000 * 0) (nat_abs sheet.width - 2_540_000 * 0) (omega (arith, sides.0)) (omega (arith, sides.1))
     wide high (inr (ap (λ n. n - 2_540_000 * 0) (sym same.high), ap (λ n. n - 2_540_000 * 0) (sym same.wide))) in
@@ -183,8 +183,8 @@ itself_large_at page sheet d r c true t same sides some_r some_c allows =
 some_sides : (r c : ℕ) → 1 ≤ r * c → (0 < r) × (0 < c)
 some_sides r c h = let some = some_each r c h in (some.0, some.1)
 
-itself_inside_at : (v u d : ℕ) → IsInside (room_in (of_sides v u) 0 d 0) (of_sides v u) (alone 0)
-itself_inside_at v u d p of = search (rules, of)
+itself_inside_at : (v u d d' : ℕ) → IsInside (room_in (of_sides v u) d d') (of_sides v u) (alone 0)
+itself_inside_at v u d d' p of = search (rules, of)
 
 -- the one cell of a sheet is the whole sheet, to 10^-5 of a point
 one_cell : (w d : ℕ) → (1_270_000_000_000_000 * ((w - 2_540_000 * 0 + 1_270_000 * d) / (1_270_000 * 1) - d) ≤ 1_000_000_000 * w + 1_270_000_000_000_000)
@@ -194,23 +194,23 @@ one_cell w d =
     let least = lt-div-mul-add {a = w - 2_540_000 * 0 + 1_270_000 * d} {b = 1_270_000 * 1} (omega arith) in
     (omega (arith, most, least), omega (arith, most, least))
 
-itself_middle_at : (v u d : ℕ) (b : Bool) (row column : ℕ) → row < 1 → column < 1 → IsInMiddle (of_sides v u) (cell_at (room_in (of_sides v u) 0 d 0) (cells 1 1 b) row column) (alone 0)
-itself_middle_at v u d false zero zero in_rows in_columns =
+itself_middle_at : (v u d d' : ℕ) (b : Bool) (row column : ℕ) → row < 1 → column < 1 → IsInMiddle (of_sides v u) (cell_at (room_in (of_sides v u) d d') (cells 1 1 b) row column) (alone 0)
+itself_middle_at v u d d' false zero zero in_rows in_columns =
     let a = one_cell v d in
-    let b = one_cell u d in
+    let b = one_cell u d' in
     record {
       across = (omega (arith, ints, a.0, a.1), omega (arith, ints, a.0, a.1));
       up = (omega (arith, ints, b.0, b.1), omega (arith, ints, b.0, b.1));
     }
-itself_middle_at v u d true zero zero in_rows in_columns =
+itself_middle_at v u d d' true zero zero in_rows in_columns =
     let a = one_cell v d in
-    let b = one_cell u d in
+    let b = one_cell u d' in
     record {
       across = (omega (arith, ints, a.0, a.1), omega (arith, ints, a.0, a.1));
       up = (omega (arith, ints, b.0, b.1), omega (arith, ints, b.0, b.1));
     }
-itself_middle_at v u d b (suc row) column in_rows in_columns = absurd (omega (arith, in_rows))
-itself_middle_at v u d b zero (suc column) in_rows in_columns = absurd (omega (arith, in_columns))
+itself_middle_at v u d d' b (suc row) column in_rows in_columns = absurd (omega (arith, in_rows))
+itself_middle_at v u d d' b zero (suc column) in_rows in_columns = absurd (omega (arith, in_columns))
 
 -- so the page lies in it, to 10^-5 of a point
 at_start : (z : ℤ) (l : ℕ) → l ≡ 0 → fine 0 ≤ℤ z → fine l ≤ℤ (z +ℤ fine 1)
@@ -219,50 +219,50 @@ at_start z l none h = omega (arith, ints, none, h)
 at_end : (z : ℤ) (l n w : ℕ) → 1_000_000_000 * w ≤ 1_270_000_000_000_000 * n + 1_270_000_000_000_000 → (z +ℤ fine 0) ≤ℤ (pos 1_000_000_000 *ℤ pos w) → z ≤ℤ fine (l + n + 1)
 at_end z l n w large h = omega (arith, ints, large, h)
 
-itself_cell_at : (v u d : ℕ) (b : Bool) (row column : ℕ) → row < 1 → column < 1 → IsInCell (room_in (of_sides v u) 0 d 0) (of_sides v u) (cell_at (room_in (of_sides v u) 0 d 0) (cells 1 1 b) row column) 1 (alone 0)
-itself_cell_at v u d false zero zero in_rows in_columns p of =
-    let cell = cell_at (room_in (of_sides v u) 0 d 0) (cells 1 1 false) 0 0 in
+itself_cell_at : (v u d d' : ℕ) (b : Bool) (row column : ℕ) → row < 1 → column < 1 → IsInCell (room_in (of_sides v u) d d') (of_sides v u) (cell_at (room_in (of_sides v u) d d') (cells 1 1 b) row column) 1 (alone 0)
+itself_cell_at v u d d' false zero zero in_rows in_columns p of =
+    let cell = cell_at (room_in (of_sides v u) d d') (cells 1 1 false) 0 0 in
     let at = stands (of_sides v u) (alone 0) p in
-    let lies = itself_inside_at v u d p of in
+    let lies = itself_inside_at v u d d' p of in
     record {
       left = at_start at.x cell.left (omega arith) lies.left;
       right = at_end at.x cell.left cell.width v (one_cell v d).1 lies.right;
       bottom = at_start at.y cell.bottom (omega arith) lies.bottom;
-      top = at_end at.y cell.bottom cell.height u (one_cell u d).1 lies.top;
+      top = at_end at.y cell.bottom cell.height u (one_cell u d').1 lies.top;
     }
-itself_cell_at v u d true zero zero in_rows in_columns p of =
-    let cell = cell_at (room_in (of_sides v u) 0 d 0) (cells 1 1 true) 0 0 in
+itself_cell_at v u d d' true zero zero in_rows in_columns p of =
+    let cell = cell_at (room_in (of_sides v u) d d') (cells 1 1 true) 0 0 in
     let at = stands (of_sides v u) (alone 0) p in
-    let lies = itself_inside_at v u d p of in
+    let lies = itself_inside_at v u d d' p of in
     record {
       left = at_start at.x cell.left (omega arith) lies.left;
       right = at_end at.x cell.left cell.width v (one_cell v d).1 lies.right;
       bottom = at_start at.y cell.bottom (omega arith) lies.bottom;
-      top = at_end at.y cell.bottom cell.height u (one_cell u d).1 lies.top;
+      top = at_end at.y cell.bottom cell.height u (one_cell u d').1 lies.top;
     }
-itself_cell_at v u d b (suc row) column in_rows in_columns p of = absurd (omega (arith, in_rows))
-itself_cell_at v u d b zero (suc column) in_rows in_columns p of = absurd (omega (arith, in_columns))
+itself_cell_at v u d d' b (suc row) column in_rows in_columns p of = absurd (omega (arith, in_rows))
+itself_cell_at v u d d' b zero (suc column) in_rows in_columns p of = absurd (omega (arith, in_columns))
 
-abbrev ItselfIn : (d : ℕ) (b : Bool) (row column : ℕ) → (o q : Paper) → Type 0
-ItselfIn d b row column o q = SameSides o q → IsInside (room_in q 0 d 0) o (alone 0) × IsInMiddle o (cell_at (room_in q 0 d 0) (cells 1 1 b) row column) (alone 0)
-    × IsInCell (room_in q 0 d 0) o (cell_at (room_in q 0 d 0) (cells 1 1 b) row column) 1 (alone 0)
+abbrev ItselfIn : (d d' : ℕ) (b : Bool) (row column : ℕ) → (o q : Paper) → Type 0
+ItselfIn d d' b row column o q = SameSides o q → IsInside (room_in q d d') o (alone 0) × IsInMiddle o (cell_at (room_in q d d') (cells 1 1 b) row column) (alone 0)
+    × IsInCell (room_in q d d') o (cell_at (room_in q d d') (cells 1 1 b) row column) 1 (alone 0)
 
-itself_at : (v u w h d : ℕ) (b : Bool) (row column : ℕ) → row < 1 → column < 1 → ItselfIn d b row column (of_sides v u) (of_sides w h)
-itself_at v u w h d b row column in_rows in_columns same =
-    subst (λ m. ItselfIn d b row column (of_sides v u) (of_sides m h)) same.wide
-    (subst (λ n. ItselfIn d b row column (of_sides v u) (of_sides v n)) same.high
-    (λ again. (itself_inside_at v u d, itself_middle_at v u d b row column in_rows in_columns, itself_cell_at v u d b row column in_rows in_columns)))
+itself_at : (v u w h d d' : ℕ) (b : Bool) (row column : ℕ) → row < 1 → column < 1 → ItselfIn d d' b row column (of_sides v u) (of_sides w h)
+itself_at v u w h d d' b row column in_rows in_columns same =
+    subst (λ m. ItselfIn d d' b row column (of_sides v u) (of_sides m h)) same.wide
+    (subst (λ n. ItselfIn d d' b row column (of_sides v u) (of_sides v n)) same.high
+    (λ again. (itself_inside_at v u d d', itself_middle_at v u d d' b row column in_rows in_columns, itself_cell_at v u d d' b row column in_rows in_columns)))
     (record { wide = same.wide; high = same.high })
 
 -- one page on a sheet of its paper, whichever way its one cell is held
-pub itself_in : (page sheet : Paper) (d : ℕ) (b : Bool) (o : Order) → IsPaper page → IsPaper sheet → SameSides page sheet
-    → IsInside (room_in sheet 0 d 0) page (alone 0) × IsInMiddle page (cell_at (room_in sheet 0 d 0) (cells 1 1 b) (row_of o (cells 1 1 b) 0) (column_of o (cells 1 1 b) 0)) (alone 0)
-    × IsInCell (room_in sheet 0 d 0) page (cell_at (room_in sheet 0 d 0) (cells 1 1 b) (row_of o (cells 1 1 b) 0) (column_of o (cells 1 1 b) 0)) 1 (alone 0)
-itself_in page sheet d b o is on same =
+pub itself_in : (page sheet : Paper) (d d' : ℕ) (b : Bool) (o : Order) → IsPaper page → IsPaper sheet → SameSides page sheet
+    → IsInside (room_in sheet d d') page (alone 0) × IsInMiddle page (cell_at (room_in sheet d d') (cells 1 1 b) (row_of o (cells 1 1 b) 0) (column_of o (cells 1 1 b) 0)) (alone 0)
+    × IsInCell (room_in sheet d d') page (cell_at (room_in sheet d d') (cells 1 1 b) (row_of o (cells 1 1 b) 0) (column_of o (cells 1 1 b) 0)) 1 (alone 0)
+itself_in page sheet d d' b o is on same =
     let g = cells 1 1 b in
     let fit = place_fits o.run o.right_to_left o.turned g 0 (omega arith) in
-    with_sides (ItselfIn d b (row_of o g 0) (column_of o g 0)) page sheet is on
-    (itself_at (nat_abs page.width) (nat_abs page.height) (nat_abs sheet.width) (nat_abs sheet.height) d b (row_of o g 0) (column_of o g 0) fit.0 fit.1) same
+    with_sides (ItselfIn d d' b (row_of o g 0) (column_of o g 0)) page sheet is on
+    (itself_at (nat_abs page.width) (nat_abs page.height) (nat_abs sheet.width) (nat_abs sheet.height) d d' b (row_of o g 0) (column_of o g 0) fit.0 fit.1) same
 
 pub itself_exact : (page : Paper) → IsExact page (alone 0)
 itself_exact page = placed_exact page Upright 0 1_000_000_000 (pos 0) (pos 0)
@@ -277,26 +277,26 @@ one_each (suc (suc c)) zero e = absurd (omega (arith, e))
 one_each (suc (suc c)) (suc zero) e = absurd (omega (arith, e))
 one_each (suc (suc c)) (suc (suc r)) e = absurd (omega (arith, e))
 
-itself_chosen : (page sheet : Paper) (d : ℕ) (t : Turned) (c : Cells) → count_of c ≡ 1 → SameSides page sheet → IsChosen page (room_in sheet 0 d 0) t c 1_000_000_000 (cells 1 1 false)
-itself_chosen page sheet d t (AtLeast n) one same = (
+itself_chosen : (page sheet : Paper) (d d' : ℕ) (t : Turned) (c : Cells) → count_of c ≡ 1 → SameSides page sheet → IsChosen page (room_in sheet d d') t c 1_000_000_000 (cells 1 1 false)
+itself_chosen page sheet d d' t (AtLeast n) one same = (
   omega (arith, one),
-  λ h s sides many allows. let some = some_sides h.rows h.columns (omega (arith, many, one)) in itself_large_at page sheet d h.rows h.columns h.turned s same sides some.0 some.1 allows,
+  λ h s sides many allows. let some = some_sides h.rows h.columns (omega (arith, many, one)) in itself_large_at page sheet d d' h.rows h.columns h.turned s same sides some.0 some.1 allows,
   λ h many large. omega (arith, many, one),
 )
-itself_chosen page sheet d t (Exactly columns rows) one same =
+itself_chosen page sheet d d' t (Exactly columns rows) one same =
     let (e, f) = one_each columns rows one in
-    subst (λ m. IsChosen page (room_in sheet 0 d 0) t (Exactly m rows) 1_000_000_000 (cells 1 1 false)) (sym e)
-    (subst (λ m. IsChosen page (room_in sheet 0 d 0) t (Exactly 1 m) 1_000_000_000 (cells 1 1 false)) (sym f) (here t))
+    subst (λ m. IsChosen page (room_in sheet d d') t (Exactly m rows) 1_000_000_000 (cells 1 1 false)) (sym e)
+    (subst (λ m. IsChosen page (room_in sheet d d') t (Exactly 1 m) 1_000_000_000 (cells 1 1 false)) (sym f) (here t))
   where
-    here : (t : Turned) → IsChosen page (room_in sheet 0 d 0) t (Exactly 1 1) 1_000_000_000 (cells 1 1 false)
-    here sideways.Upright = (refl, refl, λ b s sides allows. itself_large_at page sheet d 1 1 b s same sides (omega arith) (omega arith) allows)
-    here sideways.Left = (refl, refl, λ b s sides allows. itself_large_at page sheet d 1 1 b s same sides (omega arith) (omega arith) allows)
-    here sideways.Right = (refl, refl, λ b s sides allows. itself_large_at page sheet d 1 1 b s same sides (omega arith) (omega arith) allows)
+    here : (t : Turned) → IsChosen page (room_in sheet d d') t (Exactly 1 1) 1_000_000_000 (cells 1 1 false)
+    here sideways.Upright = (refl, refl, λ b s sides allows. itself_large_at page sheet d d' 1 1 b s same sides (omega arith) (omega arith) allows)
+    here sideways.Left = (refl, refl, λ b s sides allows. itself_large_at page sheet d d' 1 1 b s same sides (omega arith) (omega arith) allows)
+    here sideways.Right = (refl, refl, λ b s sides allows. itself_large_at page sheet d d' 1 1 b s same sides (omega arith) (omega arith) allows)
 
-pub itself_arranged : (page sheet : Paper) (d : ℕ) (c : Cells) (o : Order) → IsPaper page → IsPaper sheet → count_of c ≡ 1 → SameSides page sheet → IsArrangedIn page (room_in sheet 0 d 0) c o None itself
-itself_arranged page sheet d c o is on one same =
+pub itself_arranged : (page sheet : Paper) (d d' : ℕ) (c : Cells) (o : Order) → IsPaper page → IsPaper sheet → count_of c ≡ 1 → SameSides page sheet → IsArrangedIn page (room_in sheet d d') c o None itself
+itself_arranged page sheet d d' c o is on one same =
     let g = cells 1 1 false in
-    let at = itself_in page sheet d false o is on same in
+    let at = itself_in page sheet d d' false o is on same in
     record {
       modulo = sym one;
       items = alone 0 ∷ [];
@@ -306,7 +306,7 @@ itself_arranged page sheet d c o is on one same =
       upright_or_left = inl refl;
       grid = g;
       largest = 1_000_000_000;
-      chosen = itself_chosen page sheet d o.turned c one same;
+      chosen = itself_chosen page sheet d d' o.turned c one same;
       scale = 1_000_000_000;
       scale_is = refl;
       laid_out = record {
@@ -334,26 +334,26 @@ back_in_order page room true s is on place = record {
   next = λ h. absurd (omega (arith, h));
 }
 
-backs_laid_out : (page : Paper) (room : Room) (b : Bool) (s : ℕ) → IsPaper page → IsPaper room.paper → HasPlace page room (beside true) s
+backs_laid_out : (page : Paper) (room : Room) (b : Bool) (s : ℕ) → IsPaper page → IsPaper room.paper → IsEven room → HasPlace page room (beside true) s
     → IsLaidOut page room (leaf_order b) Right s 2 (map (back_in page room (beside true) (leaf_order b) s 2) (range_with_len 0 2))
-backs_laid_out page room b s is on place =
+backs_laid_out page room b s is on even place =
     let f = back_in page room (beside true) (leaf_order b) s 2 in
     let order = back_in_order page room b s is on place in
     let o = leaf_order b in
     record {
       like = all_made (IsLike Right s) f 0 2 (λ k less. record { turn_is = refl; scale_is = refl; from_start = refl });
-      inside = all_made (IsInside room page) f 0 2 (λ k less. back_inside page room (beside true) o s 2 k is on place (omega (arith, less)));
+      inside = all_made (IsInside room page) f 0 2 (λ k less. back_inside page room (beside true) o s 2 k is on even place (omega (arith, less)));
       apart = ((in_run_apart o.run o.turned o.right_to_left room page page (f 0) (f 1) (order.forth (omega arith)), tt), (tt, tt));
       in_order = ((order, tt), (tt, tt));
       exact = all_made (IsExact page) f 0 2 (λ k less. (printed_as_it_is page room (beside true) o s 2 k).1);
     }
 
-pub sides_laid_out : (page : Paper) (room : Room) (b long_edge : Bool) → IsPaper page → IsPaper room.paper → HasPlace page room (beside true) (scale_in page room (beside true))
+pub sides_laid_out : (page : Paper) (room : Room) (b long_edge : Bool) → IsPaper page → IsPaper room.paper → IsEven room → HasPlace page room (beside true) (scale_in page room (beside true))
     → AreSidesIn page room (leaf_order b) long_edge (scale_in page room (beside true)) (sides_in page room (leaf_order b) long_edge)
-sides_laid_out page room b false is on place =
+sides_laid_out page room b false is on even place =
     let s = scale_in page room (beside true) in
     (map (item_in page room (beside true) (leaf_order b) s) (range_with_len 0 2), refl, refl, refl, grid_laid_out page room (beside true) (leaf_order b) s 2 is on place (omega arith))
-sides_laid_out page room b true is on place =
+sides_laid_out page room b true is on even place =
     let s = scale_in page room (beside true) in
     let o = leaf_order b in (
       map (item_in page room (beside true) o s) (range_with_len 0 2),
@@ -364,25 +364,25 @@ sides_laid_out page room b true is on place =
       refl,
       (back_is_half_turn page room (beside true) o s 2 0, (back_is_half_turn page room (beside true) o s 2 1, tt)),
       grid_laid_out page room (beside true) o s 2 is on place (omega arith),
-      backs_laid_out page room b s is on place,
+      backs_laid_out page room b s is on even place,
     )
 
-folded : (page : Paper) (room : Room) (b : Bool) (s : ℕ) → IsPaper page → IsPaper room.paper → HasPlace page room (beside true) s
+folded : (page : Paper) (room : Room) (b : Bool) (s : ℕ) → IsPaper page → IsPaper room.paper → IsEven room → HasPlace page room (beside true) s
     → AreFolded page room b (map (item_in page room (beside true) (leaf_order b) s) (range_with_len 0 2))
-folded page room false s is on place =
-    (item_in page room (beside true) (leaf_order false) s 0, item_in page room (beside true) (leaf_order false) s 1, refl, leaf_keeps_fold page room false s is on place)
-folded page room true s is on place =
-    (item_in page room (beside true) (leaf_order true) s 0, item_in page room (beside true) (leaf_order true) s 1, refl, leaf_keeps_fold page room true s is on place)
+folded page room false s is on even place =
+    (item_in page room (beside true) (leaf_order false) s 0, item_in page room (beside true) (leaf_order false) s 1, refl, leaf_keeps_fold page room false s is on even place)
+folded page room true s is on even place =
+    (item_in page room (beside true) (leaf_order true) s 0, item_in page room (beside true) (leaf_order true) s 1, refl, leaf_keeps_fold page room true s is on even place)
 
 same_head : (front front' : List Item) (more more' : List (List Item)) → front ∷ more ≡ front' ∷ more' → front ≡ front'
 same_head front front' more more' e = cc
 
-pub sides_folded : (page : Paper) (room : Room) (b long_edge : Bool) → IsPaper page → IsPaper room.paper → HasPlace page room (beside true) (scale_in page room (beside true))
+pub sides_folded : (page : Paper) (room : Room) (b long_edge : Bool) → IsPaper page → IsPaper room.paper → IsEven room → HasPlace page room (beside true) (scale_in page room (beside true))
     → (front : List Item) (more : List (List Item)) → (sides_in page room (leaf_order b) long_edge).groups ≡ front ∷ more → AreFolded page room b front
-sides_folded page room b false is on place front more e =
-    subst (AreFolded page room b) (same_head _ front _ more e) (folded page room b (scale_in page room (beside true)) is on place)
-sides_folded page room b true is on place front more e =
-    subst (AreFolded page room b) (same_head _ front _ more e) (folded page room b (scale_in page room (beside true)) is on place)
+sides_folded page room b false is on even place front more e =
+    subst (AreFolded page room b) (same_head _ front _ more e) (folded page room b (scale_in page room (beside true)) is on even place)
+sides_folded page room b true is on even place front more e =
+    subst (AreFolded page room b) (same_head _ front _ more e) (folded page room b (scale_in page room (beside true)) is on even place)
 
 beside_most : (page : Paper) (room : Room) (b : Bool) → IsTrue (nat_le (scale_in page room (beside false)) (scale_in page room (beside true)))
     → scale_in page room (beside b) ≤ scale_in page room (beside true)

@@ -5,11 +5,11 @@ use Rattle.std.proofs.Math.Nat.{lt-div-mul-add, mul_left_comm, mul-add}
 use Rattle.std.proofs.lemmas.Int.{ints}
 use Rattle.rules.specs.Papers.{Paper}
 use Rattle.layouts.specs.Placed.{Room}
-use Rattle.layouts.specs.Cells.{Grid, kept, step, trimmed, item_at, row_of, column_of}
+use Rattle.layouts.specs.Cells.{Along, Grid, along_height, along_width, cell, kept, step, item_at, row_of, column_of}
 use Rattle.layouts.specs.Laws.{HasPlace, IsMean, IsInMiddle, GridIsInMiddle, cell_at}
 use Rattle.layouts.proofs.AlongSide.{in_cell, in_middle, moved_back, counted_and}
 use Rattle.layouts.proofs.Sides.{of_sides, far, start}
-use Rattle.layouts.proofs.OnSide.{HasCell, cell, shown, from_start, from_end}
+use Rattle.layouts.proofs.OnSide.{HasCell, shown, trimmed, from_start, from_end}
 use Rattle.layouts.proofs.InGrid.{cells, fits, sides_are}
 
 -- the whole side, of which something is trimmed at both ends
@@ -22,31 +22,31 @@ both_ends s v t some = omega (arith, counted_and s v t some, mul-add s (v - t) t
 moved_most : (l s : ℕ) → start l s ≤ 1_270_000_000_000_000 * (s * l / 1_000_000_000) + 1_270_000_000_000_000
 moved_most l s = omega (arith, lt-div-mul-add {a = s * l} {b = 1_000_000_000} (omega arith), mul_left_comm s 1_270_000 l)
 
-whole_side : (room : Room) (w c v s : ℕ) → HasCell room w c v s → s * v ≡ s * shown room v + 2 * start room.trim s
-whole_side room w c v s h =
-    subst (λ n. s * v ≡ s * (v - n) + 2 * start room.trim s) (twice room.trim) (both_ends s v (1_270_000 * room.trim) (let some = h.left in omega (arith, some)))
+whole_side : (a : Along) (w c v s : ℕ) → HasCell a w c v s → s * v ≡ s * shown a v + 2 * start a.trim s
+whole_side a w c v s h =
+    subst (λ n. s * v ≡ s * (v - n) + 2 * start a.trim s) (twice a.trim) (both_ends s v (1_270_000 * a.trim) (let some = h.left in omega (arith, some)))
   where
     twice : (l : ℕ) → 2 * (1_270_000 * l) ≡ 2_540_000 * l
     twice l = omega arith
 
-from_start_middle : (room : Room) (w c v s j : ℕ) → HasCell room w c v s
-    → IsMean (2 * (kept room room.edge + j * step room w c) + cell room w c) (far (pos (from_start room w c v s j) -ℤ pos (trimmed room s))) (far (pos (from_start room w c v s j) -ℤ pos (trimmed room s)) +ℤ pos (s * v))
-from_start_middle room w c v s j h =
-    let most = in_cell (cell room w c) (shown room v) s h.fits in
-    let least = in_middle (cell room w c) (shown room v) s h.fits in
-    let all = whole_side room w c v s h in
-    let back = moved_back room.trim s in
-    let back' = moved_most room.trim s in
+from_start_middle : (a : Along) (w c v s j : ℕ) → HasCell a w c v s
+    → IsMean (2 * (kept a.trim a.before + j * step a w c) + cell a w c) (far (pos (from_start a w c v s j) -ℤ pos (trimmed a s))) (far (pos (from_start a w c v s j) -ℤ pos (trimmed a s)) +ℤ pos (s * v))
+from_start_middle a w c v s j h =
+    let most = in_cell (cell a w c) (shown a v) s h.fits in
+    let least = in_middle (cell a w c) (shown a v) s h.fits in
+    let all = whole_side a w c v s h in
+    let back = moved_back a.trim s in
+    let back' = moved_most a.trim s in
     (omega (arith, ints, most, least, all, back, back'), omega (arith, ints, most, least, all, back, back'))
 
-from_end_middle : (room : Room) (w c v s j : ℕ) → HasCell room w c v s
-    → IsMean (2 * (kept room room.edge + j * step room w c) + cell room w c) (far (pos (from_end room w c v s j) +ℤ pos (trimmed room s))) (far (pos (from_end room w c v s j) +ℤ pos (trimmed room s)) -ℤ pos (s * v))
-from_end_middle room w c v s j h =
-    let most = in_cell (cell room w c) (shown room v) s h.fits in
-    let least = in_middle (cell room w c) (shown room v) s h.fits in
-    let all = whole_side room w c v s h in
-    let back = moved_back room.trim s in
-    let back' = moved_most room.trim s in
+from_end_middle : (a : Along) (w c v s j : ℕ) → HasCell a w c v s
+    → IsMean (2 * (kept a.trim a.before + j * step a w c) + cell a w c) (far (pos (from_end a w c v s j) +ℤ pos (trimmed a s))) (far (pos (from_end a w c v s j) +ℤ pos (trimmed a s)) -ℤ pos (s * v))
+from_end_middle a w c v s j h =
+    let most = in_cell (cell a w c) (shown a v) s h.fits in
+    let least = in_middle (cell a w c) (shown a v) s h.fits in
+    let all = whole_side a w c v s h in
+    let back = moved_back a.trim s in
+    let back' = moved_most a.trim s in
     (omega (arith, ints, most, least, all, back, back'), omega (arith, ints, most, least, all, back, back'))
 
 middle_at : (v u : ℕ) (room : Room) (r c : ℕ) (b : Bool) (s k row column : ℕ) → HasPlace (of_sides v u) room (cells r c b) s
@@ -55,8 +55,8 @@ middle_at v u room r c false s k row column place =
     let f = fits (of_sides v u) room (cells r c false) s place in
     let w = nat_abs room.paper.width in
     let h = nat_abs room.paper.height in
-    let a = from_start_middle room w c v s column (record { some = f.some_wide; fits = f.is_wide; left = place.some_wide }) in
-    let d = from_start_middle room h r u s (r - (row + 1)) (record { some = f.some_high; fits = f.is_high; left = place.some_high }) in
+    let a = from_start_middle (along_width room) w c v s column (record { some = f.some_wide; fits = f.is_wide; left = place.some_wide }) in
+    let d = from_start_middle (along_height room) h r u s (r - (row + 1)) (record { some = f.some_high; fits = f.is_high; left = place.some_high }) in
     record {
       across = (omega (arith, ints, a.0), omega (arith, ints, a.1));
       up = (omega (arith, ints, d.0), omega (arith, ints, d.1));
@@ -65,8 +65,8 @@ middle_at v u room r c true s k row column place =
     let f = fits (of_sides v u) room (cells r c true) s place in
     let w = nat_abs room.paper.width in
     let h = nat_abs room.paper.height in
-    let a = from_start_middle room h c v s column (record { some = f.some_wide; fits = f.is_wide; left = place.some_wide }) in
-    let d = from_end_middle room w r u s row (record { some = f.some_high; fits = f.is_high; left = place.some_high }) in
+    let a = from_start_middle (along_height room) h c v s column (record { some = f.some_wide; fits = f.is_wide; left = place.some_wide }) in
+    let d = from_end_middle (along_width room) w r u s row (record { some = f.some_high; fits = f.is_high; left = place.some_high }) in
     record {
       across = (omega (arith, ints, d.0), omega (arith, ints, d.1));
       up = (omega (arith, ints, a.0), omega (arith, ints, a.1));

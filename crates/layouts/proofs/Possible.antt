@@ -1,16 +1,17 @@
 -- Where nothing refuses, and what follows from that.
-use Rattle.std.proofs.Common.{arith, rules, ◌≡◌, ℕ, ◌*◌, ◌<◌, ◌≤◌, Bool, true, false, Option, Some, None, refl, sym, ap, subst, ◌∙◌}
+use Rattle.std.proofs.Common.{arith, rules, ◌≡◌, ℕ, suc, zero, ◌+◌, ◌*◌, ◌<◌, ◌≤◌, Bool, true, false, Option, Some, None, refl, sym, ap, subst, ◌∙◌}
 use Rattle.std.specs.Prelude.{ℤ, nat_abs, IsTrue, ◌&&◌, ◌==◌, nat_le, nat_lt, if◌then◌else◌, is_none}
 use Rattle.lengths.proofs.Numbers.{same_byte}
 use Rattle.rules.specs.Papers.{Paper}
 use Rattle.layouts.specs.declared.arrangement.Arrangement.{Arrangement}
 use Rattle.layouts.specs.declared.arrangement.Binding.{Binding}
+use Rattle.layouts.specs.declared.arrangement.Free.{Free}
 use Rattle.layouts.specs.declared.error.ArrangementError.{ArrangementError}
 use Rattle.layouts.specs.declared.error.ArrangementError.TheVariants as why
-use Rattle.layouts.specs.Placed.{Room}
+use Rattle.layouts.specs.Placed.{IsEven, Room}
 use Rattle.layouts.specs.Cells.{Grid, scale_in}
-use Rattle.layouts.specs.Grids.{beside, is_same, is_itself, room_of, grid_of, scale_for, count_of, rounded_up, rounded_down, arranged, in_cells, bound}
-use Rattle.layouts.specs.Refusals.{first_of, is_count, are_reached, is_length, is_shown, is_near, is_scale, why_no_scale, why_no_sheet, why_not_arranged, why_not_bound, folds_short}
+use Rattle.layouts.specs.Grids.{beside, has_bare_edges, is_same, is_itself, room_of, grid_of, scale_for, count_of, rounded_up, arranged, in_cells, bound}
+use Rattle.layouts.specs.Refusals.{first_of, is_count, is_even, are_lengths, are_reached, is_shown, is_near, is_scale, why_no_scale, why_no_sheet, why_not_arranged, why_not_bound, folds_short}
 use Rattle.layouts.specs.Laws.{IsPaper, HasPlace, IsArranged, IsArrangedIn, IsBound}
 use Rattle.layouts.proofs.InGrid.{both_true, room_in}
 use Rattle.layouts.proofs.Writable.{IsMade, scale_range}
@@ -39,22 +40,15 @@ chain_stops true true false next e h = h
 chain_stops true false c next e h = h
 chain_stops false b c next e h = h
 
-pub sheet_on : (page sheet : Paper) (margin gap trim : ℤ) (next : Option ArrangementError) → why_no_sheet page sheet margin gap trim None ≡ None → why_no_sheet page sheet margin gap trim next ≡ next
-sheet_on page sheet margin gap trim next h =
-    chain_on (are_reached page && are_reached sheet) (is_length margin && is_length gap && is_length trim) (is_shown page (room_of sheet margin gap trim)) next h
+pub sheet_on : (page sheet : Paper) (f : Free) (next : Option ArrangementError) → why_no_sheet page sheet f None ≡ None → why_no_sheet page sheet f next ≡ next
+sheet_on page sheet f next h =
+    chain_on (are_reached page && are_reached sheet) (are_lengths f) (is_shown page (room_of sheet f)) next h
 
-pub sheet_stops : (page sheet : Paper) (margin gap trim : ℤ) (next : Option ArrangementError) (e : ArrangementError) → why_no_sheet page sheet margin gap trim None ≡ Some e → why_no_sheet page sheet margin gap trim next ≡ Some e
-sheet_stops page sheet margin gap trim next e h =
-    chain_stops (are_reached page && are_reached sheet) (is_length margin && is_length gap && is_length trim) (is_shown page (room_of sheet margin gap trim)) next e h
+pub sheet_stops : (page sheet : Paper) (f : Free) (next : Option ArrangementError) (e : ArrangementError) → why_no_sheet page sheet f None ≡ Some e → why_no_sheet page sheet f next ≡ Some e
+sheet_stops page sheet f next e h =
+    chain_stops (are_reached page && are_reached sheet) (are_lengths f) (is_shown page (room_of sheet f)) next e h
 
--- what holds of a sheet on which nothing is amiss
-pub record IsGoodSheet (page sheet : Paper) (margin gap trim : ℤ) : Type 0 where
-  pub margin_is : IsTrue (is_length margin)
-  pub gap_is : IsTrue (is_length gap)
-  pub trim_is : IsTrue (is_length trim)
-  pub shown : IsTrue (is_shown page (room_of sheet margin gap trim))
-
--- and of a scale
+-- what holds of a scale that nothing refuses
 pub record IsGoodScale (room : Room) (s largest : ℕ) : Type 0 where
   pub scale : IsTrue (is_scale s)
   pub fits : s ≤ largest
@@ -104,36 +98,36 @@ one_way false x y e = cc
 -- the reasons behind those of the sheet
 abbrev arranged_reasons : (page sheet : Paper) → Arrangement → Option ArrangementError
 arranged_reasons page sheet a =
-    let room = room_of sheet a.margin a.gap a.trim in
+    let room = room_of sheet a.free in
     let largest = scale_in page room (grid_of page room a.order.turned a.cells) in
     if is_itself page sheet a then None else why_no_scale room (scale_for a.scale largest) largest
 
 counted : (page sheet : Paper) (a : Arrangement) (next : Option ArrangementError) → 1 ≤ count_of a.cells → count_of a.cells ≤ 1_024 → first_of (is_count (count_of a.cells)) why.CellsOutOfRange next ≡ next
 counted page sheet a next some most = one_way (is_count (count_of a.cells)) next (Some why.CellsOutOfRange) (count_passed (count_of a.cells) some most)
 
-pub sheet_refused : (page sheet : Paper) (a : Arrangement) (e : ArrangementError) → 1 ≤ count_of a.cells → count_of a.cells ≤ 1_024 → why_no_sheet page sheet a.margin a.gap a.trim None ≡ Some e
+pub sheet_refused : (page sheet : Paper) (a : Arrangement) (e : ArrangementError) → 1 ≤ count_of a.cells → count_of a.cells ≤ 1_024 → why_no_sheet page sheet a.free None ≡ Some e
     → why_not_arranged page sheet a ≡ Some e
 sheet_refused page sheet a e some most h =
-    counted page sheet a _ some most ∙ sheet_stops page sheet a.margin a.gap a.trim (arranged_reasons page sheet a) e h
+    counted page sheet a _ some most ∙ sheet_stops page sheet a.free (arranged_reasons page sheet a) e h
 
-arranged_by : (page sheet : Paper) (a : Arrangement) → 1 ≤ count_of a.cells → count_of a.cells ≤ 1_024 → why_no_sheet page sheet a.margin a.gap a.trim None ≡ None
+arranged_by : (page sheet : Paper) (a : Arrangement) → 1 ≤ count_of a.cells → count_of a.cells ≤ 1_024 → why_no_sheet page sheet a.free None ≡ None
     → why_not_arranged page sheet a ≡ arranged_reasons page sheet a
 arranged_by page sheet a some most h =
-    counted page sheet a _ some most ∙ sheet_on page sheet a.margin a.gap a.trim (arranged_reasons page sheet a) h
+    counted page sheet a _ some most ∙ sheet_on page sheet a.free (arranged_reasons page sheet a) h
 
-pub cells_reasons : (page sheet : Paper) (a : Arrangement) → 1 ≤ count_of a.cells → count_of a.cells ≤ 1_024 → why_no_sheet page sheet a.margin a.gap a.trim None ≡ None → is_itself page sheet a ≡ false
-    → (let room = room_of sheet a.margin a.gap a.trim in
+pub cells_reasons : (page sheet : Paper) (a : Arrangement) → 1 ≤ count_of a.cells → count_of a.cells ≤ 1_024 → why_no_sheet page sheet a.free None ≡ None → is_itself page sheet a ≡ false
+    → (let room = room_of sheet a.free in
     let largest = scale_in page room (grid_of page room a.order.turned a.cells) in
     why_not_arranged page sheet a ≡ why_no_scale room (scale_for a.scale largest) largest)
 cells_reasons page sheet a some most h is = arranged_by page sheet a some most h ∙ either_way (is_itself page sheet a) None _ is
 
 -- why there is no scale is why nothing is arranged
 pub scale_refused : (page sheet : Paper) (a : Arrangement) (room : Room) (grid : Grid) (largest : ℕ) (error : ArrangementError) → 1 ≤ count_of a.cells → count_of a.cells ≤ 1_024
-    → why_no_sheet page sheet a.margin a.gap a.trim None ≡ None → is_itself page sheet a ≡ false
-    → room ≡ room_of sheet a.margin a.gap a.trim → grid ≡ grid_of page room a.order.turned a.cells → largest ≡ scale_in page room grid
+    → why_no_sheet page sheet a.free None ≡ None → is_itself page sheet a ≡ false
+    → room ≡ room_of sheet a.free → grid ≡ grid_of page room a.order.turned a.cells → largest ≡ scale_in page room grid
     → why_no_scale room (scale_for a.scale largest) largest ≡ Some error → why_not_arranged page sheet a ≡ Some error
 scale_refused page sheet a room grid largest error some few good not e f g h =
-    let r = room_of sheet a.margin a.gap a.trim in
+    let r = room_of sheet a.free in
     let all : largest ≡ scale_in page r (grid_of page r a.order.turned a.cells) = g ∙ (ap (scale_in page room) f ∙ ap (λ x. scale_in page x (grid_of page x a.order.turned a.cells)) e) in
     cells_reasons page sheet a some few good not
     ∙ (ap (λ l. why_no_scale r (scale_for a.scale l) l) (sym all) ∙ (ap (λ x. why_no_scale x (scale_for a.scale largest) largest) (sym e) ∙ h))
@@ -142,9 +136,23 @@ scale_refused page sheet a room grid largest error some few good not e f g h =
 pub record IsAlone (page sheet : Paper) (a : Arrangement) : Type 0 where
   pub one : count_of a.cells ≡ 1
   pub same : SameSides page sheet
-  pub edge : rounded_up a.margin ≡ 0
-  pub trim : rounded_down a.trim ≡ 0
+  pub bare : has_bare_edges (room_of sheet a.free) ≡ true
   pub scale : a.scale ≡ None
+
+-- what holds of a sheet with gaps alone holds of one with bare edges
+bare_at : (P : Room → Type 0) (q : Paper) (l r b t d d' m : ℕ) → l + r + (b + t) ≡ 0 → m ≡ 0 → P (room_in q d d')
+    → P (record { paper = q; left = l; right = r; bottom = b; top = t; gap_across = d; gap_up = d'; trim = m })
+bare_at P q zero zero zero zero d d' zero e f h = h
+bare_at P q zero zero zero zero d d' (suc m) e f h = absurd (omega (arith, f))
+bare_at P q (suc l) r b t d d' m e f h = absurd (omega (arith, e))
+bare_at P q zero (suc r) b t d d' m e f h = absurd (omega (arith, e))
+bare_at P q zero zero (suc b) t d d' m e f h = absurd (omega (arith, e))
+bare_at P q zero zero zero (suc t) d d' m e f h = absurd (omega (arith, e))
+
+pub bare_edges : (P : Room → Type 0) (room : Room) → has_bare_edges room ≡ true → P (room_in room.paper room.gap_across room.gap_up) → P room
+bare_edges P room h holds =
+    let both = both_true (room.left + room.right + (room.bottom + room.top) == 0) (room.trim == 0) h in
+    bare_at P room.paper room.left room.right room.bottom room.top room.gap_across room.gap_up room.trim (same_byte (room.left + room.right + (room.bottom + room.top)) 0 both.0) (same_byte room.trim 0 both.1) holds
 
 pub no_scale : (asked : Option ℤ) → is_none asked ≡ true → asked ≡ None
 no_scale None e = refl
@@ -152,16 +160,14 @@ no_scale (Some s) e = absurd (cc (e))
 
 pub is_alone : (page sheet : Paper) (a : Arrangement) → is_itself page sheet a ≡ true → IsAlone page sheet a
 is_alone page sheet a h =
-    let four = both_true ((count_of a.cells == 1) && is_same page sheet && (rounded_up a.margin == 0) && (rounded_down a.trim == 0)) (is_none a.scale) h in
-    let three = both_true ((count_of a.cells == 1) && is_same page sheet && (rounded_up a.margin == 0)) (rounded_down a.trim == 0) four.0 in
-    let two = both_true ((count_of a.cells == 1) && is_same page sheet) (rounded_up a.margin == 0) three.0 in
+    let three = both_true ((count_of a.cells == 1) && is_same page sheet && has_bare_edges (room_of sheet a.free)) (is_none a.scale) h in
+    let two = both_true ((count_of a.cells == 1) && is_same page sheet) (has_bare_edges (room_of sheet a.free)) three.0 in
     let one = both_true (count_of a.cells == 1) (is_same page sheet) two.0 in
     record {
       one = same_byte (count_of a.cells) 1 one.0;
       same = same_sides page sheet one.1;
-      edge = same_byte (rounded_up a.margin) 0 two.1;
-      trim = same_byte (rounded_down a.trim) 0 three.1;
-      scale = no_scale a.scale four.1;
+      bare = two.1;
+      scale = no_scale a.scale three.1;
     }
 
 pub itself_made : (page sheet : Paper) (a : Arrangement) → is_itself page sheet a ≡ true → arranged page sheet a ≡ itself
@@ -171,65 +177,81 @@ pub itself_laid_out : (page sheet : Paper) (a : Arrangement) → IsPaper page �
 itself_laid_out page sheet a is on h =
     let alone = is_alone page sheet a h in
     subst (IsArranged page sheet a) (sym (itself_made page sheet a h))
-    (subst (λ asked. IsArrangedIn page (room_of sheet a.margin a.gap a.trim) a.cells a.order asked itself) (sym alone.scale)
-    (subst (λ e. IsArrangedIn page (room_in sheet e (rounded_up a.gap) (rounded_down a.trim)) a.cells a.order None itself) (sym alone.edge)
-    (subst (λ l. IsArrangedIn page (room_in sheet 0 (rounded_up a.gap) l) a.cells a.order None itself) (sym alone.trim)
-    (itself_arranged page sheet (rounded_up a.gap) a.cells a.order is on alone.one alone.same))))
+    (subst (λ asked. IsArrangedIn page (room_of sheet a.free) a.cells a.order asked itself) (sym alone.scale)
+    (bare_edges (λ room. IsArrangedIn page room a.cells a.order None itself) (room_of sheet a.free) alone.bare
+    (itself_arranged page sheet (rounded_up a.free.across) (rounded_up a.free.up) a.cells a.order is on alone.one alone.same)))
 
 pub cells_made : (page sheet : Paper) (a : Arrangement) → is_itself page sheet a ≡ false
-    → (let room = room_of sheet a.margin a.gap a.trim in arranged page sheet a ≡ in_cells page room (grid_of page room a.order.turned a.cells) a)
+    → (let room = room_of sheet a.free in arranged page sheet a ≡ in_cells page room (grid_of page room a.order.turned a.cells) a)
 cells_made page sheet a is = either_way (is_itself page sheet a) itself _ is
 
 pub cells_laid_out : (page sheet : Paper) (a : Arrangement) → IsPaper page → IsPaper sheet → 1 ≤ count_of a.cells → is_itself page sheet a ≡ false
-    → (let room = room_of sheet a.margin a.gap a.trim in
+    → (let room = room_of sheet a.free in
     let g = grid_of page room a.order.turned a.cells in
     HasPlace page room g (scale_for a.scale (scale_in page room g)))
     → IsArranged page sheet a (arranged page sheet a)
 cells_laid_out page sheet a is on some not has =
     subst (IsArranged page sheet a) (sym (cells_made page sheet a not))
-    (cells_arranged page (room_of sheet a.margin a.gap a.trim) a.cells a.order a.scale is on some has)
+    (cells_arranged page (room_of sheet a.free) a.cells a.order a.scale is on some has)
 
 -- ---- leaves
 
-pub leaves_refused : (page sheet : Paper) (b : Binding) (e : ArrangementError) → why_no_sheet page sheet b.margin b.gap b.trim None ≡ Some e → why_not_bound page sheet b ≡ Some e
-leaves_refused page sheet b e h = sheet_stops page sheet b.margin b.gap b.trim _ e h
+pub leaves_refused : (page sheet : Paper) (b : Binding) (e : ArrangementError) → why_no_sheet page sheet b.free None ≡ Some e → why_not_bound page sheet b ≡ Some e
+leaves_refused page sheet b e h = sheet_stops page sheet b.free _ e h
 
-pub leaves_reasons : (page sheet : Paper) (b : Binding) → why_no_sheet page sheet b.margin b.gap b.trim None ≡ None
-    → (let room = room_of sheet b.margin b.gap b.trim in
+pub leaves_reasons : (page sheet : Paper) (b : Binding) → why_no_sheet page sheet b.free None ≡ None
+    → (let room = room_of sheet b.free in
     let largest = scale_in page room (beside true) in
-    why_not_bound page sheet b ≡ first_of (folds_short page room) why.FoldOnLongEdge (why_no_scale room largest largest))
-leaves_reasons page sheet b h = sheet_on page sheet b.margin b.gap b.trim _ h
+    why_not_bound page sheet b ≡ first_of (is_even room) why.UnevenMargins (first_of (folds_short page room) why.FoldOnLongEdge (why_no_scale room largest largest)))
+leaves_reasons page sheet b h = sheet_on page sheet b.free _ h
 
-pub leaves_possible : (page sheet : Paper) (b : Binding) → why_no_sheet page sheet b.margin b.gap b.trim None ≡ None → folds_short page (room_of sheet b.margin b.gap b.trim) ≡ true
-    → (let room = room_of sheet b.margin b.gap b.trim in
+pub leaves_possible : (page sheet : Paper) (b : Binding) → why_no_sheet page sheet b.free None ≡ None → is_even (room_of sheet b.free) ≡ true → folds_short page (room_of sheet b.free) ≡ true
+    → (let room = room_of sheet b.free in
     let largest = scale_in page room (beside true) in
     why_not_bound page sheet b ≡ why_no_scale room largest largest)
-leaves_possible page sheet b h folds = leaves_reasons page sheet b h ∙ one_way (folds_short page (room_of sheet b.margin b.gap b.trim)) _ _ folds
+leaves_possible page sheet b h even folds =
+    leaves_reasons page sheet b h ∙ (one_way (is_even (room_of sheet b.free)) _ _ even ∙ one_way (folds_short page (room_of sheet b.free)) _ _ folds)
 
 -- what is found of a scale is found of leaves
-pub leaf_reason : (page sheet : Paper) (b : Binding) (room : Room) (largest : ℕ) (found : Option ArrangementError) → why_no_sheet page sheet b.margin b.gap b.trim None ≡ None
-    → room ≡ room_of sheet b.margin b.gap b.trim → folds_short page room ≡ true → largest ≡ scale_in page room (beside true) → why_no_scale room largest largest ≡ found
+pub leaf_reason : (page sheet : Paper) (b : Binding) (room : Room) (largest : ℕ) (found : Option ArrangementError) → why_no_sheet page sheet b.free None ≡ None
+    → room ≡ room_of sheet b.free → is_even room ≡ true → folds_short page room ≡ true → largest ≡ scale_in page room (beside true) → why_no_scale room largest largest ≡ found
     → why_not_bound page sheet b ≡ found
-leaf_reason page sheet b room largest found good e folds g h =
-    let r = room_of sheet b.margin b.gap b.trim in
+leaf_reason page sheet b room largest found good e even folds g h =
+    let r = room_of sheet b.free in
     let all : largest ≡ scale_in page r (beside true) = g ∙ ap (λ x. scale_in page x (beside true)) e in
-    leaves_possible page sheet b good (ap (folds_short page) (sym e) ∙ folds)
+    leaves_possible page sheet b good (ap is_even (sym e) ∙ even) (ap (folds_short page) (sym e) ∙ folds)
     ∙ (ap (λ l. why_no_scale r l l) (sym all) ∙ (ap (λ x. why_no_scale x largest largest) (sym e) ∙ h))
+
+-- and so are margins that aren't even
+pub uneven : (page sheet : Paper) (b : Binding) (room : Room) → why_no_sheet page sheet b.free None ≡ None → room ≡ room_of sheet b.free → is_even room ≡ false → why_not_bound page sheet b ≡ Some why.UnevenMargins
+uneven page sheet b room good e not =
+    leaves_reasons page sheet b good ∙ either_way (is_even (room_of sheet b.free)) _ _ (ap is_even (sym e) ∙ not)
+
+pub long_fold : (page sheet : Paper) (b : Binding) (room : Room) → why_no_sheet page sheet b.free None ≡ None → room ≡ room_of sheet b.free → is_even room ≡ true → folds_short page room ≡ false
+    → why_not_bound page sheet b ≡ Some why.FoldOnLongEdge
+long_fold page sheet b room good e even not =
+    leaves_reasons page sheet b good
+    ∙ (one_way (is_even (room_of sheet b.free)) _ _ (ap is_even (sym e) ∙ even) ∙ either_way (folds_short page (room_of sheet b.free)) _ _ (ap (folds_short page) (sym e) ∙ not))
+
+pub even_room : (room : Room) → is_even room ≡ true → IsEven room
+even_room room h =
+    let both = both_true (room.left == room.right) (room.bottom == room.top) h in
+    record { across = same_byte room.left room.right both.0; up = same_byte room.bottom room.top both.1 }
 
 no_wider : (w h : ℕ) → IsTrue (nat_le w h) → w ≤ h
 no_wider w h e = search (rules, e)
 
-pub leaves_laid_out : (page sheet : Paper) (b : Binding) → IsPaper page → IsPaper sheet → IsTrue (folds_short page (room_of sheet b.margin b.gap b.trim))
-    → (let room = room_of sheet b.margin b.gap b.trim in HasPlace page room (beside true) (scale_in page room (beside true)))
+pub leaves_laid_out : (page sheet : Paper) (b : Binding) → IsPaper page → IsPaper sheet → IsEven (room_of sheet b.free) → IsTrue (folds_short page (room_of sheet b.free))
+    → (let room = room_of sheet b.free in HasPlace page room (beside true) (scale_in page room (beside true)))
     → IsBound page sheet b (bound page sheet b)
-leaves_laid_out page sheet b is on folds has =
-    let room = room_of sheet b.margin b.gap b.trim in
+leaves_laid_out page sheet b is on even folds has =
+    let room = room_of sheet b.free in
     let (high, most) = both_true (nat_le (nat_abs sheet.width) (nat_abs sheet.height)) (nat_le (scale_in page room (beside false)) (scale_in page room (beside true))) folds in
     record {
       fold = no_wider (nat_abs sheet.width) (nat_abs sheet.height) high;
       scale = scale_in page room (beside true);
-      sides = sides_laid_out page room b.right_to_left b.long_edge is on has;
-      folded = λ front more e. sides_folded page room b.right_to_left b.long_edge is on has front more e;
+      sides = sides_laid_out page room b.right_to_left b.long_edge is on even has;
+      folded = λ front more e. sides_folded page room b.right_to_left b.long_edge is on even has front more e;
       large = λ g t sides rows columns allows. beside_large page room g t most sides rows columns allows;
     }
 

@@ -6,11 +6,10 @@ use Rattle.rules.specs.Papers.{Paper}
 use Rattle.rules.specs.Specification.{Item, Measure, Turn}
 use Rattle.layouts.specs.declared.arrangement.Order.{Order}
 use Rattle.layouts.specs.Placed.{Room}
-use Rattle.layouts.specs.Cells.{Grid, size, corner_x, corner_y, to_right, to_top, trimmed, whole, row_of, column_of, in_points, turn_in, item_at}
+use Rattle.layouts.specs.Cells.{Grid, along_height, along_width, counted, size, corner_x, corner_y, to_right, to_top, trimmed, whole, row_of, column_of, in_points, turn_in, item_at}
 use Rattle.layouts.specs.Refusals.{is_near}
 use Rattle.layouts.specs.Laws.{HasPlace}
 use Rattle.layouts.proofs.AlongSide.{in_side, in_side_back}
-use Rattle.layouts.proofs.OnSide.{shown}
 use Rattle.layouts.proofs.InGrid.{cells, fits, both_true}
 use Rattle.layouts.proofs.InOrder.{place_fits}
 
@@ -23,14 +22,14 @@ corner_at : (page : Paper) (room : Room) (r c : ℕ) (b : Bool) (s row column : 
 corner_at page room r c false s row column place in_rows in_columns =
     let f = fits page room (cells r c false) s place in
     record {
-      across = omega (arith, in_side room (nat_abs room.paper.width) c (shown room (nat_abs page.width)) s column f.some_wide f.is_wide in_columns);
-      up = omega (arith, in_side room (nat_abs room.paper.height) r (shown room (nat_abs page.height)) s (r - (row + 1)) f.some_high f.is_high (omega (arith, in_rows)));
+      across = omega (arith, in_side (along_width room) (nat_abs room.paper.width) c (counted room page.width) s column f.some_wide f.is_wide in_columns);
+      up = omega (arith, in_side (along_height room) (nat_abs room.paper.height) r (counted room page.height) s (r - (row + 1)) f.some_high f.is_high (omega (arith, in_rows)));
     }
 corner_at page room r c true s row column place in_rows in_columns =
     let f = fits page room (cells r c true) s place in
     record {
-      across = omega (arith, in_side_back room (nat_abs room.paper.width) r (shown room (nat_abs page.height)) s row f.some_high f.is_high in_rows);
-      up = omega (arith, in_side room (nat_abs room.paper.height) c (shown room (nat_abs page.width)) s column f.some_wide f.is_wide in_columns);
+      across = omega (arith, in_side_back (along_width room) (nat_abs room.paper.width) r (counted room page.height) s row f.some_high f.is_high in_rows);
+      up = omega (arith, in_side (along_height room) (nat_abs room.paper.height) c (counted room page.width) s column f.some_wide f.is_wide in_columns);
     }
 
 pub corner_fits : (page : Paper) (room : Room) (g : Grid) (s row column : ℕ) → HasPlace page room g s → row < g.rows → column < g.columns → CornerFits page room g s row column

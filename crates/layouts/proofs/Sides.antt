@@ -1,14 +1,14 @@
 -- Upright pages and pages turned to the left, so far from the edges and from one another. A page has the sides v and u,
--- of which l is trimmed; it is moved by x and y. The sheet has m and n whole 10^-5 of a point.
-use Rattle.std.proofs.Common.{arith, ℕ, ◌+◌, ◌-◌, ◌*◌, ◌≤◌}
-use Rattle.std.specs.Prelude.{ℤ, pos, negsuc, ◌≤ℤ◌, ◌+ℤ◌, ◌*ℤ◌, neg_ℤ, false}
+-- of which l is trimmed; it is moved by x and y.
+use Rattle.std.proofs.Common.{arith, ◌≡◌, refl, zero, suc, ℕ, ◌+◌, ◌-◌, ◌*◌, ◌≤◌}
+use Rattle.std.specs.Prelude.{ℤ, pos, negsuc, ◌≤ℤ◌, ◌+ℤ◌, ◌*ℤ◌, neg_ℤ, nat_abs, false}
 use Rattle.std.proofs.Math.Nat.{mul-le-mul_left}
 use Rattle.std.proofs.lemmas.Int.{ints}
 use Rattle.rules.specs.Papers.{Paper}
 use Rattle.rules.specs.Specification.{Item, Turn, Upright, Left}
 use Rattle.rules.specs.Placement.{Point}
-use Rattle.layouts.specs.Placed.{stands, fine, IsOfPage}
-use Rattle.layouts.specs.Cells.{in_points}
+use Rattle.layouts.specs.Placed.{Room, stands, fine, IsOfPage}
+use Rattle.layouts.specs.Cells.{in_points, whole}
 
 abbrev pub of_sides : (w h : ℕ) → Paper
 of_sides w h = record { width = pos w; height = pos h }
@@ -24,11 +24,11 @@ abbrev pub far : ℤ → ℤ
 far z = pos 1_270_000_000_000_000 *ℤ z
 
 -- on the whole 10^-5 of a point of a sheet, so far from its edges
-pub record LiesIn (m n e : ℕ) (p : Point) : Type 0 where
-  pub left : fine e ≤ℤ p.x
-  pub right : (p.x +ℤ fine e) ≤ℤ fine m
-  pub bottom : fine e ≤ℤ p.y
-  pub top : (p.y +ℤ fine e) ≤ℤ fine n
+pub record LiesIn (room : Room) (p : Point) : Type 0 where
+  pub left : fine room.left ≤ℤ p.x
+  pub right : (p.x +ℤ fine room.right) ≤ℤ fine (whole (nat_abs room.paper.width))
+  pub bottom : fine room.bottom ≤ℤ p.y
+  pub top : (p.y +ℤ fine room.top) ≤ℤ fine (whole (nat_abs room.paper.height))
 
 -- where the page begins and ends
 abbrev pub start : (l s : ℕ) → ℕ
@@ -47,12 +47,13 @@ between l v s a from to =
     let most : a ≤ v - 1_270_000 * l = omega (arith, to) in
     record { start = mul-le-mul_left s from; end = mul-le-mul_left s most }
 
-within_upright_at : (v u m n e l k s : ℕ) (x y : ℤ) → fine e ≤ℤ (far x +ℤ pos (start l s)) → ((far x +ℤ pos (end l v s)) +ℤ fine e) ≤ℤ fine m
-    → fine e ≤ℤ (far y +ℤ pos (start l s)) → ((far y +ℤ pos (end l u s)) +ℤ fine e) ≤ℤ fine n
-    → (a b : ℤ) → IsOfPage l (of_sides v u) (point a b) → LiesIn m n e (stands (of_sides v u) (placed Upright k s x y) (point a b))
-within_upright_at v u m n e l k s x y left right bottom top (pos a) (pos b) of =
-    let h = between l v s a (let f = of.left in omega (arith, ints)) (let f = of.right in omega (arith, ints)) in
-    let h' = between l u s b (let f = of.bottom in omega (arith, ints)) (let f = of.top in omega (arith, ints)) in
+within_upright_at : (v u : ℕ) (room : Room) (k s : ℕ) (x y : ℤ) → fine room.left ≤ℤ (far x +ℤ pos (start room.trim s))
+    → ((far x +ℤ pos (end room.trim v s)) +ℤ fine room.right) ≤ℤ fine (whole (nat_abs room.paper.width))
+    → fine room.bottom ≤ℤ (far y +ℤ pos (start room.trim s)) → ((far y +ℤ pos (end room.trim u s)) +ℤ fine room.top) ≤ℤ fine (whole (nat_abs room.paper.height))
+    → (a b : ℤ) → IsOfPage room.trim (of_sides v u) (point a b) → LiesIn room (stands (of_sides v u) (placed Upright k s x y) (point a b))
+within_upright_at v u room k s x y left right bottom top (pos a) (pos b) of =
+    let h = between room.trim v s a (let f = of.left in omega (arith, ints)) (let f = of.right in omega (arith, ints)) in
+    let h' = between room.trim u s b (let f = of.bottom in omega (arith, ints)) (let f = of.top in omega (arith, ints)) in
     let i = h.start in let j = h.end in let i' = h'.start in let j' = h'.end in
     record {
       left = omega (arith, ints);
@@ -60,15 +61,16 @@ within_upright_at v u m n e l k s x y left right bottom top (pos a) (pos b) of =
       bottom = omega (arith, ints);
       top = omega (arith, ints);
     }
-within_upright_at v u m n e l k s x y left right bottom top (negsuc a) b of = absurd (let f = of.left in omega (arith, ints))
-within_upright_at v u m n e l k s x y left right bottom top (pos a) (negsuc b) of = absurd (let f = of.bottom in omega (arith, ints))
+within_upright_at v u room k s x y left right bottom top (negsuc a) b of = absurd (let f = of.left in omega (arith, ints))
+within_upright_at v u room k s x y left right bottom top (pos a) (negsuc b) of = absurd (let f = of.bottom in omega (arith, ints))
 
-within_left_at : (v u m n e l k s : ℕ) (x y : ℤ) → (fine e +ℤ pos (end l u s)) ≤ℤ far x → (far x +ℤ fine e) ≤ℤ (fine m +ℤ pos (start l s))
-    → fine e ≤ℤ (far y +ℤ pos (start l s)) → ((far y +ℤ pos (end l v s)) +ℤ fine e) ≤ℤ fine n
-    → (a b : ℤ) → IsOfPage l (of_sides v u) (point a b) → LiesIn m n e (stands (of_sides v u) (placed Left k s x y) (point a b))
-within_left_at v u m n e l k s x y left right bottom top (pos a) (pos b) of =
-    let h = between l v s a (let f = of.left in omega (arith, ints)) (let f = of.right in omega (arith, ints)) in
-    let h' = between l u s b (let f = of.bottom in omega (arith, ints)) (let f = of.top in omega (arith, ints)) in
+within_left_at : (v u : ℕ) (room : Room) (k s : ℕ) (x y : ℤ) → (fine room.left +ℤ pos (end room.trim u s)) ≤ℤ far x
+    → (far x +ℤ fine room.right) ≤ℤ (fine (whole (nat_abs room.paper.width)) +ℤ pos (start room.trim s))
+    → fine room.bottom ≤ℤ (far y +ℤ pos (start room.trim s)) → ((far y +ℤ pos (end room.trim v s)) +ℤ fine room.top) ≤ℤ fine (whole (nat_abs room.paper.height))
+    → (a b : ℤ) → IsOfPage room.trim (of_sides v u) (point a b) → LiesIn room (stands (of_sides v u) (placed Left k s x y) (point a b))
+within_left_at v u room k s x y left right bottom top (pos a) (pos b) of =
+    let h = between room.trim v s a (let f = of.left in omega (arith, ints)) (let f = of.right in omega (arith, ints)) in
+    let h' = between room.trim u s b (let f = of.bottom in omega (arith, ints)) (let f = of.top in omega (arith, ints)) in
     let i = h.start in let j = h.end in let i' = h'.start in let j' = h'.end in
     record {
       left = omega (arith, ints);
@@ -76,18 +78,20 @@ within_left_at v u m n e l k s x y left right bottom top (pos a) (pos b) of =
       bottom = omega (arith, ints);
       top = omega (arith, ints);
     }
-within_left_at v u m n e l k s x y left right bottom top (negsuc a) b of = absurd (let f = of.left in omega (arith, ints))
-within_left_at v u m n e l k s x y left right bottom top (pos a) (negsuc b) of = absurd (let f = of.bottom in omega (arith, ints))
+within_left_at v u room k s x y left right bottom top (negsuc a) b of = absurd (let f = of.left in omega (arith, ints))
+within_left_at v u room k s x y left right bottom top (pos a) (negsuc b) of = absurd (let f = of.bottom in omega (arith, ints))
 
-pub within_upright : (v u m n e l k s : ℕ) (x y : ℤ) → fine e ≤ℤ (far x +ℤ pos (start l s)) → ((far x +ℤ pos (end l v s)) +ℤ fine e) ≤ℤ fine m
-    → fine e ≤ℤ (far y +ℤ pos (start l s)) → ((far y +ℤ pos (end l u s)) +ℤ fine e) ≤ℤ fine n
-    → (p : Point) → IsOfPage l (of_sides v u) p → LiesIn m n e (stands (of_sides v u) (placed Upright k s x y) p)
-within_upright v u m n e l k s x y left right bottom top p of = within_upright_at v u m n e l k s x y left right bottom top p.x p.y of
+pub within_upright : (v u : ℕ) (room : Room) (k s : ℕ) (x y : ℤ) → fine room.left ≤ℤ (far x +ℤ pos (start room.trim s))
+    → ((far x +ℤ pos (end room.trim v s)) +ℤ fine room.right) ≤ℤ fine (whole (nat_abs room.paper.width))
+    → fine room.bottom ≤ℤ (far y +ℤ pos (start room.trim s)) → ((far y +ℤ pos (end room.trim u s)) +ℤ fine room.top) ≤ℤ fine (whole (nat_abs room.paper.height))
+    → (p : Point) → IsOfPage room.trim (of_sides v u) p → LiesIn room (stands (of_sides v u) (placed Upright k s x y) p)
+within_upright v u room k s x y left right bottom top p of = within_upright_at v u room k s x y left right bottom top p.x p.y of
 
-pub within_left : (v u m n e l k s : ℕ) (x y : ℤ) → (fine e +ℤ pos (end l u s)) ≤ℤ far x → (far x +ℤ fine e) ≤ℤ (fine m +ℤ pos (start l s))
-    → fine e ≤ℤ (far y +ℤ pos (start l s)) → ((far y +ℤ pos (end l v s)) +ℤ fine e) ≤ℤ fine n
-    → (p : Point) → IsOfPage l (of_sides v u) p → LiesIn m n e (stands (of_sides v u) (placed Left k s x y) p)
-within_left v u m n e l k s x y left right bottom top p of = within_left_at v u m n e l k s x y left right bottom top p.x p.y of
+pub within_left : (v u : ℕ) (room : Room) (k s : ℕ) (x y : ℤ) → (fine room.left +ℤ pos (end room.trim u s)) ≤ℤ far x
+    → (far x +ℤ fine room.right) ≤ℤ (fine (whole (nat_abs room.paper.width)) +ℤ pos (start room.trim s))
+    → fine room.bottom ≤ℤ (far y +ℤ pos (start room.trim s)) → ((far y +ℤ pos (end room.trim v s)) +ℤ fine room.top) ≤ℤ fine (whole (nat_abs room.paper.height))
+    → (p : Point) → IsOfPage room.trim (of_sides v u) p → LiesIn room (stands (of_sides v u) (placed Left k s x y) p)
+within_left v u room k s x y left right bottom top p of = within_left_at v u room k s x y left right bottom top p.x p.y of
 
 -- one page before another, by d. The sides of the other are v' and u'
 
@@ -136,18 +140,24 @@ pub left_by_left : (v u v' u' d l k k' s s' : ℕ) (x y x' y' : ℤ) → ((far y
     → ((stands (of_sides v u) (placed Left k s x y) p).y +ℤ fine d) ≤ℤ (stands (of_sides v' u') (placed Left k' s' x' y') q).y
 left_by_left v u v' u' d l k k' s s' x y x' y' apart p q of of' = left_by_left_at v u v' u' d l k k' s s' x y x' y' apart p.x p.y q.x q.y of of'
 
+-- a number and that below 0 are as far from it
+pub abs_neg : (z : ℤ) → nat_abs (neg_ℤ z) ≡ nat_abs z
+abs_neg (pos zero) = refl
+abs_neg (pos (suc n)) = refl
+abs_neg (negsuc n) = refl
+
 -- the one above the other, as one holds the sheet
 above_by_left_at : (v u v' u' d l k k' s s' : ℕ) (x y x' y' : ℤ) → ((far x +ℤ pos (end l u' s')) +ℤ fine d) ≤ℤ (far x' +ℤ pos (start l s))
     → (a b c e : ℤ) → IsOfPage l (of_sides v' u') (point a b) → IsOfPage l (of_sides v u) (point c e)
-    → (neg_ℤ (stands (of_sides v' u') (placed Left k' s' x' y') (point a b)).x +ℤ fine d) ≤ℤ neg_ℤ (stands (of_sides v u) (placed Left k s x y) (point c e)).x
+    → (neg_ℤ (stands (of_sides v' u') (placed Left k' s' x' y') (point a b)).x +ℤ fine (nat_abs (neg_ℤ (pos d)))) ≤ℤ neg_ℤ (stands (of_sides v u) (placed Left k s x y) (point c e)).x
 above_by_left_at v u v' u' d l k k' s s' x y x' y' apart a (pos b) c (pos e) of of' =
     let h = (between l u' s' b (let f = of.bottom in omega (arith, ints)) (let f = of.top in omega (arith, ints))).end in
     let h' = (between l u s e (let f = of'.bottom in omega (arith, ints)) (let f = of'.top in omega (arith, ints))).start in
-    omega (arith, ints)
+    rw (abs_neg (pos d)) (omega (arith, ints))
 above_by_left_at v u v' u' d l k k' s s' x y x' y' apart a (negsuc b) c e of of' = absurd (let f = of.bottom in omega (arith, ints))
 above_by_left_at v u v' u' d l k k' s s' x y x' y' apart a (pos b) c (negsuc e) of of' = absurd (let f = of'.bottom in omega (arith, ints))
 
 pub above_by_left : (v u v' u' d l k k' s s' : ℕ) (x y x' y' : ℤ) → ((far x +ℤ pos (end l u' s')) +ℤ fine d) ≤ℤ (far x' +ℤ pos (start l s))
     → (p q : Point) → IsOfPage l (of_sides v' u') p → IsOfPage l (of_sides v u) q
-    → (neg_ℤ (stands (of_sides v' u') (placed Left k' s' x' y') p).x +ℤ fine d) ≤ℤ neg_ℤ (stands (of_sides v u) (placed Left k s x y) q).x
+    → (neg_ℤ (stands (of_sides v' u') (placed Left k' s' x' y') p).x +ℤ fine (nat_abs (neg_ℤ (pos d)))) ≤ℤ neg_ℤ (stands (of_sides v u) (placed Left k s x y) q).x
 above_by_left v u v' u' d l k k' s s' x y x' y' apart p q of of' = above_by_left_at v u v' u' d l k k' s s' x y x' y' apart p.x p.y q.x q.y of of'

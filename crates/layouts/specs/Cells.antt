@@ -1,7 +1,7 @@
--- Pages in cells, each in the middle of its cell, with a margin round the sheet and a gap between cells.
+-- Pages in cells, each in the middle of its cell, with margins along the edges of the sheet and gaps between cells.
 -- Sides of cells and offsets are whole numbers of 10^-5 of a point, which are 1,270,000 grains: with these a shift is
 -- printed exactly. Both are rounded down, and so is the scale, in 10^-9; so a page is never larger than its cell, nor
--- the grid than what the margin leaves of the sheet.
+-- the grid than what the margins leave of the sheet.
 -- The gap is no part of the pages, so it isn't scaled: it is added to the side once, as if one more gap came behind the
 -- last cell, the side is cut into equal parts, and each part gives up one gap.
 use Rattle.std.specs.Prelude.{ℕ, ◌+◌, ◌-◌, ◌*◌, ◌/◌, ◌%◌, min, ℤ, pos, ◌+ℤ◌, ◌-ℤ◌, ◌*ℤ◌, nat_abs, Bool, true}
@@ -35,37 +35,64 @@ abbrev pub held_height : Bool → (sheet : Paper) → ℕ
 held_height false sheet = nat_abs sheet.height
 held_height true sheet = nat_abs sheet.width
 
+-- what is kept free along one side of a sheet: before its cells, after them, and between them; and what is trimmed
+pub record Along : Type 0 where
+  pub before : ℕ
+  pub after : ℕ
+  pub gap : ℕ
+  pub trim : ℕ
+
+-- along the width of the sheet, and along its height
+abbrev pub along_width : Room → Along
+along_width room = record { before = room.left; after = room.right; gap = room.gap_across; trim = room.trim }
+
+abbrev pub along_height : Room → Along
+along_height room = record { before = room.bottom; after = room.top; gap = room.gap_up; trim = room.trim }
+
+-- and so as one holds it
+abbrev pub held_across : Bool → Room → Along
+held_across false room = along_width room
+held_across true room = along_height room
+
+abbrev pub held_down : Bool → Room → Along
+held_down false room = along_height room
+held_down true room = along_width room
+
 -- ---- cells
 
 -- what is kept of a length: if pages are trimmed, 10^-5 of a point more, since how far they are moved back is rounded
 -- (RULES, 13.1)
-abbrev pub kept : Room → (length : ℕ) → ℕ
-kept room length = if room.trim == 0 then length else length + 1
+abbrev pub kept : (trim length : ℕ) → ℕ
+kept trim length = if trim == 0 then length else length + 1
 
 -- what the margins leave of a side, in grains (RULES, 13.2)
-abbrev pub left_free : Room → (side : ℕ) → ℕ
-left_free room side = side - 2_540_000 * kept room room.edge
+abbrev pub left_free : Along → (side : ℕ) → ℕ
+left_free a side = side - 1_270_000 * (kept a.trim a.before + kept a.trim a.after)
 
 -- one of so many equal parts of a side of so many grains, in 10^-5 of a point
 abbrev pub part : (side parts : ℕ) → ℕ
 part side parts = side / (1_270_000 * parts)
 
 -- from where a cell begins to where the next one begins
-abbrev pub step : Room → (side parts : ℕ) → ℕ
-step room side parts = part (left_free room side + 1_270_000 * kept room room.gap) parts
+abbrev pub step : Along → (side parts : ℕ) → ℕ
+step a side parts = part (left_free a side + 1_270_000 * kept a.trim a.gap) parts
 
 abbrev pub step_across : Room → Grid → ℕ
-step_across room g = step room (held_width g.turned room.paper) g.columns
+step_across room g = step (held_across g.turned room) (held_width g.turned room.paper) g.columns
 
 abbrev pub step_down : Room → Grid → ℕ
-step_down room g = step room (held_height g.turned room.paper) g.rows
+step_down room g = step (held_down g.turned room) (held_height g.turned room.paper) g.rows
 
--- how wide and how high a cell is; none has room if a gap takes it all
+-- how much of a side a cell has; it has no room if a gap takes it all
+abbrev pub cell : Along → (side parts : ℕ) → ℕ
+cell a side parts = step a side parts - kept a.trim a.gap
+
+-- how wide and how high a cell is
 abbrev pub wide : Room → Grid → ℕ
-wide room g = step_across room g - kept room room.gap
+wide room g = cell (held_across g.turned room) (held_width g.turned room.paper) g.columns
 
 abbrev pub high : Room → Grid → ℕ
-high room g = step_down room g - kept room room.gap
+high room g = cell (held_down g.turned room) (held_height g.turned room.paper) g.rows
 
 -- ---- pages in cells
 
@@ -86,15 +113,15 @@ scale_in page room g =
 
 -- the largest scale, in 10^-9, that so many equal parts of what the margins and the gaps leave of a side allow
 -- (RULES, 13.5)
-abbrev pub exact_along : Room → (side parts page : ℕ) → ℕ
-exact_along room side parts page =
-    (1_000_000_000 * left_free room side + 1_270_000_000_000_000 * kept room room.gap
-    - 1_270_000_000_000_000 * (kept room room.gap * parts)) / (page * parts)
+abbrev pub exact_along : Along → (side parts page : ℕ) → ℕ
+exact_along a side parts page =
+    (1_000_000_000 * left_free a side + 1_270_000_000_000_000 * kept a.trim a.gap
+    - 1_270_000_000_000_000 * (kept a.trim a.gap * parts)) / (page * parts)
 
 abbrev pub exact_scale : (page : Paper) → Room → Grid → ℕ
 exact_scale page room g =
-    min (exact_along room (held_width g.turned room.paper) g.columns (counted room page.width))
-    (exact_along room (held_height g.turned room.paper) g.rows (counted room page.height))
+    min (exact_along (held_across g.turned room) (held_width g.turned room.paper) g.columns (counted room page.width))
+    (exact_along (held_down g.turned room) (held_height g.turned room.paper) g.rows (counted room page.height))
 
 -- ---- where they stand
 
@@ -115,13 +142,13 @@ trimmed room s = s * room.trim / 1_000_000_000
 -- where the corner of what counts of the page comes to stand, about which it is turned, if it is in this row and column
 abbrev pub corner_x : (page : Paper) → Room → Grid → (scale row column : ℕ) → ℕ
 corner_x page room g s row column =
-    if g.turned then kept room room.edge + row * step_down room g + (high room g - slack_y page room g s)
-    else kept room room.edge + column * step_across room g + slack_x page room g s
+    if g.turned then kept room.trim room.left + row * step_down room g + (high room g - slack_y page room g s)
+    else kept room.trim room.left + column * step_across room g + slack_x page room g s
 
 abbrev pub corner_y : (page : Paper) → Room → Grid → (scale row column : ℕ) → ℕ
 corner_y page room g s row column =
-    if g.turned then kept room room.edge + column * step_across room g + slack_x page room g s
-    else kept room room.edge + (g.rows - (row + 1)) * step_down room g + slack_y page room g s
+    if g.turned then kept room.trim room.bottom + column * step_across room g + slack_x page room g s
+    else kept room.trim room.bottom + (g.rows - (row + 1)) * step_down room g + slack_y page room g s
 
 -- how far to the right, and how far up, the page is moved, in 10^-5 of a point
 abbrev pub to_right : (page : Paper) → Room → Grid → (scale row column : ℕ) → ℤ

@@ -12,7 +12,7 @@ use Rattle.layouts.specs.declared.error.ArrangementError.TheVariants as why
 use Rattle.layouts.specs.declared.setting.Setting.{Setting}
 use Rattle.layouts.specs.Placed.{IsInside, AreApart}
 use Rattle.layouts.specs.Cells.{size, kept, scale_in, item_in, back_in, run_in, row_of, column_of, whole}
-use Rattle.layouts.specs.Grids.{alone, is_same, room_of, grid_of, scale_for, count_of, arranged, bound, beside, leaf_order}
+use Rattle.layouts.specs.Grids.{alone, has_bare_edges, is_same, room_of, grid_of, scale_for, count_of, arranged, bound, beside, leaf_order}
 use Rattle.layouts.specs.Refusals.{first_of, are_reached, is_shown, why_no_scale, why_not_arranged, why_not_bound}
 use Rattle.layouts.specs.Laws.{IsPaper, IsExact, IsInCell, IsInMiddle, cell_at, ComesInRun, ComesInRunBefore, IsNotTiny, Allows, LiesBefore, LiesBehind}
 
@@ -20,8 +20,7 @@ use Rattle.layouts.specs.Laws.{IsPaper, IsExact, IsInCell, IsInMiddle, cell_at, 
 -- for (RULES, 13.4)
 abbrev pub is_whole : Setting → (page : Paper) → Bool
 is_whole t page =
-    (size t.grid == 1) && is_same page t.room.paper && (t.room.edge == 0) && (t.room.trim == 0) && is_none t.scale
-    && not t.grid.turned
+    (size t.grid == 1) && is_same page t.room.paper && has_bare_edges t.room && is_none t.scale && not t.grid.turned
 
 -- the scale of pages of this paper, in 10^-9: what is asked for, or else the largest that fits (RULES, 13.3)
 abbrev pub scale_on : Setting → (page : Paper) → ℕ
@@ -38,7 +37,7 @@ fitted_back t page k = back_in page t.room t.grid t.order (scale_on t page) 0 k
 
 -- the cells that an arrangement comes to, if the grid is chosen for pages of this paper
 abbrev pub setting_of : (page sheet : Paper) → Arrangement → Setting
-setting_of page sheet a = let room = room_of sheet a.margin a.gap a.trim in record {
+setting_of page sheet a = let room = room_of sheet a.free in record {
   room = room;
   grid = grid_of page room a.order.turned a.cells;
   order = a.order;
@@ -48,7 +47,7 @@ setting_of page sheet a = let room = room_of sheet a.margin a.gap a.trim in reco
 -- the two halves of a sheet whose leaves are bound so
 abbrev pub binding_setting_of : (sheet : Paper) → Binding → Setting
 binding_setting_of sheet b = record {
-  room = room_of sheet b.margin b.gap b.trim;
+  room = room_of sheet b.free;
   grid = beside true;
   order = leaf_order b.right_to_left;
   scale = None;
@@ -68,9 +67,9 @@ why_not_fitted t page = if is_whole t page then None else why_no_scale_on t page
 -- how far a page may reach past its cell: not at all; but by 10^-5 of a point if pages are trimmed, and on a sheet of its
 -- own paper, whose sides needn't have a whole number of these
 abbrev pub past_cell : Setting → (page : Paper) → ℕ
-past_cell t page = if is_whole t page then 1 else kept t.room 0
+past_cell t page = if is_whole t page then 1 else kept t.room.trim 0
 
--- a page of this paper in cell k: on what the margin leaves of the sheet, in its cell and in the middle of that, printed
+-- a page of this paper in cell k: on what the margins leave of the sheet, in its cell and in the middle of that, printed
 -- exactly, and if no scale is asked for as large as the cell allows, to 10^-6
 pub record IsFitted (t : Setting) (page : Paper) (k : ℕ) (item : Item) : Type 0 where
   pub inside : IsInside t.room page item

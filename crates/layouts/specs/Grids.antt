@@ -9,6 +9,7 @@ use Rattle.layouts.specs.Cells.{Grid, size, exact_scale, scale_in, item_in, back
 use Rattle.layouts.specs.declared.arrangement.Arrangement.{Arrangement}
 use Rattle.layouts.specs.declared.arrangement.Binding.{Binding}
 use Rattle.layouts.specs.declared.arrangement.Cells.{Cells}
+use Rattle.layouts.specs.declared.arrangement.Free.{Free}
 use Rattle.layouts.specs.declared.arrangement.Cells.TheVariants.{AtLeast, Exactly}
 use Rattle.layouts.specs.declared.arrangement.Run.TheVariants.{Rows}
 use Rattle.layouts.specs.declared.arrangement.Turned.{Turned}
@@ -75,14 +76,22 @@ rounded_up length = (nat_abs length + 1_269_999) / 1_270_000
 abbrev pub rounded_down : ℤ → ℕ
 rounded_down length = nat_abs length / 1_270_000
 
--- the sheet: margin and gap are no narrower than asked for, and no more is trimmed
-abbrev pub room_of : (sheet : Paper) → (margin gap trim : ℤ) → Room
-room_of sheet margin gap trim = record {
+-- the sheet: margins and gaps are no narrower than asked for, and no more is trimmed
+abbrev pub room_of : (sheet : Paper) → Free → Room
+room_of sheet f = record {
   paper = sheet;
-  edge = rounded_up margin;
-  gap = rounded_up gap;
-  trim = rounded_down trim;
+  left = rounded_up f.left;
+  right = rounded_up f.right;
+  bottom = rounded_up f.bottom;
+  top = rounded_up f.top;
+  gap_across = rounded_up f.across;
+  gap_up = rounded_up f.up;
+  trim = rounded_down f.trim;
 }
+
+-- nothing is kept free along its edges, and of its pages nothing is trimmed
+abbrev pub has_bare_edges : Room → Bool
+has_bare_edges room = (room.left + room.right + (room.bottom + room.top) == 0) && (room.trim == 0)
 
 -- how many pages a sheet has
 abbrev pub count_of : Cells → ℕ
@@ -105,8 +114,7 @@ scale_for (Some s) largest = above_zero s
 -- one page of the sheet's own paper, of which nothing else is asked (RULES, 13.4)
 abbrev pub is_itself : (page sheet : Paper) → Arrangement → Bool
 is_itself page sheet a =
-    (count_of a.cells == 1) && is_same page sheet && (rounded_up a.margin == 0) && (rounded_down a.trim == 0)
-    && is_none a.scale
+    (count_of a.cells == 1) && is_same page sheet && has_bare_edges (room_of sheet a.free) && is_none a.scale
 
 abbrev pub in_cells : (page : Paper) → Room → Grid → Arrangement → Spec
 in_cells page room g a = in_grid page room g a.order (scale_for a.scale (scale_in page room g)) (count_of a.cells)
@@ -114,7 +122,7 @@ in_cells page room g a = in_grid page room g a.order (scale_for a.scale (scale_i
 -- so many pages on each sheet; on a sheet of its own paper one page is left as it is
 abbrev pub arranged : (page sheet : Paper) → Arrangement → Spec
 arranged page sheet a =
-    let room = room_of sheet a.margin a.gap a.trim in
+    let room = room_of sheet a.free in
     if is_itself page sheet a then record { modulo = 1; groups = (alone 0 ∷ []) ∷ [] }
     else in_cells page room (grid_of page room a.order.turned a.cells) a
 
@@ -122,9 +130,21 @@ arranged page sheet a =
 abbrev pub plain_order : Order
 plain_order = record { run = Rows; right_to_left = false; turned = sideways.Upright }
 
+-- nothing is kept free, and nothing is trimmed
+abbrev pub nothing_free : Free
+nothing_free = record {
+  left = pos 0;
+  right = pos 0;
+  bottom = pos 0;
+  top = pos 0;
+  across = pos 0;
+  up = pos 0;
+  trim = pos 0;
+}
+
 -- nothing is asked for but cells
 abbrev pub plain : Cells → Arrangement
-plain cells = record { cells = cells; margin = pos 0; gap = pos 0; order = plain_order; scale = None; trim = pos 0 }
+plain cells = record { cells = cells; free = nothing_free; order = plain_order; scale = None }
 
 -- ---- booklets
 
@@ -148,14 +168,8 @@ sides_in page room o true = record {
 
 -- the sides of a booklet's leaves, which fold parallel to the shorter edge
 abbrev pub bound : (page sheet : Paper) → Binding → Spec
-bound page sheet b = sides_in page (room_of sheet b.margin b.gap b.trim) (leaf_order b.right_to_left) b.long_edge
+bound page sheet b = sides_in page (room_of sheet b.free) (leaf_order b.right_to_left) b.long_edge
 
 -- nothing is asked for but how the printer flips a sheet
 abbrev pub plain_binding : (long_edge : Bool) → Binding
-plain_binding long_edge = record {
-  margin = pos 0;
-  gap = pos 0;
-  right_to_left = false;
-  trim = pos 0;
-  long_edge = long_edge;
-}
+plain_binding long_edge = record { free = nothing_free; right_to_left = false; long_edge = long_edge }

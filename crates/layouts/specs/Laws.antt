@@ -14,8 +14,8 @@ use Rattle.layouts.specs.declared.arrangement.Run.{Run}
 use Rattle.layouts.specs.declared.arrangement.Run.TheVariants.{Rows, Columns}
 use Rattle.layouts.specs.declared.arrangement.Turned.{Turned}
 use Rattle.layouts.specs.declared.arrangement.Order.{Order}
-use Rattle.layouts.specs.Placed.{Room, stands, fine, IsOfPage, IsInside, AreApart, IsLeftOf, IsAbove}
-use Rattle.layouts.specs.Cells.{Grid, size, held_width, held_height, step_across, step_down, wide, high, kept, counted}
+use Rattle.layouts.specs.Placed.{IsEven, Room, stands, fine, IsOfPage, IsInside, AreApart, IsLeftOf, IsAbove}
+use Rattle.layouts.specs.Cells.{Along, Grid, size, held_width, held_height, held_across, held_down, left_free, step_across, step_down, wide, high, kept, counted}
 use Rattle.layouts.specs.Cells.{exact_scale, scale_in, item_in, back_in, run_in, read_columns, read_rows, row_of, column_of}
 use Rattle.layouts.specs.Cells.{whole}
 use Rattle.layouts.specs.Grids.{best_grid, formed, count_of, room_of, scale_for}
@@ -31,7 +31,7 @@ pub record HasPlace (page : Paper) (room : Room) (g : Grid) (scale : ℕ) : Type
   pub above_zero : 0 < scale
   pub fits : scale ≤ scale_in page room g
 
--- each page in a cell lies on what the margin leaves of the sheet
+-- each page in a cell lies on what the margins leave of the sheet
 abbrev pub GridIsInside : Type 0
 GridIsInside = (page : Paper) (room : Room) (g : Grid) (o : Order) (s k : ℕ) → IsPaper page → IsPaper room.paper
     → HasPlace page room g s → k < size g
@@ -68,14 +68,15 @@ GridIsInOrder =
     × (k / run_in o.run o.turned g < l / run_in o.run o.turned g
     → ComesInRunBefore o.run room o.turned o.right_to_left page (item_in page room g o s k) page' (item_in page' room g o s' l))
 
--- exact parts of what the margins and the gaps leave have room for pages of this scale, in 10^-9
+-- exact parts of what the margins and the gaps leave of a side have room for pages of this scale, in 10^-9, of which so much
+-- counts
+abbrev pub AllowsAlong : Along → (side parts page scale : ℕ) → Type 0
+AllowsAlong a side parts page scale = scale * page * parts + 1_270_000_000_000_000 * (kept a.trim a.gap * parts)
+    ≤ 1_000_000_000 * left_free a side + 1_270_000_000_000_000 * kept a.trim a.gap
+
 pub record Allows (page : Paper) (room : Room) (g : Grid) (scale : ℕ) : Type 0 where
-  pub wide : scale * counted room page.width * g.columns + 1_270_000_000_000_000 * (kept room room.gap * g.columns)
-      ≤ 1_000_000_000 * (held_width g.turned room.paper - 2_540_000 * kept room room.edge)
-      + 1_270_000_000_000_000 * kept room room.gap
-  pub high : scale * counted room page.height * g.rows + 1_270_000_000_000_000 * (kept room room.gap * g.rows)
-      ≤ 1_000_000_000 * (held_height g.turned room.paper - 2_540_000 * kept room room.edge)
-      + 1_270_000_000_000_000 * kept room room.gap
+  pub wide : AllowsAlong (held_across g.turned room) (held_width g.turned room.paper) g.columns (counted room page.width) scale
+  pub high : AllowsAlong (held_down g.turned room) (held_height g.turned room.paper) g.rows (counted room page.height) scale
 
 -- the sides that count are 11 points or more
 abbrev pub IsNotTiny : (page : Paper) → Room → Type 0
@@ -107,10 +108,10 @@ BestIsBest = (page : Paper) (room : Room) (n : ℕ) (g : Grid) → 0 < n → n �
 abbrev pub BestHasCells : Type 0
 BestHasCells = (page : Paper) (room : Room) (n : ℕ) → 0 < n → n ≤ size (best_grid page room n)
 
--- each page of a sheet turned by half lies on what the margin leaves too
+-- each page of a sheet turned by half lies on what even margins leave too
 abbrev pub BackIsInside : Type 0
 BackIsInside = (page : Paper) (room : Room) (g : Grid) (o : Order) (s n k : ℕ) → IsPaper page → IsPaper room.paper
-    → HasPlace page room g s → k < size g
+    → IsEven room → HasPlace page room g s → k < size g
     → IsInside room page (back_in page room g o s n k)
 
 -- the other stands where the one would, were the sheet turned by half about the middle of its whole 10^-5 of a point
@@ -145,14 +146,14 @@ pub record Cell : Type 0 where
 abbrev pub cell_at : Room → Grid → (row column : ℕ) → Cell
 cell_at room g row column = if g.turned
     then record {
-      left = kept room room.edge + row * step_down room g;
-      bottom = kept room room.edge + column * step_across room g;
+      left = kept room.trim room.left + row * step_down room g;
+      bottom = kept room.trim room.bottom + column * step_across room g;
       width = high room g;
       height = wide room g;
     }
     else record {
-      left = kept room room.edge + column * step_across room g;
-      bottom = kept room room.edge + (g.rows - (row + 1)) * step_down room g;
+      left = kept room.trim room.left + column * step_across room g;
+      bottom = kept room.trim room.bottom + (g.rows - (row + 1)) * step_down room g;
       width = wide room g;
       height = high room g;
     }
@@ -191,7 +192,7 @@ IsInCell room page cell past item = (p : Point) → IsOfPage room.trim page p �
 abbrev pub GridIsInCell : Type 0
 GridIsInCell = (page : Paper) (room : Room) (g : Grid) (o : Order) (s k : ℕ) → IsPaper page
     → HasPlace page room g s
-    → IsInCell room page (cell_at room g (row_of o g k) (column_of o g k)) (kept room 0) (item_in page room g o s k)
+    → IsInCell room page (cell_at room g (row_of o g k) (column_of o g k)) (kept room.trim 0) (item_in page room g o s k)
 
 -- ---- what holds of a specification
 
@@ -215,7 +216,7 @@ pub record IsLike (turn : Turn) (scale : ℕ) (i : Item) : Type 0 where
   pub scale_is : i.scale ≡ pos scale
   pub from_start : i.from_end ≡ false
 
--- pages of one turn and one scale, in runs of so many: on what the margin leaves of the sheet, apart by the gap, in
+-- pages of one turn and one scale, in runs of so many: on what the margins leave of the sheet, apart by the gap, in
 -- order, and printed exactly
 pub record IsLaidOut (page : Paper) (room : Room) (o : Order) (turn : Turn) (scale run : ℕ) (items : List Item) : Type 0 where
   pub like : AllByRecursion (IsLike turn scale) items
@@ -263,7 +264,7 @@ pub record IsArrangedIn (page : Paper) (room : Room) (cells : Cells) (o : Order)
 
 -- pages on each sheet as they are asked for
 abbrev pub IsArranged : (page sheet : Paper) → Arrangement → Spec → Type 0
-IsArranged page sheet a spec = IsArrangedIn page (room_of sheet a.margin a.gap a.trim) a.cells a.order a.scale spec
+IsArranged page sheet a spec = IsArrangedIn page (room_of sheet a.free) a.cells a.order a.scale spec
 
 -- ---- leaves
 
@@ -280,11 +281,11 @@ AreSidesIn page room o true scale spec =
 -- the page lies before a line across the sheet, or behind it, by half of the gap; the line is twice as far up as said
 abbrev pub LiesBefore : Room → (twice : ℕ) → (page : Paper) → Item → Type 0
 LiesBefore room twice page item = (p : Point) → IsOfPage room.trim page p
-    → ((pos 2 *ℤ (stands page item p).y) +ℤ fine room.gap) ≤ℤ fine twice
+    → ((pos 2 *ℤ (stands page item p).y) +ℤ fine room.gap_up) ≤ℤ fine twice
 
 abbrev pub LiesBehind : Room → (twice : ℕ) → (page : Paper) → Item → Type 0
 LiesBehind room twice page item = (p : Point) → IsOfPage room.trim page p
-    → (fine twice +ℤ fine room.gap) ≤ℤ (pos 2 *ℤ (stands page item p).y)
+    → (fine twice +ℤ fine room.gap_up) ≤ℤ (pos 2 *ℤ (stands page item p).y)
 
 -- a line across the sheet, in its middle to 10^-5 of a point, with the one page before it and the other behind it, each by
 -- half of the gap: nothing crosses the fold
@@ -300,10 +301,11 @@ abbrev pub AreFolded : (page : Paper) → Room → (right_to_left : Bool) → Li
 AreFolded page room false items = (one other : Item) × (items ≡ one ∷ other ∷ []) × KeepsFold page room one other
 AreFolded page room true items = (one other : Item) × (items ≡ one ∷ other ∷ []) × KeepsFold page room other one
 
--- on a leaf the first page lies before the fold, and the second behind it; from the right it is the other way
+-- on a leaf with even margins the first page lies before the fold, and the second behind it; from the right it is the other
+-- way
 abbrev pub LeafKeepsFold : Type 0
 LeafKeepsFold = (page : Paper) (room : Room) (right_to_left : Bool) (s : ℕ) → IsPaper page → IsPaper room.paper
-    → HasPlace page room (beside true) s
+    → IsEven room → HasPlace page room (beside true) s
     → KeepsFold page room (item_in page room (beside true) (leaf_order right_to_left) s (if right_to_left then 1 else 0))
     (item_in page room (beside true) (leaf_order right_to_left) s (if right_to_left then 0 else 1))
 
@@ -319,8 +321,8 @@ RightToLeftIsMirror = (page : Paper) (room : Room) (s k : ℕ) → k < 2
 pub record IsBound (page sheet : Paper) (b : Binding) (spec : Spec) : Type 0 where
   pub fold : nat_abs sheet.width ≤ nat_abs sheet.height
   pub scale : ℕ
-  pub sides : AreSidesIn page (room_of sheet b.margin b.gap b.trim) (leaf_order b.right_to_left) b.long_edge scale spec
+  pub sides : AreSidesIn page (room_of sheet b.free) (leaf_order b.right_to_left) b.long_edge scale spec
   pub folded : (front : List Item) (more : List (List Item)) → spec.groups ≡ front ∷ more
-      → AreFolded page (room_of sheet b.margin b.gap b.trim) b.right_to_left front
-  pub large : (g : Grid) (t : ℕ) → IsNotTiny page (room_of sheet b.margin b.gap b.trim) → g.rows ≡ 1 → g.columns ≡ 2
-      → Allows page (room_of sheet b.margin b.gap b.trim) g t → t < scale + 1_000
+      → AreFolded page (room_of sheet b.free) b.right_to_left front
+  pub large : (g : Grid) (t : ℕ) → IsNotTiny page (room_of sheet b.free) → g.rows ≡ 1 → g.columns ≡ 2
+      → Allows page (room_of sheet b.free) g t → t < scale + 1_000

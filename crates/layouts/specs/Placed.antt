@@ -1,7 +1,7 @@
 -- Where the pages of a layout stand on their sheet, and how they stand to one another. A page and a sheet each have a
 -- paper. A sheet is measured here in 10^-9 of a grain: a scale, in 10^-9, times a whole number of grains is a whole
 -- number of these.
-use Rattle.std.specs.Prelude.{◌≡◌, ℕ, ◌*◌, ℤ, pos, ◌+ℤ◌, ◌*ℤ◌, neg_ℤ, ◌≤ℤ◌, ◌⊎◌}
+use Rattle.std.specs.Prelude.{◌≡◌, ℕ, ◌*◌, ℤ, pos, ◌+ℤ◌, ◌*ℤ◌, neg_ℤ, ◌≤ℤ◌, ◌⊎◌, nat_abs}
 use Rattle.rules.specs.Papers.{Paper}
 use Rattle.rules.specs.Specification.{Item, Turn, Upright, Left, Half, Right}
 use Rattle.rules.specs.Placement.{Point, offset, turned, moved, put}
@@ -35,35 +35,50 @@ pub record IsOfPage (trim : ℕ) (page : Paper) (p : Point) : Type 0 where
   pub bottom : pos (1_270_000 * trim) ≤ℤ p.y
   pub top : (p.y +ℤ pos (1_270_000 * trim)) ≤ℤ page.height
 
--- a sheet: its paper, what is kept free along each of its edges, what is kept free between its cells, and what is
--- trimmed of its pages along each of their sides, in 10^-5 of a point
+-- a sheet: its paper, what is kept free along each of its edges, what is kept free between cells that are side by side,
+-- and between those that are one above another, and what is trimmed of its pages along each of their sides, in 10^-5 of a
+-- point
 pub record Room : Type 0 where
   pub paper : Paper
-  pub edge : ℕ
-  pub gap : ℕ
+  pub left : ℕ
+  pub right : ℕ
+  pub bottom : ℕ
+  pub top : ℕ
+  pub gap_across : ℕ
+  pub gap_up : ℕ
   pub trim : ℕ
 
 -- nothing is kept free
 abbrev pub bare : (sheet : Paper) → Room
-bare sheet = record { paper = sheet; edge = 0; gap = 0; trim = 0 }
+bare sheet =
+    record { paper = sheet; left = 0; right = 0; bottom = 0; top = 0; gap_across = 0; gap_up = 0; trim = 0 }
+
+-- as much is kept free along opposite edges
+pub record IsEven (room : Room) : Type 0 where
+  pub across : room.left ≡ room.right
+  pub up : room.bottom ≡ room.top
 
 -- the sheet has this point, in 10^-9 of a grain, at least so far from each edge
-pub record LiesWithin (sheet : Paper) (edge : ℕ) (p : Point) : Type 0 where
-  pub left : fine edge ≤ℤ p.x
-  pub right : (p.x +ℤ fine edge) ≤ℤ (pos 1_000_000_000 *ℤ sheet.width)
-  pub bottom : fine edge ≤ℤ p.y
-  pub top : (p.y +ℤ fine edge) ≤ℤ (pos 1_000_000_000 *ℤ sheet.height)
+pub record LiesWithin (room : Room) (p : Point) : Type 0 where
+  pub left : fine room.left ≤ℤ p.x
+  pub right : (p.x +ℤ fine room.right) ≤ℤ (pos 1_000_000_000 *ℤ room.paper.width)
+  pub bottom : fine room.bottom ≤ℤ p.y
+  pub top : (p.y +ℤ fine room.top) ≤ℤ (pos 1_000_000_000 *ℤ room.paper.height)
 
--- each point of the placed page, its corners among them, lies on what the margin leaves of the sheet
+-- each point of the placed page, its corners among them, lies on what the margins leave of the sheet
 abbrev pub IsInside : Room → (page : Paper) → Item → Type 0
 IsInside room page item = (p : Point) → IsOfPage room.trim page p
-    → LiesWithin room.paper room.edge (stands page item p)
+    → LiesWithin room (stands page item p)
 
--- measured so, each point of the one page comes before each of the other, and that by the gap
+-- how far one of two neighbours is from the other, in the directions in which points are measured
+abbrev pub gaps : Room → Point
+gaps room = record { x = pos room.gap_across; y = pos room.gap_up }
+
+-- measured so, each point of the one page comes before each of the other, and that by the gap in that direction
 abbrev pub ComesFirst : (Point → ℤ) → Room → (page : Paper) → (one : Item) → (page' : Paper) → (other : Item) → Type 0
 ComesFirst by room page one page' other =
     (p q : Point) → IsOfPage room.trim page p → IsOfPage room.trim page' q
-    → (by (stands page one p) +ℤ fine room.gap) ≤ℤ by (stands page' other q)
+    → (by (stands page one p) +ℤ fine (nat_abs (by (gaps room)))) ≤ℤ by (stands page' other q)
 
 abbrev pub across : Point → ℤ
 across p = p.x
@@ -71,7 +86,7 @@ across p = p.x
 abbrev pub up : Point → ℤ
 up p = p.y
 
--- a strip along a side of the sheet, as wide as the gap, parts them: so they have no inner point in common
+-- a strip along a side of the sheet, as wide as the gap there, parts them: so they have no inner point in common
 abbrev pub AreApart : Room → (page : Paper) → (one : Item) → (page' : Paper) → (other : Item) → Type 0
 AreApart room page one page' other =
     (ComesFirst across room page one page' other ⊎ ComesFirst across room page' other page one)

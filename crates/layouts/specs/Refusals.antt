@@ -1,10 +1,11 @@
 -- Why there is no layout.
-use Rattle.std.specs.Prelude.{◌≡◌, ◌⊎◌, ℕ, ◌+◌, ◌*◌, ℤ, pos, int_le, nat_abs, Bool, true, false, ◌&&◌, nat_le, nat_lt}
+use Rattle.std.specs.Prelude.{◌≡◌, ◌⊎◌, ℕ, ◌+◌, ◌*◌, ℤ, pos, int_le, nat_abs, Bool, true, false, ◌&&◌, ◌==◌, nat_le, nat_lt}
 use Rattle.std.specs.Prelude.{if◌then◌else◌, Option, Some, None}
 use Rattle.rules.specs.Papers.{Paper}
 use Rattle.layouts.specs.Placed.{Room}
 use Rattle.layouts.specs.declared.arrangement.Arrangement.{Arrangement}
 use Rattle.layouts.specs.declared.arrangement.Binding.{Binding}
+use Rattle.layouts.specs.declared.arrangement.Free.{Free}
 use Rattle.layouts.specs.declared.error.ArrangementError.{ArrangementError}
 use Rattle.layouts.specs.declared.error.ArrangementError.TheVariants as why
 use Rattle.layouts.specs.Cells.{scale_in, trimmed, whole}
@@ -48,6 +49,15 @@ folds_short page room =
 abbrev pub is_length : ℤ → Bool
 is_length z = int_le (pos 0) z && nat_lt (nat_abs z) out_of_reach
 
+abbrev pub are_lengths : Free → Bool
+are_lengths f =
+    (is_length f.left && is_length f.right && (is_length f.bottom && is_length f.top))
+    && (is_length f.across && is_length f.up && is_length f.trim)
+
+-- as much is kept free along opposite edges (RULES, 14.1)
+abbrev pub is_even : Room → Bool
+is_even room = (room.left == room.right) && (room.bottom == room.top)
+
 -- something is left of the page
 abbrev pub is_shown : (page : Paper) → Room → Bool
 is_shown page room =
@@ -70,28 +80,29 @@ why_no_scale room s largest =
     (first_of (is_near room s) why.ScaleOutOfRange None)))
 
 -- why lengths or papers can't be kept to
-abbrev pub why_no_sheet : (page sheet : Paper) → (margin gap trim : ℤ) → Option ArrangementError → Option ArrangementError
-why_no_sheet page sheet margin gap trim next =
+abbrev pub why_no_sheet : (page sheet : Paper) → Free → Option ArrangementError → Option ArrangementError
+why_no_sheet page sheet f next =
     first_of (are_reached page && are_reached sheet) why.SideTooLong
-    (first_of (is_length margin && is_length gap && is_length trim) why.LengthOutOfRange
-    (first_of (is_shown page (room_of sheet margin gap trim)) why.NothingLeftOfPage next))
+    (first_of (are_lengths f) why.LengthOutOfRange
+    (first_of (is_shown page (room_of sheet f)) why.NothingLeftOfPage next))
 
 -- the first reason why pages can't be arranged so, if there is one
 abbrev pub why_not_arranged : (page sheet : Paper) → Arrangement → Option ArrangementError
 why_not_arranged page sheet a =
-    let room = room_of sheet a.margin a.gap a.trim in
+    let room = room_of sheet a.free in
     let largest = scale_in page room (grid_of page room a.order.turned a.cells) in
     first_of (is_count (count_of a.cells)) why.CellsOutOfRange
-    (why_no_sheet page sheet a.margin a.gap a.trim
+    (why_no_sheet page sheet a.free
     (if is_itself page sheet a then None else why_no_scale room (scale_for a.scale largest) largest))
 
 -- the first reason why leaves can't be bound so
 abbrev pub why_not_bound : (page sheet : Paper) → Binding → Option ArrangementError
 why_not_bound page sheet b =
-    let room = room_of sheet b.margin b.gap b.trim in
+    let room = room_of sheet b.free in
     let largest = scale_in page room (beside true) in
-    why_no_sheet page sheet b.margin b.gap b.trim
-    (first_of (folds_short page room) why.FoldOnLongEdge (why_no_scale room largest largest))
+    why_no_sheet page sheet b.free
+    (first_of (is_even room) why.UnevenMargins
+    (first_of (folds_short page room) why.FoldOnLongEdge (why_no_scale room largest largest)))
 
 abbrev pub IsFault : Option ArrangementError → ArrangementError → Type 0
 IsFault found e = (e ≡ why.NoMemory) ⊎ (found ≡ Some e)

@@ -1,6 +1,6 @@
-//! What a sheet looks like: cells, margin, gap, order, scale.
+//! What a sheet looks like: cells, margins, gaps, order, scale.
 ghost use Rattle.std.specs.Prelude.{◌≡◌, pos};
-ghost use Rattle.layouts.specs.Grids.{count_of, plain as plain_of, plain_binding};
+ghost use Rattle.layouts.specs.Grids.{count_of, nothing_free, plain as plain_of, plain_binding};
 
 use super::arranging::leaf_order;
 use lengths::{Grains, Number, Paper};
@@ -59,35 +59,58 @@ pub struct Order {
     pub turned: Turned,
 }
 
-/// What a sheet looks like. Margin and gap are kept exactly, but for parts of 10^-5 of a point, which are kept whole.
+/// What is kept free on a sheet, as it lies before one turns it, and what is trimmed of its pages. Margins and gaps are
+/// kept exactly, but for parts of 10^-5 of a point, which are kept whole.
 #[derive(Clone, Copy, Debug, PartialEq, Eq)]
-pub struct Arrangement {
-    pub cells: Cells,
-    /// Kept free along each edge of the sheet.
-    pub margin: Grains,
-    /// Kept free between cells.
-    pub gap: Grains,
-    pub order: Order,
-    /// The scale of the pages; without it they are as large as they can be.
-    pub scale: Option<Number>,
+pub struct Free {
+    /// Along the edges of the sheet.
+    pub left: Grains,
+    pub right: Grains,
+    pub bottom: Grains,
+    pub top: Grains,
+    /// Between cells that are side by side.
+    pub across: Grains,
+    /// Between cells that are one above another. On a leaf this is at the fold, half of it on each side.
+    pub up: Grains,
     /// A page counts as smaller by this along each of its sides; what is there may reach over its neighbours.
     pub trim: Grains,
 }
 
-/// What a booklet's leaves look like. Margin and gap are kept exactly, but for parts of 10^-5 of a point, which are kept
-/// whole.
+/// What a sheet looks like.
+#[derive(Clone, Copy, Debug, PartialEq, Eq)]
+pub struct Arrangement {
+    pub cells: Cells,
+    pub free: Free,
+    pub order: Order,
+    /// The scale of the pages; without it they are as large as they can be.
+    pub scale: Option<Number>,
+}
+
+/// What a booklet's leaves look like. As much is kept free along opposite edges.
 #[derive(Clone, Copy, Debug, PartialEq, Eq)]
 pub struct Binding {
-    /// Kept free along each edge of the sheet.
-    pub margin: Grains,
-    /// Kept free at the fold, half of it on each side.
-    pub gap: Grains,
+    pub free: Free,
     /// The booklet is bound at the right.
     pub right_to_left: bool,
-    /// A page counts as smaller by this along each of its sides; what is there may reach over its neighbour.
-    pub trim: Grains,
     /// For printers that flip a sheet about its longer edge the backs are turned by half.
     pub long_edge: bool,
+}
+
+impl Free {
+    /// Nothing.
+    pub fn none() -> Free
+        ensures { result ≡ nothing_free }
+    {
+        Free {
+            left: no_length(),
+            right: no_length(),
+            bottom: no_length(),
+            top: no_length(),
+            across: no_length(),
+            up: no_length(),
+            trim: no_length(),
+        }
+    }
 }
 
 impl Arrangement {
@@ -97,11 +120,9 @@ impl Arrangement {
     {
         Arrangement {
             cells,
-            margin: no_length(),
-            gap: no_length(),
+            free: Free::none(),
             order: leaf_order(false),
             scale: None,
-            trim: no_length(),
         }
     }
 }
@@ -112,10 +133,8 @@ impl Binding {
         ensures { result ≡ plain_binding long_edge }
     {
         Binding {
-            margin: no_length(),
-            gap: no_length(),
+            free: Free::none(),
             right_to_left: false,
-            trim: no_length(),
             long_edge,
         }
     }

@@ -7,19 +7,19 @@ ghost use Rattle.layouts.specs.Cells.{size};
 ghost use Rattle.layouts.specs.Fitted.{back_of, fitted, why_no_scale_on, why_not_fitted};
 ghost use Rattle.layouts.specs.Laws.{IsPaper, IsArranged, IsBound};
 ghost use Rattle.layouts.specs.Grids.{arranged, bound, is_same, is_itself as is_page_itself};
-ghost use Rattle.layouts.specs.Grids.{room_of, rounded_up as rounded_up_of, rounded_down as rounded_down_of};
+ghost use Rattle.layouts.specs.Grids.{room_of};
 ghost use Rattle.layouts.specs.Grids.{scale_for, above_zero, leaf_order as leaf_order_of};
 ghost use Rattle.layouts.specs.Refusals.{why_not_arranged, why_not_bound, IsFault};
 ghost use Rattle.layouts.specs.Refusals.{are_reached, folds_short, why_no_sheet, why_no_scale, is_shown as are_shown};
 
-use super::arrangement::{Arrangement, Binding, Order, Papers, Run, Turned};
+use super::arrangement::{Arrangement, Binding, Free, Order, Papers, Run, Turned};
 use super::error::ArrangementError;
 use super::grid::Grid;
 use super::item::is_near;
-use super::room::{Room, is_length};
+use super::room::{Room, are_lengths};
 use super::scale::{is_scale, scale_in, side};
 use super::setting::Setting;
-use lengths::{Grains, Number, Paper};
+use lengths::{Number, Paper};
 use pagespec::{Item, Spec};
 use std::alloc::Global;
 
@@ -27,7 +27,7 @@ use std::alloc::Global;
 pub const MOST_ON_SHEET: u64 = 1_024;
 
 /// Pages on each sheet as they are asked for, each in the middle of its cell: as many as there are cells, or as many as
-/// are asked for in a grid of at least as many cells. They keep the margin and the gap, are as large as they can be
+/// are asked for in a grid of at least as many cells. They keep margins and gaps, are as large as they can be
 /// unless a scale is asked for, and stand in the order that is asked for. One page on a sheet of its own paper is left
 /// as it is if nothing else is asked for.
 pub fn arrange(
@@ -202,29 +202,24 @@ pub fn leaf_order(right_to_left: bool) -> Order
 }
 
 /// The sheet with what is kept free on it, if lengths and papers can be kept to.
-pub fn sheet_in(
-    papers: &Papers,
-    margin: Grains,
-    gap: Grains,
-    trim: Grains,
-) -> Result<Room, ArrangementError>
+pub fn sheet_in(papers: &Papers, free: &Free) -> Result<Room, ArrangementError>
     ensures page { IsTrue (is_paper papers.now.page.width papers.now.page.height) }
     ensures sheet { IsTrue (is_paper papers.now.sheet.width papers.now.sheet.height) }
-    ensures room { IfOk result (λ room. room ≡ room_of papers.now.sheet margin gap trim) }
+    ensures room { IfOk result (λ room. room ≡ room_of papers.now.sheet free.now) }
     ensures shown { IfOk result (λ room. IsTrue (are_shown papers.now.page room)) }
-    ensures possible { OnOk result (why_no_sheet papers.now.page papers.now.sheet margin gap trim None ≡ None) }
+    ensures possible { OnOk result (why_no_sheet papers.now.page papers.now.sheet free.now None ≡ None) }
     ensures refused { IfErr result (λ error.
-        why_no_sheet papers.now.page papers.now.sheet margin gap trim None ≡ Some error) }
+        why_no_sheet papers.now.page papers.now.sheet free.now None ≡ Some error) }
 {
     let page = is_reached_across(&papers.page);
     let sheet = is_reached_across(&papers.sheet);
     if !(page && sheet) {
         return Err(ArrangementError::SideTooLong);
     }
-    if !(is_length(margin) && is_length(gap) && is_length(trim)) {
+    if !are_lengths(free) {
         return Err(ArrangementError::LengthOutOfRange);
     }
-    let room = Room::of(papers.sheet, margin, gap, trim);
+    let room = Room::of(papers.sheet, free);
     if !is_shown(&papers.page, &room) {
         return Err(ArrangementError::NothingLeftOfPage);
     }
@@ -284,14 +279,12 @@ pub fn is_shown(page: &Paper, room: &Room) -> bool
 
 /// Whether one page of the sheet's own paper is asked for, and nothing else.
 pub fn is_itself(papers: &Papers, room: &Room, arrangement: &Arrangement) -> bool
-    requires edge { room.now.edge ≡ rounded_up_of arrangement.now.margin }
-    requires trim { room.now.trim ≡ rounded_down_of arrangement.now.trim }
+    requires { room.now ≡ room_of papers.now.sheet arrangement.now.free }
     ensures { result ≡ is_page_itself papers.now.page papers.now.sheet arrangement.now }
 {
     arrangement.cells.count() == 1
         && is_of_size(&papers.page, &papers.sheet)
-        && room.edge == 0
-        && room.trim == 0
+        && room.has_bare_edges()
         && arrangement.scale.is_none()
 }
 

@@ -16,6 +16,9 @@ pub enum ArrangementError {
     /// What is trimmed takes the whole page.
     #[error("nothing is left of a trimmed page")]
     NothingLeftOfPage,
+    /// As much isn't kept free along opposite edges of a leaf.
+    #[error("the margins of opposite edges of a leaf differ")]
+    UnevenMargins,
     /// The sheet of a booklet is wider than high, or upright pages side by side would be larger on it: the fold would
     /// be parallel to its longer edge.
     #[error("a booklet would fold along the longer edge of the sheet")]

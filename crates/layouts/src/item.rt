@@ -110,14 +110,15 @@ fn place_of(order: &Order, grid: Grid, k: u32) -> (u32, u32)
 }
 
 impl GridLayout {
-    /// How far along its row the page in this column begins.
-    fn along_row(&self, column: u32) -> u128
-        ensures { result ≡ kept_of self.now.room self.now.room.edge + column * step_across self.now.room self.now.grid
+    /// How far along its row the page in this column begins, if so much is kept free before it.
+    fn along_row(&self, start: u64, column: u32) -> u128
+        requires { start ≤ 10_000_000_000 }
+        ensures { result ≡ kept_of self.now.room.trim start + column * step_across self.now.room self.now.grid
             + slack_x self.now.page self.now.room self.now.grid self.now.scale }
     {
         let (across, _) = steps(&self.room, self.grid);
         let (width, _) = cells(&self.room, self.grid);
-        u128::from(kept(&self.room, self.room.edge))
+        u128::from(kept(self.room.trim, start))
             + u128::from(column) * u128::from(across)
             + slack(width, counted(&self.room, self.page.width()), self.scale)
     }
@@ -125,26 +126,26 @@ impl GridLayout {
     /// How far above the foot of the sheet, as one holds it upright, the page in this row begins.
     fn above_foot(&self, row: u32) -> u128
         requires { row < self.now.grid.rows }
-        ensures { result ≡ kept_of self.now.room self.now.room.edge
+        ensures { result ≡ kept_of self.now.room.trim self.now.room.bottom
             + (self.now.grid.rows - (row + 1)) * step_down self.now.room self.now.grid
             + slack_y self.now.page self.now.room self.now.grid self.now.scale }
     {
         let (_, down) = steps(&self.room, self.grid);
         let (_, height) = cells(&self.room, self.grid);
-        u128::from(kept(&self.room, self.room.edge))
+        u128::from(kept(self.room.trim, self.room.bottom))
             + u128::from(self.grid.rows - (row + 1)) * u128::from(down)
             + slack(height, counted(&self.room, self.page.height()), self.scale)
     }
 
     /// How far from the left edge of the sheet the page in this row ends if it is turned.
     fn below_head(&self, row: u32) -> u128
-        ensures { result ≡ kept_of self.now.room self.now.room.edge + row * step_down self.now.room self.now.grid
+        ensures { result ≡ kept_of self.now.room.trim self.now.room.left + row * step_down self.now.room self.now.grid
             + (high self.now.room self.now.grid - slack_y self.now.page self.now.room self.now.grid self.now.scale) }
     {
         let (_, down) = steps(&self.room, self.grid);
         let (_, height) = cells(&self.room, self.grid);
         let slack = slack(height, counted(&self.room, self.page.height()), self.scale);
-        u128::from(kept(&self.room, self.room.edge))
+        u128::from(kept(self.room.trim, self.room.left))
             + u128::from(row) * u128::from(down)
             + u128::from(height).saturating_sub(slack)
     }
@@ -161,9 +162,12 @@ impl GridLayout {
     {
         let turned = self.grid.turned;
         if turned {
-            (self.below_head(row), self.along_row(column))
+            (
+                self.below_head(row),
+                self.along_row(self.room.bottom, column),
+            )
         } else {
-            (self.along_row(column), self.above_foot(row))
+            (self.along_row(self.room.left, column), self.above_foot(row))
         }
     }
 

@@ -10,7 +10,7 @@ pub fn stands_where_put()
     ensures { StandsWherePut }
 {}
 
-/// Each page in a cell lies on what the margin leaves of the sheet.
+/// Each page in a cell lies on what the margins leave of the sheet.
 pub fn pages_are_inside()
     ensures { GridIsInside }
 {}
@@ -20,7 +20,7 @@ pub fn pages_are_in_order()
     ensures { GridIsInOrder }
 {}
 
-/// Two pages in cells, also of two papers and two scales, are apart by the gap.
+/// Two pages in cells, also of two papers and two scales, are apart by the gap across or up.
 pub fn pages_are_apart()
     ensures { GridIsApart }
 {}
@@ -50,7 +50,7 @@ pub fn best_is_large()
     ensures { BestIsLarge }
 {}
 
-/// Each page of a sheet that is turned by half lies on what the margin leaves of it.
+/// Each page of a sheet that is turned by half lies on what even margins leave of it.
 pub fn back_is_inside()
     ensures { BackIsInside }
 {}
@@ -60,7 +60,7 @@ pub fn back_is_half_turn()
     ensures { BackIsHalfTurn }
 {}
 
-/// Nothing crosses the fold of a leaf: pages keep half of the gap from it.
+/// Nothing crosses the fold of a leaf with even margins: pages keep half of the gap from it.
 pub fn leaf_keeps_fold()
     ensures { LeafKeepsFold }
 {}
@@ -70,7 +70,7 @@ pub fn right_to_left_is_mirror()
     ensures { RightToLeftIsMirror }
 {}
 
-/// A page that nothing refuses keeps the margin, lies in its cell and stands in its middle, and is as large as the cell allows.
+/// A page that nothing refuses keeps the margins, lies in its cell and stands in its middle, and is as large as the cell allows.
 pub fn fitted_stands()
     ensures { FittedStands }
 {}

@@ -12,11 +12,11 @@ mod room;
 mod scale;
 pub mod setting;
 
-pub use arrangement::{Arrangement, Binding, Cells, Order, Papers, Run, Turned};
+pub use arrangement::{Arrangement, Binding, Cells, Free, Order, Papers, Run, Turned};
 pub use arranging::{arrange, bind};
 pub use error::ArrangementError;
 pub use grid::Grid;
 pub use item::{number, points, read_sides};
-pub use room::Room;
+pub use room::{Along, Room};
 pub use scale::{is_scale, side};
 pub use setting::Setting;

@@ -1,18 +1,25 @@
 //! A sheet, and what is kept free on it.
 ghost use Rattle.std.specs.Prelude.{◌≡◌, ◌≤◌, IsTrue};
-ghost use Rattle.layouts.specs.Refusals.{is_length as may_be_length};
-ghost use Rattle.layouts.specs.Grids.{room_of, rounded_up as rounded_up_of, rounded_down as rounded_down_of};
+ghost use Rattle.layouts.specs.Refusals.{are_lengths as may_be_lengths, is_even as are_even, is_length as may_be_length};
+ghost use Rattle.layouts.specs.Cells.{along_height, along_width, held_across as across_of, held_down as down_of};
+ghost use Rattle.layouts.specs.Grids.{has_bare_edges as have_nothing, room_of, rounded_up as rounded_up_of, rounded_down as rounded_down_of};
 
+use super::arrangement::Free;
 use lengths::{Grains, Paper};
 use std::marker::Model;
 
-/// A sheet: its paper, what is kept free along each of its edges, what is kept free between its cells, and what is
-/// trimmed of its pages along each of their sides, in 10^-5 of a point. Contracts see it as the definitions' room.
+/// A sheet: its paper, what is kept free along each of its edges, what is kept free between cells that are side by side,
+/// and between those that are one above another, and what is trimmed of its pages along each of their sides, in 10^-5 of a
+/// point. Contracts see it as the definitions' room.
 #[derive(Clone, Copy, Debug, PartialEq, Eq)]
 pub struct Room {
     pub paper: Paper,
-    pub edge: u64,
-    pub gap: u64,
+    pub left: u64,
+    pub right: u64,
+    pub bottom: u64,
+    pub top: u64,
+    pub gap_across: u64,
+    pub gap_up: u64,
     pub trim: u64,
 }
 
@@ -22,33 +29,139 @@ impl Model for Room {
 
     ghost Value = { Kept };
 
-    ghost view = { λ r. record { paper = r.paper; edge = r.edge; gap = r.gap; trim = r.trim } };
+    ghost view = { λ r. record {
+      paper = r.paper;
+      left = r.left;
+      right = r.right;
+      bottom = r.bottom;
+      top = r.top;
+      gap_across = r.gap_across;
+      gap_up = r.gap_up;
+      trim = r.trim;
+    } };
 
     ghost invariant = { λ r.
-        (r.edge ≤ 10_000_000_000) × (r.gap ≤ 10_000_000_000) × (r.trim ≤ 10_000_000_000) };
+        (r.left ≤ 10_000_000_000) × (r.right ≤ 10_000_000_000) × (r.bottom ≤ 10_000_000_000)
+        × (r.top ≤ 10_000_000_000) × (r.gap_across ≤ 10_000_000_000) × (r.gap_up ≤ 10_000_000_000)
+        × (r.trim ≤ 10_000_000_000) };
 
-    ghost inverse = { λ r. record { paper = r.paper; edge = r.edge; gap = r.gap; trim = r.trim } };
+    ghost inverse = { λ r. record {
+      paper = r.paper;
+      left = r.left;
+      right = r.right;
+      bottom = r.bottom;
+      top = r.top;
+      gap_across = r.gap_across;
+      gap_up = r.gap_up;
+      trim = r.trim;
+    } };
+}
+
+/// What is kept free along one side of a sheet: before its cells, after them, and between them; and what is trimmed of
+/// its pages. Contracts see it as the definitions do.
+#[derive(Clone, Copy, Debug, PartialEq, Eq)]
+pub struct Along {
+    pub before: u64,
+    pub after: u64,
+    pub gap: u64,
+    pub trim: u64,
+}
+
+impl Model for Along {
+    ghost use Rattle.std.specs.Prelude.{◌≤◌};
+    ghost use Rattle.layouts.specs.Cells.{Along as Kept};
+
+    ghost Value = { Kept };
+
+    ghost view = { λ a. record { before = a.before; after = a.after; gap = a.gap; trim = a.trim } };
+
+    ghost invariant = { λ a.
+        (a.before ≤ 10_000_000_000) × (a.after ≤ 10_000_000_000) × (a.gap ≤ 10_000_000_000) × (a.trim ≤ 10_000_000_000) };
+
+    ghost inverse = { λ a. record { before = a.before; after = a.after; gap = a.gap; trim = a.trim } };
 }
 
 impl Room {
-    /// The sheet with this margin and gap, of whose pages so much is trimmed.
-    pub fn of(sheet: Paper, margin: Grains, gap: Grains, trim: Grains) -> Room
-        requires margin { IsTrue (may_be_length margin) }
-        requires gap { IsTrue (may_be_length gap) }
-        requires trim { IsTrue (may_be_length trim) }
-        ensures { result ≡ room_of sheet margin gap trim }
+    /// The sheet on which so much is kept free.
+    pub fn of(sheet: Paper, free: &Free) -> Room
+        requires { IsTrue (may_be_lengths free.now) }
+        ensures { result ≡ room_of sheet free.now }
     {
         Room {
             paper: sheet,
-            edge: rounded_up(margin),
-            gap: rounded_up(gap),
-            trim: rounded_down(trim),
+            left: rounded_up(free.left),
+            right: rounded_up(free.right),
+            bottom: rounded_up(free.bottom),
+            top: rounded_up(free.top),
+            gap_across: rounded_up(free.across),
+            gap_up: rounded_up(free.up),
+            trim: rounded_down(free.trim),
         }
+    }
+
+    /// What is kept free along its width.
+    pub fn along_width(&self) -> Along
+        ensures { result ≡ along_width self.now }
+    {
+        Along {
+            before: self.left,
+            after: self.right,
+            gap: self.gap_across,
+            trim: self.trim,
+        }
+    }
+
+    /// And along its height.
+    pub fn along_height(&self) -> Along
+        ensures { result ≡ along_height self.now }
+    {
+        Along {
+            before: self.bottom,
+            after: self.top,
+            gap: self.gap_up,
+            trim: self.trim,
+        }
+    }
+
+    /// What is kept free across and down, as one holds the sheet for its pages to be upright.
+    pub fn held(&self, turned: bool) -> (Along, Along)
+        ensures across { result.0 ≡ across_of turned self.now }
+        ensures down { result.1 ≡ down_of turned self.now }
+    {
+        if turned {
+            (self.along_height(), self.along_width())
+        } else {
+            (self.along_width(), self.along_height())
+        }
+    }
+
+    /// Whether nothing is kept free along its edges, and nothing is trimmed of its pages.
+    pub fn has_bare_edges(&self) -> bool
+        ensures { result ≡ have_nothing self.now }
+    {
+        self.left + self.right + (self.bottom + self.top) == 0 && self.trim == 0
+    }
+
+    /// Whether as much is kept free along opposite edges.
+    pub fn is_even(&self) -> bool
+        ensures { result ≡ are_even self.now }
+    {
+        self.left == self.right && self.bottom == self.top
     }
 }
 
+/// Whether all lengths are from 0 to 99,999 points and five nines behind the dot.
+pub fn are_lengths(free: &Free) -> bool
+    ensures { result ≡ may_be_lengths free.now }
+{
+    let beside = is_length(free.left) && is_length(free.right);
+    let above = is_length(free.bottom) && is_length(free.top);
+    let inner = is_length(free.across) && is_length(free.up) && is_length(free.trim);
+    beside && above && inner
+}
+
 /// Whether a length is from 0 to 99,999 points and five nines behind the dot.
-pub fn is_length(length: Grains) -> bool
+fn is_length(length: Grains) -> bool
     ensures { result ≡ may_be_length length }
 {
     let grains = length.get();

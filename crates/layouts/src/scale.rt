@@ -2,12 +2,13 @@
 ghost use Rattle.std.specs.Prelude.{◌≡◌, ◌-◌, ◌*◌, ◌<◌, ◌≤◌, nat_abs, IsTrue};
 ghost use Rattle.rules.specs.Papers.{is_side, longest_side};
 ghost use Rattle.layouts.specs.Refusals.{is_scale as may_be_scale, is_shown};
-ghost use Rattle.layouts.specs.Cells.{kept as kept_of, part as part_of, step as step_of, step_across, step_down, wide, high};
+ghost use Rattle.layouts.specs.Cells.{kept as kept_of, left_free as left_free_of, part as part_of, step as step_of};
+ghost use Rattle.layouts.specs.Cells.{step_across, step_down, wide, high};
 ghost use Rattle.layouts.specs.Cells.{counted as counted_of, fitting as fits, scale_in as scale_of};
 ghost use Rattle.layouts.specs.Cells.{exact_along as along_exactly, exact_scale as exact_scale_of};
 
 use super::grid::Grid;
-use super::room::Room;
+use super::room::{Along, Room};
 use lengths::{Grains, Paper};
 
 /// A side of a paper, in grains.
@@ -22,12 +23,23 @@ pub fn side(side: Grains) -> u64
 
 /// What is kept of a length, in 10^-5 of a point: one more if pages are trimmed, since how far they are moved back is
 /// rounded.
-pub fn kept(room: &Room, length: u64) -> u64
+pub fn kept(trim: u64, length: u64) -> u64
     requires { length ≤ 10_000_000_000 }
-    ensures value { result ≡ kept_of room.now length }
+    ensures value { result ≡ kept_of trim length }
     ensures in_range { result ≤ 10_000_000_001 }
 {
-    if room.trim == 0 { length } else { length + 1 }
+    if trim == 0 { length } else { length + 1 }
+}
+
+/// What the margins leave of a side, in grains.
+fn left_free(along: &Along, side: u64) -> u64
+    requires { side ≤ longest_side }
+    ensures value { result ≡ left_free_of along.now side }
+    ensures in_range { result ≤ longest_side }
+{
+    side.saturating_sub(
+        1_270_000 * (kept(along.trim, along.before) + kept(along.trim, along.after)),
+    )
 }
 
 /// One of so many equal parts of a side, in 10^-5 of a point.
@@ -39,13 +51,15 @@ fn part(side: u64, parts: u32) -> u64
 }
 
 /// From where a cell begins to where the next one begins, if a side is cut into so many.
-fn step(room: &Room, side: u64, parts: u32) -> u64
+fn step(along: &Along, side: u64, parts: u32) -> u64
     requires some { 0 < parts }
     requires in_range { side ≤ longest_side }
-    ensures { result ≡ step_of room.now side parts }
+    ensures { result ≡ step_of along.now side parts }
 {
-    let free = side.saturating_sub(2_540_000 * kept(room, room.edge));
-    part(free + 1_270_000 * kept(room, room.gap), parts)
+    part(
+        left_free(along, side) + 1_270_000 * kept(along.trim, along.gap),
+        parts,
+    )
 }
 
 /// From where a cell begins to where the next one begins, across and down, as one holds the sheet for its pages to be
@@ -56,15 +70,16 @@ pub fn steps(room: &Room, grid: Grid) -> (u64, u64)
     ensures some { (0 < grid.rows) × (0 < grid.columns) }
 {
     let (width, height) = (side(room.paper.width()), side(room.paper.height()));
+    let (across, down) = room.held(grid.turned);
     if grid.turned {
         (
-            step(room, height, grid.columns),
-            step(room, width, grid.rows),
+            step(&across, height, grid.columns),
+            step(&down, width, grid.rows),
         )
     } else {
         (
-            step(room, width, grid.columns),
-            step(room, height, grid.rows),
+            step(&across, width, grid.columns),
+            step(&down, height, grid.rows),
         )
     }
 }
@@ -75,8 +90,11 @@ pub fn cells(room: &Room, grid: Grid) -> (u64, u64)
     ensures height { result.1 ≡ high room.now grid }
 {
     let (across, down) = steps(room, grid);
-    let gap = kept(room, room.gap);
-    (across.saturating_sub(gap), down.saturating_sub(gap))
+    let (beside, above) = room.held(grid.turned);
+    (
+        across.saturating_sub(kept(beside.trim, beside.gap)),
+        down.saturating_sub(kept(above.trim, above.gap)),
+    )
 }
 
 /// What counts of a page's side, in grains.
@@ -106,15 +124,14 @@ pub fn scale_in(page: &Paper, room: &Room, grid: Grid) -> u128
 }
 
 /// The largest scale, in 10^-9, that so many equal parts of what the margins and the gaps leave of a side allow.
-fn exact_along(room: &Room, side: u64, parts: u32, page: u64) -> u128
+fn exact_along(along: &Along, side: u64, parts: u32, page: u64) -> u128
     requires some { 0 < parts }
     requires shown { 0 < page }
     requires in_range { side ≤ longest_side }
-    ensures { result ≡ along_exactly room.now side parts page }
+    ensures { result ≡ along_exactly along.now side parts page }
 {
-    let left = side.saturating_sub(2_540_000 * kept(room, room.edge));
-    let gap = u128::from(kept(room, room.gap));
-    let all = 1_000_000_000 * u128::from(left) + 1_270_000_000_000_000 * gap;
+    let gap = u128::from(kept(along.trim, along.gap));
+    let all = 1_000_000_000 * u128::from(left_free(along, side)) + 1_270_000_000_000_000 * gap;
     all.saturating_sub(1_270_000_000_000_000 * (gap * u128::from(parts)))
         / (u128::from(page) * u128::from(parts))
 }
@@ -130,12 +147,9 @@ pub fn exact_scale(page: &Paper, room: &Room, grid: Grid) -> u128
     } else {
         (width, height)
     };
-    exact_along(room, across, grid.columns, counted(room, page.width())).min(exact_along(
-        room,
-        down,
-        grid.rows,
-        counted(room, page.height()),
-    ))
+    let (beside, above) = room.held(grid.turned);
+    let wide = exact_along(&beside, across, grid.columns, counted(room, page.width()));
+    wide.min(exact_along(&above, down, grid.rows, counted(room, page.height())))
 }
 
 /// Whether pages can be written with this scale, in 10^-9.

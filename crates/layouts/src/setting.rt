@@ -6,7 +6,7 @@ ghost use Rattle.layouts.specs.Grids.{count_of};
 ghost use Rattle.layouts.specs.Refusals.{why_not_arranged, why_not_bound};
 ghost use Rattle.layouts.specs.Fitted.{is_whole as is_whole_on, scale_on, fitted, fitted_back, setting_of, binding_setting_of};
 ghost use Rattle.layouts.specs.Fitted.{why_no_scale_on, why_not_fitted, IsFitted, HaveOneFold};
-ghost use Rattle.layouts.specs.Placed.{IsInside};
+ghost use Rattle.layouts.specs.Placed.{IsEven, IsInside};
 ghost use Rattle.layouts.specs.Laws.{IsPaper, IsChosen, IsExact, IsHalfTurnOf};
 
 use super::arrangement::{Arrangement, Binding, Order, Papers};
@@ -47,12 +47,7 @@ impl Setting {
         ensures refused { IfErr result (λ error.
             why_not_arranged papers.now.page papers.now.sheet arrangement.now ≡ Some error) }
     {
-        let found = sheet_in(
-            papers,
-            arrangement.margin,
-            arrangement.gap,
-            arrangement.trim,
-        );
+        let found = sheet_in(papers, &arrangement.free);
         let count = arrangement.cells.count();
         if count < 1 || MOST_ON_SHEET < count {
             return Err(ArrangementError::CellsOutOfRange);
@@ -90,15 +85,19 @@ impl Setting {
         ensures sheet { IsPaper papers.now.sheet }
         ensures made { IfOk result (λ t. t ≡ binding_setting_of papers.now.sheet binding.now) }
         ensures cells { IfOk result (λ t. size t.grid ≡ 2) }
+        ensures even { IfOk result (λ t. IsEven t.room) }
         ensures folded { IfOk result (λ t. HaveOneFold t binding.now.right_to_left) }
         ensures possible { OnOk result (why_not_bound papers.now.page papers.now.sheet binding.now ≡ None) }
         ensures refused { IfErr result (λ error.
             why_not_bound papers.now.page papers.now.sheet binding.now ≡ Some error) }
     {
-        let room = match sheet_in(papers, binding.margin, binding.gap, binding.trim) {
+        let room = match sheet_in(papers, &binding.free) {
             Ok(room) => room,
             Err(error) => return Err(error),
         };
+        if !room.is_even() {
+            return Err(ArrangementError::UnevenMargins);
+        }
         if !is_fold_short(&papers.page, &room) {
             return Err(ArrangementError::FoldOnLongEdge);
         }
@@ -178,7 +177,7 @@ impl Setting {
         ensures page { IsPaper page_paper.now }
         ensures sheet { IsPaper self.now.room.paper }
         ensures made { IfOk result (λ item. item_of item ≡ fitted_back self.now page_paper.now cell) }
-        ensures inside { IfOk result (λ item. IsInside self.now.room page_paper.now (item_of item)) }
+        ensures inside { IsEven self.now.room → IfOk result (λ item. IsInside self.now.room page_paper.now (item_of item)) }
         ensures turned { is_whole_on self.now page_paper.now ≡ false → IfOk result (λ item.
             IsHalfTurnOf page_paper.now self.now.room.paper (fitted self.now page_paper.now cell) (item_of item)) }
         ensures exact { IfOk result (λ item. IsExact page_paper.now (item_of item)) }
@@ -208,8 +207,7 @@ impl Setting {
         let same = is_of_size(page_paper, &self.room.paper);
         self.grid.size() == 1
             && same
-            && self.room.edge == 0
-            && self.room.trim == 0
+            && self.room.has_bare_edges()
             && self.scale.is_none()
             && !self.grid.turned
     }

@@ -1,188 +1,118 @@
 -- Papers that count as one: as the code finds them, and what holds of them.
-use Rattle.std.proofs.Common.{arith, ◌≡◌, ℕ, zero, suc, ◌+◌, ◌-◌, ◌<◌, List, [], ◌∷◌, ◌++◌, Bool, true, false, refl, sym, ap, ◌∙◌, subst, length, get_or, set, cond, true≢false, Some, None}
-use Rattle.std.specs.Prelude.{ℤ, ◌-ℤ◌, nat_abs, nat_le, nat_lt, not, if◌then◌else◌, fold, position}
-use Rattle.std.specs.List.{position_or_len}
-use Rattle.std.proofs.lemmas.Bool.Decides.{nat_tests}
-use Rattle.std.proofs.lemmas.List.{get_or-map}
+use Rattle.std.proofs.Common.{arith, ◌≡◌, ◌⊎◌, inl, inr, ℕ, zero, suc, ◌+◌, ◌<◌, ◌-◌, List, [], ◌∷◌, ◌++◌, Bool, true, false, refl, sym, ap, ap₂, ◌∙◌, subst, true≢false, Some, None, is_some, length, get_or, cond}
+use Rattle.std.specs.Prelude.{not, if◌then◌else◌, fold}
+use Rattle.std.specs.List.{Contains}
+use Rattle.std.proofs.lemmas.List.{append_assoc, get_or-map}
 use Rattle.rules.specs.Papers.{Paper}
-use Rattle.papers.specs.Own.{covering, covers, is_near, nearness}
+use Rattle.papers.specs.Own.{covering, covers, is_near}
 use Rattle.papers.specs.declared.kinds.PaperKind.{PaperKind}
-use Rattle.papers.specs.AsOne.{NearAreOne, NothingIsCut, as_one, begun_by, joined_by, kinds, most_kinds, paper_among, with_paper}
-use Rattle.papers.proofs.Covered.{both, by_test, covers_first, covers_second, covers_self, covers_through}
+use Rattle.papers.specs.AsOne.{NearAreOne, NothingIsCut, apart_from, as_one, kind_of, kinds, larger_of, largest_of, most_kinds, paper_among, with_near}
+use Rattle.papers.proofs.Covered.{by_test, covers_first, covers_second, covers_self, covers_through}
 
 -- ---- as the code finds them
 
-abbrev takes : Paper → PaperKind → Bool
-takes p k = is_near p k.first
+-- no kind is left
+pub no_kind : (room : ℕ) → kinds room [] ≡ []
+no_kind zero = refl
+no_kind (suc room) = refl
 
-less_one : (n room : ℕ) → nat_lt (suc n) room ≡ nat_lt n (room - 1)
-less_one n room = grind (arith, nat_tests)
-
-less_both : (n m : ℕ) → nat_lt (suc n) (suc m) ≡ nat_lt n m
-less_both n m = grind (arith, nat_tests)
-
-some_room : (n : ℕ) → nat_lt 0 (suc n) ≡ true
-some_room n = grind (arith, nat_tests)
-
--- a place in a list is that in its rest, one further on
-place_by : (b : Bool) (n : ℕ) → cond (not b) (1 + n) 0 ≡ cond b 0 (suc n)
-place_by true n = refl
-place_by false n = omega arith
-
-place_of : (p : Paper) (k : PaperKind) (ks : List PaperKind) → position_or_len (takes p) (k ∷ ks) ≡ cond (takes p k) 0 (suc (position_or_len (takes p) ks))
-place_of p k ks = place_by (takes p k) (position_or_len (takes p) ks)
-
-first_place : (p : Paper) (k : PaperKind) (ks : List PaperKind) → takes p k ≡ true → position_or_len (takes p) (k ∷ ks) ≡ 0
-first_place p k ks is = place_of p k ks ∙ ap (λ b. cond b 0 (suc (position_or_len (takes p) ks))) is
-
-later_place : (p : Paper) (k : PaperKind) (ks : List PaperKind) → takes p k ≡ false → position_or_len (takes p) (k ∷ ks) ≡ suc (position_or_len (takes p) ks)
-later_place p k ks isnt = place_of p k ks ∙ ap (λ b. cond b 0 (suc (position_or_len (takes p) ks))) isnt
-
-abbrev joined_at : List PaperKind → Paper → PaperKind → ℕ → List PaperKind
-joined_at ks p d i = set ks i (joined_by (get_or ks i d) p)
-
--- a paper of a kind that there is
-joins : (room : ℕ) (ks : List PaperKind) (p : Paper) (d : PaperKind) → nat_lt (position_or_len (takes p) ks) (length ks) ≡ true
-    → with_paper room ks p ≡ joined_at ks p d (position_or_len (takes p) ks)
-joins room [] p d less = absurd (true≢false (sym less))
-joins room (k ∷ ks) p d less = by_test (takes p k)
-    (λ is.
-    ap (λ t. cond t (joined_by k p ∷ ks) (k ∷ with_paper (room - 1) ks p)) is
-    ∙ ap (joined_at (k ∷ ks) p d) (sym (first_place p k ks is)))
-    (λ isnt.
-    let more : nat_lt (suc (position_or_len (takes p) ks)) (suc (length ks)) ≡ true = sym (ap (λ n. nat_lt n (suc (length ks))) (later_place p k ks isnt)) ∙ less in
-    ap (λ t. cond t (joined_by k p ∷ ks) (k ∷ with_paper (room - 1) ks p)) isnt
-    ∙ ap (λ t. k ∷ t) (joins (room - 1) ks p d (sym (less_both (position_or_len (takes p) ks) (length ks)) ∙ more))
-    ∙ ap (joined_at (k ∷ ks) p d) (sym (later_place p k ks isnt)))
-
-pub joins_found : (room : ℕ) (ks : List PaperKind) (p : Paper) (i : ℕ) (d : PaperKind) → position (takes p) ks ≡ Some i
-    → with_paper room ks p ≡ set ks i (joined_by (get_or ks i d) p)
-joins_found room ks p i d e = found (nat_lt (position_or_len (takes p) ks) (length ks)) refl e
+pub none_taken : (old : List PaperKind) (ps : List Paper) → largest_of ps ≡ None → (room : ℕ) → old ++ kinds room ps ≡ old ++ kinds (suc room) ps
+none_taken old [] e room = ap (λ ks. old ++ ks) (no_kind room)
+none_taken old (p ∷ ps) e room = absurd (some≢none e)
   where
-    found : (b : Bool) → nat_lt (position_or_len (takes p) ks) (length ks) ≡ b → cond b (Some (position_or_len (takes p) ks)) None ≡ Some i
-        → with_paper room ks p ≡ set ks i (joined_by (get_or ks i d) p)
-    found true less same = let at : position_or_len (takes p) ks ≡ i = cc in
-        joins room ks p d less ∙ ap (λ k. set ks k (joined_by (get_or ks k d) p)) at
-    found false less same = cc
+    some≢none : Some (fold larger_of p ps) ≡ None → ⊥
+    some≢none same = true≢false (ap is_some same)
 
--- a paper of none
-begins : (room : ℕ) (ks : List PaperKind) (p : Paper) → nat_lt (position_or_len (takes p) ks) (length ks) ≡ false
-    → with_paper room ks p ≡ (if nat_lt (length ks) room then ks ++ begun_by p ∷ [] else ks)
-begins room [] p none = refl
-begins room (k ∷ ks) p none = by_test (takes p k)
-    (λ is. absurd (true≢false (sym (some_room (length ks)) ∙ sym (ap (λ n. nat_lt n (suc (length ks))) (first_place p k ks is)) ∙ none)))
-    (λ isnt.
-    let more : nat_lt (suc (position_or_len (takes p) ks)) (suc (length ks)) ≡ false = sym (ap (λ n. nat_lt n (suc (length ks))) (later_place p k ks isnt)) ∙ none in
-    let behind : nat_lt (position_or_len (takes p) ks) (length ks) ≡ false = sym (less_both (position_or_len (takes p) ks) (length ks)) ∙ more in
-    ap (λ t. cond t (joined_by k p ∷ ks) (k ∷ with_paper (room - 1) ks p)) isnt
-    ∙ ap (λ t. k ∷ t) (begins (room - 1) ks p behind)
-    ∙ ahead (nat_lt (length ks) (room - 1))
-    ∙ ap (λ t. if t then (k ∷ ks) ++ begun_by p ∷ [] else (k ∷ ks)) (sym (less_one (length ks) room)))
-  where
-    ahead : (b : Bool) → k ∷ (if b then ks ++ begun_by p ∷ [] else ks) ≡ (if b then (k ∷ ks) ++ begun_by p ∷ [] else (k ∷ ks))
-    ahead true = refl
-    ahead false = refl
+same_some : {a b : Paper} → Some a ≡ Some b → a ≡ b
+same_some e = cc
 
-pub begins_kind : (room : ℕ) (ks : List PaperKind) (p : Paper) → position (takes p) ks ≡ None
-    → with_paper room ks p ≡ (if nat_lt (length ks) room then ks ++ begun_by p ∷ [] else ks)
-begins_kind room ks p e = missed (nat_lt (position_or_len (takes p) ks) (length ks)) refl e
-  where
-    missed : (b : Bool) → nat_lt (position_or_len (takes p) ks) (length ks) ≡ b → cond b (Some (position_or_len (takes p) ks)) None ≡ None
-        → with_paper room ks p ≡ (if nat_lt (length ks) room then ks ++ begun_by p ∷ [] else ks)
-    missed true less same = cc
-    missed false less same = begins room ks p less
+first_kind : (ps : List Paper) (f : Paper) (room : ℕ) → largest_of ps ≡ Some f → kinds (suc room) ps ≡ kind_of f ps ∷ kinds room (apart_from f ps)
+first_kind [] f room e = absurd (true≢false (sym (ap is_some e)))
+first_kind (p ∷ ps) f room e = ap (λ g. kind_of g (p ∷ ps) ∷ kinds room (apart_from g (p ∷ ps))) (same_some e)
+
+pub kind_taken : (old new : List PaperKind) (k : PaperKind) (ps rest : List Paper) (f : Paper) → largest_of ps ≡ Some f → new ≡ old ++ k ∷ []
+    → k ≡ kind_of f ps → rest ≡ apart_from f ps → (room : ℕ) → new ++ kinds room rest ≡ old ++ kinds (suc room) ps
+kind_taken old new k ps rest f e made is left room =
+    ap₂ (λ ks qs. ks ++ kinds room qs) (made ∙ ap (λ j. old ++ j ∷ []) is) left
+    ∙ append_assoc old (kind_of f ps ∷ []) (kinds room (apart_from f ps))
+    ∙ ap (λ ks. old ++ ks) (sym (first_kind ps f room e))
+
+-- one turn of many
+pub one_turn : (room n : ℕ) (ks old : List PaperKind) (ps qs : List Paper) → n < room
+    → ((m : ℕ) → ks ++ kinds m ps ≡ old ++ kinds (suc m) qs) → ks ++ kinds (room - (n + 1)) ps ≡ old ++ kinds (room - n) qs
+one_turn room n ks old ps qs less took = let same : suc (room - (n + 1)) ≡ room - n = omega (arith, less) in
+    took (room - (n + 1)) ∙ ap (λ m. old ++ kinds m qs) same
 
 -- ---- nothing is cut
 
-no_difference : (a : ℤ) → nat_abs (a -ℤ a) ≡ 0
-no_difference a = grind arith
+-- a paper is one of these
+abbrev pub In : Paper → List Paper → Type 0
+In p [] = ⊥
+In p (q ∷ qs) = (p ≡ q) ⊎ In p qs
 
-near_self : (p : Paper) → is_near p p ≡ true
-near_self p = both (nat_le (nat_abs (p.width -ℤ p.width)) nearness) (nat_le (nat_abs (p.height -ℤ p.height)) nearness)
-    (ap (λ n. nat_le n nearness) (no_difference p.width)) (ap (λ n. nat_le n nearness) (no_difference p.height))
+pub in_at : (ps : List Paper) (k : ℕ) (d : Paper) → k < length ps → In (get_or ps k d) ps
+in_at [] k d less = absurd (omega (arith, less))
+in_at (p ∷ ps) zero d less = inl refl
+in_at (p ∷ ps) (suc k) d less = inr (in_at ps k d (omega (arith, less)))
 
--- the paper was counted: its kind covers it; or it has none, and there is room for none
-abbrev ByTest : Bool → Type 0 → Type 0 → Type 0
-ByTest true A B = A
-ByTest false A B = B
+pub contained : (ps : List Paper) (p : Paper) → Contains ps p → In p ps
+contained ps p has = subst (λ q. In q ps) has.2 (in_at ps has.0 p has.1)
 
-abbrev IsCounted : (room : ℕ) → List PaperKind → Paper → Type 0
-IsCounted room [] p = room ≡ 0
-IsCounted room (k ∷ ks) p = ByTest (is_near p k.first) (covers k.paper p ≡ true) (IsCounted (room - 1) ks p)
+-- what is covered so far stays covered
+with_near_covers : (f a q : Paper) → covers (with_near f a q) a ≡ true
+with_near_covers f a q = by_test (is_near q f)
+    (λ is. ap (λ b. covers (if b then covering a q else a) a) is ∙ covers_first a q)
+    (λ isnt. ap (λ b. covers (if b then covering a q else a) a) isnt ∙ covers_self a)
 
-first_is : (room : ℕ) (k : PaperKind) (ks : List PaperKind) (p : Paper) → is_near p k.first ≡ true → covers k.paper p ≡ true → IsCounted room (k ∷ ks) p
-first_is room k ks p is c = subst (λ b. ByTest b (covers k.paper p ≡ true) (IsCounted (room - 1) ks p)) (sym is) c
+pub stays_covered : (f a : Paper) (ps : List Paper) → covers (fold (with_near f) a ps) a ≡ true
+stays_covered f a [] = covers_self a
+stays_covered f a (q ∷ qs) =
+    covers_through (fold (with_near f) (with_near f a q) qs) (with_near f a q) a (stays_covered f (with_near f a q) qs) (with_near_covers f a q)
 
-later_is : (room : ℕ) (k : PaperKind) (ks : List PaperKind) (p : Paper) → is_near p k.first ≡ false → IsCounted (room - 1) ks p → IsCounted room (k ∷ ks) p
-later_is room k ks p isnt c = subst (λ b. ByTest b (covers k.paper p ≡ true) (IsCounted (room - 1) ks p)) (sym isnt) c
+-- and a near one is covered
+pub near_covered : (f a : Paper) (ps : List Paper) (p : Paper) → In p ps → is_near p f ≡ true → covers (fold (with_near f) a ps) p ≡ true
+near_covered f a [] p has near = absurd has
+near_covered f a (q ∷ qs) p (inl same) near =
+    let taken : covers (with_near f a q) p ≡ true = subst (λ r. covers (with_near f a r) p ≡ true) same (ap (λ b. covers (if b then covering a p else a) p) near ∙ covers_second a p) in
+    covers_through (fold (with_near f) (with_near f a q) qs) (with_near f a q) p (stays_covered f (with_near f a q) qs) taken
+near_covered f a (q ∷ qs) p (inr has) near = near_covered f (with_near f a q) qs p has near
 
-of_first : (room : ℕ) (k : PaperKind) (ks : List PaperKind) (p : Paper) → is_near p k.first ≡ true → IsCounted room (k ∷ ks) p → covers k.paper p ≡ true
-of_first room k ks p is c = subst (λ b. ByTest b (covers k.paper p ≡ true) (IsCounted (room - 1) ks p)) is c
+-- one that isn't near is left
+pub left_over : (f : Paper) (ps : List Paper) (p : Paper) → In p ps → is_near p f ≡ false → In p (apart_from f ps)
+left_over f [] p has isnt = absurd has
+left_over f (q ∷ qs) p (inl same) isnt =
+    let other : not (is_near q f) ≡ true = subst (λ r. not (is_near r f) ≡ true) same (ap not isnt) in
+    subst (λ b. In p (cond b (q ∷ apart_from f qs) (apart_from f qs))) (sym other) (inl same)
+left_over f (q ∷ qs) p (inr has) isnt = by_test (not (is_near q f))
+    (λ stays. subst (λ b. In p (cond b (q ∷ apart_from f qs) (apart_from f qs))) (sym stays) (inr (left_over f qs p has isnt)))
+    (λ goes. subst (λ b. In p (cond b (q ∷ apart_from f qs) (apart_from f qs))) (sym goes) (left_over f qs p has isnt))
 
-of_later : (room : ℕ) (k : PaperKind) (ks : List PaperKind) (p : Paper) → is_near p k.first ≡ false → IsCounted room (k ∷ ks) p → IsCounted (room - 1) ks p
-of_later room k ks p isnt c = subst (λ b. ByTest b (covers k.paper p ≡ true) (IsCounted (room - 1) ks p)) isnt c
-
-counts : (room : ℕ) (ks : List PaperKind) (p : Paper) → IsCounted room (with_paper room ks p) p
-counts zero [] p = refl
-counts (suc room) [] p = subst (λ b. IsCounted (suc room) (if b then begun_by p ∷ [] else []) p) (sym (some_room room)) (first_is (suc room) (begun_by p) [] p (near_self p) (covers_self p))
-counts room (k ∷ ks) p = by_test (is_near p k.first)
-    (λ is. subst (λ b. IsCounted room (if b then joined_by k p ∷ ks else k ∷ with_paper (room - 1) ks p) p) (sym is)
-    (first_is room (joined_by k p) ks p is (covers_second k.paper p)))
-    (λ isnt. subst (λ b. IsCounted room (if b then joined_by k p ∷ ks else k ∷ with_paper (room - 1) ks p) p) (sym isnt)
-    (later_is room k (with_paper (room - 1) ks p) p isnt (counts (room - 1) ks p)))
-
-stays_counted : (room : ℕ) (ks : List PaperKind) (q p : Paper) → IsCounted room ks p → IsCounted room (with_paper room ks q) p
-stays_counted zero [] q p c = refl
-stays_counted (suc room) [] q p c = absurd (omega (arith, c))
-stays_counted room (k ∷ ks) q p c = by_test (is_near q k.first)
-    (λ joined. subst (λ b. IsCounted room (if b then joined_by k q ∷ ks else k ∷ with_paper (room - 1) ks q) p) (sym joined)
-    (by_test (is_near p k.first)
-    (λ is. first_is room (joined_by k q) ks p is (covers_through (covering k.paper q) k.paper p (covers_first k.paper q) (of_first room k ks p is c)))
-    (λ isnt. later_is room (joined_by k q) ks p isnt (of_later room k ks p isnt c))))
-    (λ other. subst (λ b. IsCounted room (if b then joined_by k q ∷ ks else k ∷ with_paper (room - 1) ks q) p) (sym other)
-    (by_test (is_near p k.first)
-    (λ is. first_is room k (with_paper (room - 1) ks q) p is (of_first room k ks p is c))
-    (λ isnt. later_is room k (with_paper (room - 1) ks q) p isnt (stays_counted (room - 1) ks q p (of_later room k ks p isnt c)))))
-
-all_stay : (room : ℕ) (ks : List PaperKind) (qs : List Paper) (p : Paper) → IsCounted room ks p → IsCounted room (fold (with_paper room) ks qs) p
-all_stay room ks [] p c = c
-all_stay room ks (q ∷ qs) p c = all_stay room (with_paper room ks q) qs p (stays_counted room ks q p c)
-
-each_counted : (room : ℕ) (ks : List PaperKind) (qs : List Paper) (k : ℕ) (d : Paper) → k < length qs → IsCounted room (fold (with_paper room) ks qs) (get_or qs k d)
-each_counted room ks [] k d less = absurd (omega (arith, less))
-each_counted room ks (q ∷ qs) zero d less = all_stay room (with_paper room ks q) qs q (counts room ks q)
-each_counted room ks (q ∷ qs) (suc k) d less = each_counted room (with_paper room ks q) qs k d (omega (arith, less))
-
-covered : (room : ℕ) (ks : List PaperKind) (p : Paper) → IsCounted room ks p → covers (paper_among ks p) p ≡ true
-covered room [] p c = covers_self p
-covered room (k ∷ ks) p c = by_test (is_near p k.first)
-    (λ is. ap (λ b. covers (if b then k.paper else paper_among ks p) p) is ∙ of_first room k ks p is c)
-    (λ isnt. ap (λ b. covers (if b then k.paper else paper_among ks p) p) isnt ∙ covered (room - 1) ks p (of_later room k ks p isnt c))
+covered : (room : ℕ) (ps : List Paper) (p : Paper) → In p ps → covers (paper_among (kinds room ps) p) p ≡ true
+covered zero ps p has = covers_self p
+covered (suc room) [] p has = absurd has
+covered (suc room) (q ∷ qs) p has =
+    let f : Paper = fold larger_of q qs in
+    let k : PaperKind = kind_of f (q ∷ qs) in
+    let ks : List PaperKind = kinds room (apart_from f (q ∷ qs)) in
+    by_test (is_near p f)
+    (λ is. ap (λ b. covers (if b then k.paper else paper_among ks p) p) is ∙ near_covered f f (q ∷ qs) p has is)
+    (λ isnt. ap (λ b. covers (if b then k.paper else paper_among ks p) p) isnt ∙ covered room (apart_from f (q ∷ qs)) p (left_over f (q ∷ qs) p has isnt))
 
 pub nothing_is_cut : NothingIsCut
-nothing_is_cut first own k d less =
-    let all : List PaperKind = kinds (first ∷ own) in
-    ap (λ q. covers q (get_or own k d)) (get_or-map (paper_among all) own k d d less)
-    ∙ covered most_kinds all (get_or own k d) (each_counted most_kinds (with_paper most_kinds [] first) own k d less)
+nothing_is_cut taken own k d less has =
+    ap (λ q. covers q (get_or own k d)) (get_or-map (paper_among (kinds most_kinds taken)) own k d d less)
+    ∙ covered most_kinds taken (get_or own k d) (contained taken (get_or own k d) has)
 
--- ---- papers near to the first
+-- ---- papers near to the largest
 
--- the first kind begins with the first paper
-begins_with : (room : ℕ) (k : PaperKind) (ks : List PaperKind) (qs : List Paper)
-    → (l : PaperKind) × (ls : List PaperKind) × (fold (with_paper room) (k ∷ ks) qs ≡ l ∷ ls) × (l.first ≡ k.first)
-begins_with room k ks [] = (k, ks, refl, refl)
-begins_with room k ks (q ∷ qs) = by_test (is_near q k.first)
-    (λ is. let w = begins_with room (joined_by k q) ks qs in
-    (w.0, w.1, ap (λ b. fold (with_paper room) (if b then joined_by k q ∷ ks else k ∷ with_paper (room - 1) ks q) qs) is ∙ w.2, w.3))
-    (λ isnt. let w = begins_with room k (with_paper (room - 1) ks q) qs in
-    (w.0, w.1, ap (λ b. fold (with_paper room) (if b then joined_by k q ∷ ks else k ∷ with_paper (room - 1) ks q) qs) isnt ∙ w.2, w.3))
+of_largest : (room : ℕ) (p : Paper) (ps : List Paper) (q : Paper) → is_near q (fold larger_of p ps) ≡ true
+    → paper_among (kinds (suc room) (p ∷ ps)) q ≡ (kind_of (fold larger_of p ps) (p ∷ ps)).paper
+of_largest room p ps q near =
+    ap (λ b. if b then (kind_of (fold larger_of p ps) (p ∷ ps)).paper else paper_among (kinds room (apart_from (fold larger_of p ps) (p ∷ ps))) q) near
 
 pub near_are_one : NearAreOne
-near_are_one first own j k d less_j less_k near_j near_k =
-    let all : List PaperKind = kinds (first ∷ own) in
-    let w = begins_with most_kinds (begun_by first) [] own in
-    let of : (i : ℕ) → i < length own → is_near (get_or own i d) first ≡ true → get_or (as_one first own) i d ≡ w.0.paper =
-    λ i less near. get_or-map (paper_among all) own i d d less
-    ∙ ap (λ ks. paper_among ks (get_or own i d)) w.2
-    ∙ ap (λ b. if b then w.0.paper else paper_among w.1 (get_or own i d)) (ap (is_near (get_or own i d)) w.3 ∙ near) in
+near_are_one p ps own j k d less_j less_k near_j near_k =
+    let of : (i : ℕ) → i < length own → is_near (get_or own i d) (fold larger_of p ps) ≡ true
+    → get_or (as_one (p ∷ ps) own) i d ≡ (kind_of (fold larger_of p ps) (p ∷ ps)).paper =
+    λ i less near. get_or-map (paper_among (kinds most_kinds (p ∷ ps))) own i d d less ∙ of_largest 63 p ps (get_or own i d) near in
     of j less_j near_j ∙ sym (of k less_k near_k)

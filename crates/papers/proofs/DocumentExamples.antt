@@ -7,7 +7,7 @@ use Rattle.papers.specs.declared.media.Comment.TheVariants.{DocumentMedia, Docum
 use Rattle.lengths.specs.Lengths.{a4}
 use Rattle.lengths.specs.Reading.{number_at}
 use Rattle.papers.specs.Names.{papers}
-use Rattle.papers.specs.Media.{points_of, is_zero, name_in, comment_fields, media_paper, box_paper, document_paper}
+use Rattle.papers.specs.Media.{points_of, is_zero, name_and_rest, name_in, comment_fields, media_paper, box_paper, document_paper}
 
 -- What a field names.
 
@@ -51,6 +51,28 @@ nothing_enclosed = refl
 
 one_parenthesis : name_in (codes "(") ≡ codes "("
 one_parenthesis = refl
+
+-- Which name a value begins with, and what follows it.
+
+plain_name : name_and_rest (codes "  a4 5 (6)") ≡ Some (codes "a4", codes " 5 (6)")
+plain_name = refl
+
+-- a blank in parentheses ends no name
+blank_in_parentheses : name_and_rest (codes " (US letter) 612 792") ≡ Some (codes "US letter", codes " 612 792")
+blank_in_parentheses = refl
+
+-- nor does what follows them without a blank
+two_in_parentheses : name_and_rest (codes "(a b)(c d) 5") ≡ Some (codes "(a b)(c", codes " d) 5")
+two_in_parentheses = refl
+
+enclosed_twice : name_and_rest (codes "(a(b)) 5") ≡ Some (codes "a(b)", codes " 5")
+enclosed_twice = refl
+
+never_closed : name_and_rest (codes "(a b 5") ≡ Some (codes "(a b 5", [])
+never_closed = refl
+
+no_name : name_and_rest (codes "  ") ≡ None
+no_name = refl
 
 -- Where a box begins.
 
@@ -96,18 +118,18 @@ box_without_width : box_paper (words (codes "0004")) ≡ None
 unfolding number_at
 box_without_width = refl
 
-medium : media_paper (words (codes "a34")) ≡ Some (points 3 4)
+medium : media_paper (codes " a 3 4") ≡ Some (points 3 4)
 unfolding number_at
 medium = refl
 
-more_behind_medium : media_paper (words (codes "a3456")) ≡ Some (points 3 4)
+more_behind_medium : media_paper (codes "a\t3  4 5 6") ≡ Some (points 3 4)
 unfolding number_at
 more_behind_medium = refl
 
-medium_of_two : media_paper (words (codes "a3")) ≡ None
+medium_of_two : media_paper (codes "a 3") ≡ None
 medium_of_two = refl
 
-medium_without_height : media_paper (words (codes "a30")) ≡ None
+medium_without_height : media_paper (codes "a 3 0") ≡ None
 unfolding number_at
 medium_without_height = refl
 
@@ -134,7 +156,7 @@ one_point : box_paper (words (codes "0011")) ≡ Some (points 1 1)
 unfolding number_at
 one_point = refl
 
-medium_too_low : media_paper (codes "a" ∷ codes "595" ∷ codes "0.5" ∷ []) ≡ None
+medium_too_low : media_paper (codes "a 595 0.5") ≡ None
 unfolding number_at
 medium_too_low = refl
 

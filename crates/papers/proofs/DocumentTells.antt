@@ -4,9 +4,10 @@ use Rattle.std.proofs.Common.{arith, suc, ◌<◌, ◌≡◌, ℕ, List, [], ◌
 use Rattle.rules.specs.Papers.{Paper}
 use Rattle.rules.specs.Parts.{NestedUnit, bytes_of, pages}
 use Rattle.dsc.specs.Header.{header_len}
+use Rattle.dsc.specs.Fields.{fields_in}
 use Rattle.dsc.specs.Units.{units_of}
 use Rattle.papers.specs.Names.{paper_named}
-use Rattle.papers.specs.Media.{box_of, box_paper, comment_fields, comment_lines, contents, document_paper, else_take, header, lying_as, media_paper, name_in, or_box, or_named, paper_of_box, trailer_lines}
+use Rattle.papers.specs.Media.{box_of, box_paper, comment_fields, comment_value, comment_values, contents, document_paper, else_take, header, lying_as, media_paper, name_in, or_box, or_named, paper_of_box, trailer_lines}
 use Rattle.papers.specs.Media as of_document
 use Rattle.papers.specs.declared.media.Comment.{Comment}
 use Rattle.papers.specs.declared.media.Comment.TheVariants.{BoundingBox}
@@ -17,10 +18,10 @@ same_name : (fs : List (List ℕ)) → of_document.first_named fs ≡ first_name
 same_name [] = refl
 same_name (field ∷ more) = ap (else_take (paper_named (name_in field))) (same_name more)
 
-same_names : (lines : List (List (List ℕ))) → of_document.first_named_in lines ≡ first_named_in paper_named lines
+same_names : (values : List (List ℕ)) → of_document.first_named_in values ≡ first_named_in paper_named values
 same_names [] = refl
-same_names (fs ∷ more) =
-    ap (λ p. else_take p (of_document.first_named_in more)) (same_name fs) ∙ ap (else_take (first_named paper_named fs)) (same_names more)
+same_names (value ∷ more) =
+    ap (λ p. else_take p (of_document.first_named_in more)) (same_name (fields_in value)) ∙ ap (else_take (first_named paper_named (fields_in value))) (same_names more)
 
 abbrev paper_told : Option (Paper × Comment) → Option Paper
 paper_told told = option_map (λ p. p.0) told
@@ -34,8 +35,8 @@ named_or_boxed : (usual : Paper) (box : Option (List (List ℕ))) (n : Option Pa
 named_or_boxed usual box (Some paper) = refl
 named_or_boxed usual box None = boxed (option_and_then (paper_of_box usual) box)
 
-abbrev names : List (List ℕ) → List (List (List ℕ))
-names lines = comment_lines (codes "%%DocumentPaperSizes") lines
+abbrev names : List (List ℕ) → List (List ℕ)
+names lines = comment_values (codes "%%DocumentPaperSizes") lines
 
 by_media : (usual : Paper) (lines trailer : List (List ℕ)) (m : Option Paper)
     → paper_told (or_named usual lines trailer m)
@@ -48,7 +49,7 @@ by_media usual lines trailer None =
 
 pub document_tells : (usual : Paper) (text : List ℕ)
     → option_map (λ p. p.0) (document_paper usual text) ≡ told_by_document paper_named usual (header text) (trailer_lines (units_of text))
-document_tells usual text = by_media usual (header text) (trailer_lines (units_of text)) (option_and_then media_paper (comment_fields (codes "%%DocumentMedia") (header text)))
+document_tells usual text = by_media usual (header text) (trailer_lines (units_of text)) (option_and_then media_paper (comment_value (codes "%%DocumentMedia") (header text)))
 
 -- and else this
 pub told_found : (text : List ℕ) (other : Paper) (r : Option (Paper × Comment)) (p : Paper × Comment) → r ≡ document_paper other text → r ≡ Some p
@@ -60,16 +61,19 @@ pub none_found : (text : List ℕ) (other : Paper) (r : Option (Paper × Comment
 none_found text other r e s = ap (λ t. or_this (paper_told t) other) (sym s ∙ e) ∙ ap (λ o. or_this o other) (document_tells other text)
 
 -- with the same medium for its name a page has the same paper
-same_medium : (f g : List ℕ → Option Paper) (fs : Option (List (List ℕ))) → IfSome (option_and_then first_name fs) (λ at. f at ≡ g at)
-    → option_and_then (named_medium f) fs ≡ option_and_then (named_medium g) fs
+same_named : (f g : List ℕ → Option Paper) (name : Option (List ℕ)) → IfSome name (λ at. f at ≡ g at) → option_and_then f name ≡ option_and_then g name
+same_named f g None same = refl
+same_named f g (Some name) same = same
+
+same_medium : (f g : List ℕ → Option Paper) (value : Option (List ℕ)) → IfSome (option_and_then first_name value) (λ at. f at ≡ g at)
+    → option_and_then (named_medium f) value ≡ option_and_then (named_medium g) value
 same_medium f g None same = refl
-same_medium f g (Some []) same = refl
-same_medium f g (Some (field ∷ more)) same = same
+same_medium f g (Some value) same = same_named f g (first_name value) same
 
 same_page : (f g : List ℕ → Option Paper) (head : List (List ℕ)) (other : Paper) → IfSome (medium_told head) (λ at. f at ≡ g at) → page_or f head other ≡ page_or g head other
 same_page f g head other same =
     ap (λ n. or_this (else_take n (option_and_then (paper_of_box other) (comment_fields (codes "%%PageBoundingBox") head))) other)
-    (same_medium f g (comment_fields (codes "%%PageMedia") head) same)
+    (same_medium f g (comment_value (codes "%%PageMedia") head) same)
 
 pub same_pages : (f g : List ℕ → Option Paper) (other : Paper) (ps : List (List ℕ))
     → ((k : ℕ) → k < length ps → IfSome (medium_told (page_head (slice_index_or ps k []))) (λ at. f at ≡ g at))

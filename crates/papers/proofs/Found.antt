@@ -7,7 +7,7 @@ use Rattle.rules.specs.Bytes.{line}
 use Rattle.rules.specs.Output.{Border}
 use Rattle.rules.specs.Papers.{Paper}
 use Rattle.rules.specs.Parts.{pages}
-use Rattle.rules.specs.Units.{content_of, fields, is_comment, line_len}
+use Rattle.rules.specs.Units.{content_of, is_comment, line_len}
 use Rattle.dsc.specs.Units.{units_of}
 use Rattle.made_sheets.specs.Dress.{lines_text}
 use Rattle.made_sheets.specs.Made.{Blank, MadeSheet, MadeSlot, Placed}
@@ -16,17 +16,17 @@ use Rattle.imposed_again.specs.MadeAgain.{IsTameDress, made_texts}
 use Rattle.imposed_again.proofs.MadeAgain.{made_is_document}
 use Rattle.seams.specs.Seams.{no_ends}
 use Rattle.seams.proofs.Plainly.{no_ends_append, no_ends_decimal}
-use Rattle.papers.specs.Comments.{first_named_in, is_in_head, medium_in, named_medium, page_head, paper_of_medium, told_by_document, told_by_page}
+use Rattle.papers.specs.Comments.{first_named_in, is_in_head, medium_in, page_head, paper_of_medium, told_by_document, told_by_page}
 use Rattle.papers.specs.Found.{AreQuiet, Finish, IsTellablePaper, PapersAreFound, as_printed, telling_and}
-use Rattle.papers.specs.Media.{box_of, box_paper, comment_fields, comment_lines, continued, else_take, header, lying_as, media_paper, paper_of_box, trailer_lines}
+use Rattle.papers.specs.Media.{box_of, box_paper, comment_fields, comment_value, comment_values, continued, else_take, header, lying_as, media_paper, paper_of_box, trailer_lines, value_of}
 use Rattle.papers.specs.Own.{covering, medium_by, or_this, own_paper, page_or}
-use Rattle.papers.specs.Told.{box_line, different_from, in_print, is_told_alike, medium_line, page_size_lines, papers_told, sheet_lines, size_name, telling_of}
+use Rattle.papers.specs.Told.{box_line, box_lines, different_from, exact_box_line, in_print, is_told_alike, is_whole, medium_line, page_size_lines, papers_told, sheet_lines, size_name, telling_of, whole_paper}
 use Rattle.papers.proofs.Covered.{by_test}
 use Rattle.papers.proofs.Heads.{head, head_step, page_head_is, with_content}
 use Rattle.papers.proofs.OutputHeads.{AreContinued, Continues, IsHeaded, behind_line, content_is, headed}
 use Rattle.papers.proofs.SetSizes.{alike_sides, is_told}
 use Rattle.papers.proofs.Tame as tame
-use Rattle.papers.proofs.ToldMedia.{found_by_name, media_told, medium_read, name_is, page_medium}
+use Rattle.papers.proofs.ToldMedia.{found_by_name, media_told, medium_read, page_medium}
 
 -- ---- the head of a page
 head_goes : (c rest : List ℕ) → no_ends c ≡ true → is_in_head c ≡ true → head (line c ++ rest) ≡ c ∷ head rest
@@ -120,14 +120,21 @@ sized_alike p q e =
     let same = alike_sides p q e in
     ap (λ x. of_print x (in_print p.height)) same.0 ∙ ap (λ y. of_print (in_print q.width) y) same.1
 
+-- a box is no medium
+past_exact : (b : Bool) (p : Paper) (lines more : List (List ℕ))
+    → comment_value medium_comment (((if b then [] else exact_box_line p ∷ []) ++ lines) ++ more) ≡ comment_value medium_comment (lines ++ more)
+past_exact true p lines more = refl
+past_exact false p lines more = refl
+
 -- one paper is the document's
 document_medium : (p : Paper) (first count : List ℕ) (more : List (List ℕ)) → is_comment medium_comment first ≡ false → is_comment medium_comment count ≡ false
-    → comment_fields medium_comment (first ∷ count ∷ ((telling_of (p ∷ [])).header ++ more))
-    ≡ Some (fields (medium_line (codes "%%DocumentMedia: ") (codes "Plain") p))
+    → comment_value medium_comment (first ∷ count ∷ ((telling_of (p ∷ [])).header ++ more))
+    ≡ Some (value_of (medium_line (codes "%%DocumentMedia: ") (codes "Plain") p))
 document_medium p first count more e f =
     let rest : List (List ℕ) = (telling_of (p ∷ [])).header ++ more in
-    ap (λ t. if t then Some (fields first) else comment_fields medium_comment (count ∷ rest)) e
-    ∙ ap (λ t. if t then Some (fields count) else comment_fields medium_comment rest) f
+    ap (λ t. if t then Some (value_of first) else comment_value medium_comment (count ∷ rest)) e
+    ∙ ap (λ t. if t then Some (value_of count) else comment_value medium_comment rest) f
+    ∙ past_exact (is_whole p) p (medium_line (codes "%%DocumentMedia: ") (codes "Plain") p ∷ []) more
 
 one_found : (named : List ℕ → Option Paper) (home : Paper) (first count : List ℕ) (more trailer : List (List ℕ)) (page : List ℕ) (p : Paper)
     → is_comment medium_comment first ≡ false → is_comment medium_comment count ≡ false → IsTellablePaper p → page_head page ≡ []
@@ -136,7 +143,7 @@ one_found named home first count more trailer page p e f t silent =
     let hs : List (List ℕ) = first ∷ count ∷ ((telling_of (p ∷ [])).header ++ more) in
     let box : Option (List (List ℕ)) = box_of hs trailer in
     let others : Option Paper =
-    else_take (option_map (lying_as (option_and_then box_paper box)) (first_named_in named (comment_lines (codes "%%DocumentPaperSizes") hs)))
+    else_take (option_map (lying_as (option_and_then box_paper box)) (first_named_in named (comment_values (codes "%%DocumentPaperSizes") hs)))
     (option_and_then (paper_of_box home) box) in
     ap (λ head. page_or (medium_by hs) head (or_this (told_by_document named home hs trailer) home)) silent
     ∙ ap (λ o. or_this (else_take (option_and_then media_paper o) others) home) (document_medium p first count more e f)
@@ -146,7 +153,7 @@ one_found named home first count more trailer page p e f t silent =
 told_by_name : (known : List ℕ → Option Paper) (other : Paper) (p q : Paper) → IsTellablePaper p → known (size_name p) ≡ Some q → told_by_page known other (named_line p ∷ []) ≡ Some q
 told_by_name known other p q t e =
     let box : Option Paper = option_and_then (paper_of_box other) (comment_fields (codes "%%PageBoundingBox") (named_line p ∷ [])) in
-    ap (λ o. else_take o box) (ap (named_medium known) (page_medium p t) ∙ ap known (name_is p t) ∙ e)
+    ap (λ o. else_take o box) (ap (option_and_then known) (page_medium p t) ∙ e)
 
 -- of several each sheet names its own
 several_found : (named : List ℕ → Option Paper) (home : Paper) (first count : List ℕ) (more trailer : List (List ℕ)) (page : List ℕ) (p r : Paper) (told : List Paper) (q : Paper)
@@ -201,17 +208,25 @@ papers_tellable (x ∷ all) h = (h.0, papers_tellable all h.1)
 continued_box : (p : Paper) → Continues (box_line p)
 continued_box p = record { whole = (tame.box p).whole; goes = refl; not_last = refl }
 
+continued_exact_box : (p : Paper) → Continues (exact_box_line p)
+continued_exact_box p = record { whole = (tame.exact_box p).whole; goes = refl; not_last = refl }
+
+continued_exact : (b : Bool) (p : Paper) (rest : List (List ℕ)) → AreContinued rest → AreContinued ((if b then [] else exact_box_line p ∷ []) ++ rest)
+continued_exact true p rest h = h
+continued_exact false p rest h = (continued_exact_box p, h)
+
+continued_boxes : (p : Paper) (rest : List (List ℕ)) → AreContinued rest → AreContinued (box_lines p ++ rest)
+continued_boxes p rest h = (continued_box (whole_paper p), continued_exact (is_whole p) p rest h)
+
 continued_more : (ps : List Paper) → AreContinued (map (λ r. medium_line (codes "%%+ ") (size_name r) r) ps)
 continued_more [] = tt
 continued_more (p ∷ ps) = (record { whole = (tame.one_more p).whole; goes = refl; not_last = refl }, continued_more ps)
 
 header_continues : (told : List Paper) → AreContinued (telling_of told).header
 header_continues [] = tt
-header_continues (p ∷ []) = (continued_box p, (record { whole = (tame.medium (codes "Plain") p refl).whole; goes = refl; not_last = refl }, tt))
-header_continues (p ∷ q ∷ ps) = (
-  continued_box (fold covering p (q ∷ ps)),
-  (record { whole = (tame.medium (size_name p) p (tame.whole_name p)).whole; goes = refl; not_last = refl }, continued_more (q ∷ ps)),
-)
+header_continues (p ∷ []) = continued_boxes p _ (record { whole = (tame.medium (codes "Plain") p refl).whole; goes = refl; not_last = refl }, tt)
+header_continues (p ∷ q ∷ ps) = continued_boxes (fold covering p (q ∷ ps)) _
+    (record { whole = (tame.medium (size_name p) p (tame.whole_name p)).whole; goes = refl; not_last = refl }, continued_more (q ∷ ps))
 
 tame_and : (finish : Finish) (all : List MadeSheet) → AreQuiet finish → IsTameDress (telling_and finish all)
 tame_and finish all quiet = record {

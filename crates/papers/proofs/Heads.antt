@@ -1,10 +1,15 @@
 -- The head of a page, a line at a time.
-use Rattle.std.specs.Prelude.{if◌then◌else◌}
-use Rattle.std.proofs.Common.{Bool, true, false, ◌≡◌, ℕ, zero, suc, ◌<◌, ◌≤◌, List, [], ◌∷◌, Option, Some, None, length, length-drop, drop, refl, sym, ap, arith, ◌∙◌}
-use Rattle.rules.specs.Units.{content_of, fields, is_comment, line_len}
+use Rattle.std.specs.Prelude.{◌&&◌, ◌||◌, ◌==◌, if◌then◌else◌, codes, nat_eq, nat_le, not}
+use Rattle.std.specs.List.{starts_with}
+use Rattle.std.proofs.Common.{Bool, true, false, cond, ◌≡◌, ℕ, zero, suc, ◌<◌, ◌≤◌, List, [], ◌∷◌, Option, Some, None, length, length-drop, drop, refl, sym, ap, arith, ◌∙◌}
+use Rattle.std.proofs.lemmas.Bool.{true≢false}
+use Rattle.std.proofs.lemmas.Bool.Decides.{nat_tests}
+use Rattle.std.proofs.lemmas.List.Sums.{take_while-cons}
+use Rattle.rules.specs.Units.{content_of, has_key, is_comment, is_end, key, line_len}
+use Rattle.dsc.specs.Header.{is_header}
 use Rattle.dsc.proofs.LineByLine.{by_line}
 use Rattle.dsc.proofs.LineLengths.{line_len-pos}
-use Rattle.papers.specs.Media.{comment_fields}
+use Rattle.papers.specs.Media.{comment_value, value_of}
 use Rattle.papers.specs.Comments.{head_of, is_in_head, page_head}
 
 abbrev pub head : List ℕ → List (List ℕ)
@@ -20,27 +25,54 @@ with_content content rest test = if test then content ∷ rest else []
 pub head_step : (b : ℕ) (bs : List ℕ) → head (b ∷ bs) ≡ with_content (content_of (b ∷ bs)) (head (drop (line_len (b ∷ bs)) (b ∷ bs))) (is_in_head (content_of (b ∷ bs)))
 head_step b bs = by_line head_of (λ b bs rest. with_content (content_of (b ∷ bs)) rest (is_in_head (content_of (b ∷ bs)))) no_head (λ k b bs. refl) b bs
 
-abbrev choose : (name content : List ℕ) → List (List ℕ) → Bool → Option (List (List ℕ))
-choose name content rest test = if test then Some (fields content) else comment_fields name rest
+abbrev choose : (name content : List ℕ) → List (List ℕ) → Bool → Option (List ℕ)
+choose name content rest test = if test then Some (value_of content) else comment_value name rest
 
-pub found_in_head : (name text : List ℕ) → 0 < length text → is_in_head (content_of text) ≡ true → is_comment name (content_of text) ≡ true → comment_fields name (head text) ≡ Some (fields (content_of text))
+pub found_in_head : (name text : List ℕ) → 0 < length text → is_in_head (content_of text) ≡ true → is_comment name (content_of text) ≡ true → comment_value name (head text) ≡ Some (value_of (content_of text))
 found_in_head name [] l goes is = absurd (omega (arith, l))
 found_in_head name (b ∷ bs) l goes is =
     let rest = head (drop (line_len (b ∷ bs)) (b ∷ bs)) in
-    ap (comment_fields name) (head_step b bs ∙ ap (with_content (content_of (b ∷ bs)) rest) goes) ∙ ap (choose name (content_of (b ∷ bs)) rest) is
+    ap (comment_value name) (head_step b bs ∙ ap (with_content (content_of (b ∷ bs)) rest) goes) ∙ ap (choose name (content_of (b ∷ bs)) rest) is
 
 pub found_behind : (name text : List ℕ) → 0 < length text → is_in_head (content_of text) ≡ true → is_comment name (content_of text) ≡ false
-    → comment_fields name (head text) ≡ comment_fields name (head (drop (line_len text) text))
+    → comment_value name (head text) ≡ comment_value name (head (drop (line_len text) text))
 found_behind name [] l goes is = absurd (omega (arith, l))
 found_behind name (b ∷ bs) l goes is =
     let rest = head (drop (line_len (b ∷ bs)) (b ∷ bs)) in
-    ap (comment_fields name) (head_step b bs ∙ ap (with_content (content_of (b ∷ bs)) rest) goes) ∙ ap (choose name (content_of (b ∷ bs)) rest) is
+    ap (comment_value name) (head_step b bs ∙ ap (with_content (content_of (b ∷ bs)) rest) goes) ∙ ap (choose name (content_of (b ∷ bs)) rest) is
 
-pub head_ends : (name text : List ℕ) → 0 < length text → is_in_head (content_of text) ≡ false → comment_fields name (head text) ≡ None
+pub head_ends : (name text : List ℕ) → 0 < length text → is_in_head (content_of text) ≡ false → comment_value name (head text) ≡ None
 head_ends name [] l ends = absurd (omega (arith, l))
 head_ends name (b ∷ bs) l ends =
     let rest = head (drop (line_len (b ∷ bs)) (b ∷ bs)) in
-    ap (comment_fields name) (head_step b bs ∙ ap (with_content (content_of (b ∷ bs)) rest) ends)
+    ap (comment_value name) (head_step b bs ∙ ap (with_content (content_of (b ∷ bs)) rest) ends)
+
+-- ---- what begins with no percent sign
+no_header : (b : ℕ) (bs : List ℕ) → (b == 37) ≡ false → is_header (b ∷ bs) ≡ false
+no_header b [] other = refl
+no_header b (c ∷ cs) other = ap (λ t. t && (nat_le 33 c && nat_le c 126)) other
+
+no_comment : (goes : Bool) (b : ℕ) (bs : List ℕ) → (b == 37) ≡ false → is_in_head (cond goes (b ∷ bs) []) ≡ false
+no_comment true b bs other =
+    ap (λ t. t && (not (starts_with nat_eq (key (b ∷ bs)) (codes "%%Begin")) || has_key (codes "%%BeginPageSetup" ∷ []) (b ∷ bs))) (no_header b bs other)
+no_comment false b bs other = refl
+
+both_ways : (t : Bool) → (t && true) ≡ false → t ≡ false
+both_ways true is = is
+both_ways false is = refl
+
+other_byte : (b : ℕ) → (37 == b) ≡ false → (b == 37) ≡ false
+other_byte b is = grind (arith, nat_tests)
+
+pub head_plain : (name text : List ℕ) → starts_with nat_eq text (codes "%") ≡ false → comment_value name (head text) ≡ None
+head_plain name [] plain = refl
+head_plain name (b ∷ bs) plain =
+    let other : (b == 37) ≡ false = other_byte b (both_ways (37 == b) plain) in
+    head_ends name (b ∷ bs) (omega arith) (ap is_in_head (take_while-cons (λ b. not (is_end b)) b bs) ∙ no_comment (not (is_end b)) b (content_of bs) other)
+
+pub begins : (text : List ℕ) → starts_with nat_eq text (codes "%") ≡ true → 0 < length text
+begins [] is = absurd (true≢false (sym is))
+begins (b ∷ bs) is = omega arith
 
 -- more lines than the text has bytes are never there
 enough : (k m : ℕ) (text : List ℕ) → length text ≤ k → length text ≤ m → head_of k text ≡ head_of m text

@@ -110,3 +110,11 @@ found_by kept known ms h (Some name) is =
 pub knows : (kept known : KnownMedia) (ms : List Medium) (page : List ℕ) → ((at : List ℕ) → found_at known at ≡ option_map (λ found. with_media at found ms) (found_at kept at))
     → IsKept kept page → Knows known ms page
 knows kept known ms page h is = found_by kept known ms h (medium_told (page_head page)) is
+
+-- with no media no page's name is one
+none_known : (known : KnownMedia) (n : Option (List ℕ)) → ((at : List ℕ) → found_at known at ≡ None) → IfSome n (λ name. known_paper known name ≡ paper_of_medium name [])
+none_known known None empty = tt
+none_known known (Some name) empty = ap (option_and_then (λ found. option_and_then (λ paper. paper) found)) (empty name)
+
+pub no_media : (known : KnownMedia) (ms : List Medium) (page : List ℕ) → ms ≡ [] → ((at : List ℕ) → found_at known at ≡ None) → Knows known ms page
+no_media known ms page none empty = subst (λ m. Knows known m page) (sym none) (none_known known (medium_told (page_head page)) empty)

@@ -19,4 +19,5 @@ pub mod PageBoxes
 pub mod ReachingPages
 pub mod Covered
 pub mod CountedAsOne
+pub mod AnyOrder
 pub mod OwnExamples

@@ -1,20 +1,34 @@
 -- Papers that count as one, and boxes that reach beyond them, computed from the definitions.
 use Rattle.std.proofs.Common.{◌≡◌, ℕ, List, [], ◌∷◌, Some, None, Bool, true, false, refl}
 use Rattle.std.specs.Prelude.{codes, option_map}
-use Rattle.rules.specs.Papers.{points}
+use Rattle.rules.specs.Papers.{Paper, points}
 use Rattle.lengths.specs.Reading.{number_at}
 use Rattle.papers.specs.AsOne.{as_one, first_instead_of}
 use Rattle.papers.specs.Media.{edges_of}
 use Rattle.papers.specs.Reach.{Placing, placing, reach_of, whole}
 
+abbrev counted : List Paper → List Paper
+counted own = as_one own own
+
 -- programs' sizes of A4, and one page on its side
-sizes_of_a4 : as_one (points 595 842) (points 595 841 ∷ points 842 595 ∷ points 595 842 ∷ points 596 842 ∷ [])
+sizes_of_a4 : counted (points 595 841 ∷ points 842 595 ∷ points 595 842 ∷ points 596 842 ∷ [])
     ≡ points 596 842 ∷ points 842 595 ∷ points 596 842 ∷ points 596 842 ∷ []
 sizes_of_a4 = refl
 
--- within 15 points of the first, and not of the one between
-no_chain : as_one (points 600 800) (points 615 800 ∷ points 616 800 ∷ []) ≡ points 615 800 ∷ points 616 800 ∷ []
+-- within 15 points of the largest, and not of the one between; in any order
+no_chain : counted (points 110 200 ∷ points 100 200 ∷ points 120 200 ∷ []) ≡ points 120 200 ∷ points 100 200 ∷ points 120 200 ∷ []
 no_chain = refl
+
+no_chain_in_order : counted (points 100 200 ∷ points 120 200 ∷ points 110 200 ∷ []) ≡ points 100 200 ∷ points 120 200 ∷ points 120 200 ∷ []
+no_chain_in_order = refl
+
+-- the widest is made higher
+two_sides : counted (points 600 800 ∷ points 590 810 ∷ []) ≡ points 600 810 ∷ points 600 810 ∷ []
+two_sides = refl
+
+-- of pages that aren't taken no paper decides
+of_taken_pages : as_one (points 595 842 ∷ []) (points 595 842 ∷ points 596 842 ∷ []) ≡ points 595 842 ∷ points 595 842 ∷ []
+of_taken_pages = refl
 
 -- a box that covers all pages is the paper of none
 box_of_all : first_instead_of (points 842 842) (points 595 842 ∷ points 842 595 ∷ []) ≡ Some (points 595 842)

@@ -10,7 +10,7 @@ use Rattle.lengths.specs.Reading.{number_at}
 use Rattle.made_sheets.specs.Made.{MadeSheet, Blank, Placed}
 use Rattle.made_sheets.specs.MadeOutput.{made_output}
 use Rattle.papers.specs.Own.{covering, covers, is_near, own_papers}
-use Rattle.papers.specs.Told.{telling}
+use Rattle.papers.specs.Told.{box_lines, telling}
 
 abbrev home : Paper
 home = points 612 792
@@ -32,6 +32,12 @@ named_in_parentheses : own (codes "%!PS\n%%DocumentMedia: (A) 595 842 0 () ()\n%
     ≡ Ok (points 842 1_191 ∷ points 595 842 ∷ points 595 842 ∷ [])
 unfolding number_at
 named_in_parentheses = refl
+
+-- with blanks in them
+named_with_blanks : own (codes "%!PS\n%%DocumentMedia: (US letter) 612 792 0 () ()\n%%+ (US legal) 612 1008 0 () ()\n%%Page: 1 1\n%%PageMedia: (US legal)\nx\n")
+    ≡ Ok (points 612 1_008 ∷ [])
+unfolding number_at
+named_with_blanks = refl
 
 -- as cairo writes it: in the page's setup, with a box of what is painted, which may begin at 0 0
 painted_box : own (codes "%!PS\n%%DocumentMedia: A 595 842 0 () ()\n%%Page: 1 1\n%%BeginPageSetup\n%%PageMedia: A\n%%PageBoundingBox: 0 0 72 71\n%%EndPageSetup\nx\n")
@@ -142,6 +148,16 @@ one_paper : told (sheet (points 842 595) ∷ sheet (points 842 595) ∷ [])
     ≡ Ok (codes "%!PS\n%%Pages: 2\n%%BoundingBox: 0 0 842 595\n%%DocumentMedia: Plain 842 595 0 () ()\n%%DocumentPaperSizes: A3\n%%EndComments\n%%Page: 1 1\nuserdict /ImposeSave save put\nuserdict /showpage {} put\n[1 0 0 1 0 0] concat\nnewpath 0 0 moveto 842 0 lineto 842 595 lineto 0 595 lineto closepath clip newpath\nx\nImposeSave restore\nshowpage\n%%Page: 2 2\nuserdict /ImposeSave save put\nuserdict /showpage {} put\n[1 0 0 1 0 0] concat\nnewpath 0 0 moveto 842 0 lineto 842 595 lineto 0 595 lineto closepath clip newpath\nx\nImposeSave restore\nshowpage\n%%EOF\n")
 unfolding digits
 one_paper = refl
+
+-- a box has whole numbers, rounded up; if the sides aren't whole, they come after it
+whole_box : box_lines (points 842 595) ≡ codes "%%BoundingBox: 0 0 842 595" ∷ []
+unfolding digits
+whole_box = refl
+
+exact_box : box_lines (record { width = pos 75_600_000_000_000; height = pos 106_920_000_000_000 })
+    ≡ codes "%%BoundingBox: 0 0 596 842" ∷ codes "%%HiResBoundingBox: 0 0 595.27559 841.88976" ∷ []
+unfolding digits
+exact_box = refl
 
 -- and they are found again, of one paper and of several
 found_again : (told (sheet (points 842 595) ∷ sheet (points 842 595) ∷ []) >>= own) ≡ Ok (points 842 595 ∷ points 842 595 ∷ [])

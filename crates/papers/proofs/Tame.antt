@@ -1,5 +1,5 @@
 -- The lines that report a paper begin nothing.
-use Rattle.std.specs.Prelude.{codes, map, false, true}
+use Rattle.std.specs.Prelude.{Bool, codes, if◌then◌else◌, map, false, true}
 use Rattle.std.proofs.Common.{◌≡◌, ℕ, List, [], ◌∷◌, ◌++◌, refl, fold}
 use Rattle.rules.specs.Papers.{Paper}
 use Rattle.rules.specs.Numbers.{points_text}
@@ -8,7 +8,7 @@ use Rattle.seams.proofs.Plainly.{no_ends_append, no_ends_points}
 use Rattle.seams.specs.Seams.{no_ends}
 use Rattle.imposed_again.specs.MadeAgain.{AreTame, IsTame, IsTameDress}
 use Rattle.papers.specs.Own.{covering}
-use Rattle.papers.specs.Told.{TellingIsTame, box_line, medium_line, medium_text, page_size_lines, papers_told, size_name, size_text, telling_of}
+use Rattle.papers.specs.Told.{TellingIsTame, box_line, box_lines, exact_box_line, is_whole, whole_paper, medium_line, medium_text, page_size_lines, papers_told, size_name, size_text, telling_of}
 
 -- ---- no line ends in them
 whole_sides : (p : Paper) (between : List ℕ) → no_ends between ≡ true → no_ends (points_text p.width ++ (between ++ points_text p.height)) ≡ true
@@ -29,6 +29,17 @@ whole_medium name p plain =
 -- ---- lines by what they begin with
 pub box : (p : Paper) → IsTame (box_line p)
 box p = record { whole = no_ends_append (codes "%%BoundingBox: 0 0 ") (size_text p) refl (whole_size p); no_data = refl; no_document = refl; no_end = refl; no_page = refl; no_trailer = refl }
+
+pub exact_box : (p : Paper) → IsTame (exact_box_line p)
+exact_box p = record { whole = no_ends_append (codes "%%HiResBoundingBox: 0 0 ") (size_text p) refl (whole_size p); no_data = refl; no_document = refl; no_end = refl; no_page = refl; no_trailer = refl }
+
+-- with the exact box, if it is there
+exact_boxes : (b : Bool) (p : Paper) (rest : List (List ℕ)) → AreTame rest → AreTame ((if b then [] else exact_box_line p ∷ []) ++ rest)
+exact_boxes true p rest h = h
+exact_boxes false p rest h = (exact_box p, h)
+
+boxes : (p : Paper) (rest : List (List ℕ)) → AreTame rest → AreTame (box_lines p ++ rest)
+boxes p rest h = (box (whole_paper p), exact_boxes (is_whole p) p rest h)
 
 pub medium : (name : List ℕ) (p : Paper) → no_ends name ≡ true → IsTame (medium_line (codes "%%DocumentMedia: ") name p)
 medium name p plain =
@@ -94,10 +105,10 @@ set_size p = (
 
 told : (ps : List Paper) → IsTameDress (telling_of ps)
 told [] = record { header = tt; start = λ s paper. tt; finish = λ s paper. tt }
-told (p ∷ []) = record { header = (box p, (medium (codes "Plain") p refl, tt)); start = λ s paper. tt; finish = λ s paper. tt }
+told (p ∷ []) = record { header = boxes p _ (medium (codes "Plain") p refl, tt); start = λ s paper. tt; finish = λ s paper. tt }
 told (p ∷ q ∷ ps) =
     record {
-      header = (box (fold covering p (q ∷ ps)), (medium (size_name p) p (whole_name p), all_more (q ∷ ps)));
+      header = boxes (fold covering p (q ∷ ps)) _ (medium (size_name p) p (whole_name p), all_more (q ∷ ps));
       start = λ s paper. (named paper, set_size paper);
       finish = λ s paper. tt;
     }

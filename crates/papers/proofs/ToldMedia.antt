@@ -1,20 +1,23 @@
 -- Media that sheets report are known by their names.
-use Rattle.std.specs.Prelude.{codes, filter, flat_map, map, nat_lt, nat_le, slice_index, slice_range, ℤ, Option, Some, if◌then◌else◌, ◌==◌, ◌&&◌, ◌||◌}
-use Rattle.std.specs.List.{All, AllByRecursion, list_any, slice_split}
+use Rattle.std.specs.Prelude.{codes, filter, flat_map, fold, map, nat_lt, nat_le, not, option_and_then, option_map, slice_index, slice_range, ℤ, Option, Some, if◌then◌else◌, ◌==◌, ◌&&◌, ◌||◌}
+use Rattle.std.specs.List.{All, AllByRecursion, list_any, prefix_len, slice_split}
 use Rattle.std.specs.Char.{is_ascii_digit}
 use Rattle.std.specs.Str.{bytes_eq}
-use Rattle.std.proofs.Common.{arith, ◌≡◌, ℕ, ◌<◌, List, [], ◌∷◌, ◌++◌, Bool, true, false, cond, true≢false, refl, sym, ap, ◌∙◌, length, get_or, append_assoc, ◌-◌}
+use Rattle.std.proofs.Common.{arith, ◌≡◌, ℕ, ◌<◌, List, [], ◌∷◌, ◌++◌, Bool, true, false, cond, true≢false, refl, sym, ap, ◌∙◌, length, get_or, append_assoc, drop, take, ◌+◌, ◌-◌}
 use Rattle.std.proofs.lemmas.Bool.Decides.{nat_tests}
-use Rattle.std.proofs.lemmas.List.Elements.{All-cons, All-append, All-from_recursion, All-head}
+use Rattle.std.proofs.lemmas.List.Elements.{All-cons, All-append, All-from_recursion, All-head, All-tail}
 use Rattle.std.proofs.lemmas.List.Splits.{slice_split_at, slice_split_none}
 use Rattle.std.proofs.lemmas.Slice.Eq.{bytes_eq-Decides}
 use Rattle.rules.specs.Numbers.{points_text, printed}
 use Rattle.rules.specs.Papers.{Paper}
-use Rattle.rules.specs.Units.{fields, is_blank, is_comment}
-use Rattle.papers.specs.Comments.{Medium, media, medium_in, paper_of_medium}
+use Rattle.rules.specs.Units.{is_blank, is_comment}
+use Rattle.dsc.specs.Fields.{fields_in}
+use Rattle.papers.specs.Comments.{Medium, first_name, media, medium_in, medium_of, paper_of_medium}
+use Rattle.papers.specs.Own.{covering}
 use Rattle.papers.specs.Found.{IsTellable, IsTellablePaper, as_printed}
-use Rattle.papers.specs.Media.{comment_lines, continued, is_enclosed, media_paper, more_fields, name_in, paper_of, points_of}
-use Rattle.papers.specs.Told.{is_told_alike, medium_line, several_header, size_name}
+use Rattle.papers.specs.Media.{comment_values, continued, is_enclosed, is_opened, media_paper, name_and_rest, name_in, paper_of, plain_len, points_of}
+use Rattle.papers.specs.Media.{sides_paper, split_name, value_of}
+use Rattle.papers.specs.Told.{exact_box_line, is_told_alike, is_whole, medium_line, several_header, size_name, size_text}
 use Rattle.papers.proofs.Covered.{by_test}
 use Rattle.papers.proofs.PrintedSides.{paper_read, side_all, side_some}
 use Rattle.papers.proofs.SetSizes.{alike_sides}
@@ -60,8 +63,32 @@ some_front : (xs ys : List ℕ) → 0 < length xs → 0 < length (xs ++ ys)
 some_front [] ys h = absurd (omega (arith, h))
 some_front (x ∷ xs) ys h = omega arith
 
-pub name_some : (p : Paper) → IsTellablePaper p → some_field (size_name p) ≡ true
-name_some p t = is_some (size_name p) (some_front (points_text p.width) (120 ∷ points_text p.height) (side_some p.width t.0))
+name_long : (p : Paper) → IsTellablePaper p → 0 < length (size_name p)
+name_long p t = some_front (points_text p.width) (120 ∷ points_text p.height) (side_some p.width t.0)
+
+-- it begins with no parenthesis
+abbrev Closed : List ℕ → Type 0
+Closed name = is_opened name ≡ false
+
+closed_front : (xs ys : List ℕ) → 0 < length xs → All (λ b. (b == 40) ≡ false) xs → Closed (xs ++ ys)
+closed_front [] ys h all = absurd (omega (arith, h))
+closed_front (x ∷ xs) ys h all = All-head (λ b. (b == 40) ≡ false) x xs all
+
+take_front : (xs ys : List ℕ) → take (length xs) (xs ++ ys) ≡ xs
+take_front [] ys = refl
+take_front (x ∷ xs) ys = ap (λ zs. x ∷ zs) (take_front xs ys)
+
+drop_front : (xs ys : List ℕ) → drop (length xs) (xs ++ ys) ≡ ys
+drop_front [] ys = refl
+drop_front (x ∷ xs) ys = drop_front xs ys
+
+take_all : (xs : List ℕ) → take (length xs) xs ≡ xs
+take_all [] = refl
+take_all (x ∷ xs) = ap (λ zs. x ∷ zs) (take_all xs)
+
+drop_all : (xs : List ℕ) → drop (length xs) xs ≡ []
+drop_all [] = refl
+drop_all (x ∷ xs) = drop_all xs
 
 -- a name isn't in parentheses
 open_first : (m b c : Bool) → b ≡ false → (m && (b && c)) ≡ false
@@ -97,58 +124,107 @@ same_name p q e =
     let same = alike_sides p q e in
     ap (λ x. printed 5 x ++ (codes "x" ++ points_text p.height)) same.0 ∙ ap (λ y. points_text q.width ++ (codes "x" ++ printed 5 y)) same.1
 
+-- ---- the name that a value begins with
+is_length : (name rest : List ℕ) → Plain name → plain_len (name ++ 32 ∷ rest) ≡ length name
+is_length [] rest plain = refl
+is_length (b ∷ bs) rest plain =
+    let here : is_blank b ≡ false = All-head (λ c. is_blank c ≡ false) b bs plain in
+    let more : plain_len (bs ++ 32 ∷ rest) ≡ length bs = is_length bs rest (All-tail (λ c. is_blank c ≡ false) b bs plain) in
+    ap (λ t. cond (not t) (1 + plain_len (bs ++ 32 ∷ rest)) 0) here ∙ omega (arith, more)
+
+is_whole_length : (name : List ℕ) → Plain name → plain_len name ≡ length name
+is_whole_length [] plain = refl
+is_whole_length (b ∷ bs) plain =
+    let here : is_blank b ≡ false = All-head (λ c. is_blank c ≡ false) b bs plain in
+    let more : plain_len bs ≡ length bs = is_whole_length bs (All-tail (λ c. is_blank c ≡ false) b bs plain) in
+    ap (λ t. cond (not t) (1 + plain_len bs) 0) here ∙ omega (arith, more)
+
+-- after a blank a name that begins with no parenthesis
+first_after : (b : ℕ) (rest : List ℕ) → is_blank b ≡ false → (b == 40) ≡ false
+    → name_and_rest (32 ∷ b ∷ rest) ≡ Some (name_in (take (plain_len (b ∷ rest)) (b ∷ rest)), drop (plain_len (b ∷ rest)) (b ∷ rest))
+first_after b rest plain closed =
+    let one : prefix_len is_blank (32 ∷ b ∷ rest) ≡ 1 = ap (λ t. 1 + cond t (1 + prefix_len is_blank rest) 0) plain in
+    let text : List ℕ = b ∷ rest in
+    let n : ℕ = prefix_len (λ c. not (c == 41)) text in
+    ap (λ k. split_name (drop k (32 ∷ text))) one
+    ∙ ap (λ t. let k = if t then n + plain_len (drop n text) else plain_len text in Some (name_in (take k text), drop k text)) closed
+
+name_read : (name rest : List ℕ) → Plain name → 0 < length name → Closed name
+    → name_and_rest (32 ∷ (name ++ 32 ∷ rest)) ≡ Some (name_in name, 32 ∷ rest)
+name_read [] rest plain some closed = absurd (omega (arith, some))
+name_read (b ∷ bs) rest plain some closed =
+    let text : List ℕ = (b ∷ bs) ++ 32 ∷ rest in
+    first_after b (bs ++ 32 ∷ rest) (All-head (λ c. is_blank c ≡ false) b bs plain) closed
+    ∙ ap (λ k. Some (name_in (take k text), drop k text)) (is_length (b ∷ bs) rest plain)
+    ∙ ap (λ t. Some (name_in t, drop (length (b ∷ bs)) text)) (take_front (b ∷ bs) (32 ∷ rest))
+    ∙ ap (λ t. Some (name_in (b ∷ bs), t)) (drop_front (b ∷ bs) (32 ∷ rest))
+
+whole_name_read : (name : List ℕ) → Plain name → 0 < length name → Closed name → name_and_rest (32 ∷ name) ≡ Some (name_in name, [])
+whole_name_read [] plain some closed = absurd (omega (arith, some))
+whole_name_read (b ∷ bs) plain some closed =
+    first_after b bs (All-head (λ c. is_blank c ≡ false) b bs plain) closed
+    ∙ ap (λ k. Some (name_in (take k (b ∷ bs)), drop k (b ∷ bs))) (is_whole_length (b ∷ bs) plain)
+    ∙ ap (λ t. Some (name_in t, drop (length (b ∷ bs)) (b ∷ bs))) (take_all (b ∷ bs))
+    ∙ ap (λ t. Some (name_in (b ∷ bs), t)) (drop_all (b ∷ bs))
+
 -- ---- the fields of a line that reports a medium
 abbrev rest_of_line : List ℕ
 rest_of_line = codes "0 () ()"
 
-abbrev six : (name w h : List ℕ) → List (List ℕ)
-six name w h = name ∷ w ∷ h ∷ codes "0" ∷ codes "()" ∷ codes "()" ∷ []
+abbrev five : (w h : List ℕ) → List (List ℕ)
+five w h = w ∷ h ∷ codes "0" ∷ codes "()" ∷ codes "()" ∷ []
 
-fields_after : (name w h : List ℕ) → Plain name → Plain w → Plain h → some_field name ≡ true → some_field w ≡ true → some_field h ≡ true
-    → filter some_field (slice_split is_blank (32 ∷ (name ++ (codes " " ++ ((w ++ (codes " " ++ h)) ++ codes " 0 () ()"))))) ≡ six name w h
-fields_after name w h pn pw ph sn sw sh =
+fields_after : (w h : List ℕ) → Plain w → Plain h → some_field w ≡ true → some_field h ≡ true
+    → fields_in (32 ∷ ((w ++ (codes " " ++ h)) ++ codes " 0 () ()")) ≡ five w h
+fields_after w h pw ph sw sh =
     let joined : (w ++ (32 ∷ h)) ++ (32 ∷ rest_of_line) ≡ w ++ (32 ∷ (h ++ (32 ∷ rest_of_line))) = append_assoc w (32 ∷ h) (32 ∷ rest_of_line) in
-    ap (λ t. filter some_field (slice_split is_blank (32 ∷ (name ++ (32 ∷ t))))) joined
+    ap (λ t. filter some_field (slice_split is_blank (32 ∷ t))) joined
     ∙ ap (λ z. filter some_field ([] ∷ z))
-    (slice_split_at is_blank name 32 (w ++ (32 ∷ (h ++ (32 ∷ rest_of_line)))) pn refl
-    ∙ ap (λ z. name ∷ z) (slice_split_at is_blank w 32 (h ++ (32 ∷ rest_of_line)) pw refl ∙ ap (λ z. w ∷ z) (slice_split_at is_blank h 32 rest_of_line ph refl)))
-    ∙ ap (λ t. cond t (name ∷ filter some_field (w ∷ h ∷ codes "0" ∷ codes "()" ∷ codes "()" ∷ [])) (filter some_field (w ∷ h ∷ codes "0" ∷ codes "()" ∷ codes "()" ∷ []))) sn
-    ∙ ap (λ t. name ∷ cond t (w ∷ filter some_field (h ∷ codes "0" ∷ codes "()" ∷ codes "()" ∷ [])) (filter some_field (h ∷ codes "0" ∷ codes "()" ∷ codes "()" ∷ []))) sw
-    ∙ ap (λ t. name ∷ w ∷ cond t (h ∷ codes "0" ∷ codes "()" ∷ codes "()" ∷ []) (codes "0" ∷ codes "()" ∷ codes "()" ∷ [])) sh
+    (slice_split_at is_blank w 32 (h ++ (32 ∷ rest_of_line)) pw refl ∙ ap (λ z. w ∷ z) (slice_split_at is_blank h 32 rest_of_line ph refl))
+    ∙ ap (λ t. cond t (w ∷ filter some_field (h ∷ codes "0" ∷ codes "()" ∷ codes "()" ∷ [])) (filter some_field (h ∷ codes "0" ∷ codes "()" ∷ codes "()" ∷ []))) sw
+    ∙ ap (λ t. w ∷ cond t (h ∷ codes "0" ∷ codes "()" ∷ codes "()" ∷ []) (codes "0" ∷ codes "()" ∷ codes "()" ∷ [])) sh
 
-of_sides : (name : List ℕ) (p : Paper) → IsTellablePaper p → Plain name → some_field name ≡ true
-    → filter some_field (slice_split is_blank (32 ∷ (name ++ (codes " " ++ ((points_text p.width ++ (codes " " ++ points_text p.height)) ++ codes " 0 () ()")))))
-    ≡ six name (points_text p.width) (points_text p.height)
-of_sides name p t plain some =
-    fields_after name (points_text p.width) (points_text p.height) plain (side_plain p.width t.0) (side_plain p.height t.1) some
+of_sides : (p : Paper) → IsTellablePaper p → fields_in (codes " " ++ (size_text p ++ codes " 0 () ()")) ≡ five (points_text p.width) (points_text p.height)
+of_sides p t =
+    fields_after (points_text p.width) (points_text p.height) (side_plain p.width t.0) (side_plain p.height t.1)
     (is_some (points_text p.width) (side_some p.width t.0)) (is_some (points_text p.height) (side_some p.height t.1))
 
+-- the name and what follows it
+abbrev rest_of : Paper → List ℕ
+rest_of p = codes " " ++ (size_text p ++ codes " 0 () ()")
+
+medium_split : (name : List ℕ) (p : Paper) → Plain name → 0 < length name → Closed name
+    → name_and_rest (32 ∷ (name ++ rest_of p)) ≡ Some (name_in name, rest_of p)
+medium_split name p plain some closed = name_read name (size_text p ++ codes " 0 () ()") plain some closed
+
+sides_read : (p : Paper) → IsTellablePaper p → sides_paper (fields_in (rest_of p)) ≡ paper_of (points_of (points_text p.width)) (points_of (points_text p.height))
+sides_read p t = ap sides_paper (of_sides p t)
+
 -- the medium of all sheets
-pub medium_read : (p : Paper) → IsTellablePaper p → media_paper (fields (medium_line (codes "%%DocumentMedia: ") (codes "Plain") p)) ≡ Some (as_printed p)
+pub medium_read : (p : Paper) → IsTellablePaper p → media_paper (value_of (medium_line (codes "%%DocumentMedia: ") (codes "Plain") p)) ≡ Some (as_printed p)
 medium_read p t =
-    ap media_paper (of_sides (codes "Plain") p t plain refl) ∙ paper_read p t
+    ap (option_and_then (λ r. sides_paper (fields_in r.1))) (medium_split (codes "Plain") p plain (omega arith) refl) ∙ sides_read p t ∙ paper_read p t
   where
     plain : Plain (codes "Plain")
     plain = All-from_recursion (λ b. is_blank b ≡ false) (codes "Plain") (refl, (refl, (refl, (refl, (refl, tt)))))
 
-first_named : (p : Paper) → IsTellablePaper p
-    → fields (medium_line (codes "%%DocumentMedia: ") (size_name p) p) ≡ six (size_name p) (points_text p.width) (points_text p.height)
-first_named p t = of_sides (size_name p) p t (name_plain p t) (name_some p t)
+name_closed : (p : Paper) → IsTellablePaper p → Closed (size_name p)
+name_closed p t = closed_front (points_text p.width) (120 ∷ points_text p.height) (side_some p.width t.0) (side_all (λ b. (b == 40) ≡ false) not_open refl p.width t.0)
 
-next_named : (p : Paper) → IsTellablePaper p
-    → more_fields (medium_line (codes "%%+ ") (size_name p) p) ≡ six (size_name p) (points_text p.width) (points_text p.height)
-next_named p t = of_sides (size_name p) p t (name_plain p t) (name_some p t)
-
--- the name that a page gives
-pub page_medium : (p : Paper) → IsTellablePaper p → fields (codes "%%PageMedia: " ++ size_name p) ≡ size_name p ∷ []
-page_medium p t =
-    ap (λ z. filter some_field ([] ∷ z)) (slice_split_none is_blank (size_name p) (name_plain p t))
-    ∙ ap (λ b. cond b (size_name p ∷ []) []) (name_some p t)
-
--- ---- the media of a header
 abbrev medium_told : Paper → Medium
 medium_told p = record { name = name_in (size_name p); paper = paper_of (points_of (points_text p.width)) (points_of (points_text p.height)) }
 
+named_medium_read : (p : Paper) → IsTellablePaper p → medium_in (32 ∷ (size_name p ++ rest_of p)) ≡ medium_told p ∷ []
+named_medium_read p t =
+    ap medium_of (medium_split (size_name p) p (name_plain p t) (name_long p t) (name_closed p t))
+    ∙ ap (λ paper. record { name = name_in (size_name p); paper = paper } ∷ []) (sides_read p t)
+
+-- the name that a page gives
+pub page_medium : (p : Paper) → IsTellablePaper p → first_name (value_of (codes "%%PageMedia: " ++ size_name p)) ≡ Some (size_name p)
+page_medium p t =
+    ap (option_map (λ r. r.0)) (whole_name_read (size_name p) (name_plain p t) (name_long p t) (name_closed p t)) ∙ ap Some (name_is p t)
+
+-- ---- the media of a header
 abbrev line_of : Paper → List ℕ
 line_of r = medium_line (codes "%%+ ") (size_name r) r
 
@@ -156,20 +232,27 @@ more_media : (ps : List Paper) (more : List (List ℕ)) → AllByRecursion IsTel
     → flat_map medium_in (continued (map line_of ps ++ more)) ≡ map medium_told ps ++ flat_map medium_in (continued more)
 more_media [] more h = refl
 more_media (p ∷ ps) more h =
-    ap (λ fs. medium_in fs ++ flat_map medium_in (continued (map line_of ps ++ more))) (next_named p h.0)
+    ap (λ ms. ms ++ flat_map medium_in (continued (map line_of ps ++ more))) (named_medium_read p h.0)
     ∙ ap (λ ms. medium_told p ∷ ms) (more_media ps more h.1)
 
 abbrev medium_comment : List ℕ
 medium_comment = codes "%%DocumentMedia"
+
+-- a box is no medium
+past_exact : (b : Bool) (p : Paper) (lines more : List (List ℕ))
+    → comment_values medium_comment (((if b then [] else exact_box_line p ∷ []) ++ lines) ++ more) ≡ comment_values medium_comment (lines ++ more)
+past_exact true p lines more = refl
+past_exact false p lines more = refl
 
 pub media_told : (p : Paper) (ps : List Paper) (first count : List ℕ) (more : List (List ℕ))
     → is_comment medium_comment first ≡ false → is_comment medium_comment count ≡ false → IsTellablePaper p → AllByRecursion IsTellablePaper ps
     → media (first ∷ count ∷ (several_header p ps ++ more)) ≡ map medium_told (p ∷ ps) ++ flat_map medium_in (continued more)
 media_told p ps first count more e f t ts =
     let rest : List (List ℕ) = several_header p ps ++ more in
-    ap (λ b. flat_map medium_in (if b then fields first ∷ continued (count ∷ rest) else comment_lines medium_comment (count ∷ rest))) e
-    ∙ ap (λ b. flat_map medium_in (if b then fields count ∷ continued rest else comment_lines medium_comment rest)) f
-    ∙ ap (λ fs. medium_in fs ++ flat_map medium_in (continued (map line_of ps ++ more))) (first_named p t)
+    ap (λ b. flat_map medium_in (if b then value_of first ∷ continued (count ∷ rest) else comment_values medium_comment (count ∷ rest))) e
+    ∙ ap (λ b. flat_map medium_in (if b then value_of count ∷ continued rest else comment_values medium_comment rest)) f
+    ∙ ap (flat_map medium_in) (past_exact (is_whole (fold covering p ps)) (fold covering p ps) (medium_line (codes "%%DocumentMedia: ") (size_name p) p ∷ map line_of ps) more)
+    ∙ ap (λ ms. ms ++ flat_map medium_in (continued (map line_of ps ++ more))) (named_medium_read p t)
     ∙ ap (λ ms. medium_told p ∷ ms) (more_media ps more ts)
 
 -- ---- a medium with the name of one that is reported alike

@@ -1,7 +1,8 @@
 -- Papers that count as one, and the paper of all pages. All here is this project's own rules.
-use Rattle.std.specs.Prelude.{◌≡◌, ℕ, ◌-◌, ◌<◌, Bool, true, nat_lt, if◌then◌else◌, List, [], ◌∷◌, length, map, fold}
-use Rattle.std.specs.Prelude.{Option, Some, None, slice_index_or}
-use Rattle.std.specs.List.{list_any}
+use Rattle.std.specs.Prelude.{◌≡◌, ◌↔◌, ℕ, zero, suc, ◌<◌, Bool, true, not, ◌&&◌, ◌||◌, if◌then◌else◌, List, [], ◌∷◌, length, map, fold, filter}
+use Rattle.std.specs.Prelude.{Option, Some, None, slice_index_or, int_lt}
+use Rattle.std.specs.List.{Contains, list_any, reduce}
+use Rattle.std.specs.Ordering.{int_eq}
 use Rattle.rules.specs.Papers.{Paper}
 use Rattle.papers.specs.Own.{covering, covers, is_near}
 use Rattle.papers.specs.declared.kinds.PaperKind.{PaperKind}
@@ -12,23 +13,34 @@ use Rattle.papers.specs.declared.kinds.PaperKind.{PaperKind}
 abbrev pub most_kinds : ℕ
 most_kinds = 64
 
--- a kind that begins with this paper
-abbrev pub begun_by : Paper → PaperKind
-begun_by p = record { first = p; paper = p }
+-- one is larger than the other: wider, or as wide and higher
+abbrev pub is_larger : (one other : Paper) → Bool
+is_larger a b = int_lt b.width a.width || (int_eq a.width b.width && int_lt b.height a.height)
 
--- a kind with one more paper: it is covered too
-abbrev pub joined_by : PaperKind → Paper → PaperKind
-joined_by k p = record { first = k.first; paper = covering k.paper p }
+abbrev pub larger_of : Paper → Paper → Paper
+larger_of a b = if is_larger b a then b else a
 
--- Kinds with one more paper: it joins the first kind that began with a paper near to it. If there is none it begins a
--- kind, if there is room for one more
-abbrev pub with_paper : (room : ℕ) → List PaperKind → Paper → List PaperKind
-with_paper room [] p = if nat_lt 0 room then begun_by p ∷ [] else []
-with_paper room (k ∷ ks) p = if is_near p k.first then joined_by k p ∷ ks else k ∷ with_paper (room - 1) ks p
+-- the largest of these papers, if there is one
+abbrev pub largest_of : List Paper → Option Paper
+largest_of papers = reduce larger_of papers
 
--- the kinds of these papers
-abbrev pub kinds : List Paper → List PaperKind
-kinds papers = fold (with_paper most_kinds) [] papers
+-- a paper, made larger to cover one more if that is near to the first
+abbrev pub with_near : (first paper other : Paper) → Paper
+with_near first paper other = if is_near other first then covering paper other else paper
+
+-- the kind of those near to this one: the least paper that covers them
+abbrev pub kind_of : (first : Paper) → List Paper → PaperKind
+kind_of first papers = record { first = first; paper = fold (with_near first) first papers }
+
+abbrev pub apart_from : (first : Paper) → List Paper → List Paper
+apart_from first papers = filter (λ p. not (is_near p first)) papers
+
+-- kinds of papers, if there is room for so many: the largest makes one with those near to it, then the largest that is left
+abbrev pub kinds : (room : ℕ) → List Paper → List PaperKind
+kinds zero papers = []
+kinds (suc room) [] = []
+kinds (suc room) (p ∷ ps) =
+    kind_of (fold larger_of p ps) (p ∷ ps) ∷ kinds room (apart_from (fold larger_of p ps) (p ∷ ps))
 
 -- as which paper a paper counts: the least one that covers all of its kind, so that nothing is cut of one page for
 -- another one's sake. A paper without a kind counts as itself
@@ -36,20 +48,25 @@ abbrev pub paper_among : List PaperKind → Paper → Paper
 paper_among [] p = p
 paper_among (k ∷ ks) p = if is_near p k.first then k.paper else paper_among ks p
 
--- the papers of pages, as what they count; the kinds begin with this paper
-abbrev pub as_one : (first : Paper) → (own : List Paper) → List Paper
-as_one first own = map (paper_among (kinds (first ∷ own))) own
+-- the papers of pages, as what they count among these
+abbrev pub as_one : (taken own : List Paper) → List Paper
+as_one taken own = map (paper_among (kinds most_kinds taken)) own
 
--- each page's own paper is covered by the one as which it counts: a law
+-- each of these papers is covered by the one as which it counts: a law
 abbrev pub NothingIsCut : Type 0
-NothingIsCut = (first : Paper) (own : List Paper) (k : ℕ) (d : Paper) → k < length own
-    → covers (slice_index_or (as_one first own) k d) (slice_index_or own k d) ≡ true
+NothingIsCut = (taken own : List Paper) (k : ℕ) (d : Paper) → k < length own → Contains taken (slice_index_or own k d)
+    → covers (slice_index_or (as_one taken own) k d) (slice_index_or own k d) ≡ true
 
--- pages of papers near to the first one all have one paper: a law
+-- papers near to the largest are one: a law
 abbrev pub NearAreOne : Type 0
-NearAreOne = (first : Paper) (own : List Paper) (j k : ℕ) (d : Paper) → j < length own → k < length own
-    → is_near (slice_index_or own j d) first ≡ true → is_near (slice_index_or own k d) first ≡ true
-    → slice_index_or (as_one first own) j d ≡ slice_index_or (as_one first own) k d
+NearAreOne = (p : Paper) (ps own : List Paper) (j k : ℕ) (d : Paper) → j < length own → k < length own
+    → is_near (slice_index_or own j d) (fold larger_of p ps) ≡ true → is_near (slice_index_or own k d) (fold larger_of p ps) ≡ true
+    → slice_index_or (as_one (p ∷ ps) own) j d ≡ slice_index_or (as_one (p ∷ ps) own) k d
+
+-- the same papers, in another order or more often, count as the same: a law
+abbrev pub OrderIsNothing : Type 0
+OrderIsNothing = (taken others own : List Paper) → ((p : Paper) → Contains taken p ↔ Contains others p)
+    → as_one taken own ≡ as_one others own
 
 -- ---- the paper of all pages
 

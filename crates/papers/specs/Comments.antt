@@ -8,7 +8,9 @@ use Rattle.std.specs.Str.{bytes_eq}
 use Rattle.rules.specs.Papers.{Paper}
 use Rattle.rules.specs.Units.{content_of, line_len, key, has_key}
 use Rattle.dsc.specs.Header.{is_header}
-use Rattle.papers.specs.Media.{box_of, box_paper, comment_fields, comment_lines, else_take, lying_as, media_paper, name_in, paper_of_box}
+use Rattle.dsc.specs.Fields.{fields_in}
+use Rattle.papers.specs.Media.{box_of, box_paper, comment_fields, comment_value, comment_values, else_take, lying_as, media_paper, name_and_rest, name_in}
+use Rattle.papers.specs.Media.{paper_of_box, sides_paper}
 
 -- ---- where they are
 
@@ -37,15 +39,18 @@ pub record Medium : Type 0 where
   pub name : List ℕ
   pub paper : Option Paper
 
--- a medium's name, its width, its height, and more
-abbrev pub medium_in : List (List ℕ) → List Medium
-medium_in [] = []
-medium_in (field ∷ more) = record { name = name_in field; paper = media_paper (field ∷ more) } ∷ []
+-- that of a name, its width, its height, and more
+abbrev pub medium_of : Option (List ℕ × List ℕ) → List Medium
+medium_of None = []
+medium_of (Some (name, rest)) = record { name = name; paper = sides_paper (fields_in rest) } ∷ []
+
+abbrev pub medium_in : (value : List ℕ) → List Medium
+medium_in value = medium_of (name_and_rest value)
 
 -- the media of a document, by its header comments: that of the first %%DocumentMedia, and those of the lines that
 -- continue it
 abbrev pub media : List (List ℕ) → List Medium
-media lines = flat_map medium_in (comment_lines (codes "%%DocumentMedia") lines)
+media lines = flat_map medium_in (comment_values (codes "%%DocumentMedia") lines)
 
 -- the paper of the first medium with this name
 abbrev pub paper_of_medium : List ℕ → List Medium → Option Paper
@@ -54,25 +59,23 @@ paper_of_medium name (m ∷ ms) = if bytes_eq m.name name then m.paper else pape
 
 -- ---- what they say
 
--- the paper of the medium that the first field names, by the papers of media
-abbrev pub named_medium : (known : List ℕ → Option Paper) → List (List ℕ) → Option Paper
-named_medium known [] = None
-named_medium known (field ∷ more) = known (name_in field)
+-- the name that a value begins with
+abbrev pub first_name : (value : List ℕ) → Option (List ℕ)
+first_name value = option_map (λ p. p.0) (name_and_rest value)
 
--- the name in the first field
-abbrev pub first_name : List (List ℕ) → Option (List ℕ)
-first_name [] = None
-first_name (field ∷ more) = Some (name_in field)
+-- the paper of the medium that a value names first, by the papers of media
+abbrev pub named_medium : (known : List ℕ → Option Paper) → (value : List ℕ) → Option Paper
+named_medium known value = option_and_then known (first_name value)
 
 -- the medium that a page names in its head
 abbrev pub medium_told : (head : List (List ℕ)) → Option (List ℕ)
-medium_told head = option_and_then first_name (comment_fields (codes "%%PageMedia") head)
+medium_told head = option_and_then first_name (comment_value (codes "%%PageMedia") head)
 
 -- the paper of a page's medium, if it names one that is known; a page that names its medium has a box of what is
 -- painted. Else the paper of its box, where this paper would be taken without it
 abbrev pub told_by_page : (known : List ℕ → Option Paper) → (other : Paper) → (head : List (List ℕ)) → Option Paper
 told_by_page known other head =
-    else_take (option_and_then (named_medium known) (comment_fields (codes "%%PageMedia") head))
+    else_take (option_and_then (named_medium known) (comment_value (codes "%%PageMedia") head))
     (option_and_then (paper_of_box other) (comment_fields (codes "%%PageBoundingBox") head))
 
 -- the first field that is the name of a paper
@@ -80,16 +83,16 @@ abbrev pub first_named : (named : List ℕ → Option Paper) → List (List ℕ)
 first_named named [] = None
 first_named named (field ∷ more) = else_take (named (name_in field)) (first_named named more)
 
--- that of the first in these lines
-abbrev pub first_named_in : (named : List ℕ → Option Paper) → List (List (List ℕ)) → Option Paper
+-- that of the first in these values
+abbrev pub first_named_in : (named : List ℕ → Option Paper) → List (List ℕ) → Option Paper
 first_named_in named [] = None
-first_named_in named (names ∷ more) = else_take (first_named named names) (first_named_in named more)
+first_named_in named (names ∷ more) = else_take (first_named named (fields_in names)) (first_named_in named more)
 
 -- the document's paper: its first medium's; else the first of its papers' names that is known, on its side if the box
 -- at 0 0 has its sides exchanged; else that of the box, where this paper is usual (RULES, 12.2)
 abbrev pub told_by_document : (named : List ℕ → Option Paper) → (usual : Paper) → (header trailer : List (List ℕ)) → Option Paper
 told_by_document named usual header trailer =
     let box = box_of header trailer in
-    else_take (option_and_then media_paper (comment_fields (codes "%%DocumentMedia") header))
-    (else_take (option_map (lying_as (option_and_then box_paper box)) (first_named_in named (comment_lines (codes "%%DocumentPaperSizes") header)))
+    else_take (option_and_then media_paper (comment_value (codes "%%DocumentMedia") header))
+    (else_take (option_map (lying_as (option_and_then box_paper box)) (first_named_in named (comment_values (codes "%%DocumentPaperSizes") header)))
     (option_and_then (paper_of_box usual) box))

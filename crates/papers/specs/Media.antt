@@ -1,13 +1,13 @@
 -- The paper that a document is made for, by its comments (DSC 3.0, %%DocumentMedia and %%BoundingBox, and
 -- (atend); DSC 2.1, %%DocumentPaperSizes).
-use Rattle.std.specs.Prelude.{ℕ, zero, suc, ◌*◌, ℤ, pos, ◌+ℤ◌, ◌-ℤ◌, nat_abs, nat_le, int_lt, Bool, false, ◌&&◌, ◌||◌, if◌then◌else◌, option_map, option_and_then}
+use Rattle.std.specs.Prelude.{ℕ, zero, suc, ◌+◌, ◌*◌, ℤ, pos, ◌+ℤ◌, ◌-ℤ◌, nat_abs, nat_le, int_lt, Bool, false, not, ◌&&◌, ◌||◌, if◌then◌else◌, option_map, option_and_then}
 use Rattle.std.specs.Prelude.{List, [], ◌∷◌, length, take, drop, map, filter, codes, Option, Some, None, nat_eq, ◌-◌, ◌==◌, slice_index, slice_range}
 use Rattle.std.specs.Ordering.{int_eq}
-use Rattle.std.specs.List.{starts_with}
+use Rattle.std.specs.List.{prefix_len, starts_with}
 use Rattle.std.specs.Str.{bytes_eq}
 use Rattle.rules.specs.Papers.{Paper, Pt, grains, is_paper}
 use Rattle.rules.specs.Numbers.{is_large}
-use Rattle.rules.specs.Units.{content_of, line_len, is_comment, fields}
+use Rattle.rules.specs.Units.{content_of, key, line_len, is_blank, is_comment}
 use Rattle.rules.specs.Parts.{NestedUnit, is_outermost_line, trailer}
 use Rattle.dsc.specs.Fields.{fields_in}
 use Rattle.dsc.specs.Header.{header_len}
@@ -58,6 +58,29 @@ is_enclosed field =
 abbrev pub name_in : (field : List ℕ) → List ℕ
 name_in field = if is_enclosed field then slice_range field 1 (length field - 1) else field
 
+-- a text begins with a parenthesis
+abbrev pub is_opened : List ℕ → Bool
+is_opened [] = false
+is_opened (b ∷ rest) = b == opening
+
+-- the length of what stands before the first blank
+abbrev pub plain_len : List ℕ → ℕ
+plain_len text = prefix_len (λ b. not (is_blank b)) text
+
+-- the length of the name that a text begins with, to a blank; in parentheses to the first blank after they are closed
+abbrev pub name_len : List ℕ → ℕ
+name_len text = if is_opened text
+    then (let n = prefix_len (λ b. not (b == closing)) text in n + plain_len (drop n text)) else plain_len text
+
+-- the name that a text begins with, and what follows it
+abbrev pub split_name : (text : List ℕ) → Option (List ℕ × List ℕ)
+split_name [] = None
+split_name (b ∷ rest) = let n = name_len (b ∷ rest) in Some (name_in (take n (b ∷ rest)), drop n (b ∷ rest))
+
+-- the same after blanks
+abbrev pub name_and_rest : (value : List ℕ) → Option (List ℕ × List ℕ)
+name_and_rest value = split_name (drop (prefix_len is_blank value) value)
+
 -- ---- comments
 
 -- the contents of so many lines at most
@@ -70,38 +93,46 @@ contents_of (suc most) (b ∷ rest) = content_of (b ∷ rest) ∷ contents_of mo
 abbrev pub contents : List ℕ → List (List ℕ)
 contents text = contents_of (length text) text
 
--- the fields of the first comment with this name, if there is one
+-- what follows the colon of a comment
+abbrev pub value_of : (content : List ℕ) → List ℕ
+value_of content = drop (length (key content) + 1) content
+
+-- that of the first comment with this name, if there is one
+abbrev pub comment_value : (name : List ℕ) → List (List ℕ) → Option (List ℕ)
+comment_value name [] = None
+comment_value name (content ∷ rest) = if is_comment name content then Some (value_of content)
+    else comment_value name rest
+
+-- its fields
 abbrev pub comment_fields : (name : List ℕ) → List (List ℕ) → Option (List (List ℕ))
-comment_fields name [] = None
-comment_fields name (content ∷ rest) = if is_comment name content then Some (fields content)
-    else comment_fields name rest
+comment_fields name lines = option_map fields_in (comment_value name lines)
 
--- the fields of a line that continues a comment: those after the %%+
-abbrev pub more_fields : List ℕ → List (List ℕ)
-more_fields content = fields_in (drop 3 content)
-
--- those of each line at the front that continues a comment
-abbrev pub continued : List (List ℕ) → List (List (List ℕ))
+-- what follows the %%+ of each line at the front that continues a comment
+abbrev pub continued : List (List ℕ) → List (List ℕ)
 continued [] = []
 continued (content ∷ rest) =
-    if starts_with nat_eq content (codes "%%+") then more_fields content ∷ continued rest else []
+    if starts_with nat_eq content (codes "%%+") then drop 3 content ∷ continued rest else []
 
--- the fields of the first comment with this name, and those of each line that continues it
-abbrev pub comment_lines : (name : List ℕ) → List (List ℕ) → List (List (List ℕ))
-comment_lines name [] = []
-comment_lines name (content ∷ rest) = if is_comment name content then fields content ∷ continued rest
-    else comment_lines name rest
+-- what follows the colon of the first comment with this name, and of each line that continues it
+abbrev pub comment_values : (name : List ℕ) → List (List ℕ) → List (List ℕ)
+comment_values name [] = []
+comment_values name (content ∷ rest) = if is_comment name content then value_of content ∷ continued rest
+    else comment_values name rest
+
+-- the paper of a medium after its name: width, height, and more
+abbrev pub sides_paper : List (List ℕ) → Option Paper
+sides_paper (width ∷ height ∷ more) = paper_of (points_of width) (points_of height)
+sides_paper other = None
 
 -- the paper of a medium: its name, its width, its height, and more (RULES, 12.2)
-abbrev pub media_paper : List (List ℕ) → Option Paper
-media_paper (name ∷ width ∷ height ∷ more) = paper_of (points_of width) (points_of height)
-media_paper other = None
+abbrev pub media_paper : (value : List ℕ) → Option Paper
+media_paper value = option_and_then (λ p. sides_paper (fields_in p.1)) (name_and_rest value)
 
--- the paper of a box that begins at 0 0: left, bottom, right, top, and more
 abbrev pub is_zero : Option ℤ → Bool
 is_zero None = false
 is_zero (Some length) = int_eq length (pos 0)
 
+-- the paper of a box that begins at 0 0: left, bottom, right, top, and more
 abbrev pub box_paper : List (List ℕ) → Option Paper
 box_paper (left ∷ bottom ∷ right ∷ top ∷ more) =
     if is_zero (points_of left)
@@ -178,10 +209,10 @@ abbrev pub first_named : List (List ℕ) → Option Paper
 first_named [] = None
 first_named (field ∷ more) = else_take (paper_named (name_in field)) (first_named more)
 
--- that of the first in these lines
-abbrev pub first_named_in : List (List (List ℕ)) → Option Paper
+-- that of the first in these values
+abbrev pub first_named_in : List (List ℕ) → Option Paper
 first_named_in [] = None
-first_named_in (names ∷ more) = else_take (first_named names) (first_named_in more)
+first_named_in (names ∷ more) = else_take (first_named (fields_in names)) (first_named_in more)
 
 -- a paper lies as a box does: on its side, if the box has the paper's sides exchanged
 abbrev pub lying_as : (box : Option Paper) → Paper → Paper
@@ -197,8 +228,8 @@ or_box usual box None = option_map (λ paper. (paper, BoundingBox)) (option_and_
 abbrev pub or_named : (usual : Paper) → (lines trailer : List (List ℕ)) → Option Paper → Option (Paper × Comment)
 or_named usual lines trailer (Some paper) = Some (paper, DocumentMedia)
 or_named usual lines trailer None =
-    or_box usual (box_of lines trailer) (first_named_in (comment_lines (codes "%%DocumentPaperSizes") lines))
+    or_box usual (box_of lines trailer) (first_named_in (comment_values (codes "%%DocumentPaperSizes") lines))
 
 abbrev pub document_paper : (usual : Paper) → List ℕ → Option (Paper × Comment)
 document_paper usual text = or_named usual (header text) (trailer_lines (units_of text))
-    (option_and_then media_paper (comment_fields (codes "%%DocumentMedia") (header text)))
+    (option_and_then media_paper (comment_value (codes "%%DocumentMedia") (header text)))

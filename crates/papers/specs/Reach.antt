@@ -27,9 +27,12 @@ abbrev pub page_box : (document : Option (List (List ℕ))) → (page : List ℕ
 page_box document page = option_and_then edges_of (own_or (comment_fields (codes "%%PageBoundingBox") (page_head page))
     (unless_named (comment_fields (codes "%%PageMedia") (page_head page)) document))
 
--- the boxes of a document's pages, in order
+-- the boxes of a document's pages, in order, where this is the document's
+abbrev pub boxes_or : (document : Option (List (List ℕ))) → List NestedUnit → List (Option Edges)
+boxes_or document us = map (page_box document) (pages us)
+
 abbrev pub page_boxes : (text : List ℕ) → List NestedUnit → List (Option Edges)
-page_boxes text us = map (page_box (box_of (header text) (trailer_lines us))) (pages us)
+page_boxes text us = boxes_or (box_of (header text) (trailer_lines us)) us
 
 -- ---- which reach beyond papers
 

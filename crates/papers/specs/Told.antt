@@ -1,7 +1,7 @@
 -- How sheets report their paper: the lines that are added to an output for it. Their comments are of DSC 3.0
 -- (%%BoundingBox, %%DocumentMedia and %%+ of General Header Comments, %%PageMedia of Page Requirement Comments), their
 -- operators of the PostScript Language Reference. The rest is this project's own rules.
-use Rattle.std.specs.Prelude.{ℕ, ℤ, Bool, ◌&&◌, if◌then◌else◌, List, [], ◌∷◌, ◌++◌, map, fold, codes}
+use Rattle.std.specs.Prelude.{ℕ, ◌+◌, ◌*◌, ◌/◌, ◌%◌, ◌==◌, ℤ, pos, nat_abs, Bool, ◌&&◌, if◌then◌else◌, List, [], ◌∷◌, ◌++◌, map, fold, codes}
 use Rattle.std.specs.Ordering.{int_eq}
 use Rattle.std.specs.List.{list_any}
 use Rattle.rules.specs.Numbers.{points_text, rounded}
@@ -15,8 +15,11 @@ use Rattle.papers.specs.Own.{covering}
 abbrev pub size_text : Paper → List ℕ
 size_text paper = points_text paper.width ++ (codes " " ++ points_text paper.height)
 
-abbrev pub box_line : Paper → List ℕ
-box_line paper = codes "%%BoundingBox: 0 0 " ++ size_text paper
+abbrev pub box_line : (whole : Paper) → List ℕ
+box_line whole = codes "%%BoundingBox: 0 0 " ++ size_text whole
+
+abbrev pub exact_box_line : Paper → List ℕ
+exact_box_line paper = codes "%%HiResBoundingBox: 0 0 " ++ size_text paper
 
 -- a medium of this name; its weight is given as 0, and its colour and its kind as nothing
 abbrev pub medium_text : (name : List ℕ) → Paper → List ℕ
@@ -29,6 +32,27 @@ size_name paper = points_text paper.width ++ (codes "x" ++ points_text paper.hei
 -- a side in whole 10^-5 points, as it is printed
 abbrev pub in_print : ℤ → ℤ
 in_print side = rounded side 1_270_000
+
+-- a side, which is above 0, in whole 10^-5 points, as it is printed; and in whole points, rounded up from that
+abbrev pub printed_parts : ℤ → ℕ
+printed_parts side = nat_abs (in_print side)
+
+abbrev pub whole_up : ℤ → ℤ
+whole_up side = pos ((printed_parts side + 99_999) / 100_000 * 127_000_000_000)
+
+-- the least paper with sides of whole points that covers this one, as it is printed
+abbrev pub whole_paper : Paper → Paper
+whole_paper paper = record { width = whole_up paper.width; height = whole_up paper.height }
+
+abbrev pub is_whole : Paper → Bool
+is_whole paper = (printed_parts paper.width % 100_000 == 0) && (printed_parts paper.height % 100_000 == 0)
+
+-- the box of a paper, in whole numbers (DSC 3.0); and after it as it is, if its sides aren't whole
+abbrev pub exact_box_lines : Paper → List (List ℕ)
+exact_box_lines paper = if is_whole paper then [] else exact_box_line paper ∷ []
+
+abbrev pub box_lines : Paper → List (List ℕ)
+box_lines paper = box_line (whole_paper paper) ∷ exact_box_lines paper
 
 -- two papers whose sides are printed alike are reported as one
 abbrev pub is_told_alike : (a b : Paper) → Bool
@@ -66,11 +90,11 @@ medium_line key name paper = key ++ medium_text name paper
 
 -- the header's lines if all sheets have one paper, and if they have several
 abbrev pub one_header : Paper → List (List ℕ)
-one_header p = box_line p ∷ medium_line (codes "%%DocumentMedia: ") (codes "Plain") p ∷ []
+one_header p = box_lines p ++ medium_line (codes "%%DocumentMedia: ") (codes "Plain") p ∷ []
 
 abbrev pub several_header : Paper → List Paper → List (List ℕ)
 several_header p ps =
-    box_line (fold covering p ps) ∷ medium_line (codes "%%DocumentMedia: ") (size_name p) p
+    box_lines (fold covering p ps) ++ medium_line (codes "%%DocumentMedia: ") (size_name p) p
     ∷ map (λ r. medium_line (codes "%%+ ") (size_name r) r) ps
 
 -- the lines of a sheet that is one of several papers

@@ -1,8 +1,8 @@
 //! Comments among header comments, and the lines that continue them.
-ghost use Rattle.std.specs.Prelude.{◌≡◌, ◌<◌, ◌++◌, ◌∷◌, [], length, IfSome, MatchOption};
+ghost use Rattle.std.specs.Prelude.{◌≡◌, ◌<◌, ◌++◌, ◌∷◌, [], false, true, length, IfSome, MatchOption};
 ghost use Rattle.rules.specs.Bytes.{colon};
-ghost use Rattle.dsc.specs.Fields.{fields_in};
-ghost use Rattle.papers.specs.Media.{comment_lines, contents, continued};
+ghost use Rattle.rules.specs.Units.{is_comment};
+ghost use Rattle.papers.specs.Media.{comment_values, contents, continued, value_of};
 
 use dsc::{comment_value, first_content, line_end_after};
 
@@ -13,14 +13,14 @@ pub fn first_comment<'t>(
     with_colon: &[u8],
 ) -> Option<(&'t [u8], &'t [u8])>
     requires { with_colon.now ≡ key.now ++ colon ∷ [] }
-    ensures { MatchOption result (comment_lines key.now (contents header.now) ≡ []) (λ p.
-        comment_lines key.now (contents header.now) ≡ fields_in p.0.now ∷ continued (contents p.1.now)) }
+    ensures { MatchOption result (comment_values key.now (contents header.now) ≡ []) (λ p.
+        comment_values key.now (contents header.now) ≡ p.0.now ∷ continued (contents p.1.now)) }
 {
     let mut rest = header;
     while !rest.is_empty() {
         let content = first_content(rest);
         let (_, others) = rest.split_at(line_end_after(rest, content.len()));
-        if let Some(value) = comment_value(content, key, with_colon) {
+        if let Some(value) = value_after(content, key, with_colon) {
             return Some((value, others));
         }
         rest = others;
@@ -28,10 +28,23 @@ pub fn first_comment<'t>(
     None
 }
 
+/// What follows the colon, if a line with this content is a comment with this key.
+pub(crate) fn value_after<'t>(content: &'t [u8], key: &[u8], with_colon: &[u8]) -> Option<&'t [u8]>
+    requires { with_colon.now ≡ key.now ++ colon ∷ [] }
+    ensures { MatchOption result (is_comment key.now content.now ≡ false) (λ value.
+        (is_comment key.now content.now ≡ true) × (value.now ≡ value_of content.now)) }
+{
+    if comment_value(content, key, with_colon).is_none() {
+        return None;
+    }
+    let (_, value) = content.split_at(with_colon.len());
+    Some(value)
+}
+
 /// What the first line adds to a comment before it, if it continues one, and the lines after it.
 pub fn continuation(text: &[u8]) -> Option<(&[u8], &[u8])>
-    ensures fields { MatchOption result (continued (contents text.now) ≡ []) (λ p.
-        continued (contents text.now) ≡ fields_in p.0.now ∷ continued (contents p.1.now)) }
+    ensures value { MatchOption result (continued (contents text.now) ≡ []) (λ p.
+        continued (contents text.now) ≡ p.0.now ∷ continued (contents p.1.now)) }
     ensures shorter { IfSome result (λ p. length p.1.now < length text.now) }
 {
     let content = first_content(text);

@@ -1,5 +1,7 @@
 //! The lengths and names in fields.
-ghost use Rattle.std.specs.Prelude.{◌≡◌};
+ghost use Rattle.std.specs.Prelude.{◌≡◌, ◌≤◌, ◌==◌, length, not, option_map};
+ghost use Rattle.std.specs.List.{prefix_len};
+ghost use Rattle.rules.specs.Units.{is_blank};
 ghost use Rattle.papers.specs.Media as meaning;
 
 use lengths::{Grains, Unit, a4, read_number, to_grains};
@@ -12,6 +14,59 @@ pub(crate) fn name_in(field: &[u8]) -> &[u8]
         [b'(', name @ .., b')'] => name,
         _ => field,
     }
+}
+
+/// The name that a value begins with, and what follows it. A name in parentheses may have blanks in it.
+pub fn name_and_rest(value: &[u8]) -> Option<(&[u8], &[u8])>
+    ensures { option_map (λ p. (p.0.now, p.1.now)) result ≡ meaning.name_and_rest value.now }
+{
+    let (_, text) = value.split_at(blanks_at(value));
+    if text.is_empty() {
+        return None;
+    }
+    let (name, rest) = text.split_at(name_len(text));
+    Some((name_in(name), rest))
+}
+
+/// The number of blanks at the front.
+fn blanks_at(text: &[u8]) -> usize
+    ensures value { result ≡ prefix_len is_blank text.now }
+    ensures within { result ≤ length text.now }
+{
+    text.iter()
+        .take_while(|b| **b == b' ' || **b == b'\t')
+        .count()
+}
+
+/// The length of the name at the front, to a blank; in parentheses to the first blank after they are closed.
+fn name_len(text: &[u8]) -> usize
+    ensures value { result ≡ meaning.name_len text.now }
+    ensures within { result ≤ length text.now }
+{
+    if text.first() != Some(&b'(') {
+        return plain_len(text);
+    }
+    let open = open_len(text);
+    let (_, rest) = text.split_at(open);
+    open + plain_len(rest)
+}
+
+/// The length of what stands before the first closing parenthesis.
+fn open_len(text: &[u8]) -> usize
+    ensures value { result ≡ prefix_len (λ b. not (b == meaning.closing)) text.now }
+    ensures within { result ≤ length text.now }
+{
+    text.iter().take_while(|b| **b != b')').count()
+}
+
+/// The length of what stands before the first blank.
+fn plain_len(text: &[u8]) -> usize
+    ensures value { result ≡ meaning.plain_len text.now }
+    ensures within { result ≤ length text.now }
+{
+    text.iter()
+        .take_while(|b| !(**b == b' ' || **b == b'\t'))
+        .count()
 }
 
 /// The length that a field names, in points.

@@ -3,7 +3,7 @@ ghost use Rattle.std.specs.Prelude.{◌≡◌, IfOk, None, map, length, replicat
 ghost use Rattle.rules.specs.Parts.{bytes_of, pages};
 ghost use Rattle.dsc.specs.Units.{units_of};
 ghost use Rattle.papers.specs.Names.{paper_named};
-ghost use Rattle.papers.specs.Media.{comment_fields, contents, header, paper_of_box as paper_of_box_at, trailer_lines};
+ghost use Rattle.papers.specs.Media.{comment_fields, comment_value, contents, header, paper_of_box as paper_of_box_at, trailer_lines};
 ghost use Rattle.papers.specs.Comments.{head_of, named_medium, page_head, told_by_document, told_by_page as told};
 ghost use Rattle.papers.specs.Own.{medium_by, or_this, own_papers as papers_of_pages, page_or};
 ghost use Rattle.papers.specs.Named.{known_paper};
@@ -124,7 +124,7 @@ fn told_by_page(known: &KnownMedia, page: &[u8], other: &Paper) -> Option<Paper>
 #[tactic(auto, using(crate::proofs::PageTells::names_none, crate::proofs::PageTells::names_one))]
 fn named_paper(known: &KnownMedia, head: &[u8]) -> Option<Paper>
     ensures { result ≡ option_and_then (named_medium (known_paper known.now))
-        (comment_fields (codes "%%PageMedia") (head_of (length head.now) head.now)) }
+        (comment_value (codes "%%PageMedia") (head_of (length head.now) head.now)) }
 {
     known.paper_of(medium_name(head)?)
 }

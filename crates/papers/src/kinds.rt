@@ -1,8 +1,8 @@
 //! Papers that count as one, since programs round the sizes of one paper differently.
-ghost use Rattle.std.specs.Prelude.{◌≡◌, ◌<◌, ◌∷◌, IfOk, IfSome, OnOk, length, position};
-ghost use Rattle.papers.specs.Own.{is_near as is_near_to};
+ghost use Rattle.std.specs.Prelude.{◌≡◌, ℕ, suc, ◌++◌, IfOk, OnOk};
 ghost use Rattle.papers.specs.AsOne.{as_one as counted_as_one, first_instead_of as first_instead, is_used as is_paper_used};
-ghost use Rattle.papers.specs.AsOne.{kinds as kinds_with, most_kinds, paper_among as paper_in, with_paper};
+ghost use Rattle.papers.specs.AsOne.{apart_from, is_larger as is_larger_than, kind_of as kind_made, kinds as kinds_with, largest_of};
+ghost use Rattle.papers.specs.AsOne.{paper_among as paper_in};
 
 use crate::covering;
 use crate::cuts::is_near;
@@ -15,19 +15,19 @@ const MOST_KINDS: usize = 64;
 /// Papers that count as one.
 #[derive(Clone, Copy)]
 struct PaperKind {
-    /// The first of them, to which the others are near.
+    /// The largest of them, to which the others are near.
     first: Paper,
     /// The least paper that covers all of them.
     paper: Paper,
 }
 
-/// The papers of pages, each as the one as which it counts: the least that covers all of its kind. A paper is of the
-/// first kind that began with one near to it, by at most 15 points on each side; the first kind begins with `first`.
-/// There are at most 64 kinds, and a paper without one stays as it is. Refused out of memory alone.
-pub fn as_one(alloc: Global, first: &Paper, own: &[Paper]) -> Result<Vec<Paper>, AllocError>
-    ensures { IfOk result (λ papers. papers.items ≡ counted_as_one first.now own.now) }
+/// The papers of pages, each as the one as which it counts among those that are taken: the largest of these, the widest or of
+/// several the highest, makes a kind with all near to it, by at most 15 points on each side; then the largest that is left, up to
+/// 64 kinds. A paper of a kind counts as the least that covers the kind, another one stays as it is. Refused out of memory alone.
+pub fn as_one(alloc: Global, taken: &[Paper], own: &[Paper]) -> Result<Vec<Paper>, AllocError>
+    ensures { IfOk result (λ papers. papers.items ≡ counted_as_one taken.now own.now) }
 {
-    let kinds = kinds_of(alloc, first, own)?;
+    let kinds = kinds_of(alloc, MOST_KINDS, taken)?;
     let mut papers = Vec::new(alloc);
     for paper in own {
         papers.push(paper_among(kinds.as_slice(), paper))?;
@@ -52,56 +52,76 @@ fn is_used(paper: &Paper, own: &[Paper]) -> bool
     own.iter().any(|page| is_near(paper, page))
 }
 
-/// The kinds of these papers, of which the first begins with this one.
-fn kinds_of(alloc: Global, first: &Paper, own: &[Paper]) -> Result<Vec<PaperKind>, AllocError>
-    ensures { IfOk result (λ kinds. kinds.items ≡ kinds_with (first.now ∷ own.now)) }
+/// The kinds of these papers, if there is room for so many.
+fn kinds_of(alloc: Global, room: usize, papers: &[Paper]) -> Result<Vec<PaperKind>, AllocError>
+    ensures { IfOk result (λ kinds. kinds.items ≡ kinds_with room papers.now) }
 {
     let mut kinds = Vec::new(alloc);
-    kinds.push(begun_by(first))?;
-    for paper in own {
-        add_paper(&mut kinds, paper)?;
+    let mut rest = Vec::new(alloc);
+    rest.extend_from_slice(papers)?;
+    for _ in 0..room {
+        take_kind(&mut kinds, &mut rest)?;
     }
     Ok(kinds)
 }
 
-/// A kind that begins with this paper.
-fn begun_by(paper: &Paper) -> PaperKind
-    ensures first { result.first ≡ paper.now }
-    ensures paper { result.paper ≡ paper.now }
+/// Takes one more kind out of the papers that are left, if there are any.
+fn take_kind(kinds: &mut Vec<PaperKind>, rest: &mut Vec<Paper>) -> Result<(), AllocError>
+    ensures { OnOk result ((room : ℕ) → kinds.new.items ++ kinds_with room rest.new.items
+        ≡ kinds.old.items ++ kinds_with (suc room) rest.old.items) }
 {
+    let Some(first) = largest(rest.as_slice()) else {
+        return Ok(());
+    };
+    kinds.push(kind_of(&first, rest.as_slice()))?;
+    keep_apart(rest, &first);
+    Ok(())
+}
+
+/// Keeps those that aren't near to this one.
+fn keep_apart(papers: &mut Vec<Paper>, first: &Paper)
+    ensures { papers.new.items ≡ apart_from first.now papers.old.items }
+{
+    papers.retain(|paper| !is_near(paper, first));
+}
+
+/// The largest of these papers, if there is one.
+fn largest(papers: &[Paper]) -> Option<Paper>
+    ensures { result ≡ largest_of papers.now }
+{
+    let (first, rest) = papers.split_first()?;
+    let mut largest = *first;
+    for paper in rest {
+        if is_larger(paper, &largest) {
+            largest = *paper;
+        }
+    }
+    Some(largest)
+}
+
+/// Whether a paper is wider than another, or as wide and higher.
+fn is_larger(paper: &Paper, other: &Paper) -> bool
+    ensures { result ≡ is_larger_than paper.now other.now }
+{
+    other.width().get() < paper.width().get()
+        || (paper.width().get() == other.width().get()
+            && other.height().get() < paper.height().get())
+}
+
+/// The kind of those near to this one.
+fn kind_of(first: &Paper, papers: &[Paper]) -> PaperKind
+    ensures { result ≡ kind_made first.now papers.now }
+{
+    let mut paper = *first;
+    for other in papers {
+        if is_near(other, first) {
+            paper = covering(&paper, other);
+        }
+    }
     PaperKind {
-        first: *paper,
-        paper: *paper,
+        first: *first,
+        paper,
     }
-}
-
-/// Counts one more paper to its kind.
-fn add_paper(kinds: &mut Vec<PaperKind>, paper: &Paper) -> Result<(), AllocError>
-    ensures { OnOk result (kinds.new.items ≡ with_paper most_kinds kinds.old.items paper.now) }
-{
-    match kind_of(kinds.as_slice(), paper) {
-        Some(place) => {
-            let kind = kinds[place];
-            kinds[place] = PaperKind {
-                paper: covering(&kind.paper, paper),
-                ..kind
-            };
-            Ok(())
-        }
-        None if kinds.len() < MOST_KINDS => {
-            kinds.push(begun_by(paper))?;
-            Ok(())
-        }
-        None => Ok(()),
-    }
-}
-
-/// The place of the first kind to which a paper belongs.
-fn kind_of(kinds: &[PaperKind], paper: &Paper) -> Option<usize>
-    ensures place { result ≡ position (λ kind. is_near_to paper.now kind.first) kinds.now }
-    ensures within { IfSome result (λ place. place < length kinds.now) }
-{
-    kinds.iter().position(|kind| is_near(paper, &kind.first))
 }
 
 /// As which paper a paper counts.

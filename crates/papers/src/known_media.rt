@@ -1,17 +1,17 @@
 //! Media of header comments that pages name.
-ghost use Rattle.std.specs.Prelude.{◌≡◌, ◌<◌, ℕ, List, [], Some, None, IfOk, OnOk, flat_map, length, option_map, slice_index_or};
+ghost use Rattle.std.specs.Prelude.{◌≡◌, ◌<◌, ℕ, List, [], ◌∷◌, Some, None, IfOk, OnOk, flat_map, length, option_map, slice_index_or};
 ghost use Rattle.std.specs.Map.{update};
 ghost use Rattle.std.specs.Str.{bytes_eq};
 ghost use Rattle.rules.specs.Parts.{pages};
-ghost use Rattle.dsc.specs.Fields.{fields_in};
 ghost use Rattle.papers.specs.Media.{contents, continued};
 ghost use Rattle.papers.specs.Comments.{media, medium_in};
 ghost use Rattle.papers.specs.Named.{IsKept, KnowsAll, found_at, is_missing as is_not_found, known_paper, with_media, with_medium};
 
-use crate::fields::name_in;
+use crate::fields::name_and_rest;
+use crate::media::sides_paper;
 use crate::page_heads::{behind_first_line, medium_name};
-use crate::{continuation, first_comment, media_paper};
-use dsc::{Document, next_field};
+use crate::{continuation, first_comment};
+use dsc::Document;
 use lengths::Paper;
 use std::alloc::{AllocError, Global};
 use std::collections::BTreeMap;
@@ -33,9 +33,16 @@ impl KnownMedia {
     ) -> Result<KnownMedia, AllocError>
         ensures { IfOk result (λ known. KnowsAll known (media (contents header.now)) (pages document.now)) }
     {
-        let mut known = KnownMedia::named(alloc, document)?;
-        known.find(alloc, header)?;
-        Ok(known)
+        match first_comment(header, b"%%DocumentMedia", b"%%DocumentMedia:") {
+            Some((first, others)) => {
+                let mut known = KnownMedia::named(alloc, document)?;
+                known.find(alloc, first, others)?;
+                Ok(known)
+            }
+            None => Ok(KnownMedia {
+                papers: BTreeMap::new(alloc),
+            }),
+        }
     }
 
     /// Their names.
@@ -74,18 +81,14 @@ impl KnownMedia {
         Ok(())
     }
 
-    /// Finds their papers.
-    fn find(&mut self, alloc: Global, header: &[u8]) -> Result<(), AllocError>
+    /// Finds their papers: among the first medium, and those of the lines after it that continue it.
+    fn find(&mut self, alloc: Global, first: &[u8], others: &[u8]) -> Result<(), AllocError>
         ensures { OnOk result ((at : List ℕ) → found_at self.new at
-            ≡ option_map (λ found. with_media at found (media (contents header.now))) (found_at self.old at)) }
+            ≡ option_map (λ found. with_media at found (flat_map medium_in (first.now ∷ continued (contents others.now))))
+            (found_at self.old at)) }
     {
-        match first_comment(header, b"%%DocumentMedia", b"%%DocumentMedia:") {
-            Some((first, others)) => {
-                self.take(alloc, first)?;
-                self.take_continued(alloc, others)
-            }
-            None => Ok(()),
-        }
+        self.take(alloc, first)?;
+        self.take_continued(alloc, others)
     }
 
     /// Takes the media of the lines at the front that continue a comment.
@@ -101,13 +104,13 @@ impl KnownMedia {
         Ok(())
     }
 
-    /// Takes the medium of these fields, if it is the first one with a name that is kept.
+    /// Takes the medium of this value, if it is the first one with a name that is kept.
     fn take(&mut self, alloc: Global, value: &[u8]) -> Result<(), AllocError>
         ensures { OnOk result ((at : List ℕ) → found_at self.new at
-            ≡ option_map (λ found. with_media at found (medium_in (fields_in value.now))) (found_at self.old at)) }
+            ≡ option_map (λ found. with_media at found (medium_in value.now)) (found_at self.old at)) }
     {
-        match next_field(value) {
-            Some((field, _)) => self.take_named(alloc, name_in(field), media_paper(value)),
+        match name_and_rest(value) {
+            Some((name, rest)) => self.take_named(alloc, name, sides_paper(rest)),
             None => Ok(()),
         }
     }

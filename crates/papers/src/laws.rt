@@ -2,7 +2,7 @@
 ghost use Rattle.papers.specs.Told.{TellingIsTame};
 ghost use Rattle.papers.specs.SetSizes.{SizeIsSet};
 ghost use Rattle.papers.specs.Found.{PapersAreFound};
-ghost use Rattle.papers.specs.AsOne.{NearAreOne, NothingIsCut};
+ghost use Rattle.papers.specs.AsOne.{NearAreOne, NothingIsCut, OrderIsNothing};
 
 /// The lines by which sheets report their paper begin nothing.
 pub fn telling_is_tame()
@@ -19,12 +19,17 @@ pub fn papers_are_found()
     ensures { PapersAreFound }
 {}
 
-/// Each page's own paper is covered by the one as which it counts.
+/// Each paper that is taken is covered by the one as which it counts.
 pub fn nothing_is_cut()
     ensures { NothingIsCut }
 {}
 
-/// Pages of papers near to the first one all have one paper.
+/// Papers near to the largest that is taken all count as one.
 pub fn near_are_one()
     ensures { NearAreOne }
+{}
+
+/// As which papers count doesn't depend on the order of pages, nor on how often they are taken.
+pub fn order_is_nothing()
+    ensures { OrderIsNothing }
 {}

@@ -27,6 +27,7 @@ pub use home::home_paper;
 pub use kinds::{as_one, first_instead_of};
 pub use media::{Comment, document_paper, media_paper};
 pub use names::{name_list, paper_by_name};
-pub use reach::{PlacedPages, Reach, page_boxes, reach_beyond};
+pub use page_heads::first_name;
+pub use reach::{PlacedPages, Reach, reach_beyond};
 pub use size::read_paper;
 pub use two_papers::covering;

@@ -8,7 +8,7 @@ ghost use Rattle.papers.specs.Media as meaning;
 
 use crate::boxes::{box_paper, paper_of, paper_of_box};
 use crate::comments::{continuation, first_comment};
-use crate::fields::{name_in, points_of};
+use crate::fields::{name_and_rest, name_in, points_of};
 use crate::paper_by_name;
 use dsc::{header_len, next_field, trailer_box};
 use lengths::{Grains, Paper};
@@ -91,7 +91,7 @@ fn are_near(one: Grains, other: Grains) -> bool
 /// The paper of the first known name in the first list of names among the comments, which lines may continue.
 fn named_in(header: &[u8]) -> Option<Paper>
     ensures { result ≡ meaning.first_named_in
-        (meaning.comment_lines (codes "%%DocumentPaperSizes") (meaning.contents header.now)) }
+        (meaning.comment_values (codes "%%DocumentPaperSizes") (meaning.contents header.now)) }
 {
     let (value, others) = first_comment(header, b"%%DocumentPaperSizes", b"%%DocumentPaperSizes:")?;
     match first_named(value) {
@@ -131,9 +131,9 @@ fn first_named(value: &[u8]) -> Option<Paper>
 /// The paper of the first medium among the comments.
 fn media_in(header: &[u8]) -> Option<Paper>
     ensures { result ≡ option_and_then meaning.media_paper
-        (meaning.comment_fields (codes "%%DocumentMedia") (meaning.contents header.now)) }
+        (meaning.comment_value (codes "%%DocumentMedia") (meaning.contents header.now)) }
 {
-    media_paper(value_of(header, b"%%DocumentMedia", b"%%DocumentMedia:")?)
+    media_paper(text_of(header, b"%%DocumentMedia", b"%%DocumentMedia:")?)
 }
 
 /// What follows the colon of the first box among the comments, which may be in the trailer.
@@ -168,6 +168,18 @@ fn is_at_end(value: &[u8]) -> bool
 }
 
 /// What follows the colon of the first comment with this key.
+#[tactic(auto, using(crate::proofs::Contents::none_said, crate::proofs::Contents::first_said))]
+fn text_of<'t>(header: &'t [u8], key: &[u8], with_colon: &[u8]) -> Option<&'t [u8]>
+    requires { with_colon.now ≡ key.now ++ colon ∷ [] }
+    ensures { option_map (λ value. value.now) result ≡ meaning.comment_value key.now (meaning.contents header.now) }
+{
+    match first_comment(header, key, with_colon) {
+        Some((value, _)) => Some(value),
+        None => None,
+    }
+}
+
+/// The same, for its fields.
 #[tactic(auto, using(crate::proofs::Contents::none_told, crate::proofs::Contents::first_told))]
 fn value_of<'t>(header: &'t [u8], key: &[u8], with_colon: &[u8]) -> Option<&'t [u8]>
     requires { with_colon.now ≡ key.now ++ colon ∷ [] }
@@ -182,9 +194,16 @@ fn value_of<'t>(header: &'t [u8], key: &[u8], with_colon: &[u8]) -> Option<&'t [
 
 /// The paper of a medium: its name, its width, its height, and more.
 pub fn media_paper(value: &[u8]) -> Option<Paper>
-    ensures { result ≡ meaning.media_paper (fields_in value.now) }
+    ensures { result ≡ meaning.media_paper value.now }
 {
-    let (_, rest) = next_field(value)?;
+    let (_, rest) = name_and_rest(value)?;
+    sides_paper(rest)
+}
+
+/// The paper of a medium after its name: its width, its height, and more.
+pub(crate) fn sides_paper(rest: &[u8]) -> Option<Paper>
+    ensures { result ≡ meaning.sides_paper (fields_in rest.now) }
+{
     let (width, rest) = next_field(rest)?;
     let (height, _) = next_field(rest)?;
     paper_of(points_of(width), points_of(height))

@@ -1,36 +1,44 @@
 //! The comments after a page's line.
 ghost use Rattle.std.specs.Prelude.{◌≡◌, ◌++◌, ◌∷◌, [], option_map, drop, length};
-ghost use Rattle.rules.specs.Units.{line_len};
+ghost use Rattle.rules.specs.Units.{content_of, line_len};
 ghost use Rattle.rules.specs.Bytes.{colon};
 ghost use Rattle.dsc.specs.Fields.{fields_in};
-ghost use Rattle.papers.specs.Media.{comment_fields};
+ghost use Rattle.papers.specs.Media.{comment_fields, comment_value};
 ghost use Rattle.papers.specs.Comments.{first_name as name_told, head_of, is_in_head, medium_told};
 
-use crate::fields::name_in;
-use dsc::{comment_value, first_content, is_header, key_of, line_end_after, next_field};
+use crate::comments::value_after;
+use crate::fields::name_and_rest;
+use dsc::{first_content, is_header, key_of, line_end_after};
 
 /// What follows the first line.
 pub(crate) fn behind_first_line(text: &[u8]) -> &[u8]
     ensures { result.now ≡ drop (line_len text.now) text.now }
 {
-    let content = first_content(text);
-    let (_, behind) = text.split_at(line_end_after(text, content.len()));
+    let (_, behind) = text.split_at(line_end_after(text, first_line_len(text)));
     behind
 }
 
+/// The length of the content of the first line, which is short in a page.
+fn first_line_len(text: &[u8]) -> usize
+    ensures { result ≡ length (content_of text.now) }
+{
+    text.iter()
+        .take_while(|b| !(**b == b'\r' || **b == b'\n'))
+        .count()
+}
+
 /// What follows the colon of the first comment with this key, in the run of comments at the front.
-pub(crate) fn value_in_head<'t>(text: &'t [u8], key: &[u8], with_colon: &[u8]) -> Option<&'t [u8]>
+fn text_in_head<'t>(text: &'t [u8], key: &[u8], with_colon: &[u8]) -> Option<&'t [u8]>
     requires { with_colon.now ≡ key.now ++ colon ∷ [] }
-    ensures { option_map (λ value. fields_in value.now) result
-        ≡ comment_fields key.now (head_of (length text.now) text.now) }
+    ensures { option_map (λ value. value.now) result ≡ comment_value key.now (head_of (length text.now) text.now) }
 {
     let mut rest = text;
-    while !rest.is_empty() {
+    while rest.starts_with(b"%") {
         let content = first_content(rest);
         if !is_in_head(content) {
             return None;
         }
-        if let Some(value) = comment_value(content, key, with_colon) {
+        if let Some(value) = value_after(content, key, with_colon) {
             return Some(value);
         }
         let (_, others) = rest.split_at(line_end_after(rest, content.len()));
@@ -39,19 +47,28 @@ pub(crate) fn value_in_head<'t>(text: &'t [u8], key: &[u8], with_colon: &[u8]) -
     None
 }
 
+/// The same, for its fields.
+pub(crate) fn value_in_head<'t>(text: &'t [u8], key: &[u8], with_colon: &[u8]) -> Option<&'t [u8]>
+    requires { with_colon.now ≡ key.now ++ colon ∷ [] }
+    ensures { option_map (λ value. fields_in value.now) result
+        ≡ comment_fields key.now (head_of (length text.now) text.now) }
+{
+    text_in_head(text, key, with_colon)
+}
+
 /// The name of the medium that the run of comments at the front names.
 pub(crate) fn medium_name(text: &[u8]) -> Option<&[u8]>
     ensures { option_map (λ name. name.now) result ≡ medium_told (head_of (length text.now) text.now) }
 {
-    first_name(value_in_head(text, b"%%PageMedia", b"%%PageMedia:")?)
+    first_name(text_in_head(text, b"%%PageMedia", b"%%PageMedia:")?)
 }
 
-/// The name in the first field.
-fn first_name(value: &[u8]) -> Option<&[u8]>
-    ensures { option_map (λ name. name.now) result ≡ name_told (fields_in value.now) }
+/// The name that a value begins with.
+pub fn first_name(value: &[u8]) -> Option<&[u8]>
+    ensures { option_map (λ name. name.now) result ≡ name_told value.now }
 {
-    let (field, _) = next_field(value)?;
-    Some(name_in(field))
+    let (name, _) = name_and_rest(value)?;
+    Some(name)
 }
 
 /// Whether a line with this content goes on with that run: a comment, the one that begins a page's setup too, but none

@@ -12,33 +12,6 @@ use crate::media::box_of;
 use crate::page_heads::{behind_first_line, value_in_head};
 use dsc::{Document, header_len};
 use lengths::{Grains, Paper};
-use std::alloc::{AllocError, Global};
-
-/// The boxes of a document's pages, in order: each page's own, and else the document's, unless the page names a medium. Refused
-/// out of memory alone.
-pub fn page_boxes(alloc: Global, document: &Document<'_>) -> Result<Vec<Option<Edges>>, AllocError>
-    ensures { IfOk result (λ boxes. boxes.items ≡ meaning.page_boxes (bytes_of document.now) document.now) }
-{
-    let text = document.text();
-    let (header, _) = text.split_at(header_len(text));
-    boxes_or(alloc, document, box_of(header, text))
-}
-
-/// Each page's own box, and else this one, unless the page names a medium.
-fn boxes_or(
-    alloc: Global,
-    document: &Document<'_>,
-    other: Option<&[u8]>,
-) -> Result<Vec<Option<Edges>>, AllocError>
-    ensures { IfOk result (λ boxes. boxes.items
-        ≡ map (meaning.page_box (option_map (λ v. fields_in v.now) other.entry)) (pages document.now)) }
-{
-    let mut boxes = Vec::new(alloc);
-    for page in 0..document.pages() {
-        boxes.push(page_box(document.page(page), other))?;
-    }
-    Ok(boxes)
-}
 
 /// A page's own box, and else this one, unless the page names a medium.
 fn page_box(page: &[u8], other: Option<&[u8]>) -> Option<Edges>
@@ -70,15 +43,15 @@ fn edges_if(value: Option<&[u8]>) -> Option<Edges>
 
 /// How pages are placed.
 #[derive(Clone, Copy)]
-pub struct PlacedPages<'p> {
+pub struct PlacedPages<'p, 'd> {
+    /// The document, which has their boxes: each page's own, and else the document's, unless the page names a medium.
+    pub document: &'p Document<'d>,
     /// Which of them are taken.
     pub taken: &'p [bool],
     /// The papers by which they are placed.
     pub papers: &'p [Paper],
     /// Their own papers.
     pub own: &'p [Paper],
-    /// Their boxes.
-    pub boxes: &'p [Option<Edges>],
     /// Whether those that their papers cut are reported apart, as `cut_by` finds them.
     pub cut_apart: bool,
 }
@@ -98,14 +71,25 @@ pub struct Reach {
 
 /// Which pages that are taken reach beyond the papers by which they are placed, by more than a point: by their boxes, and by
 /// their own papers if those are cut.
-pub fn reach_beyond(pages: &PlacedPages<'_>) -> Option<Reach>
-    ensures { result ≡ meaning.reach_of (meaning.placing
-        pages.now.taken.now pages.now.own.now pages.now.boxes.now pages.now.cut_apart) pages.now.papers.now }
+pub fn reach_beyond(pages: &PlacedPages<'_, '_>) -> Option<Reach>
+    ensures { result ≡ meaning.reach_of (meaning.placing pages.now.taken.now pages.now.own.now
+        (meaning.page_boxes (bytes_of pages.now.document.now) pages.now.document.now) pages.now.cut_apart) pages.now.papers.now }
+{
+    let text = pages.document.text();
+    let (header, _) = text.split_at(header_len(text));
+    reach_with(pages, box_of(header, text))
+}
+
+/// The same, where this is the document's box.
+fn reach_with(pages: &PlacedPages<'_, '_>, other: Option<&[u8]>) -> Option<Reach>
+    ensures { result ≡ meaning.reach_of (meaning.placing pages.now.taken.now pages.now.own.now
+        (meaning.boxes_or (option_map (λ v. fields_in v.now) other.entry) pages.now.document.now) pages.now.cut_apart)
+        pages.now.papers.now }
 {
     let papers = pages.papers;
     let mut reach = None;
     for (page, paper) in papers.iter().enumerate() {
-        reach = with_if_beyond(reach, page, paper, extent_at(pages, page, paper));
+        reach = with_if_beyond(reach, page, paper, extent_at(pages, other, page, paper));
     }
     reach
 }
@@ -146,16 +130,21 @@ fn with_page(reach: Option<Reach>, page: usize, paper: &Paper, edges: Edges) -> 
 }
 
 /// How far a page reaches, if it is taken.
-fn extent_at(pages: &PlacedPages<'_>, page: usize, paper: &Paper) -> Option<Edges>
-    ensures { result ≡ meaning.extent (meaning.placing
-        pages.now.taken.now pages.now.own.now pages.now.boxes.now pages.now.cut_apart) page paper.now }
+fn extent_at(
+    pages: &PlacedPages<'_, '_>,
+    other: Option<&[u8]>,
+    page: usize,
+    paper: &Paper,
+) -> Option<Edges>
+    ensures { result ≡ meaning.extent (meaning.placing pages.now.taken.now pages.now.own.now
+        (meaning.boxes_or (option_map (λ v. fields_in v.now) other.entry) pages.now.document.now) pages.now.cut_apart) page paper.now }
 {
     if !is_taken(pages.taken, page) {
         return None;
     }
     let own = own_at(pages.own, page, paper);
     if !is_cut(paper, &own) {
-        box_at(pages.boxes, page)
+        box_at(pages.document, other, page)
     } else if pages.cut_apart {
         None
     } else {
@@ -181,12 +170,14 @@ fn own_at(own: &[Paper], page: usize, other: &Paper) -> Paper
     }
 }
 
-fn box_at(boxes: &[Option<Edges>], page: usize) -> Option<Edges>
-    ensures { result ≡ get_or boxes.now page None }
+fn box_at(document: &Document<'_>, other: Option<&[u8]>, page: usize) -> Option<Edges>
+    ensures { result
+        ≡ get_or (meaning.boxes_or (option_map (λ v. fields_in v.now) other.entry) document.now) page None }
 {
-    match boxes.get(page) {
-        Some(edges) => *edges,
-        None => None,
+    if page < document.pages() as usize {
+        page_box(document.page(page as u32), other)
+    } else {
+        None
     }
 }
 

@@ -1,25 +1,31 @@
--- Sheets of a specification that pass a limit.
-use Rattle.std.proofs.Common.{rules, ◌≡◌, List, Ok}
+-- Sheets of a specification that are no plan.
+use Rattle.std.proofs.Common.{rules, ◌≡◌, ◌≤◌, List, Ok}
 use Rattle.std.specs.Prelude.{IsOk, option_map}
 use Rattle.made_sheets.specs.Choice.{signed}
 use Rattle.made_sheets.specs.Made.{MadeSheet}
 use Rattle.made_sheets.specs.Rows.{Row}
 use Rattle.rows.specs.Sewing.{signing_of}
-use Rattle.row_sheets.specs.BySpec.{PassesLimit, by_spec}
+use Rattle.row_sheets.specs.BySpec.{WhyNoSheets, by_spec}
+use Rattle.sheet_plan.specs.MadeRefusals.{RefusesMade}
 use Rattle.sheet_plan.specs.declared.error.MadeError.{MadeError}
 use Rattle.sheet_plan.specs.declared.error.MadeError.TheVariants as plan
-use Rattle.row_runs.specs.BySpec.{RefusesSheetsBySpec, row_by}
+use Rattle.row_runs.specs.BySpec.{AreBySpec, RefusesBySpec, pages_of, row_by}
 use Rattle.row_runs.specs.Errors.{of_plan}
 use Rattle.row_runs.specs.declared.by_spec.SpecJob.{SpecJob}
 
 is_row : (j : SpecJob) (row : Row) → row_by j ≡ Ok row → IsOk (row_by j)
 is_row j row chosen = search rules
 
-pub passes_limit : (j : SpecJob) (row : Row) (made : List MadeSheet) (e : MadeError) → row_by j ≡ Ok row → made ≡ by_spec j.spec.now j.sheet j.page (signed (option_map signing_of j.signing) row) → PassesLimit made e
-    → RefusesSheetsBySpec j (of_plan e)
-passes_limit j row made plan.NoMemory chosen are h = is_row j row chosen
-passes_limit j row made plan.TooManySheets chosen are h = (made, record { row = row; is_chosen = chosen; are_made = are }, h)
-passes_limit j row made plan.TooManyPlaces chosen are h = (made, record { row = row; is_chosen = chosen; are_made = are }, h)
-passes_limit j row made plan.TooManyPages chosen are h = absurd h
-passes_limit j row made (plan.SlotsOutOfRange sheet) chosen are h = absurd h
-passes_limit j row made (plan.NoSuchPage sheet) chosen are h = absurd h
+-- they are those of the job
+of_row : (j : SpecJob) (row : Row) (made : List MadeSheet) (e : MadeError) → row_by j ≡ Ok row → made ≡ by_spec j.spec.now j.sheet j.page (signed (option_map signing_of j.signing) row)
+    → RefusesMade (pages_of j) made e → (all : List MadeSheet) × AreBySpec j all × RefusesMade (pages_of j) all e
+of_row j row made e chosen are h = (made, record { row = row; is_chosen = chosen; are_made = are }, h)
+
+pub no_sheets : (j : SpecJob) (row : Row) (made : List MadeSheet) (e : MadeError) → pages_of j ≤ 1_000_000 → row_by j ≡ Ok row → made ≡ by_spec j.spec.now j.sheet j.page (signed (option_map signing_of j.signing) row) → WhyNoSheets made e
+    → RefusesBySpec j (of_plan e)
+no_sheets j row made plan.NoMemory few chosen are h = is_row j row chosen
+no_sheets j row made plan.TooManySheets few chosen are h = of_row j row made plan.TooManySheets chosen are (h (pages_of j) few)
+no_sheets j row made plan.TooManyPlaces few chosen are h = of_row j row made plan.TooManyPlaces chosen are (h (pages_of j) few)
+no_sheets j row made plan.TooManyPages few chosen are h = of_row j row made plan.TooManyPages chosen are (h (pages_of j) few)
+no_sheets j row made (plan.SlotsOutOfRange sheet) few chosen are h = of_row j row made (plan.SlotsOutOfRange sheet) chosen are (h (pages_of j) few)
+no_sheets j row made (plan.NoSuchPage sheet) few chosen are h = of_row j row made (plan.NoSuchPage sheet) chosen are (h (pages_of j) few)

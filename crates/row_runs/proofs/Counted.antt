@@ -1,7 +1,7 @@
 -- Sheets that pass a limit by their number alone.
 use Rattle.std.proofs.Common.{arith, ◌≡◌, ℕ, suc, zero, ◌+◌, ◌-◌, ◌*◌, ◌/◌, ◌%◌, ◌<◌, ◌≤◌, ◌&&◌, Bool, true, false, List, [], ◌∷◌, length, map, get_or, refl, sym, ap, subst, ◌∙◌, Option, Some, None}
-use Rattle.std.specs.Prelude.{All, cond, not, nat_le, nat_lt, if◌then◌else◌, position, sum_by}
-use Rattle.std.specs.List.{position_from, range_with_len}
+use Rattle.std.specs.Prelude.{All, not, nat_le, nat_lt, if◌then◌else◌, position, sum_by}
+use Rattle.std.specs.List.{range_with_len}
 use Rattle.std.proofs.Math.Nat.{suc-mul}
 use Rattle.std.proofs.lemmas.Bool.Decides.{nat_tests}
 use Rattle.std.proofs.lemmas.List.{length-append}
@@ -22,6 +22,7 @@ use Rattle.row_sheets.specs.Filled.{Filling, card_entry, card_sheets, is_turned,
 use Rattle.row_sheets.specs.Posters.{entry_tiles, poster_paper, row_tiles, tile_item}
 use Rattle.row_sheets.specs.Shapes.{filling}
 use Rattle.row_sheets.specs.declared.poster.Poster.{Poster}
+use Rattle.row_sheets.proofs.NoPlan.{even_count, none_from}
 use Rattle.row_runs.specs.declared.asked.Laying.{Laying}
 use Rattle.row_runs.specs.declared.asked.Laying.TheVariants as laying
 use Rattle.row_runs.specs.Evened.{evened_if}
@@ -34,11 +35,6 @@ HaveSlots k made = All (λ s. slot_count s ≡ k) made
 
 tail_of : {X : Type 0} (P : X → Type 0) (x : X) (xs : List X) → All P (x ∷ xs) → All P xs
 tail_of P x xs h k d less = h (suc k) d (omega (arith, less))
-
-none_from : {X : Type 0} (p : X → Bool) (xs : List X) (k : ℕ) → All (λ x. p x ≡ false) xs → position_from p k xs ≡ None
-none_from p [] k h = refl
-none_from p (x ∷ xs) k h =
-    ap (λ b. cond b (Some k) (position_from p (k + 1) xs)) (h 0 x (omega arith)) ∙ none_from p xs (k + 1) (tail_of (λ y. p y ≡ false) x xs h)
 
 sum_even : (k : ℕ) (made : List MadeSheet) → HaveSlots k made → sum_by slot_count made ≡ length made * k
 sum_even k [] h = let z : 0 ≡ 0 * k = omega arith in z
@@ -59,9 +55,6 @@ is_not_le a b lt = grind (arith, nat_tests)
 
 is_lt : (a b : ℕ) → a < b → nat_lt a b ≡ true
 is_lt a b lt = grind (arith, nat_tests)
-
-even_count : (k : ℕ) → 0 < k → k ≤ 4_096 → not (is_slot_count k) ≡ false
-even_count k some few = ap (λ b. not (b && nat_le k 4_096)) (is_le 1 k (omega (arith, some))) ∙ ap (λ b. not (true && b)) (is_le k 4_096 few)
 
 wide_count : (k : ℕ) → 4_096 < k → not (is_slot_count k) ≡ true
 wide_count k many = ap (λ b. not (b && nat_le k 4_096)) (is_le 1 k (omega (arith, many))) ∙ ap (λ b. not (true && b)) (is_not_le k 4_096 many)

@@ -1,4 +1,4 @@
--- Worked examples: the marks and the lines of layings, and how many leaves a signature has.
+-- Worked examples: the marks and the lines of layings, how many leaves a signature has, and how many pages a document.
 use Rattle.std.proofs.Common.{◌≡◌, [], ◌∷◌, false, true, map, refl}
 use Rattle.std.specs.Prelude.{codes, None, Some}
 use Rattle.std.specs.Fmt.{digits}
@@ -17,11 +17,21 @@ use Rattle.row_runs.specs.Evened.{setting_in}
 use Rattle.row_runs.specs.Guides.{guides_in}
 use Rattle.row_runs.specs.Marked.{strokes_in}
 use Rattle.row_runs.specs.Sheets.{leaves_in}
+use Rattle.row_runs.specs.ToldPages.{told_pages}
 
 -- a sheet of 100 by 200 points with a margin of 10 points and a gap of 4, in two columns
 abbrev halves : Setting
 halves = record {
-  room = record { paper = points 100 200; edge = 1_000_000; gap = 400_000; trim = 0 };
+  room = record {
+    paper = points 100 200;
+    left = 1_000_000;
+    right = 1_000_000;
+    bottom = 1_000_000;
+    top = 1_000_000;
+    gap_across = 400_000;
+    gap_up = 400_000;
+    trim = 0;
+  };
   grid = record { rows = 1; columns = 2; turned = false };
   order = plain_order;
   scale = None;
@@ -66,3 +76,17 @@ eight_sides = refl
 
 twenty_pages : leaves_in (Some InOne) (all_pages 20) ≡ 5
 twenty_pages = refl
+
+-- the number of pages that a document says
+told : told_pages (codes "%!\n%%Pages: 4 1\n%%EndComments\n%%Pages: 5\n") ≡ Some 4
+told = refl
+
+told_at_the_end : told_pages (codes "%!\n%%Pages: (atend)\n%%Page: 1 1\n%%Pages: 9\n%%Trailer\n%%Pages: 4\n%%EOF\n") ≡ Some 4
+told_at_the_end = refl
+
+-- without a trailer nothing is told at the end
+told_at_no_end : told_pages (codes "%!\n%%Pages: (atend)\n%%Page: 1 1\n%%Pages: 9\n") ≡ None
+told_at_no_end = refl
+
+told_by_no_number : map told_pages (codes "%!\n" ∷ codes "%!\n%%Pages:\n" ∷ codes "%!\n%%Pages: -1\n" ∷ codes "%!\n%%Pages: 4x\n" ∷ codes "%!\n\n%%Pages: 4\n" ∷ []) ≡ None ∷ None ∷ None ∷ None ∷ None ∷ []
+told_by_no_number = refl

@@ -9,10 +9,9 @@ use Rattle.made_sheets.specs.Choice.{signed}
 use Rattle.made_sheets.specs.Made.{MadeSheet}
 use Rattle.made_sheets.specs.Rows.{Row}
 use Rattle.layouts.specs.Placed.{Room}
-use Rattle.layouts.specs.Cells.{Grid, size, wide}
+use Rattle.layouts.specs.Cells.{Grid, along_height, cell, size, wide}
 use Rattle.layouts.specs.Grids.{beside}
 use Rattle.layouts.proofs.Folds.{fold}
-use Rattle.layouts.proofs.OnSide.{cell}
 use Rattle.row_sheets.specs.Creep.{AreHalves, creeping_sheets}
 use Rattle.row_sheets.specs.Filled.{Filling, card_entry, duplex_entry, grid_entry, stack_entry, behind_in}
 use Rattle.row_sheets.specs.Posters.{AllMayBePosters, poster_paper}
@@ -67,8 +66,9 @@ evened_may_be true (laying.Grid setting cells) papers row h = h
 evened_may_be true (laying.Cards setting cells) papers row h = h
 evened_may_be true (laying.Stack setting cells) papers row h = h
 evened_may_be true (laying.Leaves setting) papers row h = h
-evened_may_be true (laying.Booklet setting turned_backs creep) papers row h = h
-evened_may_be true (laying.Zine setting) papers row h = h
+evened_may_be true (laying.Booklet setting turned_backs creep) papers row h = record { grid_is = h.grid_is; order_is = h.order_is; even = h.even }
+evened_may_be true (laying.Zine setting) papers row h =
+    record { grid_is = h.grid_is; order_is = h.order_is; untrimmed = h.untrimmed; some_across = h.some_across; some_up = h.some_up; even = h.even }
 evened_may_be true (laying.Poster poster) papers row h = h
 
 shown_on : (p : Poster) (papers : List Paper) (row : Row) → AllMayBePosters p papers row → (i page : ℕ) → entry_of row i ≡ Some page
@@ -79,13 +79,13 @@ shown_on p papers row fits i page is = record {
 }
 
 -- the marks of two halves lie along the fold
-marks_along : (room : Room) (g : Grid) (twice : ℕ) → g ≡ beside true → twice ≡ fold room (nat_abs room.paper.height) → AllByRecursion (IsAlong room twice) (fold_marks room g ++ [])
+marks_along : (room : Room) (g : Grid) (twice : ℕ) → g ≡ beside true → twice ≡ fold (along_height room) (nat_abs room.paper.height) → AllByRecursion (IsAlong room twice) (fold_marks room g ++ [])
 marks_along room g twice halves at =
-    let along = ap pos (mark_is room (nat_abs room.paper.height)) in
+    let along = ap pos (mark_is (along_height room) (nat_abs room.paper.height)) in
     subst (λ h. AllByRecursion (IsAlong room twice) (fold_marks room h ++ [])) (sym halves)
     (subst (λ n. AllByRecursion (IsAlong room n) (fold_marks room (beside true) ++ [])) (sym at) ((along, along), ((along, along), tt)))
 
-has_room : (room : Room) (g : Grid) → g ≡ beside true → 0 < wide room g → 0 < cell room (nat_abs room.paper.height) 2
+has_room : (room : Room) (g : Grid) → g ≡ beside true → 0 < wide room g → 0 < cell (along_height room) (nat_abs room.paper.height) 2
 has_room room g halves some = subst (λ h. 0 < wide room h) halves some
 
 at_fold : (f : Filling) (turned_backs : Bool) (creep leaves : ℕ) (row : Row) → AreHalves f.setting → AllFitOnLeaves f creep leaves row
@@ -94,8 +94,8 @@ at_fold f turned_backs creep leaves row halved fits =
     let t = f.setting in
     let sheets = blocks 2 (length row) in (
       leaves_stand f turned_backs creep leaves sheets row halved (λ s k in_s in_k. fits s k in_k),
-      λ some. marks_along t.room t.grid _ halved.0
-          (leaves_fold f turned_backs creep leaves sheets row halved (λ s k in_s in_k. fits s k in_k) (has_room t.room t.grid halved.0 some)),
+      λ some. marks_along t.room t.grid _ halved.grid_is
+          (leaves_fold f turned_backs creep leaves sheets row halved (λ s k in_s in_k. fits s k in_k) (has_room t.room t.grid halved.grid_is some)),
     )
 
 in_places : (l : Laying) (leaves : ℕ) (papers : List Paper) (row : Row) → MayBeLaid l → FitAsLaid l leaves papers row → StandInPlaces l papers row (sheets_laid l leaves papers row)

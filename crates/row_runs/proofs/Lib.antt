@@ -3,10 +3,13 @@ pub mod BySpec
 pub mod Examples
 pub mod Lines
 pub mod Places
+mod TrailerLines
 mod Alone
 mod Counted
 mod OneScale
 mod NotLaid
+mod Turned
+mod Turns
 pub mod Refused
 mod Fit
 mod ReadInOrder

@@ -33,6 +33,7 @@ arrangement_as P why.CellsOutOfRange none h = h
 arrangement_as P why.SideTooLong none h = h
 arrangement_as P why.LengthOutOfRange none h = h
 arrangement_as P why.NothingLeftOfPage none h = h
+arrangement_as P why.UnevenMargins none h = h
 arrangement_as P why.FoldOnLongEdge none h = h
 arrangement_as P why.NoRoom none h = h
 arrangement_as P why.ScaleOutOfRange none h = h

@@ -1,5 +1,5 @@
 -- What a run by a specification on a row writes, and why it is refused.
-use Rattle.std.specs.Prelude.{◌≡◌, ◌⊎◌, ℕ, List, length, pos, IsOk, Ok, Option, Result, option_map}
+use Rattle.std.specs.Prelude.{◌≡◌, ℕ, List, length, pos, IsOk, Ok, Option, Result, option_map}
 use Rattle.std.specs.Io.KnownBytes.{Appends}
 use Rattle.rules.specs.Parts.{pages}
 use Rattle.rules.specs.Output.{Border, border_within}
@@ -10,9 +10,9 @@ use Rattle.made_sheets.specs.Rows.{Row}
 use Rattle.rows.specs.Choices.{choice_of}
 use Rattle.rows.specs.Refusals.{RefusesRow}
 use Rattle.rows.specs.Sewing.{signing_of}
-use Rattle.row_sheets.specs.BySpec.{PassesLimit, by_spec}
+use Rattle.row_sheets.specs.BySpec.{by_spec}
 use Rattle.sheet_plan.specs.MadeRefusals.{RefusesMade}
-use Rattle.imposer.specs.declared.outcome.Report.{Report}
+use Rattle.planned_runs.specs.declared.outcome.Report.{Report}
 use Rattle.dressing.specs.Numbered.{nothing_drawn}
 use Rattle.row_runs.specs.SheetsRuns.{ReportsOn, told_output}
 use Rattle.row_runs.specs.declared.by_spec.SpecJob.{SpecJob}
@@ -53,20 +53,11 @@ pub record ImposesBySpec (j : SpecJob) (old new : Option (List ℕ)) (done : Rep
   pub written : Appends old new (output_by_spec j made)
   pub report : ReportsOn (border_by_spec j) nothing_drawn made j.document.now done
 
--- why there are no such sheets: the fault of the row, or, if there is one, a limit that they pass; or memory ran out
-abbrev pub RefusesSheetsBySpec : SpecJob → AskedError → Type 0
-RefusesSheetsBySpec j (error.Row e) = RefusesRow (row_by j) e
-RefusesSheetsBySpec j (error.Arrangement e) = ⊥
-RefusesSheetsBySpec j (error.Poster e) = ⊥
-RefusesSheetsBySpec j (error.Sheets e) = (made : List MadeSheet) × AreBySpec j made × PassesLimit made e
-RefusesSheetsBySpec j error.NoMemory = IsOk (row_by j)
-
 -- a refusal names the first fault: of the row; if there is one, of the sheets. Out of memory comes after the checks of the
 -- row
 abbrev pub RefusesBySpec : SpecJob → AskedError → Type 0
 RefusesBySpec j (error.Row e) = RefusesRow (row_by j) e
 RefusesBySpec j (error.Arrangement e) = ⊥
 RefusesBySpec j (error.Poster e) = ⊥
-RefusesBySpec j (error.Sheets e) =
-    (made : List MadeSheet) × AreBySpec j made × (RefusesMade (pages_of j) made e ⊎ PassesLimit made e)
+RefusesBySpec j (error.Sheets e) = (made : List MadeSheet) × AreBySpec j made × RefusesMade (pages_of j) made e
 RefusesBySpec j error.NoMemory = IsOk (row_by j)

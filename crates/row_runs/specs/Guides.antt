@@ -1,9 +1,9 @@
--- Lines that are drawn on the sheets of a setting: its margin, lines between its cells, and lines for notes.
+-- Lines that are drawn on the sheets of a setting: its margins, lines between its cells, and lines for notes.
 use Rattle.std.specs.Prelude.{ℕ, ◌-◌, ℤ, pos, ◌-ℤ◌, nat_abs, if◌then◌else◌, List, [], ◌∷◌, ◌++◌, map}
 use Rattle.std.specs.List.{range_with_len}
 use Rattle.rules.specs.Papers.{Paper}
 use Rattle.layouts.specs.Placed.{Room}
-use Rattle.layouts.specs.Cells.{Grid}
+use Rattle.layouts.specs.Cells.{Grid, along_height, along_width}
 use Rattle.dressing.specs.Places.{gap_at, grains_in}
 use Rattle.layouts.specs.declared.setting.Setting.{Setting}
 use Rattle.row_sheets.specs.declared.poster.Poster.{Poster}
@@ -23,27 +23,29 @@ upright kind paper x = record { kind = kind; start = (x, pos 0); end = (x, paper
 abbrev pub level : GuideKind → Paper → (y : ℤ) → Guide
 level kind paper y = record { kind = kind; start = (pos 0, y); end = (paper.width, y) }
 
--- the margin, along the edges on both sides, and along the lower and the upper one
-abbrev pub edge_of : Room → ℤ
-edge_of room = pos (grains_in room.edge)
+-- the margins, along the edges on both sides, and along the lower and the upper one
+abbrev pub edge_of : (edge : ℕ) → ℤ
+edge_of edge = pos (grains_in edge)
 
 abbrev pub upright_margin : Room → List Guide
 upright_margin room =
-    upright Margin room.paper (edge_of room) ∷ upright Margin room.paper (room.paper.width -ℤ edge_of room) ∷ []
+    upright Margin room.paper (edge_of room.left)
+    ∷ upright Margin room.paper (room.paper.width -ℤ edge_of room.right) ∷ []
 
 abbrev pub level_margin : Room → List Guide
 level_margin room =
-    level Margin room.paper (edge_of room) ∷ level Margin room.paper (room.paper.height -ℤ edge_of room) ∷ []
+    level Margin room.paper (edge_of room.bottom)
+    ∷ level Margin room.paper (room.paper.height -ℤ edge_of room.top) ∷ []
 
 abbrev pub margin_lines : Room → List Guide
 margin_lines room = upright_margin room ++ level_margin room
 
 -- the line before cell k of so many side by side, or one above another, and all such lines
 abbrev pub upright_line : GuideKind → Room → (parts k : ℕ) → Guide
-upright_line kind room parts k = upright kind room.paper (pos (gap_at room (nat_abs room.paper.width) parts k))
+upright_line kind room parts k = upright kind room.paper (pos (gap_at (along_width room) (nat_abs room.paper.width) parts k))
 
 abbrev pub level_line : GuideKind → Room → (parts k : ℕ) → Guide
-level_line kind room parts k = level kind room.paper (pos (gap_at room (nat_abs room.paper.height) parts k))
+level_line kind room parts k = level kind room.paper (pos (gap_at (along_height room) (nat_abs room.paper.height) parts k))
 
 abbrev pub upright_lines : GuideKind → Room → (parts : ℕ) → List Guide
 upright_lines kind room parts = map (upright_line kind room parts) (range_with_len 1 (parts - 1))
@@ -60,9 +62,18 @@ lines_between kind room g =
 abbrev pub lines_in : GuideKind → Setting → List Guide
 lines_in kind setting = margin_lines setting.room ++ lines_between kind setting.room setting.grid
 
--- a sheet of a poster, with its margin
+-- a sheet of a poster, with its margins
 abbrev pub tile_room : Poster → Room
-tile_room p = record { paper = p.sheet; edge = p.edge; gap = 0; trim = 0 }
+tile_room p = record {
+  paper = p.sheet;
+  left = p.edge;
+  right = p.edge;
+  bottom = p.edge;
+  top = p.edge;
+  gap_across = 0;
+  gap_up = 0;
+  trim = 0;
+}
 
 -- the lines of a laying: stacks and cards are cut between their cells, booklets and zines are folded
 abbrev pub guides_in : Laying → List Guide

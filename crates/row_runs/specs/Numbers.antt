@@ -7,7 +7,7 @@ use Rattle.made_sheets.specs.Rows.{Row}
 use Rattle.layouts.specs.Cells.{high}
 use Rattle.row_sheets.specs.RowSheets.{paper_of}
 use Rattle.dressing.specs.declared.numbers.Numbering.{Numbering}
-use Rattle.dressing.specs.declared.numbers.Numbers.{Numbers}
+use Rattle.sheet_text.specs.declared.numbers.Numbers.{Numbers}
 use Rattle.row_runs.specs.Evened.{setting_in}
 use Rattle.row_runs.specs.Sheets.{laying_for, leaves_in, row_chosen, sewn, sheets_laid}
 use Rattle.row_runs.specs.declared.asked.Asked.{Asked}
@@ -55,7 +55,8 @@ below_middle l = option_map (λ t. pos (635_000 * high t.room t.grid)) (setting_
 -- the numbers that are asked for of a document with so many pages, if any are (RULES, 15)
 abbrev pub numbers_asked : (pages : ℕ) → List Paper → Asked → Option Numbering → Option Numbers
 numbers_asked pages papers a asked = option_map (λ how. record {
-  how = how;
+  size = how.size;
+  first = how.first;
   places = places_by papers a (row_chosen pages a);
   below = below_middle a.laying;
 }) asked

@@ -1,19 +1,21 @@
 -- What a run on a row writes, and why it is refused.
-use Rattle.std.specs.Prelude.{◌≡◌, ℕ, List, length, Option, IsOk, Ok}
+use Rattle.std.specs.Prelude.{◌≡◌, ℕ, List, length, map, Option, IsOk, Ok}
 use Rattle.std.specs.Io.KnownBytes.{Appends}
 use Rattle.rules.specs.Parts.{pages}
 use Rattle.rules.specs.Output.{Border, border_within}
 use Rattle.made_sheets.specs.Made.{MadeSheet}
 use Rattle.made_sheets.specs.MadePlans.{made_plan_of}
+use Rattle.pagespec.specs.Items.{turn_of}
+use Rattle.row_runs.specs.Turning.{turned_sheet}
 use Rattle.sheet_plan.specs.MadeRefusals.{RefusesMade}
-use Rattle.imposer.specs.declared.outcome.Report.{Report}
+use Rattle.planned_runs.specs.declared.outcome.Report.{Report}
 use Rattle.row_runs.specs.SheetsRuns.{ReportsOn, told_output}
 use Rattle.row_runs.specs.Sheets.{AreAsked, row_chosen}
 use Rattle.row_runs.specs.Sheets as sheets
 use Rattle.row_runs.specs.Marked.{strokes_in}
 use Rattle.row_runs.specs.Numbers.{numbers_asked}
 use Rattle.dressing.specs.Numbered.{Drawn}
-use Rattle.dressing.specs.declared.numbers.Numbers.{Numbers}
+use Rattle.sheet_text.specs.declared.numbers.Numbers.{Numbers}
 use Rattle.dressing.specs.declared.strokes.Stroke.{Stroke}
 use Rattle.row_runs.specs.Standing.{StandAsLaid}
 use Rattle.row_runs.specs.declared.run.RowJob.{RowJob}
@@ -24,10 +26,21 @@ use Rattle.row_runs.specs.declared.error.AskedError.TheVariants as error
 abbrev pub page_count : RowJob → ℕ
 page_count j = length (pages j.document.now)
 
--- these sheets are asked for, their pages lie as they are to be laid, and they can be planned
+-- the same sheets with their pages turned as is asked for
+abbrev pub turned_on : RowJob → List MadeSheet → List MadeSheet
+turned_on j laid = map (turned_sheet (turn_of j.turn)) laid
+
+-- these sheets are asked for, with pages of the papers that they have once they are turned, which lie as they are to be laid;
+-- and then they are turned
+pub record AreTurned (j : RowJob) (made : List MadeSheet) : Type 0 where
+  pub laid : List MadeSheet
+  pub asked : AreAsked (page_count j) j.papers.now j.asked laid
+  pub stand : StandAsLaid j.asked.laying laid
+  pub turned : made ≡ turned_on j laid
+
+-- and they can be planned
 pub record ArePlanned (j : RowJob) (made : List MadeSheet) : Type 0 where
-  pub asked : AreAsked (page_count j) j.papers.now j.asked made
-  pub stand : StandAsLaid j.asked.laying made
+  pub are : AreTurned j made
   pub planned : made_plan_of (page_count j) made ≡ Ok made
 
 -- the strokes on each of them, of the marks that are asked for
@@ -65,5 +78,5 @@ RefusesRun j (error.Row e) = sheets.RefusesAsked (page_count j) j.papers.now j.a
 RefusesRun j (error.Arrangement e) = sheets.RefusesAsked (page_count j) j.papers.now j.asked (error.Arrangement e)
 RefusesRun j (error.Poster e) = sheets.RefusesAsked (page_count j) j.papers.now j.asked (error.Poster e)
 RefusesRun j (error.Sheets e) =
-    (made : List MadeSheet) × AreAsked (page_count j) j.papers.now j.asked made × RefusesMade (page_count j) made e
+    (laid : List MadeSheet) × AreAsked (page_count j) j.papers.now j.asked laid × RefusesMade (page_count j) (turned_on j laid) e
 RefusesRun j error.NoMemory = IsOk (row_chosen (page_count j) j.asked)

@@ -9,7 +9,7 @@ use Rattle.papers.specs.Told.{telling}
 use Rattle.dressing.specs.Numbered.{Drawn, drawn_on}
 use Rattle.sheet_plan.specs.MadeRefusals.{RefusesMade}
 use Rattle.sheet_plan.specs.Places.{born_complete}
-use Rattle.imposer.specs.declared.outcome.Report.{Report}
+use Rattle.planned_runs.specs.declared.outcome.Report.{Report}
 use Rattle.row_runs.specs.declared.planned.SheetJob.{SheetJob}
 use Rattle.row_runs.specs.declared.error.AskedError.{AskedError}
 use Rattle.row_runs.specs.declared.error.AskedError.TheVariants as error

@@ -22,7 +22,7 @@ pub record StandsAlone (sheet : MadeSheet) : Type 0 where
   pub is_as_it_is : SlotIsAsItIs sheet.paper slot
   pub stands : StandsIn (bare sheet.paper) sheet
 
--- the sheets of a laying: in cells each page lies on what the margin leaves of its sheet, and each two of a sheet are apart
+-- the sheets of a laying: in cells each page lies on what the margins leave of its sheet, and each two of a sheet are apart
 -- by the gap, on zines to 10^-5 of a point; on leaves nothing crosses the fold; as they are, each lies alone. What is on the tiles of a poster is
 -- said by laws of their own
 abbrev pub StandAsLaid : Laying → List MadeSheet → Type 0

@@ -1,7 +1,7 @@
 //! The sheets of a specification on a row of a document's pages.
 ghost use Rattle.std.specs.Prelude.{IfErr, IfOk, IfSome};
 ghost use Rattle.rows.specs.Sewing.{MayBeSewn};
-ghost use Rattle.row_runs.specs.BySpec.{AreBySpec, RefusesSheetsBySpec};
+ghost use Rattle.row_runs.specs.BySpec.{AreBySpec, RefusesBySpec};
 
 use crate::asked::row_error;
 use crate::error::{AskedError, plan_error};
@@ -32,7 +32,7 @@ impl<'j, 'd> SpecJob<'j, 'd> {
     pub fn lay(&self, alloc: Global) -> Result<MadeSheets, AskedError>
         requires { IfSome self.now.signing MayBeSewn }
         ensures made { IfOk result (AreBySpec self.now) }
-        ensures refused { IfErr result (RefusesSheetsBySpec self.now) }
+        ensures refused { IfErr result (RefusesBySpec self.now) }
     {
         let row = match chosen_row(alloc, self.document.pages(), &self.choice) {
             Ok(row) => row,

@@ -17,7 +17,7 @@ use preview::{Guide, GuideKind};
 use row_sheets::Poster;
 use std::alloc::{AllocError, Global};
 
-/// The lines of a laying: its margin, where sheets are cut between their cells, and where booklets and zines are
+/// The lines of a laying: its margins, where sheets are cut between their cells, and where booklets and zines are
 /// folded; and the lines for notes that are asked for.
 pub(crate) fn guides_of(
     alloc: Global,
@@ -87,15 +87,19 @@ fn note_guide(line: &Stroke) -> Guide
     }
 }
 
-/// A sheet of a poster, with its margin.
+/// A sheet of a poster, with its margins.
 fn tile_room(poster: &Poster) -> Room
     requires { poster.now.edge ≤ 10_000_000_000 }
     ensures { result ≡ tile_room_of poster.now }
 {
     Room {
         paper: poster.sheet,
-        edge: poster.edge,
-        gap: 0,
+        left: poster.edge,
+        right: poster.edge,
+        bottom: poster.edge,
+        top: poster.edge,
+        gap_across: 0,
+        gap_up: 0,
         trim: 0,
     }
 }
@@ -109,7 +113,7 @@ fn push_lines(kind: GuideKind, setting: &Setting, guides: &mut Vec<Guide>) -> Re
     Ok(())
 }
 
-/// Adds the lines of a margin, which may be nothing.
+/// Adds the lines of margins, which may be nothing.
 fn push_margin(room: &Room, guides: &mut Vec<Guide>) -> Result<(), AllocError>
     ensures { OnOk result (guides.new.items ≡ guides.old.items ++ margin_lines room.now) }
 {
@@ -122,8 +126,8 @@ fn push_margin(room: &Room, guides: &mut Vec<Guide>) -> Result<(), AllocError>
 fn push_upright_margin(room: &Room, guides: &mut Vec<Guide>) -> Result<(), AllocError>
     ensures { OnOk result (guides.new.items ≡ guides.old.items ++ upright_margin room.now) }
 {
-    let right = far_edge(room, room.paper.width());
-    guides.push(upright(GuideKind::Margin, &room.paper, near_edge(room)))?;
+    let right = far_edge(room.right, room.paper.width());
+    guides.push(upright(GuideKind::Margin, &room.paper, near_edge(room.left)))?;
     guides.push(upright(GuideKind::Margin, &room.paper, right))?;
     Ok(())
 }
@@ -132,25 +136,27 @@ fn push_upright_margin(room: &Room, guides: &mut Vec<Guide>) -> Result<(), Alloc
 fn push_level_margin(room: &Room, guides: &mut Vec<Guide>) -> Result<(), AllocError>
     ensures { OnOk result (guides.new.items ≡ guides.old.items ++ level_margin room.now) }
 {
-    let top = far_edge(room, room.paper.height());
-    guides.push(level(GuideKind::Margin, &room.paper, near_edge(room)))?;
+    let top = far_edge(room.top, room.paper.height());
+    guides.push(level(GuideKind::Margin, &room.paper, near_edge(room.bottom)))?;
     guides.push(level(GuideKind::Margin, &room.paper, top))?;
     Ok(())
 }
 
 /// How far a margin reaches from a left or a lower edge.
-fn near_edge(room: &Room) -> Grains
-    ensures { result ≡ edge_of room.now }
+fn near_edge(edge: u64) -> Grains
+    requires { edge ≤ 10_000_000_000 }
+    ensures { result ≡ edge_of edge }
 {
-    grains(i128::from(room.edge) * 1_270_000)
+    grains(i128::from(edge) * 1_270_000)
 }
 
 /// And to where it leaves a side free.
-fn far_edge(room: &Room, side: Grains) -> Grains
-    requires { IsTrue (is_side side) }
-    ensures { result ≡ side -ℤ edge_of room.now }
+fn far_edge(edge: u64, side: Grains) -> Grains
+    requires margin { edge ≤ 10_000_000_000 }
+    requires side { IsTrue (is_side side) }
+    ensures { result ≡ side -ℤ edge_of edge }
 {
-    grains(side.get() - i128::from(room.edge) * 1_270_000)
+    grains(side.get() - i128::from(edge) * 1_270_000)
 }
 
 /// Adds the lines between all cells of a grid.
@@ -209,7 +215,7 @@ fn upright_line(kind: GuideKind, room: &Room, parts: u32, k: u32) -> Guide
     requires { k < parts }
     ensures { result ≡ upright_line_of kind room.now parts k }
 {
-    let x = gap_at(room, room.paper.width(), parts, k);
+    let x = gap_at(&room.along_width(), room.paper.width(), parts, k);
     upright(kind, &room.paper, x)
 }
 
@@ -218,7 +224,7 @@ fn level_line(kind: GuideKind, room: &Room, parts: u32, k: u32) -> Guide
     requires { k < parts }
     ensures { result ≡ level_line_of kind room.now parts k }
 {
-    let y = gap_at(room, room.paper.height(), parts, k);
+    let y = gap_at(&room.along_height(), room.paper.height(), parts, k);
     level(kind, &room.paper, y)
 }
 

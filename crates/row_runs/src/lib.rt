@@ -3,6 +3,7 @@
 
 mod asked;
 mod by_spec;
+mod counted_pages;
 mod error;
 mod evened;
 mod guides;
@@ -14,10 +15,13 @@ mod numbered;
 mod planned;
 mod reading;
 mod run;
+mod turning;
 
 pub use asked::{Asked, Laying, asked_sheets};
 pub use by_spec::SpecJob;
+pub use counted_pages::told_pages;
 pub use error::AskedError;
 pub use look::{row_plan, row_preview};
 pub use planned::{PlannedSheets, SheetJob};
 pub use run::{LaidRow, RowJob};
+pub use turning::{turned_paper, turned_papers};

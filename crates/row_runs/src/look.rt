@@ -14,6 +14,7 @@ use crate::error::{AskedError, plan_error};
 use crate::guides::guides_of;
 use crate::reading::{reading_of, sides_of};
 use crate::run::RowJob;
+use crate::turning::turned_sheets;
 use dressing::Marks;
 use preview::{plan_text, preview_text};
 use sheet_plan::{MadeError, MadeSheets, Plan};
@@ -80,6 +81,9 @@ fn planned_sheets(alloc: Global, job: &RowJob<'_, '_>) -> Result<MadeSheets, Ask
     let sheets = match asked_sheets(alloc, count, job.papers, &job.asked) {
         Ok(sheets) => sheets,
         Err(error) => return Err(error),
+    };
+    let Ok(sheets) = turned_sheets(alloc, job.turn, sheets) else {
+        return Err(AskedError::NoMemory);
     };
     match check_plan(alloc, count, &sheets) {
         Ok(()) => Ok(sheets),

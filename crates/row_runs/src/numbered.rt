@@ -8,10 +8,11 @@ ghost use Rattle.row_runs.specs.Sheets.{MayBeAsked, row_chosen};
 use crate::asked::{Asked, Laying, laid, leaves_in};
 use crate::evened::{evened_if, setting_in};
 use crate::guides::grains;
-use dressing::{Numbering, Numbers, cell_height};
+use dressing::{Numbering, cell_height};
 use lengths::{Grains, Paper};
 use rows::{chosen_row, signed_row};
 use sheet_plan::MadeSheets;
+use sheet_text::Numbers;
 use std::alloc::{AllocError, Global};
 
 /// The numbers that are asked for of a document with so many pages, if any are.
@@ -30,7 +31,8 @@ pub(crate) fn numbers_of(
         return Ok(None);
     };
     Ok(Some(Numbers {
-        how,
+        size: how.size,
+        first: how.first,
         places: places_of(alloc, pages, papers, asked)?,
         below: below_middle(&asked.laying),
     }))

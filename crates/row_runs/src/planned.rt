@@ -4,20 +4,20 @@ ghost use Rattle.rules.specs.Parts.{pages};
 ghost use Rattle.rules.specs.Sheets.{layout};
 ghost use Rattle.made_sheets.specs.MadePlans.{made_layout, made_plan_of};
 ghost use Rattle.papers.specs.Told.{telling};
-ghost use Rattle.dressing.specs.Dressings.{dressing_of};
 ghost use Rattle.dressing.specs.Numbered.{drawn_on};
 ghost use Rattle.sheet_plan.specs.OfSheets.{made_plan};
+ghost use Rattle.sheet_text.specs.Dressings.{dress_in};
 ghost use Rattle.sheet_text.specs.Jobs.{is_border, output_of};
-ghost use Rattle.imposer.specs.Gathering.{ReportsOf};
-ghost use Rattle.imposer.specs.declared.outcome.Report.{Report};
+ghost use Rattle.planned_runs.specs.Gathering.{ReportsOf};
+ghost use Rattle.planned_runs.specs.declared.outcome.Report.{Report};
 ghost use Rattle.row_runs.specs.SheetsRuns.{RefusesSheets, ReportsIn, drawn_in, output_in};
 
 use crate::error::{AskedError, plan_error};
-use dressing::{Numbers, Stroke, dress_of, told_papers};
+use dressing::{Stroke, dress_of, told_papers};
 use dsc::Document;
 use lengths::Grains;
 use sheet_plan::{MadeSheets, Plan};
-use sheet_text::{Dress, Job};
+use sheet_text::{Dress, Job, Numbers};
 use std::alloc::{AllocError, Global};
 
 /// The sheets of a document, which was read before: each with its own paper, and with pages that are placed by their own
@@ -33,21 +33,21 @@ pub struct SheetJob<'j, 'd> {
     pub numbers: &'j Option<Numbers>,
 }
 
-/// The sheets of a job with their plan, and the lines that each gets. All that can be refused was checked, so a caller may
+/// The sheets of a job with their plan and their dress. All that can be refused was checked, so a caller may
 /// create its output now.
 #[derive(Drop)]
 pub struct PlannedSheets<'j, 'd> {
     pub job: &'j SheetJob<'j, 'd>,
     pub plan: Plan<'j>,
-    pub dress: Dress,
+    pub dress: Dress<'j>,
     ghost border: { IsTrue (is_border job.now.border) },
     ghost planned: { plan ≡ made_plan (length (pages job.now.document.now)) job.now.sheets.now },
     ghost laid: { layout plan ≡ made_layout (length (pages job.now.document.now)) job.now.sheets.now },
-    ghost dressed: { dress ≡ dressing_of (drawn_on (drawn_in job.now) (telling job.now.sheets.now)) job.now.sheets.now },
+    ghost dressed: { dress_in dress ≡ drawn_on (drawn_in job.now) (telling job.now.sheets.now) },
 }
 
 impl<'j, 'd> PlannedSheets<'j, 'd> {
-    /// Plans the sheets, and makes their lines. Sheets that can't be planned are refused.
+    /// Plans the sheets, and makes their dress. Sheets that can't be planned are refused.
     pub fn of_job(
         alloc: Global,
         job: &'j SheetJob<'j, 'd>,
@@ -88,17 +88,17 @@ impl<'j, 'd> PlannedSheets<'j, 'd> {
     }
 }
 
-/// The lines that report the papers of sheets, and what is drawn at their ends.
-fn dressed(
+/// The dress that reports the papers of sheets, with what is drawn at their ends.
+fn dressed<'n>(
     alloc: Global,
     strokes: &[Stroke],
-    numbers: &Option<Numbers>,
+    numbers: &'n Option<Numbers>,
     sheets: &MadeSheets,
-) -> Result<Dress, AllocError>
-    ensures { IfOk result (λ dress. dress
-        ≡ dressing_of (drawn_on (record { strokes = strokes.now; numbers = numbers.now }) (telling sheets.now)) sheets.now) }
+) -> Result<Dress<'n>, AllocError>
+    ensures { IfOk result (λ dress. dress_in dress
+        ≡ drawn_on (record { strokes = strokes.now; numbers = numbers.now }) (telling sheets.now)) }
 {
     let told = told_papers(alloc, sheets)?;
-    let dress = dress_of(alloc, told.as_slice(), strokes, numbers, sheets)?;
+    let dress = dress_of(alloc, told.as_slice(), strokes, numbers)?;
     Ok(dress)
 }

@@ -1,25 +1,28 @@
 //! A row of a document's pages, laid on sheets.
 ghost use Rattle.std.specs.Prelude.{◌≡◌, IfErr, IfOk};
-ghost use Rattle.row_runs.specs.Sheets.{AreAsked, MayBeAsked};
-ghost use Rattle.row_runs.specs.Standing.{StandAsLaid};
-ghost use Rattle.row_runs.specs.Runs.{RefusesRun, numbers_on, page_count, strokes_on};
+ghost use Rattle.row_runs.specs.Sheets.{MayBeAsked};
+ghost use Rattle.row_runs.specs.Runs.{AreTurned, RefusesRun, numbers_on, strokes_on};
 
 use crate::asked::{Asked, asked_sheets};
 use crate::error::AskedError;
 use crate::marked::strokes_of;
 use crate::numbered::numbers_of;
-use dressing::{Marks, Numbers, Stroke};
+use crate::turning::turned_sheets;
+use dressing::{Marks, Stroke};
 use dsc::Document;
 use lengths::{Grains, Paper};
+use pagespec::Turn;
 use sheet_plan::MadeSheets;
+use sheet_text::Numbers;
 use std::alloc::Global;
 
-/// What is imposed of a document, which was read before; the papers of its pages in their order, where those that
-/// aren't known have the sheet's; a border round each page, wider than nothing, if one is asked for, and how far within the
+/// What is imposed of a document, which was read before; how its pages are turned, and the papers that they have then, in
+/// their order, where those that aren't known have the sheet's; a border round each page, wider than nothing, if one is asked for, and how far within the
 /// page's edges it is drawn; and which marks are drawn at the end of each sheet.
 #[derive(Clone, Copy)]
 pub struct RowJob<'j, 'd> {
     pub document: &'j Document<'d>,
+    pub turn: Turn,
     pub papers: &'j [Paper],
     pub asked: Asked<'j>,
     pub border: Option<Grains>,
@@ -36,12 +39,11 @@ pub struct LaidRow {
 }
 
 impl<'j, 'd> RowJob<'j, 'd> {
-    /// The sheets that are asked for, with their marks. What is wrong with the row is refused first, then a page that fits no
+    /// The sheets that are asked for, with their pages turned, and with their marks. What is wrong with the row is refused first, then a page that fits no
     /// cell. Whoever creates an output plans them before: `PlannedSheets::of_job` refuses what is left.
     pub fn lay(&self, alloc: Global) -> Result<LaidRow, AskedError>
         requires { MayBeAsked self.now.asked }
-        ensures asked { IfOk result (λ row. AreAsked (page_count self.now) self.now.papers.now self.now.asked row.sheets) }
-        ensures stands { IfOk result (λ row. StandAsLaid self.now.asked.laying row.sheets) }
+        ensures turned { IfOk result (λ row. AreTurned self.now row.sheets) }
         ensures marked { IfOk result (λ row. row.strokes.items ≡ strokes_on self.now) }
         ensures numbered { IfOk result (λ row. row.numbers ≡ numbers_on self.now) }
         // A refusal names the first fault.
@@ -55,8 +57,12 @@ impl<'j, 'd> RowJob<'j, 'd> {
         let Ok(strokes) = strokes_of(alloc, self.marks, &self.asked.laying) else {
             return Err(AskedError::NoMemory);
         };
-        match numbers_of(alloc, count, self.papers, &self.asked, self.marks.numbers) {
-            Ok(numbers) => Ok(LaidRow {
+        let Ok(numbers) = numbers_of(alloc, count, self.papers, &self.asked, self.marks.numbers)
+        else {
+            return Err(AskedError::NoMemory);
+        };
+        match turned_sheets(alloc, self.turn, sheets) {
+            Ok(sheets) => Ok(LaidRow {
                 sheets,
                 strokes,
                 numbers,

@@ -14,6 +14,7 @@ use Rattle.made_sheets.proofs.Rows.{sheets_of_all}
 use Rattle.layouts.specs.Fitted.{binding_setting_of, fitted, setting_of}
 use Rattle.layouts.specs.Grids.{arranged, bound, count_of}
 use Rattle.layouts.specs.declared.setting.Setting.{Setting}
+use Rattle.layouts.proofs.Fitting.{leaves_even}
 use Rattle.row_sheets.specs.BySpec.{made_on}
 use Rattle.row_sheets.specs.Filled.{filled, grid_entry, slot_in}
 use Rattle.row_sheets.specs.Shapes.{filling}
@@ -106,4 +107,4 @@ printed_booklet_is_imposed page sheet b sides leaves spec papers possible short 
     ∙ ap (made_on sheet page) (sheets_of_all (Some sides) printed n)
     ∙ booklet_is_specified page sheet b row possible short
     ∙ filled_same t page papers one (blocks 2 (length row)) 2 (grid_entry 2 row) (λ s c. entry_is n row (s * 2 + c) (signed_are n sides (all_pages n) (all_are n)))
-    ∙ sym (no_creep_is_plain (filling t papers) false leaves row (refl, refl)).0
+    ∙ sym (no_creep_is_plain (filling t papers) false leaves row (record { grid_is = refl; order_is = refl; even = leaves_even page sheet b possible })).0

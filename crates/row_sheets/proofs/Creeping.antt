@@ -11,11 +11,11 @@ use Rattle.made_sheets.specs.Made.{MadeSlot}
 use Rattle.made_sheets.specs.Rows.{Row}
 use Rattle.layouts.specs.declared.setting.Setting.{Setting}
 use Rattle.layouts.specs.Placed.{Room}
-use Rattle.layouts.specs.Cells.{size, slack, trimmed, whole}
+use Rattle.layouts.specs.Cells.{Along, along_height, cell, counted, size, slack, trimmed, whole}
 use Rattle.layouts.specs.Grids.{beside, leaf_order}
 use Rattle.layouts.specs.Fitted.{scale_on, why_no_scale_on}
 use Rattle.layouts.proofs.AlongSide.{in_cell, cells_fit}
-use Rattle.layouts.proofs.OnSide.{HasCell, cell, shown, from_start}
+use Rattle.layouts.proofs.OnSide.{HasCell, shown, from_start}
 use Rattle.layouts.proofs.InGrid.{fits, both_true}
 use Rattle.layouts.proofs.Folds.{kept_little}
 use Rattle.layouts.proofs.Fitting.{has_scale}
@@ -25,17 +25,17 @@ use Rattle.row_sheets.specs.Filled.{Filling}
 
 -- ---- a page on its half
 
-record Within (room : Room) (h v s creep : ℕ) : Type 0 where
-  pub before : from_start room h 2 v s 0 + creep ≤ whole h
-  pub behind : creep ≤ from_start room h 2 v s 1
-  pub ends : from_start room h 2 v s 1 ≤ whole h
+record Within (a : Along) (h v s creep : ℕ) : Type 0 where
+  pub before : from_start a h 2 v s 0 + creep ≤ whole h
+  pub behind : creep ≤ from_start a h 2 v s 1
+  pub ends : from_start a h 2 v s 1 ≤ whole h
 
-within : (room : Room) (h v s creep : ℕ) → HasCell room h 2 v s → 2 * creep ≤ 2 * slack (cell room h 2) (shown room v) s + room.gap → Within room h v s creep
-within room h v s creep has may =
+within : (a : Along) (h v s creep : ℕ) → HasCell a h 2 v s → 2 * creep ≤ 2 * slack (cell a h 2) (shown a v) s + a.gap → Within a h v s creep
+within a h v s creep has may =
     let some = has.some in
-    let fit = in_cell (cell room h 2) (shown room v) s has.fits in
-    let all = cells_fit room h 2 0 some (omega arith) in
-    let little = (kept_little room room.gap).0 in
+    let fit = in_cell (cell a h 2) (shown a v) s has.fits in
+    let all = cells_fit a h 2 0 some (omega arith) in
+    let little = (kept_little a.trim a.gap).0 in
     record {
       before = omega (arith, some, fit, all, may, little);
       behind = omega (arith, some, may, little);
@@ -63,12 +63,12 @@ halves room b asked = record { room = room; grid = beside true; order = leaf_ord
 
 halves_are : (t : Setting) → AreHalves t → t ≡ halves t.room t.order.right_to_left t.scale
 halves_are t h =
-    ap (λ g. record { room = t.room; grid = g; order = t.order; scale = t.scale }) h.0
-    ∙ ap (λ o. record { room = t.room; grid = beside true; order = o; scale = t.scale }) h.1
+    ap (λ g. record { room = t.room; grid = g; order = t.order; scale = t.scale }) h.grid_is
+    ∙ ap (λ o. record { room = t.room; grid = beside true; order = o; scale = t.scale }) h.order_is
 
 -- they are two
 pub halves_many : (t : Setting) → AreHalves t → 2 ≤ size t.grid
-halves_many t h = subst (λ g. 2 ≤ size g) (sym h.0) (let two : 2 ≤ size (beside true) = omega arith in two)
+halves_many t h = subst (λ g. 2 ≤ size g) (sym h.grid_is) (let two : 2 ≤ size (beside true) = omega arith in two)
 
 -- what holds of halves holds of such a setting
 pub of_halves : (P : Setting → Type 0) (t : Setting) → AreHalves t → P (halves t.room t.order.right_to_left t.scale) → P t
@@ -82,7 +82,7 @@ below a b h = search (rules, h)
 
 -- a page in its half, with room at the fold
 record Creeps (room : Room) (v s creep : ℕ) : Type 0 where
-  pub stays : Within room (nat_abs room.paper.height) v s creep
+  pub stays : Within (along_height room) (nat_abs room.paper.height) v s creep
   pub near : whole (nat_abs room.paper.height) + trimmed room s < 10_000_000_000
 
 creeps : (page : Paper) (room : Room) (b : Bool) (asked : Option ℤ) (creep : ℕ) → (let s = scale_on (halves room b asked) page in
@@ -93,10 +93,10 @@ creeps page room b asked creep e may =
     let has = has_scale t page e in
     let f = fits page room (beside true) s has.place in
     let h = nat_abs room.paper.height in
-    let cell_is : HasCell room h 2 (nat_abs page.width) s = record { some = f.some_wide; fits = f.is_wide; left = has.place.some_wide } in
+    let cell_is : HasCell (along_height room) h 2 (nat_abs page.width) s = record { some = f.some_wide; fits = f.is_wide; left = has.place.some_wide } in
     let near = both_true (nat_lt (whole (nat_abs room.paper.width) + trimmed room s) 10_000_000_000) (nat_lt (whole h + trimmed room s) 10_000_000_000) has.near in
     record {
-      stays = within room h (nat_abs page.width) s creep cell_is (at_most (2 * creep) (2 * slack (cell room h 2) (shown room (nat_abs page.width)) s + room.gap) may);
+      stays = within (along_height room) h (nat_abs page.width) s creep cell_is (at_most (2 * creep) (2 * slack (cell (along_height room) h 2) (counted room page.width) s + room.gap_up) may);
       near = below (whole h + trimmed room s) 10_000_000_000 near.1;
     }
 

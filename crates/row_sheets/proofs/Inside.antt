@@ -16,7 +16,7 @@ entry_fits f None on places = tt
 entry_fits f (Some page) on places = let p = places page in record { sheet_is = on; page_is = p.0; fits = p.1 }
 
 pub filled_is_inside : FilledIsInside
-filled_is_inside f c entry on places within = slot_inside f false c entry (not_turned (size f.setting.grid)) within (entry_fits f entry on places)
+filled_is_inside f c entry on places within = slot_inside f false c entry (not_turned f.setting) within (entry_fits f entry on places)
 
 pub filled_is_apart : FilledIsApart
 filled_is_apart f c d one other on places in_c in_d differ =
@@ -25,7 +25,7 @@ filled_is_apart f c d one other on places in_c in_d differ =
 -- on sheets that are turned by half
 
 pub sides_are_inside : SidesAreInside
-sides_are_inside f by_half c entry on places many within = slot_inside f by_half c entry (λ e. many) within (entry_fits f entry on places)
+sides_are_inside f by_half c entry on places even many within = slot_inside f by_half c entry (λ e. record { many = many; even = even e }) within (entry_fits f entry on places)
 
 pub sides_are_apart : SidesAreApart
 sides_are_apart f by_half c d one other on places in_c in_d differ =

@@ -7,13 +7,13 @@ use Rattle.std.proofs.lemmas.Int.{ints}
 use Rattle.rules.specs.Papers.{Paper}
 use Rattle.rules.specs.Specification.{Left}
 use Rattle.rules.specs.Placement.{Point}
-use Rattle.layouts.specs.Placed.{Room, fine, stands, IsOfPage}
-use Rattle.layouts.specs.Cells.{slack, trimmed, to_right, to_top, row_of, column_of}
+use Rattle.layouts.specs.Placed.{IsEven, Room, fine, stands, IsOfPage}
+use Rattle.layouts.specs.Cells.{Along, along_height, cell, slack, to_right, to_top, row_of, column_of}
 use Rattle.layouts.specs.Grids.{beside, leaf_order}
 use Rattle.layouts.specs.Laws.{HasPlace}
 use Rattle.layouts.proofs.AlongSide.{moved_back, in_cell}
 use Rattle.layouts.proofs.Sides.{of_sides, placed, point, between}
-use Rattle.layouts.proofs.OnSide.{HasCell, ends, cell, shown, from_start}
+use Rattle.layouts.proofs.OnSide.{HasCell, ends, shown, trimmed, from_start}
 use Rattle.layouts.proofs.InGrid.{sides_are}
 use Rattle.layouts.proofs.Folds.{fold, kept_little, in_middle, has_cell}
 use Rattle.row_sheets.specs.Creep.{creep_of, moved_up, to_fold, leaf_item, may_creep, KeepsSides, StaysBefore, StaysBehind, CreepMoves, CreepGrows, CreepKeepsSides}
@@ -67,53 +67,53 @@ creep_grows creep leaves i many more =
 at_most : (a b : ℕ) → nat_le a b ≡ true → a ≤ b
 at_most a b e = search (rules, e)
 
-before_at : (v u k s : ℕ) (room : Room) (h : ℕ) (x : ℤ) (creep : ℕ) → HasCell room h 2 v s → 2 * creep ≤ 2 * slack (cell room h 2) (shown room v) s + room.gap
-    → (a b : ℤ) → IsOfPage room.trim (of_sides v u) (point a b)
-    → (pos 2 *ℤ (stands (of_sides v u) (moved_up (pos creep) (placed Left k s x (pos (from_start room h 2 v s 0) -ℤ pos (trimmed room s)))) (point a b)).y) ≤ℤ fine (fold room h)
-before_at v u k s room h x creep has may (pos a) b of =
-    let most = (between room.trim v s a (let f = of.left in omega (arith, ints)) (let f = of.right in omega (arith, ints))).end in
-    let e = ends room v s room.gap has.left in
-    let is = e.end in let more = e.kept in let some = has.some in
-    omega (arith, ints, most, is, more, some, may, in_cell (cell room h 2) (shown room v) s has.fits, (kept_little room room.gap).0)
-before_at v u k s room h x creep has may (negsuc a) b of = absurd (let f = of.left in omega (arith, ints))
+before_at : (v u k s : ℕ) (a : Along) (h : ℕ) (x : ℤ) (creep : ℕ) → HasCell a h 2 v s → 2 * creep ≤ 2 * slack (cell a h 2) (shown a v) s + a.gap
+    → (c e : ℤ) → IsOfPage a.trim (of_sides v u) (point c e)
+    → (pos 2 *ℤ (stands (of_sides v u) (moved_up (pos creep) (placed Left k s x (pos (from_start a h 2 v s 0) -ℤ pos (trimmed a s)))) (point c e)).y) ≤ℤ fine (fold a h)
+before_at v u k s a h x creep has may (pos c) e of =
+    let most = (between a.trim v s c (let f = of.left in omega (arith, ints)) (let f = of.right in omega (arith, ints))).end in
+    let f = ends a v s a.gap has.left in
+    let is = f.end in let more = f.kept in let some = has.some in
+    omega (arith, ints, most, is, more, some, may, in_cell (cell a h 2) (shown a v) s has.fits, (kept_little a.trim a.gap).0)
+before_at v u k s a h x creep has may (negsuc c) e of = absurd (let f = of.left in omega (arith, ints))
 
-behind_at : (v u k s : ℕ) (room : Room) (h : ℕ) (x : ℤ) (creep : ℕ) → HasCell room h 2 v s → 2 * creep ≤ 2 * slack (cell room h 2) (shown room v) s + room.gap
-    → (a b : ℤ) → IsOfPage room.trim (of_sides v u) (point a b)
-    → fine (fold room h) ≤ℤ (pos 2 *ℤ (stands (of_sides v u) (moved_up (pos 0 -ℤ pos creep) (placed Left k s x (pos (from_start room h 2 v s 1) -ℤ pos (trimmed room s)))) (point a b)).y)
-behind_at v u k s room h x creep has may (pos a) b of =
-    let least = (between room.trim v s a (let f = of.left in omega (arith, ints)) (let f = of.right in omega (arith, ints))).start in
-    let back = moved_back room.trim s in
+behind_at : (v u k s : ℕ) (a : Along) (h : ℕ) (x : ℤ) (creep : ℕ) → HasCell a h 2 v s → 2 * creep ≤ 2 * slack (cell a h 2) (shown a v) s + a.gap
+    → (c e : ℤ) → IsOfPage a.trim (of_sides v u) (point c e)
+    → fine (fold a h) ≤ℤ (pos 2 *ℤ (stands (of_sides v u) (moved_up (pos 0 -ℤ pos creep) (placed Left k s x (pos (from_start a h 2 v s 1) -ℤ pos (trimmed a s)))) (point c e)).y)
+behind_at v u k s a h x creep has may (pos c) e of =
+    let least = (between a.trim v s c (let f = of.left in omega (arith, ints)) (let f = of.right in omega (arith, ints))).start in
+    let back = moved_back a.trim s in
     let some = has.some in
-    omega (arith, ints, least, back, some, may, (kept_little room room.gap).0)
-behind_at v u k s room h x creep has may (negsuc a) b of = absurd (let f = of.left in omega (arith, ints))
+    omega (arith, ints, least, back, some, may, (kept_little a.trim a.gap).0)
+behind_at v u k s a h x creep has may (negsuc c) e of = absurd (let f = of.left in omega (arith, ints))
 
 -- the one page, and the other
 
 room_left : (v u : ℕ) (room : Room) (s creep : ℕ) → may_creep (of_sides v u) room s creep ≡ true
-    → 2 * creep ≤ 2 * slack (cell room (nat_abs room.paper.height) 2) (shown room v) s + room.gap
-room_left v u room s creep may = at_most (2 * creep) (2 * slack (cell room (nat_abs room.paper.height) 2) (shown room v) s + room.gap) may
+    → 2 * creep ≤ 2 * slack (cell (along_height room) (nat_abs room.paper.height) 2) (shown (along_height room) v) s + room.gap_up
+room_left v u room s creep may = at_most (2 * creep) (2 * slack (cell (along_height room) (nat_abs room.paper.height) 2) (shown (along_height room) v) s + room.gap_up) may
 
 pub before_fold : (v u : ℕ) (room : Room) (b : Bool) (s creep : ℕ) → HasPlace (of_sides v u) room (beside true) s → may_creep (of_sides v u) room s creep ≡ true
-    → StaysBefore room (fold room (nat_abs room.paper.height)) (of_sides v u) (leaf_item (of_sides v u) room b s creep (if b then 1 else 0))
+    → StaysBefore room (fold (along_height room) (nat_abs room.paper.height)) (of_sides v u) (leaf_item (of_sides v u) room b s creep (if b then 1 else 0))
 before_fold v u room false s creep place may p of =
-    before_at v u 0 s room (nat_abs room.paper.height) (to_right (of_sides v u) room (beside true) s 0 0) creep (has_cell v u room s place) (room_left v u room s creep may) p.x p.y of
+    before_at v u 0 s (along_height room) (nat_abs room.paper.height) (to_right (of_sides v u) room (beside true) s 0 0) creep (has_cell v u room s place) (room_left v u room s creep may) p.x p.y of
 before_fold v u room true s creep place may p of =
-    before_at v u 1 s room (nat_abs room.paper.height) (to_right (of_sides v u) room (beside true) s 0 0) creep (has_cell v u room s place) (room_left v u room s creep may) p.x p.y of
+    before_at v u 1 s (along_height room) (nat_abs room.paper.height) (to_right (of_sides v u) room (beside true) s 0 0) creep (has_cell v u room s place) (room_left v u room s creep may) p.x p.y of
 
 pub behind_fold : (v u : ℕ) (room : Room) (b : Bool) (s creep : ℕ) → HasPlace (of_sides v u) room (beside true) s → may_creep (of_sides v u) room s creep ≡ true
-    → StaysBehind room (fold room (nat_abs room.paper.height)) (of_sides v u) (leaf_item (of_sides v u) room b s creep (if b then 0 else 1))
+    → StaysBehind room (fold (along_height room) (nat_abs room.paper.height)) (of_sides v u) (leaf_item (of_sides v u) room b s creep (if b then 0 else 1))
 behind_fold v u room false s creep place may p of =
-    behind_at v u 1 s room (nat_abs room.paper.height) (to_right (of_sides v u) room (beside true) s 0 1) creep (has_cell v u room s place) (room_left v u room s creep may) p.x p.y of
+    behind_at v u 1 s (along_height room) (nat_abs room.paper.height) (to_right (of_sides v u) room (beside true) s 0 1) creep (has_cell v u room s place) (room_left v u room s creep may) p.x p.y of
 behind_fold v u room true s creep place may p of =
-    behind_at v u 0 s room (nat_abs room.paper.height) (to_right (of_sides v u) room (beside true) s 0 1) creep (has_cell v u room s place) (room_left v u room s creep may) p.x p.y of
+    behind_at v u 0 s (along_height room) (nat_abs room.paper.height) (to_right (of_sides v u) room (beside true) s 0 1) creep (has_cell v u room s place) (room_left v u room s creep may) p.x p.y of
 
-keeps_at : (v u : ℕ) (room : Room) (b : Bool) (s creep : ℕ) → HasPlace (of_sides v u) room (beside true) s → may_creep (of_sides v u) room s creep ≡ true
+keeps_at : (v u : ℕ) (room : Room) (b : Bool) (s creep : ℕ) → IsEven room → HasPlace (of_sides v u) room (beside true) s → may_creep (of_sides v u) room s creep ≡ true
     → KeepsSides (of_sides v u) room (leaf_item (of_sides v u) room b s creep (if b then 1 else 0)) (leaf_item (of_sides v u) room b s creep (if b then 0 else 1))
-keeps_at v u room b s creep place may =
+keeps_at v u room b s creep even place may =
     let h = nat_abs room.paper.height in
-    let middle = in_middle room h (has_cell v u room s place).some in
+    let middle = in_middle (along_height room) h even.up (has_cell v u room s place).some in
     record {
-      twice = fold room h;
+      twice = fold (along_height room) h;
       no_farther = middle.0;
       no_nearer = middle.1;
       before = before_fold v u room b s creep place may;
@@ -125,5 +125,5 @@ KeepsIf room b s creep o = HasPlace o room (beside true) s → may_creep o room 
     → KeepsSides o room (leaf_item o room b s creep (if b then 1 else 0)) (leaf_item o room b s creep (if b then 0 else 1))
 
 pub creep_keeps_sides : CreepKeepsSides
-creep_keeps_sides page room b s creep is place may =
-    subst (KeepsIf room b s creep) (sym (sides_are page is)) (λ here here'. keeps_at (nat_abs page.width) (nat_abs page.height) room b s creep here here') place may
+creep_keeps_sides page room b s creep is even place may =
+    subst (KeepsIf room b s creep) (sym (sides_are page is)) (λ here here'. keeps_at (nat_abs page.width) (nat_abs page.height) room b s creep even here here') place may

@@ -26,3 +26,4 @@ mod Specified
 mod AsPrinted
 mod AsDocument
 mod PrintedBacks
+pub mod NoPlan

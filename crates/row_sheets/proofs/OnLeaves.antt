@@ -13,14 +13,13 @@ use Rattle.made_sheets.specs.Rows.{Row}
 use Rattle.layouts.specs.declared.error.ArrangementError.{ArrangementError}
 use Rattle.layouts.specs.declared.error.ArrangementError.TheVariants as why
 use Rattle.layouts.specs.declared.setting.Setting.{Setting}
-use Rattle.layouts.specs.Placed.{Room, fine, stands, IsInside}
-use Rattle.layouts.specs.Cells.{item_in, back_in, whole, to_right, to_top, row_of, column_of, size}
+use Rattle.layouts.specs.Placed.{IsEven, Room, fine, stands, IsInside}
+use Rattle.layouts.specs.Cells.{along_height, cell, kept, item_in, back_in, whole, to_right, to_top, row_of, column_of, size}
 use Rattle.layouts.specs.Grids.{beside, leaf_order}
 use Rattle.layouts.specs.Laws.{IsPaper, HasPlace, IsHalfTurnOf}
 use Rattle.layouts.specs.Refusals.{first_of}
 use Rattle.layouts.specs.Fitted.{fitted, fitted_back, scale_on, why_not_fitted}
 use Rattle.layouts.proofs.Sides.{placed}
-use Rattle.layouts.proofs.OnSide.{cell}
 use Rattle.layouts.proofs.InGrid.{sides_are}
 use Rattle.layouts.proofs.AlongSide.{cells_fit}
 use Rattle.layouts.proofs.Folds.{fold, kept_little, in_middle, fold_on_sheet, has_cell}
@@ -38,14 +37,15 @@ use Rattle.row_sheets.proofs.OnSheets.{numbered, sides_stand}
 
 abbrev BeforeIf : (room : Room) (b : Bool) (s creep : ℕ) → Paper → Type 0
 BeforeIf room b s creep o = HasPlace o room (beside true) s → may_creep o room s creep ≡ true
-    → StaysBefore room (fold room (nat_abs room.paper.height)) o (leaf_item o room b s creep (if b then 1 else 0))
+    → StaysBefore room (fold (along_height room) (nat_abs room.paper.height)) o (leaf_item o room b s creep (if b then 1 else 0))
 
 abbrev BehindIf : (room : Room) (b : Bool) (s creep : ℕ) → Paper → Type 0
 BehindIf room b s creep o = HasPlace o room (beside true) s → may_creep o room s creep ≡ true
-    → StaysBehind room (fold room (nat_abs room.paper.height)) o (leaf_item o room b s creep (if b then 0 else 1))
+    → StaysBehind room (fold (along_height room) (nat_abs room.paper.height)) o (leaf_item o room b s creep (if b then 0 else 1))
 
 -- a page that has room to creep so far, and lies well where it doesn't
 record Creeps (page : Paper) (room : Room) (b : Bool) (s creep : ℕ) : Type 0 where
+  pub even : IsEven room
   pub page_is : IsPaper page
   pub sheet_is : IsPaper room.paper
   pub place : HasPlace page room (beside true) s
@@ -55,43 +55,46 @@ record Creeps (page : Paper) (room : Room) (b : Bool) (s creep : ℕ) : Type 0 w
   pub turned : (k : ℕ) → k < 2 → IsHalfTurnOf page room.paper (item_in page room (beside true) (leaf_order b) s k) (back_in page room (beside true) (leaf_order b) s 0 k)
 
 stays_before : (page : Paper) (room : Room) (b : Bool) (s creep : ℕ) → Creeps page room b s creep
-    → StaysBefore room (fold room (nat_abs room.paper.height)) page (leaf_item page room b s creep (if b then 1 else 0))
+    → StaysBefore room (fold (along_height room) (nat_abs room.paper.height)) page (leaf_item page room b s creep (if b then 1 else 0))
 stays_before page room b s creep c =
     subst (BeforeIf room b s creep) (sym (sides_are page c.page_is)) (λ here may. before_fold (nat_abs page.width) (nat_abs page.height) room b s creep here may) c.place c.may
 
 stays_behind : (page : Paper) (room : Room) (b : Bool) (s creep : ℕ) → Creeps page room b s creep
-    → StaysBehind room (fold room (nat_abs room.paper.height)) page (leaf_item page room b s creep (if b then 0 else 1))
+    → StaysBehind room (fold (along_height room) (nat_abs room.paper.height)) page (leaf_item page room b s creep (if b then 0 else 1))
 stays_behind page room b s creep c =
     subst (BehindIf room b s creep) (sym (sides_are page c.page_is)) (λ here may. behind_fold (nat_abs page.width) (nat_abs page.height) room b s creep here may) c.place c.may
 
 -- ---- the fold
 
 abbrev CellIf : Room → (s : ℕ) → Paper → Type 0
-CellIf room s o = HasPlace o room (beside true) s → 0 < cell room (nat_abs room.paper.height) 2
+CellIf room s o = HasPlace o room (beside true) s → 0 < cell (along_height room) (nat_abs room.paper.height) 2
 
-some_cell : (page : Paper) (room : Room) (s : ℕ) → IsPaper page → HasPlace page room (beside true) s → 0 < cell room (nat_abs room.paper.height) 2
+some_cell : (page : Paper) (room : Room) (s : ℕ) → IsPaper page → HasPlace page room (beside true) s → 0 < cell (along_height room) (nat_abs room.paper.height) 2
 some_cell page room s is place =
     subst (CellIf room s) (sym (sides_are page is)) (λ here. (has_cell (nat_abs page.width) (nat_abs page.height) room s here).some) place
 
 -- it lies within the margins
 record OnSheet (room : Room) (T W : ℕ) : Type 0 where
-  pub least : 2 * room.edge ≤ T
-  pub most : T + 2 * room.edge ≤ 2 * W
+  pub least : 2 * room.bottom ≤ T
+  pub most : T + 2 * room.top ≤ 2 * W
 
-fold_within : (room : Room) (h : ℕ) → 0 < cell room h 2 → OnSheet room (fold room h) (whole h)
-fold_within room h some =
-    let edge = kept_little room room.edge in
-    let gap = kept_little room room.gap in
+fold_within : (room : Room) (h : ℕ) → IsEven room → 0 < cell (along_height room) h 2 → OnSheet room (fold (along_height room) h) (whole h)
+fold_within room h even some =
+    let up = even.up in
+    let same : kept room.trim room.bottom ≡ kept room.trim room.top = ap (kept room.trim) even.up in
+    let edge = kept_little room.trim room.bottom in
+    let gap = kept_little room.trim room.gap_up in
     record {
       least = omega (arith, some, edge.0, gap.0);
-      most = omega (arith, some, cells_fit room h 2 0 some (omega arith), edge.0, gap.0, gap.1);
+      most = omega (arith, some, up, same, cells_fit (along_height room) h 2 0 some (omega arith), edge.0, gap.0, gap.1);
     }
 
-turned_within : (room : Room) (T W : ℕ) → OnSheet room T W → OnSheet room (2 * W - T) W
-turned_within room T W on =
+turned_within : (room : Room) (T W : ℕ) → IsEven room → OnSheet room T W → OnSheet room (2 * W - T) W
+turned_within room T W even on =
+    let up = even.up in
     let least = on.least in
     let most = on.most in
-    record { least = omega (arith, most); most = omega (arith, least, most) }
+    record { least = omega (arith, up, most); most = omega (arith, up, least, most) }
 
 -- ---- inside
 
@@ -118,10 +121,10 @@ moved_up_inside page room item item' T is on inside across up stays p of =
     let at = inside p of in
     let h = nat_abs room.paper.height in
     record {
-      left = subst (λ x. fine room.edge ≤ℤ x) (sym (across p)) at.left;
-      right = subst (λ x. (x +ℤ fine room.edge) ≤ℤ (pos 1_000_000_000 *ℤ room.paper.width)) (sym (across p)) at.right;
-      bottom = lower (fine room.edge) (stands page item p).y (stands page item' p).y at.bottom (up p);
-      top = top_at (stands page item' p).y room.paper.height T room.edge (whole h) h (height_is room.paper is) (div-mul-le_self h 1_270_000) on.most (stays p of);
+      left = subst (λ x. fine room.left ≤ℤ x) (sym (across p)) at.left;
+      right = subst (λ x. (x +ℤ fine room.right) ≤ℤ (pos 1_000_000_000 *ℤ room.paper.width)) (sym (across p)) at.right;
+      bottom = lower (fine room.bottom) (stands page item p).y (stands page item' p).y at.bottom (up p);
+      top = top_at (stands page item' p).y room.paper.height T room.top (whole h) h (height_is room.paper is) (div-mul-le_self h 1_270_000) on.most (stays p of);
     }
 
 moved_down_inside : (page : Paper) (room : Room) (item item' : Item) (T : ℕ) → OnSheet room T (whole (nat_abs room.paper.height)) → IsInside room page item
@@ -130,10 +133,10 @@ moved_down_inside : (page : Paper) (room : Room) (item item' : Item) (T : ℕ) �
 moved_down_inside page room item item' T on inside across down stays p of =
     let at = inside p of in
     record {
-      left = subst (λ x. fine room.edge ≤ℤ x) (sym (across p)) at.left;
-      right = subst (λ x. (x +ℤ fine room.edge) ≤ℤ (pos 1_000_000_000 *ℤ room.paper.width)) (sym (across p)) at.right;
-      bottom = bottom_at (stands page item' p).y T room.edge on.least (stays p of);
-      top = upper (stands page item' p).y (stands page item p).y (fine room.edge) (pos 1_000_000_000 *ℤ room.paper.height) at.top (down p);
+      left = subst (λ x. fine room.left ≤ℤ x) (sym (across p)) at.left;
+      right = subst (λ x. (x +ℤ fine room.right) ≤ℤ (pos 1_000_000_000 *ℤ room.paper.width)) (sym (across p)) at.right;
+      bottom = bottom_at (stands page item' p).y T room.bottom on.least (stays p of);
+      top = upper (stands page item' p).y (stands page item p).y (fine room.top) (pos 1_000_000_000 *ℤ room.paper.height) at.top (down p);
     }
 
 -- ---- sides that are turned by half
@@ -212,65 +215,65 @@ other_of_two : (b : Bool) → (if b then 0 else 1) < 2
 other_of_two true = omega arith
 other_of_two false = omega arith
 
-fold_here : (page : Paper) (room : Room) (b : Bool) (s creep : ℕ) → Creeps page room b s creep → OnSheet room (fold room (nat_abs room.paper.height)) (whole (nat_abs room.paper.height))
-fold_here page room b s creep c = fold_within room (nat_abs room.paper.height) (some_cell page room s c.page_is c.place)
+fold_here : (page : Paper) (room : Room) (b : Bool) (s creep : ℕ) → Creeps page room b s creep → OnSheet room (fold (along_height room) (nat_abs room.paper.height)) (whole (nat_abs room.paper.height))
+fold_here page room b s creep c = fold_within room (nat_abs room.paper.height) c.even (some_cell page room s c.page_is c.place)
 
 front_before : (page : Paper) (room : Room) (b : Bool) (s creep : ℕ) → Creeps page room b s creep
-    → Before room (fold room (nat_abs room.paper.height)) page (leaf_item page room b s creep (if b then 1 else 0))
+    → Before room (fold (along_height room) (nat_abs room.paper.height)) page (leaf_item page room b s creep (if b then 1 else 0))
 front_before page room b s creep c =
     let k = if b then 1 else 0 in
     let stays = stays_before page room b s creep c in record {
-      inside = moved_up_inside page room (item_in page room (beside true) (leaf_order b) s k) (leaf_item page room b s creep k) (fold room (nat_abs room.paper.height)) c.sheet_is (fold_here page room b s creep c)
+      inside = moved_up_inside page room (item_in page room (beside true) (leaf_order b) s k) (leaf_item page room b s creep k) (fold (along_height room) (nat_abs room.paper.height)) c.sheet_is (fold_here page room b s creep c)
           (c.inside k (one_of_two b)) (λ p. (creep_moves page room b s creep k p).0) (λ p. up_by _ _ _ (front_up b creep) (creep_moves page room b s creep k p).1) stays;
       stays = stays;
     }
 
 front_behind : (page : Paper) (room : Room) (b : Bool) (s creep : ℕ) → Creeps page room b s creep
-    → Behind room (fold room (nat_abs room.paper.height)) page (leaf_item page room b s creep (if b then 0 else 1))
+    → Behind room (fold (along_height room) (nat_abs room.paper.height)) page (leaf_item page room b s creep (if b then 0 else 1))
 front_behind page room b s creep c =
     let k = if b then 0 else 1 in
     let stays = stays_behind page room b s creep c in record {
-      inside = moved_down_inside page room (item_in page room (beside true) (leaf_order b) s k) (leaf_item page room b s creep k) (fold room (nat_abs room.paper.height)) (fold_here page room b s creep c)
+      inside = moved_down_inside page room (item_in page room (beside true) (leaf_order b) s k) (leaf_item page room b s creep k) (fold (along_height room) (nat_abs room.paper.height)) (fold_here page room b s creep c)
           (c.inside k (other_of_two b)) (λ p. (creep_moves page room b s creep k p).0) (λ p. down_by _ _ _ (front_down b creep) (creep_moves page room b s creep k p).1) stays;
       stays = stays;
     }
 
-no_higher : (page : Paper) (room : Room) (b : Bool) (s creep : ℕ) → Creeps page room b s creep → fold room (nat_abs room.paper.height) ≤ 2 * whole (nat_abs room.paper.height)
-no_higher page room b s creep c = fold_on_sheet room (nat_abs room.paper.height) (some_cell page room s c.page_is c.place)
+no_higher : (page : Paper) (room : Room) (b : Bool) (s creep : ℕ) → Creeps page room b s creep → fold (along_height room) (nat_abs room.paper.height) ≤ 2 * whole (nat_abs room.paper.height)
+no_higher page room b s creep c = fold_on_sheet (along_height room) (nat_abs room.paper.height) c.even.up (some_cell page room s c.page_is c.place)
 
 back_stays_behind : (page : Paper) (room : Room) (b : Bool) (s creep : ℕ) → Creeps page room b s creep
-    → StaysBehind room (2 * whole (nat_abs room.paper.height) - fold room (nat_abs room.paper.height)) page (back_item page room b s creep (if b then 1 else 0))
+    → StaysBehind room (2 * whole (nat_abs room.paper.height) - fold (along_height room) (nat_abs room.paper.height)) page (back_item page room b s creep (if b then 1 else 0))
 back_stays_behind page room b s creep c p of =
     let k = if b then 1 else 0 in
-    behind_turned (fold room (nat_abs room.paper.height)) (whole (nat_abs room.paper.height)) (stands page (leaf_item page room b s creep k) p).y (stands page (back_item page room b s creep k) p).y
+    behind_turned (fold (along_height room) (nat_abs room.paper.height)) (whole (nat_abs room.paper.height)) (stands page (leaf_item page room b s creep k) p).y (stands page (back_item page room b s creep k) p).y
     (no_higher page room b s creep c) (stays_before page room b s creep c p of) (back_turned page room b s creep k p (c.turned k (one_of_two b)))
 
 back_stays_before : (page : Paper) (room : Room) (b : Bool) (s creep : ℕ) → Creeps page room b s creep
-    → StaysBefore room (2 * whole (nat_abs room.paper.height) - fold room (nat_abs room.paper.height)) page (back_item page room b s creep (if b then 0 else 1))
+    → StaysBefore room (2 * whole (nat_abs room.paper.height) - fold (along_height room) (nat_abs room.paper.height)) page (back_item page room b s creep (if b then 0 else 1))
 back_stays_before page room b s creep c p of =
     let k = if b then 0 else 1 in
-    before_turned (fold room (nat_abs room.paper.height)) (whole (nat_abs room.paper.height)) (stands page (leaf_item page room b s creep k) p).y (stands page (back_item page room b s creep k) p).y
+    before_turned (fold (along_height room) (nat_abs room.paper.height)) (whole (nat_abs room.paper.height)) (stands page (leaf_item page room b s creep k) p).y (stands page (back_item page room b s creep k) p).y
     (no_higher page room b s creep c) (stays_behind page room b s creep c p of) (back_turned page room b s creep k p (c.turned k (other_of_two b)))
 
-fold_back : (page : Paper) (room : Room) (b : Bool) (s creep : ℕ) → Creeps page room b s creep → OnSheet room (2 * whole (nat_abs room.paper.height) - fold room (nat_abs room.paper.height)) (whole (nat_abs room.paper.height))
-fold_back page room b s creep c = turned_within room (fold room (nat_abs room.paper.height)) (whole (nat_abs room.paper.height)) (fold_here page room b s creep c)
+fold_back : (page : Paper) (room : Room) (b : Bool) (s creep : ℕ) → Creeps page room b s creep → OnSheet room (2 * whole (nat_abs room.paper.height) - fold (along_height room) (nat_abs room.paper.height)) (whole (nat_abs room.paper.height))
+fold_back page room b s creep c = turned_within room (fold (along_height room) (nat_abs room.paper.height)) (whole (nat_abs room.paper.height)) c.even (fold_here page room b s creep c)
 
 back_behind : (page : Paper) (room : Room) (b : Bool) (s creep : ℕ) → Creeps page room b s creep
-    → Behind room (2 * whole (nat_abs room.paper.height) - fold room (nat_abs room.paper.height)) page (back_item page room b s creep (if b then 1 else 0))
+    → Behind room (2 * whole (nat_abs room.paper.height) - fold (along_height room) (nat_abs room.paper.height)) page (back_item page room b s creep (if b then 1 else 0))
 back_behind page room b s creep c =
     let k = if b then 1 else 0 in
     let stays = back_stays_behind page room b s creep c in record {
-      inside = moved_down_inside page room (back_in page room (beside true) (leaf_order b) s 0 k) (back_item page room b s creep k) (2 * whole (nat_abs room.paper.height) - fold room (nat_abs room.paper.height)) (fold_back page room b s creep c)
+      inside = moved_down_inside page room (back_in page room (beside true) (leaf_order b) s 0 k) (back_item page room b s creep k) (2 * whole (nat_abs room.paper.height) - fold (along_height room) (nat_abs room.paper.height)) (fold_back page room b s creep c)
           (c.inside_back k (one_of_two b)) (λ p. (back_moves page room b s creep k p).0) (λ p. down_by _ _ _ (back_down _ (front_up b creep)) (back_moves page room b s creep k p).1) stays;
       stays = stays;
     }
 
 back_before : (page : Paper) (room : Room) (b : Bool) (s creep : ℕ) → Creeps page room b s creep
-    → Before room (2 * whole (nat_abs room.paper.height) - fold room (nat_abs room.paper.height)) page (back_item page room b s creep (if b then 0 else 1))
+    → Before room (2 * whole (nat_abs room.paper.height) - fold (along_height room) (nat_abs room.paper.height)) page (back_item page room b s creep (if b then 0 else 1))
 back_before page room b s creep c =
     let k = if b then 0 else 1 in
     let stays = back_stays_before page room b s creep c in record {
-      inside = moved_up_inside page room (back_in page room (beside true) (leaf_order b) s 0 k) (back_item page room b s creep k) (2 * whole (nat_abs room.paper.height) - fold room (nat_abs room.paper.height)) c.sheet_is (fold_back page room b s creep c)
+      inside = moved_up_inside page room (back_in page room (beside true) (leaf_order b) s 0 k) (back_item page room b s creep k) (2 * whole (nat_abs room.paper.height) - fold (along_height room) (nat_abs room.paper.height)) c.sheet_is (fold_back page room b s creep c)
           (c.inside_back k (other_of_two b)) (λ p. (back_moves page room b s creep k p).0) (λ p. up_by _ _ _ (back_up _ (front_down b creep)) (back_moves page room b s creep k p).1) stays;
       stays = stays;
     }
@@ -291,8 +294,8 @@ fits_in t page creep has =
     record { sheet_is = has.sheet_is; page_is = has.page_is; fits = free.0 }
 
 creeps_on : (page : Paper) (room : Room) (b : Bool) (asked : Option ℤ) (creep : ℕ) → (let t = halves room b asked in
-    FitsOnLeaf t page creep → (why_not_fitted t page ≡ None) × Creeps page room b (scale_on t page) creep)
-creeps_on page room b asked creep has =
+    IsEven room → FitsOnLeaf t page creep → (why_not_fitted t page ≡ None) × Creeps page room b (scale_on t page) creep)
+creeps_on page room b asked creep even has =
     let t = halves room b asked in
     let may = may_creep page room (scale_on t page) creep in
     let free = none_both (why_not_fitted t page) (first_of may why.CreepOverFold None) has.fits in
@@ -300,12 +303,13 @@ creeps_on page room b asked creep has =
     let is_in_cell : (k : ℕ) → fitted t page k ≡ item_in page room (beside true) (leaf_order b) (scale_on t page) k = λ k. (in_cell t page k k (one_of_many t page (omega arith)) free.0).0 in (
       free.0,
       record {
+        even = even;
         page_is = has.page_is;
         sheet_is = has.sheet_is;
         place = (has_scale t page scale).place;
         may = holds may why.CreepOverFold free.1;
         inside = λ k less. subst (IsInside room page) (is_in_cell k) (fitted_stands t page k has.page_is has.sheet_is (omega (arith, less)) free.0).inside;
-        inside_back = λ k less. (stands_back t page k has.page_is has.sheet_is (omega (arith, less)) scale).inside;
+        inside_back = λ k less. (stands_back t page k has.page_is has.sheet_is (omega (arith, less)) scale).inside even;
         turned = λ k less. subst (λ i. IsHalfTurnOf page room.paper i (fitted_back t page k)) (is_in_cell k)
             ((stands_back t page k has.page_is has.sheet_is (omega (arith, less)) scale).turned (one_of_many t page (omega arith)));
       },
@@ -313,7 +317,7 @@ creeps_on page room b asked creep has =
 
 -- a line that is there also if no page is
 abbrev line : Room → ℕ
-line room = let h = nat_abs room.paper.height in if nat_lt 0 (cell room h 2) then fold room h else whole h
+line room = let h = nat_abs room.paper.height in if nat_lt 0 (cell (along_height room) h 2) then fold (along_height room) h else whole h
 
 by_test : {P : Type 0} (b : Bool) → (b ≡ true → P) → (b ≡ false → P) → P
 by_test true p q = p refl
@@ -333,20 +337,20 @@ is_below n h = search (rules, h)
 below_is : (n : ℕ) → nat_lt 0 n ≡ true → 0 < n
 below_is n h = search (rules, h)
 
-line_is : (page : Paper) (room : Room) (b : Bool) (s creep : ℕ) → Creeps page room b s creep → fold room (nat_abs room.paper.height) ≡ line room
+line_is : (page : Paper) (room : Room) (b : Bool) (s creep : ℕ) → Creeps page room b s creep → fold (along_height room) (nat_abs room.paper.height) ≡ line room
 line_is page room b s creep c =
     let h = nat_abs room.paper.height in
-    sym (first_one (nat_lt 0 (cell room h 2)) (fold room h) (whole h) (is_below (cell room h 2) (some_cell page room s c.page_is c.place)))
+    sym (first_one (nat_lt 0 (cell (along_height room) h 2)) (fold (along_height room) h) (whole h) (is_below (cell (along_height room) h 2) (some_cell page room s c.page_is c.place)))
 
 abbrev InMiddle : (T W : ℕ) → Type 0
 InMiddle T W = (T ≤ W + 1) × (W ≤ T + 1)
 
-line_in_middle : (room : Room) → InMiddle (line room) (whole (nat_abs room.paper.height))
-line_in_middle room =
+line_in_middle : (room : Room) → IsEven room → InMiddle (line room) (whole (nat_abs room.paper.height))
+line_in_middle room even =
     let h = nat_abs room.paper.height in
-    by_test (nat_lt 0 (cell room h 2))
-    (λ e. subst (λ T. InMiddle T (whole h)) (sym (first_one (nat_lt 0 (cell room h 2)) (fold room h) (whole h) e)) (in_middle room h (below_is (cell room h 2) e)))
-    (λ e. subst (λ T. InMiddle T (whole h)) (sym (second_one (nat_lt 0 (cell room h 2)) (fold room h) (whole h) e)) (omega arith, omega arith))
+    by_test (nat_lt 0 (cell (along_height room) h 2))
+    (λ e. subst (λ T. InMiddle T (whole h)) (sym (first_one (nat_lt 0 (cell (along_height room) h 2)) (fold (along_height room) h) (whole h) e)) (in_middle (along_height room) h even.up (below_is (cell (along_height room) h 2) e)))
+    (λ e. subst (λ T. InMiddle T (whole h)) (sym (second_one (nat_lt 0 (cell (along_height room) h 2)) (fold (along_height room) h) (whole h) e)) (omega arith, omega arith))
 
 abbrev on_halves : (room : Room) (b : Bool) (asked : Option ℤ) → (ℕ → Paper) → Filling
 on_halves room b asked paper_of = record { setting = halves room b asked; paper_of = paper_of }
@@ -365,12 +369,12 @@ abbrev SlotBehind : Room → (T : ℕ) → MadeSlot → Type 0
 SlotBehind room T slot = SlotIsInside room slot × SlotStaysBehind room T slot
 
 front_slot_before : (room : Room) (b : Bool) (asked : Option ℤ) (paper_of : ℕ → Paper) (creep : ℕ) (entry : Option ℕ) → (let f = on_halves room b asked paper_of in
-    EntryCreeps f creep entry → SlotBefore room (line room) (creeping_slot f false (if b then 1 else 0) creep entry))
-front_slot_before room b asked paper_of creep None has = (tt, tt)
-front_slot_before room b asked paper_of creep (Some page) has =
+    IsEven room → EntryCreeps f creep entry → SlotBefore room (line room) (creeping_slot f false (if b then 1 else 0) creep entry))
+front_slot_before room b asked paper_of creep None even has = (tt, tt)
+front_slot_before room b asked paper_of creep (Some page) even has =
     let paper = paper_of page in
     let t = halves room b asked in
-    let c = creeps_on paper room b asked creep has in
+    let c = creeps_on paper room b asked creep even has in
     let is = front_is paper room b asked (if b then 1 else 0) creep c.0 in
     let at = front_before paper room b (scale_on t paper) creep c.1 in (
       subst (IsInside room paper) is at.inside,
@@ -378,12 +382,12 @@ front_slot_before room b asked paper_of creep (Some page) has =
     )
 
 front_slot_behind : (room : Room) (b : Bool) (asked : Option ℤ) (paper_of : ℕ → Paper) (creep : ℕ) (entry : Option ℕ) → (let f = on_halves room b asked paper_of in
-    EntryCreeps f creep entry → SlotBehind room (line room) (creeping_slot f false (if b then 0 else 1) creep entry))
-front_slot_behind room b asked paper_of creep None has = (tt, tt)
-front_slot_behind room b asked paper_of creep (Some page) has =
+    IsEven room → EntryCreeps f creep entry → SlotBehind room (line room) (creeping_slot f false (if b then 0 else 1) creep entry))
+front_slot_behind room b asked paper_of creep None even has = (tt, tt)
+front_slot_behind room b asked paper_of creep (Some page) even has =
     let paper = paper_of page in
     let t = halves room b asked in
-    let c = creeps_on paper room b asked creep has in
+    let c = creeps_on paper room b asked creep even has in
     let is = front_is paper room b asked (if b then 0 else 1) creep c.0 in
     let at = front_behind paper room b (scale_on t paper) creep c.1 in (
       subst (IsInside room paper) is at.inside,
@@ -391,24 +395,24 @@ front_slot_behind room b asked paper_of creep (Some page) has =
     )
 
 back_slot_behind : (room : Room) (b : Bool) (asked : Option ℤ) (paper_of : ℕ → Paper) (creep : ℕ) (entry : Option ℕ) → (let f = on_halves room b asked paper_of in
-    EntryCreeps f creep entry → SlotBehind room (2 * whole (nat_abs room.paper.height) - line room) (creeping_slot f true (if b then 1 else 0) creep entry))
-back_slot_behind room b asked paper_of creep None has = (tt, tt)
-back_slot_behind room b asked paper_of creep (Some page) has =
+    IsEven room → EntryCreeps f creep entry → SlotBehind room (2 * whole (nat_abs room.paper.height) - line room) (creeping_slot f true (if b then 1 else 0) creep entry))
+back_slot_behind room b asked paper_of creep None even has = (tt, tt)
+back_slot_behind room b asked paper_of creep (Some page) even has =
     let paper = paper_of page in
     let s = scale_on (halves room b asked) paper in
-    let c = creeps_on paper room b asked creep has in
+    let c = creeps_on paper room b asked creep even has in
     let at = back_behind paper room b s creep c.1 in (
       at.inside,
       subst (λ T. StaysBehind room (2 * whole (nat_abs room.paper.height) - T) paper (back_item paper room b s creep (if b then 1 else 0))) (line_is paper room b s creep c.1) at.stays,
     )
 
 back_slot_before : (room : Room) (b : Bool) (asked : Option ℤ) (paper_of : ℕ → Paper) (creep : ℕ) (entry : Option ℕ) → (let f = on_halves room b asked paper_of in
-    EntryCreeps f creep entry → SlotBefore room (2 * whole (nat_abs room.paper.height) - line room) (creeping_slot f true (if b then 0 else 1) creep entry))
-back_slot_before room b asked paper_of creep None has = (tt, tt)
-back_slot_before room b asked paper_of creep (Some page) has =
+    IsEven room → EntryCreeps f creep entry → SlotBefore room (2 * whole (nat_abs room.paper.height) - line room) (creeping_slot f true (if b then 0 else 1) creep entry))
+back_slot_before room b asked paper_of creep None even has = (tt, tt)
+back_slot_before room b asked paper_of creep (Some page) even has =
     let paper = paper_of page in
     let s = scale_on (halves room b asked) paper in
-    let c = creeps_on paper room b asked creep has in
+    let c = creeps_on paper room b asked creep even has in
     let at = back_before paper room b s creep c.1 in (
       at.inside,
       subst (λ T. StaysBefore room (2 * whole (nat_abs room.paper.height) - T) paper (back_item paper room b s creep (if b then 0 else 1))) (line_is paper room b s creep c.1) at.stays,
@@ -421,22 +425,22 @@ side f by_half creep one other =
     sheet f.setting.room.paper (creeping_slot f by_half 0 creep one ∷ creeping_slot f by_half 1 creep other ∷ [])
 
 side_on_halves : (room : Room) (b : Bool) (asked : Option ℤ) (paper_of : ℕ → Paper) (by_half : Bool) (creep : ℕ) (one other : Option ℕ) → (let f = on_halves room b asked paper_of in
-    EntryCreeps f creep one → EntryCreeps f creep other → StandsOnLeaf room (fold_on room by_half (line room)) (is_first_before b by_half) (side f by_half creep one other))
-side_on_halves room false asked paper_of false creep one other has has' =
-    let at = front_slot_before room false asked paper_of creep one has in
-    let at' = front_slot_behind room false asked paper_of creep other has' in
+    IsEven room → EntryCreeps f creep one → EntryCreeps f creep other → StandsOnLeaf room (fold_on room by_half (line room)) (is_first_before b by_half) (side f by_half creep one other))
+side_on_halves room false asked paper_of false creep one other even has has' =
+    let at = front_slot_before room false asked paper_of creep one even has in
+    let at' = front_slot_behind room false asked paper_of creep other even has' in
     record { paper = refl; first = _; second = _; slots = refl; first_inside = at.0; second_inside = at'.0; before = at.1; behind = at'.1 }
-side_on_halves room true asked paper_of false creep one other has has' =
-    let at = front_slot_behind room true asked paper_of creep one has in
-    let at' = front_slot_before room true asked paper_of creep other has' in
+side_on_halves room true asked paper_of false creep one other even has has' =
+    let at = front_slot_behind room true asked paper_of creep one even has in
+    let at' = front_slot_before room true asked paper_of creep other even has' in
     record { paper = refl; first = _; second = _; slots = refl; first_inside = at.0; second_inside = at'.0; before = at'.1; behind = at.1 }
-side_on_halves room false asked paper_of true creep one other has has' =
-    let at = back_slot_behind room false asked paper_of creep one has in
-    let at' = back_slot_before room false asked paper_of creep other has' in
+side_on_halves room false asked paper_of true creep one other even has has' =
+    let at = back_slot_behind room false asked paper_of creep one even has in
+    let at' = back_slot_before room false asked paper_of creep other even has' in
     record { paper = refl; first = _; second = _; slots = refl; first_inside = at.0; second_inside = at'.0; before = at'.1; behind = at.1 }
-side_on_halves room true asked paper_of true creep one other has has' =
-    let at = back_slot_before room true asked paper_of creep one has in
-    let at' = back_slot_behind room true asked paper_of creep other has' in
+side_on_halves room true asked paper_of true creep one other even has has' =
+    let at = back_slot_before room true asked paper_of creep one even has in
+    let at' = back_slot_behind room true asked paper_of creep other even has' in
     record { paper = refl; first = _; second = _; slots = refl; first_inside = at.0; second_inside = at'.0; before = at.1; behind = at'.1 }
 
 abbrev SideStands : Bool → (creep : ℕ) → (one other : Option ℕ) → (ℕ → Paper) → Setting → Type 0
@@ -448,7 +452,7 @@ side_stands : (f : Filling) (by_half : Bool) (creep : ℕ) (one other : Option �
     → StandsOnLeaf f.setting.room (fold_on f.setting.room by_half (line f.setting.room)) (is_first_before f.setting.order.right_to_left by_half) (side f by_half creep one other)
 side_stands f by_half creep one other halved =
     of_halves (SideStands by_half creep one other f.paper_of) f.setting halved
-    (side_on_halves f.setting.room f.setting.order.right_to_left f.setting.scale f.paper_of by_half creep one other)
+    (side_on_halves f.setting.room f.setting.order.right_to_left f.setting.scale f.paper_of by_half creep one other halved.even)
 
 -- ---- all sides
 
@@ -457,7 +461,7 @@ entry_fits f creep None has = tt
 entry_fits f creep (Some page) has = fits_in f.setting (f.paper_of page) creep has
 
 enough : (t : Setting) → AreHalves t → 2 ≤ size t.grid
-enough t halved = subst (λ g. 2 ≤ size g) (sym halved.0) (omega arith)
+enough t halved = subst (λ g. 2 ≤ size g) (sym halved.grid_is) (omega arith)
 
 abbrev AllCreep : Filling → (creep leaves sheets : ℕ) → Row → Type 0
 AllCreep f creep leaves sheets row = (s k : ℕ) → s < sheets → k < 2 → EntryCreeps f (creep_on creep leaves s) (grid_entry 2 row s k)
@@ -466,7 +470,7 @@ plain_stand : (f : Filling) (turned_backs : Bool) (creep leaves sheets : ℕ) (r
     → AllStand f.setting.room (creeping_sides f turned_backs creep leaves sheets row)
 plain_stand f turned_backs creep leaves sheets row halved has none =
     let many = enough f.setting halved in
-    let all = sides_stand f turned_backs sheets 2 (grid_entry 2 row) many (λ e. many)
+    let all = sides_stand f turned_backs sheets 2 (grid_entry 2 row) many (λ e. record { many = many; even = halved.even })
     (λ s k in_s in_k. entry_fits f (creep_on creep leaves s) (grid_entry 2 row s k) (has s k in_s in_k)) in
     subst (λ n. AllStand f.setting.room (creeping_sides f turned_backs n leaves sheets row)) (sym none)
     (subst (AllStand f.setting.room) (sym (sheets_at_rest f turned_backs leaves row (range_with_len 0 sheets) halved)) all)
@@ -475,7 +479,7 @@ pub leaves_stand : (f : Filling) (turned_backs : Bool) (creep leaves sheets : �
     → LeavesStand f.setting turned_backs creep (creeping_sides f turned_backs creep leaves sheets row)
 leaves_stand f turned_backs creep leaves sheets row halved has =
     let room = f.setting.room in
-    let middle = line_in_middle room in
+    let middle = line_in_middle room halved.even in
     record {
       twice = line room;
       no_farther = middle.0;
@@ -489,10 +493,10 @@ leaves_stand f turned_backs creep leaves sheets row halved has =
 
 -- where their fold is, if the halves have room for pages
 pub leaves_fold : (f : Filling) (turned_backs : Bool) (creep leaves sheets : ℕ) (row : Row) (halved : AreHalves f.setting) (has : AllCreep f creep leaves sheets row)
-    → 0 < cell f.setting.room (nat_abs f.setting.room.paper.height) 2
-    → (leaves_stand f turned_backs creep leaves sheets row halved has).twice ≡ fold f.setting.room (nat_abs f.setting.room.paper.height)
+    → 0 < cell (along_height f.setting.room) (nat_abs f.setting.room.paper.height) 2
+    → (leaves_stand f turned_backs creep leaves sheets row halved has).twice ≡ fold (along_height f.setting.room) (nat_abs f.setting.room.paper.height)
 unfolding leaves_stand
 leaves_fold f turned_backs creep leaves sheets row halved has some =
     let room = f.setting.room in
     let h = nat_abs room.paper.height in
-    first_one (nat_lt 0 (cell room h 2)) (fold room h) (whole h) (is_below (cell room h 2) some)
+    first_one (nat_lt 0 (cell (along_height room) h 2)) (fold (along_height room) h) (whole h) (is_below (cell (along_height room) h 2) some)

@@ -3,6 +3,8 @@ use Rattle.std.proofs.Common.{arith, ◌≡◌, ◌≢◌, ℕ, ◌<◌, ◌≤�
 use Rattle.std.specs.Prelude.{All, AllPairs, map, slice_index_or}
 use Rattle.std.specs.List.{range_with_len}
 use Rattle.std.proofs.lemmas.List.FromFn.{get_or-map-range_with_len, length-map-range_with_len}
+use Rattle.layouts.specs.declared.setting.Setting.{Setting}
+use Rattle.layouts.specs.Placed.{IsEven}
 use Rattle.layouts.specs.Cells.{size}
 use Rattle.layouts.proofs.Fitting.{fitted_stands, fitted_is_apart, stands_back, scale_of_many, backs_are_apart}
 use Rattle.row_sheets.specs.Filled.{Filling, filled, slot_on, sides, is_turned, SlotIsInside, SlotsAreApart}
@@ -31,14 +33,20 @@ each_two_of R f n h i j d before less =
 
 -- ---- a sheet
 
-pub slot_inside : (f : Filling) (by_half : Bool) (c : ℕ) (entry : Option ℕ) → (by_half ≡ true → 2 ≤ size f.setting.grid) → c < size f.setting.grid → EntryFits f entry
+-- there are two cells, and margins are even: a sheet may be turned by half
+pub record MayTurn (t : Setting) : Type 0 where
+  pub many : 2 ≤ size t.grid
+  pub even : IsEven t.room
+
+pub slot_inside : (f : Filling) (by_half : Bool) (c : ℕ) (entry : Option ℕ) → (by_half ≡ true → MayTurn f.setting) → c < size f.setting.grid → EntryFits f entry
     → SlotIsInside f.setting.room (slot_on f by_half c entry)
-slot_inside f false c None many within fits = tt
-slot_inside f true c None many within fits = tt
-slot_inside f false c (Some page) many within has =
+slot_inside f false c None turns within fits = tt
+slot_inside f true c None turns within fits = tt
+slot_inside f false c (Some page) turns within has =
     (fitted_stands f.setting (f.paper_of page) c has.page_is has.sheet_is within has.fits).inside
-slot_inside f true c (Some page) many within has =
-    (stands_back f.setting (f.paper_of page) c has.page_is has.sheet_is within (scale_of_many f.setting (f.paper_of page) (many refl) has.fits)).inside
+slot_inside f true c (Some page) turns within has =
+    let may = turns refl in
+    (stands_back f.setting (f.paper_of page) c has.page_is has.sheet_is within (scale_of_many f.setting (f.paper_of page) may.many has.fits)).inside may.even
 
 pub slots_apart : (f : Filling) (by_half : Bool) (c d : ℕ) (one other : Option ℕ) → c < size f.setting.grid → d < size f.setting.grid → c ≢ d → EntryFits f one → EntryFits f other
     → SlotsAreApart f.setting.room (slot_on f by_half c one) (slot_on f by_half d other)
@@ -51,13 +59,13 @@ slots_apart f false c d (Some page) (Some page') in_c in_d differ has has' =
 slots_apart f true c d (Some page) (Some page') in_c in_d differ has has' =
     backs_are_apart f.setting (f.paper_of page) (f.paper_of page') c d has.page_is has'.page_is has.sheet_is has.fits has'.fits in_c in_d differ
 
-only_backs : (turned_backs : Bool) (s many : ℕ) → (turned_backs ≡ true → 2 ≤ many) → is_turned turned_backs s ≡ true → 2 ≤ many
-only_backs true s many h e = h refl
-only_backs false s many h e = cc
+only_backs : (turned_backs : Bool) (s : ℕ) (t : Setting) → (turned_backs ≡ true → MayTurn t) → is_turned turned_backs s ≡ true → MayTurn t
+only_backs true s t h e = h refl
+only_backs false s t h e = absurd (cc (e))
 
 -- ---- all sheets
 
-pub sides_stand : (f : Filling) (turned_backs : Bool) (sheets cells : ℕ) (entry : (s c : ℕ) → Option ℕ) → cells ≤ size f.setting.grid → (turned_backs ≡ true → 2 ≤ size f.setting.grid)
+pub sides_stand : (f : Filling) (turned_backs : Bool) (sheets cells : ℕ) (entry : (s c : ℕ) → Option ℕ) → cells ≤ size f.setting.grid → (turned_backs ≡ true → MayTurn f.setting)
     → ((s c : ℕ) → s < sheets → c < cells → EntryFits f (entry s c)) → AllStand f.setting.room (sides f turned_backs sheets cells entry)
 sides_stand f turned_backs sheets cells entry enough halves fits =
     each_of (StandsIn f.setting.room) (λ s. record {
@@ -66,14 +74,14 @@ sides_stand f turned_backs sheets cells entry enough halves fits =
     }) sheets (λ s less. let half = is_turned turned_backs s in record {
       paper = refl;
       inside = each_of (SlotIsInside f.setting.room) (λ c. slot_on f half c (entry s c)) cells
-          (λ c within. slot_inside f half c (entry s c) (only_backs turned_backs s (size f.setting.grid) halves) (omega (arith, within, enough)) (fits s c less within));
+          (λ c within. slot_inside f half c (entry s c) (only_backs turned_backs s f.setting halves) (omega (arith, within, enough)) (fits s c less within));
       apart = each_two_of (SlotsAreApart f.setting.room) (λ c. slot_on f half c (entry s c)) cells
           (λ c d in_c in_d differ. slots_apart f half c d (entry s c) (entry s d) (omega (arith, in_c, enough)) (omega (arith, in_d, enough)) differ (fits s c less in_c) (fits s d less in_d));
     })
 
-pub not_turned : (many : ℕ) → false ≡ true → 2 ≤ many
-not_turned many e = cc
+pub not_turned : (t : Setting) → false ≡ true → MayTurn t
+not_turned t e = absurd (cc (e))
 
 pub filled_stand : (f : Filling) (sheets cells : ℕ) (entry : (s c : ℕ) → Option ℕ) → cells ≤ size f.setting.grid → ((s c : ℕ) → s < sheets → c < cells → EntryFits f (entry s c))
     → AllStand f.setting.room (filled f sheets cells entry)
-filled_stand f sheets cells entry enough fits = sides_stand f false sheets cells entry enough (not_turned (size f.setting.grid)) fits
+filled_stand f sheets cells entry enough fits = sides_stand f false sheets cells entry enough (not_turned f.setting) fits

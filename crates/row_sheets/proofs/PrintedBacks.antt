@@ -18,7 +18,7 @@ use Rattle.made_sheets.proofs.Rows.{sheets_of_all, signatures_of_all}
 use Rattle.layouts.specs.Fitted.{back_of, binding_setting_of, fitted, fitted_back, halves, is_whole}
 use Rattle.layouts.specs.Grids.{bound}
 use Rattle.layouts.specs.declared.setting.Setting.{Setting}
-use Rattle.layouts.proofs.Fitting.{bound_is_fitted}
+use Rattle.layouts.proofs.Fitting.{bound_is_fitted, leaves_even}
 use Rattle.row_sheets.specs.AsPrinted.{HaveOnePaper, NothingIsWrittenOfNumbers, PrintedBacksAreImposed, unnumbered, unnumbered_slot}
 use Rattle.row_sheets.specs.BySpec.{by_spec, made_on, sheet_by, slot_by}
 use Rattle.row_sheets.specs.Filled.{grid_entry, is_turned, slot_on}
@@ -150,7 +150,7 @@ printed_backs_are_imposed page sheet b k leaves spec papers possible long one re
     ∙ ap (λ s. map unnumbered (by_spec s sheet page row)) ((bound_is_fitted page sheet b possible).1 ∙ long_edge t page b.long_edge long)
     ∙ ap (map unnumbered) (made_sheets_are sheet page row (halves t page true))
     ∙ leaves_are t page papers row (blocks sides n * k) leaves one are (row_long k n)
-    ∙ ap (map unnumbered) (sym (no_creep_is_plain (filling t papers) true leaves row (refl, refl)).0)
+    ∙ ap (map unnumbered) (sym (no_creep_is_plain (filling t papers) true leaves row (record { grid_is = refl; order_is = refl; even = leaves_even page sheet b possible })).0)
 
 -- ---- nothing is written of the pages that items name
 slots_written : (border : Option Border) (pages : List (List ℕ)) (slots : List MadeSlot)

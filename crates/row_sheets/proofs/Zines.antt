@@ -13,8 +13,8 @@ use Rattle.made_sheets.specs.Made.{MadeSlot, MadeSheet, Blank, Placed}
 use Rattle.made_sheets.specs.Rows.{Row}
 use Rattle.layouts.specs.declared.arrangement.Order.{Order}
 use Rattle.layouts.specs.declared.setting.Setting.{Setting}
-use Rattle.layouts.specs.Placed.{Room, fine, stands, IsOfPage, AreApart}
-use Rattle.layouts.specs.Cells.{Grid, size, kept, step, left_free, whole, item_in, back_in, column_of}
+use Rattle.layouts.specs.Placed.{IsEven, Room, fine, stands, IsOfPage, AreApart}
+use Rattle.layouts.specs.Cells.{Grid, along_height, along_width, size, kept, step, left_free, whole, item_in, back_in, column_of}
 use Rattle.layouts.specs.Grids.{leaf_order}
 use Rattle.layouts.specs.Fitted.{fitted, fitted_back, scale_on, why_not_fitted}
 use Rattle.layouts.specs.Laws.{IsPaper, IsHalfTurnOf, HasPlace, LiesInCell, cell_at}
@@ -32,7 +32,7 @@ use Rattle.row_sheets.specs.Bound.{shown_in}
 use Rattle.row_sheets.specs.Standing.{AllStand, EntryFits, StandsIn}
 use Rattle.row_sheets.specs.Zine.{AreZineCells, ZineIsRead, closer, kept_by, read_folded, zine_grid}
 use Rattle.row_sheets.proofs.Filling.{sheet}
-use Rattle.row_sheets.proofs.OnSheets.{each_of, each_two_of, filled_stand, slot_inside, slots_apart}
+use Rattle.row_sheets.proofs.OnSheets.{each_of, each_two_of, filled_stand, not_turned, slot_inside, slots_apart}
 use Rattle.row_sheets.proofs.Runs.{grid_runs_on}
 use Rattle.row_sheets.proofs.Stacking.{shown_is}
 
@@ -70,52 +70,54 @@ zine_is_read f row =
 -- ---- a page of the first row, and one of the second
 
 eight_cells : (t : Setting) → AreZineCells t → size t.grid ≡ 8
-eight_cells t cells = ap size cells.0
+eight_cells t cells = ap size cells.grid_is
 
-kept_is : (room : Room) (n : ℕ) → room.trim ≡ 0 → kept room n ≡ n
-kept_is room n e = ap (λ t. if t == 0 then n else n + 1) e
+kept_is : (trim n : ℕ) → trim ≡ 0 → kept trim n ≡ n
+kept_is trim n e = ap (λ t. if t == 0 then n else n + 1) e
 
 -- in the second row
 in_second : (page : Paper) (room : Room) (b r : Bool) (s k : ℕ) → IsPaper page → HasPlace page room (zine_grid b) s → k / 4 ≡ 1 → (p : Point) → IsOfPage room.trim page p
-    → LiesInCell (cell_at room (zine_grid b) 1 (column_of (leaf_order r) (zine_grid b) k)) (kept room 0) (stands page (item_in page room (zine_grid b) (leaf_order r) s k) p)
+    → LiesInCell (cell_at room (zine_grid b) 1 (column_of (leaf_order r) (zine_grid b) k)) (kept room.trim 0) (stands page (item_in page room (zine_grid b) (leaf_order r) s k) p)
 in_second page room b r s k is place second p of =
-    subst (λ n. LiesInCell (cell_at room (zine_grid b) n (column_of (leaf_order r) (zine_grid b) k)) (kept room 0) (stands page (item_in page room (zine_grid b) (leaf_order r) s k) p)) second
+    subst (λ n. LiesInCell (cell_at room (zine_grid b) n (column_of (leaf_order r) (zine_grid b) k)) (kept room.trim 0) (stands page (item_in page room (zine_grid b) (leaf_order r) s k) p)) second
     (grid_in_cell page room (zine_grid b) (leaf_order r) s k is place p of)
 
 -- upright pages: the second row begins at the margin, and is rounded down
-below : (p D E W gap past : ℕ) (y y' z : ℤ) → 0 < p - D → 2 * p + 2 * E ≤ W + D → D ≡ gap → past ≡ 0 → y ≤ℤ fine (E + 0 * p + (p - D) + past) → y' ≤ℤ fine (E + 0 * p + (p - D) + past)
+below : (p D E F W gap past : ℕ) (y y' z : ℤ) → 0 < p - D → E ≡ F → 2 * p + (E + F) ≤ W + D → D ≡ gap → past ≡ 0 → y ≤ℤ fine (E + 0 * p + (p - D) + past) → y' ≤ℤ fine (E + 0 * p + (p - D) + past)
     → z ≡ (pos 1_270_000_000_000_000 *ℤ pos W) -ℤ y' → (y +ℤ fine (gap - 1)) ≤ℤ z
-below p D E W gap past y y' z some all is none low low' half = omega (arith, ints, some, all, is, none, low, low', half)
+below p D E F W gap past y y' z some even all is none low low' half = omega (arith, ints, some, even, all, is, none, low, low', half)
 
 -- turned ones: it ends there, but for what is rounded
-beside : (p D E W w gap past : ℕ) (x x' z : ℤ) → W * 1_270_000 ≤ w → w - 2_540_000 * E + 1_270_000 * D < p * (1_270_000 * 2) + 1_270_000 * 2 → D ≡ gap → 0 < gap → past ≡ 0
+beside : (p D E F W w gap past : ℕ) (x x' z : ℤ) → E ≡ F → W * 1_270_000 ≤ w → w - 1_270_000 * (E + F) + 1_270_000 * D < p * (1_270_000 * 2) + 1_270_000 * 2 → D ≡ gap → 0 < gap → past ≡ 0
     → fine (E + 1 * p) ≤ℤ (x +ℤ fine past) → fine (E + 1 * p) ≤ℤ (x' +ℤ fine past) → z ≡ (pos 1_270_000_000_000_000 *ℤ pos W) -ℤ x' → (z +ℤ fine (gap - 1)) ≤ℤ x
-beside p D E W w gap past x x' z part least is some none right right' half = omega (arith, ints, part, least, is, some, none, right, right', half)
+beside p D E F W w gap past x x' z even part least is some none right right' half = omega (arith, ints, even, part, least, is, some, none, right, right', half)
 
 abbrev RowsApart : (page page' : Paper) → Room → Grid → Order → (s s' k l : ℕ) → Type 0
 RowsApart page page' room g o s s' k l = HasPlace page room g s → HasPlace page' room g s' → IsHalfTurnOf page room.paper (item_in page room g o s k) (back_in page room g o s 0 k)
     → AreApart (closer room) page (back_in page room g o s 0 k) page' (item_in page' room g o s' l)
 
-rows_apart : (b r : Bool) (page page' : Paper) (room : Room) (s s' k l : ℕ) → IsPaper page → IsPaper page' → room.trim ≡ 0 → 0 < room.gap → k / 4 ≡ 1 → l / 4 ≡ 1
+rows_apart : (b r : Bool) (page page' : Paper) (room : Room) (s s' k l : ℕ) → IsPaper page → IsPaper page' → room.trim ≡ 0 → IsEven room → 0 < room.gap_across → k / 4 ≡ 1 → l / 4 ≡ 1
     → RowsApart page page' room (zine_grid b) (leaf_order r) s s' k l
-rows_apart false r page page' room s s' k l is is' trim some second second' place place' half =
+rows_apart false r page page' room s s' k l is is' trim even some second second' place place' half =
     let g = zine_grid false in
     let h = nat_abs room.paper.height in
     let high = (fits page room g s place).some_high in
+    let a = along_height room in
     inr (inr (λ q p of' of.
-    below (step room h 2) (kept room room.gap) (kept room room.edge) (whole h) room.gap (kept room 0)
+    below (step a h 2) (kept room.trim room.gap_up) (kept room.trim room.bottom) (kept room.trim room.top) (whole h) room.gap_up (kept room.trim 0)
     (stands page' (item_in page' room g (leaf_order r) s' l) q).y (stands page (item_in page room g (leaf_order r) s k) p).y (stands page (back_in page room g (leaf_order r) s 0 k) p).y
-    high (cells_fit room h 2 1 high (omega arith)) (kept_is room room.gap trim) (kept_is room 0 trim)
+    high (ap (kept room.trim) even.up) (cells_fit a h 2 1 high (omega arith)) (kept_is room.trim room.gap_up trim) (kept_is room.trim 0 trim)
     (in_second page' room false r s' l is' place' second' q of').top (in_second page room false r s k is place second p of).top
     (half.up p)))
-rows_apart true r page page' room s s' k l is is' trim some second second' place place' half =
+rows_apart true r page page' room s s' k l is is' trim even some second second' place place' half =
     let g = zine_grid true in
     let w = nat_abs room.paper.width in
-    let D = kept room room.gap in
+    let a = along_width room in
+    let D = kept room.trim room.gap_across in
     inl (inl (λ p q of of'.
-    beside (step room w 2) D (kept room room.edge) (whole w) w room.gap (kept room 0)
+    beside (step a w 2) D (kept room.trim room.left) (kept room.trim room.right) (whole w) w room.gap_across (kept room.trim 0)
     (stands page' (item_in page' room g (leaf_order r) s' l) q).x (stands page (item_in page room g (leaf_order r) s k) p).x (stands page (back_in page room g (leaf_order r) s 0 k) p).x
-    (div-mul-le_self w 1_270_000) (lt-div-mul-add {a = left_free room w + 1_270_000 * D} {b = 1_270_000 * 2} (omega arith)) (kept_is room room.gap trim) some (kept_is room 0 trim)
+    (ap (kept room.trim) even.across) (div-mul-le_self w 1_270_000) (lt-div-mul-add {a = left_free a w + 1_270_000 * D} {b = 1_270_000 * 2} (omega arith)) (kept_is room.trim room.gap_across trim) some (kept_is room.trim 0 trim)
     (in_second page' room true r s' l is' place' second' q of').left (in_second page room true r s k is place second p of).left
     (half.across p)))
 
@@ -135,9 +137,9 @@ pages_apart t page page' k l cells is is' on h h' from to from' to' =
     let half : IsHalfTurnOf page t.room.paper (item_in page t.room t.grid t.order s k) (fitted_back t page k) =
     subst (λ i. IsHalfTurnOf page t.room.paper i (fitted_back t page k)) one.0 (back.turned (one_of_many t page many)) in
     let apart : RowsApart page page' t.room t.grid t.order s s' k l =
-    subst (λ g. RowsApart page page' t.room g t.order s s' k l) (sym cells.0)
-    (subst (λ o. RowsApart page page' t.room (zine_grid t.grid.turned) o s s' k l) (sym cells.1)
-    (rows_apart t.grid.turned t.order.right_to_left page page' t.room s s' k l is is' cells.2 cells.3 (in_second_row k from to) (in_second_row l from' to'))) in
+    subst (λ g. RowsApart page page' t.room g t.order s s' k l) (sym cells.grid_is)
+    (subst (λ o. RowsApart page page' t.room (zine_grid t.grid.turned) o s s' k l) (sym cells.order_is)
+    (rows_apart t.grid.turned t.order.right_to_left page page' t.room s s' k l is is' cells.untrimmed cells.even cells.some_across (in_second_row k from to) (in_second_row l from' to'))) in
     subst (AreApart (closer t.room) page (fitted_back t page k) page') (sym other.0) (apart one.1 other.1 half)
 
 -- ---- two slots
@@ -161,14 +163,15 @@ by_less x y gap h = omega (arith, ints, h)
 still_apart : (room : Room) (one other : MadeSlot) → SlotsAreApart room one other → SlotsAreApart (closer room) one other
 still_apart room Blank other h = tt
 still_apart room (Placed page item paper) Blank h = tt
-still_apart room (Placed page item paper) (Placed page' item' paper') (inl (inl h)) = inl (inl (λ p q of of'. by_less _ _ room.gap (h p q of of')))
-still_apart room (Placed page item paper) (Placed page' item' paper') (inl (inr h)) = inl (inr (λ p q of of'. by_less _ _ room.gap (h p q of of')))
-still_apart room (Placed page item paper) (Placed page' item' paper') (inr (inl h)) = inr (inl (λ p q of of'. by_less _ _ room.gap (h p q of of')))
-still_apart room (Placed page item paper) (Placed page' item' paper') (inr (inr h)) = inr (inr (λ p q of of'. by_less _ _ room.gap (h p q of of')))
+still_apart room (Placed page item paper) (Placed page' item' paper') (inl (inl h)) = inl (inl (λ p q of of'. by_less _ _ room.gap_across (h p q of of')))
+still_apart room (Placed page item paper) (Placed page' item' paper') (inl (inr h)) = inl (inr (λ p q of of'. by_less _ _ room.gap_across (h p q of of')))
+still_apart room (Placed page item paper) (Placed page' item' paper') (inr (inl h)) = inr (inl (λ p q of of'. by_less _ _ room.gap_up (h p q of of')))
+still_apart room (Placed page item paper) (Placed page' item' paper') (inr (inr h)) = inr (inr (λ p q of of'. by_less _ _ room.gap_up (h p q of of')))
 
 still_inside : (room : Room) (slot : MadeSlot) → SlotIsInside room slot → SlotIsInside (closer room) slot
 still_inside room Blank h = tt
-still_inside room (Placed page item paper) h = h
+still_inside room (Placed page item paper) h =
+    λ p of. let at = h p of in record { left = at.left; right = at.right; bottom = at.bottom; top = at.top }
 
 -- where it lies in its half of the sheet
 abbrev half_cell : Bool → ℕ → ℕ
@@ -197,10 +200,10 @@ apart_by false true f c d one other cells in_c in_d differ e e' has has' =
 inside_by : (b : Bool) (f : Filling) (c : ℕ) (entry : Option ℕ) → AreZineCells f.setting → c < 8 → EntryFits f entry → SlotIsInside (closer f.setting.room) (slot_on f b (half_cell b c) entry)
 inside_by true f c entry cells in_c has =
     let all = eight_cells f.setting cells in
-    still_inside f.setting.room _ (slot_inside f true (7 - c) entry (λ e. omega (arith, all)) (omega (arith, all)) has)
+    still_inside f.setting.room _ (slot_inside f true (7 - c) entry (λ e. record { many = omega (arith, all); even = cells.even }) (omega (arith, all)) has)
 inside_by false f c entry cells in_c has =
     let all = eight_cells f.setting cells in
-    still_inside f.setting.room _ (slot_inside f false c entry (λ e. omega (arith, all)) (omega (arith, all, in_c)) has)
+    still_inside f.setting.room _ (slot_inside f false c entry (not_turned f.setting) (omega (arith, all, in_c)) has)
 
 -- ---- all sheets
 

@@ -14,7 +14,7 @@ use Rattle.made_sheets.specs.Rows.{Row}
 use Rattle.layouts.specs.declared.error.ArrangementError.{ArrangementError}
 use Rattle.layouts.specs.declared.error.ArrangementError.TheVariants as why
 use Rattle.layouts.specs.declared.setting.Setting.{Setting}
-use Rattle.layouts.specs.Placed.{Room, fine, stands, IsOfPage}
+use Rattle.layouts.specs.Placed.{IsEven, Room, fine, stands, IsOfPage}
 use Rattle.layouts.specs.Cells.{item_in, slack_x, whole}
 use Rattle.layouts.specs.Grids.{beside, leaf_order}
 use Rattle.layouts.specs.Laws.{IsPaper, HasPlace}
@@ -66,7 +66,7 @@ CreepGrows = (creep leaves i : ℕ) → 1 < leaves → i + 1 < leaves
 -- there is room at the fold for a leaf to creep so far: at the side of the fold a page leaves free its share of the cell,
 -- and half of the gap
 abbrev pub may_creep : (page : Paper) → Room → (scale creep : ℕ) → Bool
-may_creep page room s creep = nat_le (2 * creep) (2 * slack_x page room (beside true) s + room.gap)
+may_creep page room s creep = nat_le (2 * creep) (2 * slack_x page room (beside true) s + room.gap_up)
 
 -- nothing of the page crosses a line across the sheet; the line is twice as far up as said
 abbrev pub StaysBefore : Room → (twice : ℕ) → (page : Paper) → Item → Type 0
@@ -85,9 +85,9 @@ pub record KeepsSides (page : Paper) (room : Room) (one other : Item) : Type 0 w
   pub before : StaysBefore room twice page one
   pub behind : StaysBehind room twice page other
 
--- as long as there is room, no leaf crosses its fold: a law
+-- as long as there is room, no leaf with even margins crosses its fold: a law
 abbrev pub CreepKeepsSides : Type 0
-CreepKeepsSides = (page : Paper) (room : Room) (right_to_left : Bool) (s creep : ℕ) → IsPaper page
+CreepKeepsSides = (page : Paper) (room : Room) (right_to_left : Bool) (s creep : ℕ) → IsPaper page → IsEven room
     → HasPlace page room (beside true) s → may_creep page room s creep ≡ true
     → KeepsSides page room (leaf_item page room right_to_left s creep (if right_to_left then 1 else 0))
     (leaf_item page room right_to_left s creep (if right_to_left then 0 else 1))
@@ -130,9 +130,11 @@ abbrev pub creeping_sheets : Filling → (turned_backs : Bool) → (creep leaves
 creeping_sheets f turned_backs creep leaves row =
     creeping_sides f turned_backs creep leaves (blocks 2 (length row)) row
 
--- the cells are the two halves of a sheet
-abbrev pub AreHalves : Setting → Type 0
-AreHalves t = (t.grid ≡ beside true) × (t.order ≡ leaf_order t.order.right_to_left)
+-- the cells are the two halves of a sheet with even margins
+pub record AreHalves (t : Setting) : Type 0 where
+  pub grid_is : t.grid ≡ beside true
+  pub order_is : t.order ≡ leaf_order t.order.right_to_left
+  pub even : IsEven t.room
 
 -- why a page can't lie in a half that creeps so far: as it can't lie there at all, or as it would cross the fold
 -- (RULES, 16, step 12)

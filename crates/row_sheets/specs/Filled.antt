@@ -13,7 +13,7 @@ use Rattle.layouts.specs.declared.arrangement.Run.{Run}
 use Rattle.layouts.specs.declared.arrangement.Run.TheVariants.{Rows, Columns}
 use Rattle.layouts.specs.declared.arrangement.Turned.{Turned}
 use Rattle.layouts.specs.declared.setting.Setting.{Setting}
-use Rattle.layouts.specs.Placed.{Room, IsInside, AreApart}
+use Rattle.layouts.specs.Placed.{IsEven, Room, IsInside, AreApart}
 use Rattle.layouts.specs.Cells.{Grid, size, read_columns, read_rows, read_row, read_column, whole}
 use Rattle.layouts.specs.Fitted.{fitted, fitted_back, why_not_fitted, binding_setting_of}
 use Rattle.layouts.specs.Refusals.{why_not_bound}
@@ -140,7 +140,7 @@ BehindIsMirror = (run : Run) (right_to_left : Bool) (t : Turned) (g : Grid) (c :
 abbrev pub HavePlaces : Filling → Type 0
 HavePlaces f = (page : ℕ) → IsPaper (f.paper_of page) × (why_not_fitted f.setting (f.paper_of page) ≡ None)
 
--- a placed slot lies on what the margin leaves of the sheet; a blank one shows nothing
+-- a placed slot lies on what the margins leave of the sheet; a blank one shows nothing
 abbrev pub SlotIsInside : Room → MadeSlot → Type 0
 SlotIsInside room Blank = ⊤
 SlotIsInside room (Placed page item paper) = IsInside room paper item
@@ -161,10 +161,11 @@ FilledIsApart = (f : Filling) (c d : ℕ) (one other : Option ℕ) → IsPaper f
     → c < size f.setting.grid → d < size f.setting.grid → c ≢ d
     → SlotsAreApart f.setting.room (slot_in f c one) (slot_in f d other)
 
--- also on sheets that are turned by half
+-- also on sheets that are turned by half, if the margins are even
 abbrev pub SidesAreInside : Type 0
 SidesAreInside = (f : Filling) (by_half : Bool) (c : ℕ) (entry : Option ℕ) → IsPaper f.setting.room.paper → HavePlaces f
-    → 2 ≤ size f.setting.grid → c < size f.setting.grid → SlotIsInside f.setting.room (slot_on f by_half c entry)
+    → (by_half ≡ true → IsEven f.setting.room) → 2 ≤ size f.setting.grid → c < size f.setting.grid
+    → SlotIsInside f.setting.room (slot_on f by_half c entry)
 
 abbrev pub SidesAreApart : Type 0
 SidesAreApart = (f : Filling) (by_half : Bool) (c d : ℕ) (one other : Option ℕ) → IsPaper f.setting.room.paper → HavePlaces f

@@ -10,6 +10,7 @@ use Rattle.made_sheets.specs.Made.{Blank, MadeSheet}
 use Rattle.made_sheets.specs.Rows.{Row}
 use Rattle.layouts.specs.declared.arrangement.Turned.{Turned}
 use Rattle.layouts.specs.declared.arrangement.Turned.TheVariants as sideways
+use Rattle.layouts.specs.Placed.{IsEven}
 use Rattle.layouts.specs.Cells.{column_of, high, read_columns, row_of, size, whole, wide}
 use Rattle.layouts.specs.Laws.{Cell, cell_at}
 use Rattle.layouts.specs.declared.setting.Setting.{Setting}
@@ -78,7 +79,8 @@ LieBehind true sheet slack front back =
 LieBehind false sheet slack front back =
     (back.left ≡ front.left) × AreMirrored (whole (nat_abs sheet.height)) slack front.bottom (back.bottom + back.height)
 
--- so it is of a cell and the one behind it, to 10^-5 of a point for each column, as one reads the sheet: a law
+-- so it is of a cell and the one behind it on sheets with even margins, to 10^-5 of a point for each column, as one reads the
+-- sheet: a law
 abbrev pub CellsLieBehind : Type 0
-CellsLieBehind = (t : Setting) (c : ℕ) → 0 < wide t.room t.grid → 0 < high t.room t.grid → c < size t.grid
+CellsLieBehind = (t : Setting) (c : ℕ) → IsEven t.room → 0 < wide t.room t.grid → 0 < high t.room t.grid → c < size t.grid
     → LieBehind (reads_across t) t.room.paper (read_columns t.order.turned t.grid) (place_of t c) (place_of t (behind_in t c))

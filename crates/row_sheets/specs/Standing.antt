@@ -1,4 +1,4 @@
--- Sheets that are laid out well: what is placed on them keeps the margin, the gap, and the fold. All here is this project's own
+-- Sheets that are laid out well: what is placed on them keeps margins, gaps, and the fold. All here is this project's own
 -- rules.
 use Rattle.std.specs.Prelude.{◌≡◌, ⊤, ℕ, ◌-◌, ◌*◌, ◌+◌, ◌/◌, ◌%◌, ◌<◌, ◌≤◌, nat_abs, Bool, true, false, if◌then◌else◌, List, [], ◌∷◌, length}
 use Rattle.std.specs.Prelude.{All, AllPairs, Option, Some, None, slice_index_or}
@@ -16,7 +16,7 @@ use Rattle.row_sheets.specs.Creep.{StaysBefore, StaysBehind, creep_on, creeping,
 
 -- ---- in cells
 
--- a sheet lies in a room: it is of the room's paper, each page on it lies on what the margin leaves, and each two of its
+-- a sheet lies in a room: it is of the room's paper, each page on it lies on what the margins leave, and each two of its
 -- pages are apart by the gap
 pub record StandsIn (room : Room) (sheet : MadeSheet) : Type 0 where
   pub paper : sheet.paper ≡ room.paper
@@ -37,7 +37,7 @@ abbrev pub SlotStaysBehind : Room → (twice : ℕ) → MadeSlot → Type 0
 SlotStaysBehind room twice Blank = ⊤
 SlotStaysBehind room twice (Placed page item paper) = StaysBehind room twice paper item
 
--- a side of a leaf: it is of the room's paper and has two slots; each page lies on what the margin leaves, and none crosses
+-- a side of a leaf: it is of the room's paper and has two slots; each page lies on what the margins leave, and none crosses
 -- the fold
 pub record StandsOnLeaf (room : Room) (twice : ℕ) (first_is_before : Bool) (side : MadeSheet) : Type 0 where
   pub paper : side.paper ≡ room.paper

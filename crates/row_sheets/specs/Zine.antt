@@ -5,7 +5,7 @@ use Rattle.rules.specs.Sheets.{blocks}
 use Rattle.rules.specs.Signatures.{entry_of}
 use Rattle.made_sheets.specs.Made.{MadeSheet}
 use Rattle.made_sheets.specs.Rows.{Row}
-use Rattle.layouts.specs.Placed.{Room}
+use Rattle.layouts.specs.Placed.{IsEven, Room}
 use Rattle.layouts.specs.Cells.{Grid}
 use Rattle.layouts.specs.Grids.{leaf_order}
 use Rattle.layouts.specs.declared.setting.Setting.{Setting}
@@ -58,13 +58,18 @@ ZineIsRead = (f : Filling) (row : Row) → AreReadFolded row (zine_sheets f row)
 abbrev pub zine_grid : Bool → Grid
 zine_grid turned = record { rows = 2; columns = 4; turned = turned }
 
--- they are filled along rows with upright pages, of which nothing is trimmed, and there is a gap
-abbrev pub AreZineCells : Setting → Type 0
-AreZineCells t = (t.grid ≡ zine_grid t.grid.turned) × (t.order ≡ leaf_order t.order.right_to_left) × (t.room.trim ≡ 0) × (0 < t.room.gap)
+-- they are filled along rows with upright pages, of which nothing is trimmed; there are gaps, and margins are even
+pub record AreZineCells (t : Setting) : Type 0 where
+  pub grid_is : t.grid ≡ zine_grid t.grid.turned
+  pub order_is : t.order ≡ leaf_order t.order.right_to_left
+  pub untrimmed : t.room.trim ≡ 0
+  pub some_across : 0 < t.room.gap_across
+  pub some_up : 0 < t.room.gap_up
+  pub even : IsEven t.room
 
--- the gap that a zine keeps: less by 10^-5 of a point, as its first row is rounded as the second, but turned by half
+-- the gaps that a zine keeps: less by 10^-5 of a point, as its first row is rounded as the second, but turned by half
 abbrev pub closer : Room → Room
-closer room = record room { gap = room.gap - 1 }
+closer room = record room { gap_across = room.gap_across - 1; gap_up = room.gap_up - 1 }
 
 -- what is kept free on sheets whose cells are filled so
 abbrev pub kept_by : CellKind → Room → Room

@@ -217,7 +217,7 @@ fn check_fold(setting: &Setting, paper: &Paper, creep: u64) -> Result<(), Arrang
         Ok(slack) => slack,
         Err(error) => return Err(error),
     };
-    if has_room(slack, setting.room.gap, creep) {
+    if has_room(slack, setting.room.gap_up, creep) {
         Ok(())
     } else {
         Err(ArrangementError::CreepOverFold)

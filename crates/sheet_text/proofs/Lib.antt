@@ -1,10 +1,10 @@
 pub mod Slots
 pub mod Outputs
 pub mod OnePaper
-pub mod Hemmed
+pub mod Dressed
 pub mod Opened
 pub mod Ropes
 pub mod LineEnds
-pub mod HemKinds
+pub mod Appended
 pub mod Rooming
 pub mod TextsBehind

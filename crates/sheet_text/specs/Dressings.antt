@@ -1,38 +1,26 @@
--- The lines of a dress, as they are kept.
-use Rattle.std.specs.Prelude.{ℕ, ◌==◌, Bool, true, not, ◌&&◌, if◌then◌else◌, List, [], ◌∷◌}
-use Rattle.made_sheets.specs.Made.{MadeSheet}
-use Rattle.made_sheets.specs.Dressed.{DressedSheet}
+-- The dress of an output, as it is kept.
+use Rattle.std.specs.Prelude.{ℕ, Bool, true, false, List, [], ◌++◌, Option, Some, None}
+use Rattle.rules.specs.Papers.{Paper}
+use Rattle.made_sheets.specs.Dress.{Dress}
+use Rattle.papers.specs.Told.{sheet_lines}
+use Rattle.sheet_text.specs.PageNumbers.{number_lines}
+use Rattle.sheet_text.specs.declared.dress.Dress as code
+use Rattle.sheet_text.specs.declared.numbers.Numbers.{Numbers}
 
--- no byte is a line feed, so it is one line
-abbrev pub is_line : List ℕ → Bool
-is_line [] = true
-is_line (b ∷ bs) = not (b == 10) && is_line bs
+-- at the start of a sheet of this paper: the lines that report it, if sheets are to
+abbrev pub told_if : Bool → Paper → List (List ℕ)
+told_if true paper = sheet_lines paper
+told_if false paper = []
 
--- a byte before the first of these lines
-abbrev pub put_before : ℕ → List (List ℕ) → List (List ℕ)
-put_before b [] = (b ∷ []) ∷ []
-put_before b (row ∷ rows) = (b ∷ row) ∷ rows
+-- at the end of sheet s: these lines, and the numbers of its pages, if they have some
+abbrev pub with_numbers : Option Numbers → List (List ℕ) → (s : ℕ) → List (List ℕ)
+with_numbers None lines s = lines
+with_numbers (Some n) lines s = lines ++ number_lines n s
 
--- the lines of a text, without their line ends
-abbrev pub lines_in : List ℕ → List (List ℕ)
-lines_in [] = []
-lines_in (b ∷ bs) = if b == 10 then [] ∷ lines_in bs else put_before b (lines_in bs)
-
--- lines at the start of a sheet, and at its end
-pub record Hem : Type 0 where
-  pub start : List (List ℕ)
-  pub finish : List (List ℕ)
-
--- a dress as lists: its header, and what each sheet has
-pub record Dressing : Type 0 where
-  pub header : List (List ℕ)
-  pub hems : List Hem
-
-abbrev pub hemmed : Hem → MadeSheet → DressedSheet
-hemmed hem sheet = record { start = hem.start; slots = sheet.slots; finish = hem.finish }
-
--- made sheets with a dress that has as many
-abbrev pub dressed_by : List Hem → List MadeSheet → List DressedSheet
-dressed_by [] all = []
-dressed_by (hem ∷ hems) [] = []
-dressed_by (hem ∷ hems) (sheet ∷ all) = hemmed hem sheet ∷ dressed_by hems all
+-- the dress that is kept so
+abbrev pub dress_in : code.Dress → Dress
+dress_in d = record {
+  header = d.header;
+  start = λ s paper. told_if d.tells_papers paper;
+  finish = λ s paper. with_numbers d.numbers.now d.finish s;
+}

@@ -4,13 +4,13 @@ use Rattle.rules.specs.Sheets.{Plan}
 use Rattle.made_sheets.specs.Made.{made_of}
 use Rattle.made_sheets.specs.Dress.{undressed}
 use Rattle.made_sheets.specs.Dressed.{DressedSheet, dressed_sheets}
-use Rattle.sheet_text.specs.Dressings.{dressed_by}
-use Rattle.sheet_text.specs.declared.papers.SheetPapers.{SheetPapers}
-use Rattle.sheet_text.specs.declared.papers.SheetPapers.TheVariants.{One, Made}
+use Rattle.sheet_text.specs.Dressings.{dress_in}
+use Rattle.sheet_text.specs.declared.sheet_papers.SheetPapers.{SheetPapers}
+use Rattle.sheet_text.specs.declared.sheet_papers.SheetPapers.TheVariants.{One, Made}
 
 abbrev pub sheets_on : SheetPapers → Plan → List DressedSheet
 sheets_on (One paper) plan = dressed_sheets undressed (made_of paper plan.sheets)
-sheets_on (Made sheets dress) plan = dressed_by dress.now.hems sheets.now
+sheets_on (Made sheets dress) plan = dressed_sheets (dress_in dress.now) sheets.now
 
 abbrev pub header_on : SheetPapers → List (List ℕ)
 header_on (One paper) = []

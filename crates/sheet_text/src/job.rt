@@ -1,20 +1,23 @@
 //! What is to be imposed.
-ghost use Rattle.std.specs.Prelude.{◌≡◌, ℕ, ◌<◌, [], length, IsTrue, IfSome, Option, Some, slice_get, slice_index_or};
+ghost use Rattle.std.specs.Prelude.{◌≡◌, ℕ, ◌<◌, ◌++◌, [], length, IsTrue, IfSome, OnOk, Option, Some, slice_get, slice_index_or};
 ghost use Rattle.rules.specs.Parts.{pages};
 ghost use Rattle.rules.specs.Specification.{Spec};
 ghost use Rattle.rules.specs.Output.{border_within, framed, output, sheet_text};
 ghost use Rattle.made_sheets.specs.Dress.{lines_text};
-ghost use Rattle.made_sheets.specs.Dressed.{dressed_output};
+ghost use Rattle.made_sheets.specs.Dressed.{dressed_sheets};
+ghost use Rattle.made_sheets.specs.MadeOutput.{made_output};
 ghost use Rattle.sheet_plan.specs.OfSheets.{made_plan, placed_of};
 ghost use Rattle.sheet_plan.specs.Plans.{pages_on, planned_in, IsSound};
-ghost use Rattle.sheet_text.specs.Dressings.{dressed_by};
+ghost use Rattle.sheet_text.specs.Dressings.{dress_in};
 ghost use Rattle.sheet_text.specs.Jobs.{JobView, AreOfPlan, of_frame, is_border, output_of, text_of, sheet_of, slots_of};
 
 use crate::dress::Dress;
-use crate::papers::SheetPapers;
+use crate::rope::Rope;
+use crate::sheet_papers::SheetPapers;
 use dsc::Document;
 use lengths::{Grains, Paper};
 use sheet_plan::{MadeSheets, PlacedSlot, Plan};
+use std::alloc::AllocError;
 use std::marker::Model;
 
 /// A plan of the pages of a document, the papers that they are made for, a border round each placed page, if one is
@@ -82,29 +85,28 @@ impl<'j, 'd> Job<'j, 'd> {
         }
     }
 
-    /// The plan is that of these sheets, on the document's pages, and each sheet has its lines. A border is drawn so far
-    /// within each edge of its page.
+    /// The plan is that of these sheets, on the document's pages, and they have the lines of this dress. A border is drawn so
+    /// far within each edge of its page.
     pub fn made(
         plan: &'j Plan<'j>,
         document: &'j Document<'d>,
         sheets: &'j MadeSheets,
         border: Option<Grains>,
         inset: Grains,
-        dress: &'j Dress,
+        dress: &'j Dress<'j>,
     ) -> Self
         requires same_pages { plan.now.pages ≡ length (pages document.now) }
         requires same_sheets { plan.now ≡ made_plan plan.now.pages sheets.now }
-        requires dressed { length dress.now.hems ≡ length sheets.now }
         requires border { IsTrue (is_border border) }
         ensures value { result ≡ record {
           plan = plan.now;
           units = document.now;
           border = border_within inset border;
           header = dress.now.header;
-          sheets = dressed_by dress.now.hems sheets.now;
+          sheets = dressed_sheets (dress_in dress.now) sheets.now;
         } }
         ensures output { output_of result
-            ≡ dressed_output (border_within inset border) dress.now.header (dressed_by dress.now.hems sheets.now) document.now }
+            ≡ made_output (border_within inset border) (dress_in dress.now) sheets.now document.now }
     {
         Job {
             plan,
@@ -146,29 +148,29 @@ impl<'j, 'd> Job<'j, 'd> {
     {
         match &self.papers {
             SheetPapers::One(_) => &[],
-            SheetPapers::Made(_, dress) => dress.header().text(),
+            SheetPapers::Made(_, dress) => dress.header.text(),
         }
     }
 
-    /// The text of the lines at the start of a sheet.
-    pub(crate) fn start(&self, sheet: u32) -> &'j [u8]
+    /// Appends the lines at the start of a sheet.
+    pub(crate) fn append_start(&self, sheet: u32, text: &mut Rope<'_>) -> Result<(), AllocError>
         requires { sheet < length self.now.plan.sheets }
-        ensures { result.now ≡ lines_text (sheet_of self.now sheet).start }
+        ensures { OnOk result (text.new ≡ text.old ++ lines_text (sheet_of self.now sheet).start) }
     {
         match &self.papers {
-            SheetPapers::One(_) => &[],
-            SheetPapers::Made(_, dress) => dress.of_sheet(sheet).start.text(),
+            SheetPapers::One(_) => Ok(()),
+            SheetPapers::Made(sheets, dress) => dress.append_start(sheets.paper(sheet), text),
         }
     }
 
-    /// The text of the lines at its end.
-    pub(crate) fn finish(&self, sheet: u32) -> &'j [u8]
+    /// Appends the lines at its end.
+    pub(crate) fn append_finish(&self, sheet: u32, text: &mut Rope<'j>) -> Result<(), AllocError>
         requires { sheet < length self.now.plan.sheets }
-        ensures { result.now ≡ lines_text (sheet_of self.now sheet).finish }
+        ensures { OnOk result (text.new ≡ text.old ++ lines_text (sheet_of self.now sheet).finish) }
     {
         match &self.papers {
-            SheetPapers::One(_) => &[],
-            SheetPapers::Made(_, dress) => dress.of_sheet(sheet).finish.text(),
+            SheetPapers::One(_) => Ok(()),
+            SheetPapers::Made(_, dress) => dress.append_finish(sheet, text),
         }
     }
 

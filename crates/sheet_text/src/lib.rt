@@ -1,16 +1,22 @@
-//! The text of a sheet: its page line, each page placed in its slot, and one `showpage`. It knows no threads.
+//! The text of a sheet: its page line, each page placed in its slot, the lines that it gets besides, and one `showpage`. It
+//! knows no threads.
 #![tactic(auto)]
 
 mod dress;
 mod job;
+mod lines;
+mod numbers;
 mod openings;
-mod papers;
 mod rope;
 mod sheet;
+mod sheet_papers;
 mod texts;
+mod told;
 
-pub use dress::{Dress, Lines, SheetLines};
+pub use dress::Dress;
 pub use job::Job;
+pub use lines::Lines;
+pub use numbers::Numbers;
 pub use openings::Openings;
 pub use rope::{Pieces, Rope};
 pub use sheet::{append_placed, begin_sheet, end_sheet, sheet_rope, sheet_text};

@@ -1,7 +1,9 @@
 //! A text in pieces.
-ghost use Rattle.std.specs.Prelude.{◌≡◌, ◌+◌, ◌<◌, ◌≤◌, ◌++◌, [], length, IfOk, IfSome, IsNone, OnOk, OnErr};
+ghost use Rattle.std.specs.Prelude.{◌≡◌, ◌+◌, ◌*◌, ◌^◌, ◌<◌, ◌≤◌, ◌++◌, [], length, nat_abs, IfOk, IfSome, IsNone, OnOk, OnErr};
+ghost use Rattle.rules.specs.Numbers.{points_text};
 ghost use Rattle.rules.specs.Output.{closing_text as closing};
 
+use lengths::{Grains, print_grains, print_points};
 use placement::closing_text;
 use std::alloc::{AllocError, Global};
 use std::marker::Model;
@@ -91,6 +93,21 @@ impl<'r> Rope<'r> {
         ensures { OnOk result (self.new ≡ self.old ++ closing) }
     {
         closing_text(&mut self.own)
+    }
+
+    /// Appends a length in points. If memory is refused, nothing is appended.
+    pub(crate) fn append_points(&mut self, length: Grains) -> Result<(), AllocError>
+        ensures { OnOk result (self.new ≡ self.old ++ points_text length) }
+    {
+        print_points(length, &mut self.own)
+    }
+
+    /// The same of so many grains.
+    pub(crate) fn append_grains(&mut self, grains: i128) -> Result<(), AllocError>
+        requires { nat_abs grains ≤ 2 * 10 ^ 23 }
+        ensures { OnOk result (self.new ≡ self.old ++ points_text grains) }
+    {
+        print_grains(grains, &mut self.own)
     }
 
     /// For how many bytes of its own it has memory.

@@ -53,31 +53,29 @@ pub fn begin_sheet(text: &mut Rope<'_>, job: &Job<'_, '_>, sheet: u32) -> Result
         text.reserve(likely_len(job, sheet))?;
     }
     append_page_line(text, sheet)?;
-    text.append(job.start(sheet))?;
+    job.append_start(sheet, text)?;
     Ok(())
 }
 
-/// Appends the lines at the end of a sheet, and the line that ends it and prints it. The lines aren't copied if they have
-/// 4,096 bytes or more: many sheets may have the same.
+/// Appends the lines at the end of a sheet, and the line that ends it and prints it. Those that all sheets have aren't copied
+/// if they have 4,096 bytes or more.
 pub fn end_sheet<'r>(text: &mut Rope<'r>, job: &Job<'r, '_>, sheet: u32) -> Result<(), AllocError>
     requires { sheet < length job.now.plan.sheets }
     ensures { OnOk result (text.new ≡
         text.old ++ (lines_text (sheet_of job.now sheet).finish ++ line (codes "showpage"))) }
 {
-    text.append_borrowed(job.finish(sheet))?;
+    job.append_finish(sheet, text)?;
     text.append(b"showpage\n")?;
     Ok(())
 }
 
-/// About how many bytes are copied into the text of a sheet, and seldom fewer than that, so that they aren't moved while
-/// it is made.
+/// About how many bytes are copied into the text of a sheet without lines of its own, and seldom fewer than that, so that
+/// they aren't moved while it is made.
 fn likely_len(job: &Job<'_, '_>, sheet: u32) -> usize
     requires { sheet < length job.now.plan.sheets }
     ensures { result ≤ most_room job.now sheet }
 {
-    let finish = copied_len(job.finish(sheet));
-    let lines = job.start(sheet).len().saturating_add(finish);
-    let mut len = lines.saturating_add(64);
+    let mut len = 64usize;
     for slot in 0..job.plan().slots(sheet) {
         len = len.saturating_add(likely_slot_len(job, sheet, slot));
     }

@@ -13,6 +13,8 @@ pub struct Asked {
     pub paper_size: String,
     /// The text of `/etc/papersize`, if there is one.
     pub home: Option<String>,
+    /// Whether that is a regular file, and not a device or a pipe.
+    pub home_is_regular: bool,
     pub takes: Takes,
     /// How the lines begin or end that are compared of what is written; if there are none, all are.
     pub lines: Vec<String>,
@@ -23,6 +25,7 @@ pub fn asked_of(alloc: Global, case: &Case) -> Result<Option<Asked>, AllocError>
     let mut asked = Asked {
         paper_size: String::new(alloc),
         home: None,
+        home_is_regular: true,
         takes: Takes::Bytes(AMPLE),
         lines: Vec::new(alloc),
     };
@@ -45,6 +48,10 @@ fn take_setting(
     match key {
         "papersize" => asked.paper_size = String::from_str(alloc, value)?,
         "home" => asked.home = words_of(alloc, value)?.pop(),
+        "home_pipe" => {
+            asked.home = words_of(alloc, value)?.pop();
+            asked.home_is_regular = false;
+        }
         "lines" => asked.lines = words_of(alloc, value)?,
         "pieces" => match value.parse::<usize>() {
             Ok(most) => asked.takes = Takes::Pieces(most),

@@ -58,12 +58,14 @@ pub fn run<R: Threads + Wait + Sync>(
         files.push(GivenFile {
             name: input.name.as_str(),
             bytes: file.text_of(input),
+            is_regular: true,
         })?;
     }
     if let Some(home) = &asked.home {
         files.push(GivenFile {
             name: "/etc/papersize",
             bytes: home.as_str().as_bytes(),
+            is_regular: asked.home_is_regular,
         })?;
     }
     let world = Folder {

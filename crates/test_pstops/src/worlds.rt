@@ -50,6 +50,7 @@ fn files_of<'a>(
         files.push(GivenFile {
             name: input.name.as_str(),
             bytes: file.text_of(input),
+            is_regular: true,
         })?;
     }
     Ok(files)

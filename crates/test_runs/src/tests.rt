@@ -1,10 +1,11 @@
 //! What the trials share: options, large documents, a run with its report, and a gathering.
 ghost use Rattle.std.specs.Prelude.{◌<◌};
-ghost use Rattle.imposer.specs.Workers.{AreWorkers};
+ghost use Rattle.planned_runs.specs.Workers.{AreWorkers};
 ghost use Rattle.sheet_writer.specs.Sinks.{IsCountable};
 
 mod callers;
 mod checks;
+mod crews;
 mod doubled;
 mod ended_tables;
 mod examples;
@@ -17,6 +18,7 @@ mod large;
 mod pstops;
 mod queues;
 mod refused_puts;
+mod sets;
 mod sheets_of_sheets;
 mod sinks;
 mod texts;

@@ -12,6 +12,8 @@ use world::{Refused, World};
 pub struct GivenFile<'a> {
     pub name: &'a str,
     pub bytes: &'a [u8],
+    /// Whether it is a regular file, and not a device or a pipe.
+    pub is_regular: bool,
 }
 
 /// A world of files that can be read. Standard input is the one named `-`, and empty if there is none.
@@ -43,7 +45,9 @@ impl<'a> World for Folder<'a> {
     }
 
     fn is_file(&self, name: &str) -> bool {
-        self.files.iter().any(|file| file.name == name)
+        self.files
+            .iter()
+            .any(|file| file.is_regular && file.name == name)
     }
 
     fn create(self, name: Option<&str>) -> Result<Written, Refused<Folder<'a>>> {

@@ -2,6 +2,7 @@
 #![tactic(auto)]
 
 mod host;
+mod keeping_reader;
 mod opened;
 mod output;
 mod read;
@@ -11,6 +12,7 @@ mod told;
 mod world;
 
 pub use host::{Host, HostInput, HostOutput};
+pub use keeping_reader::KeepingReader;
 pub use opened::Opened;
 pub use output::Created;
 pub use read::{MOST_BYTES, ReadFault, read_input, read_input_behind};

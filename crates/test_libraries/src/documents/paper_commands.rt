@@ -1,6 +1,6 @@
 //! Commands that find papers.
 use crate::documents::paper_texts::{
-    as_one_with, cutting, home_papers, instead_of, told, trailing_box, value_of_title,
+    counted, cutting, home_papers, instead_of, told, trailing_box, value_of_title,
 };
 use crate::documents::words::{paper, papers, text_of};
 use std::alloc::Global;
@@ -18,9 +18,7 @@ pub fn answer_of_papers(
         ["page_papers", name, asked] => {
             home_papers(alloc, text_of(documents, name)?, Some(paper(asked)?))?
         }
-        ["papers_as_one", first, name] => {
-            as_one_with(alloc, &paper(first)?, text_of(documents, name)?)?
-        }
+        ["papers_as_one", name] => counted(alloc, text_of(documents, name)?)?,
         ["cut_by", sheet, own @ ..] => {
             cutting(alloc, &paper(sheet)?, papers(alloc, own)?.as_slice())?
         }

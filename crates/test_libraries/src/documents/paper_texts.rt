@@ -36,11 +36,11 @@ pub fn home_papers(alloc: Global, text: &[u8], asked: Option<Paper>) -> anyhow::
     Ok(paper_lines(alloc, papers.as_slice())?)
 }
 
-/// The papers as which those of the pages count, if this one is the first.
-pub fn as_one_with(alloc: Global, first: &Paper, text: &[u8]) -> anyhow::Result<String> {
+/// The papers as which those of the pages count.
+pub fn counted(alloc: Global, text: &[u8]) -> anyhow::Result<String> {
     let document = Document::read(alloc, text)?;
     let own = own_papers(alloc, &document, None, &paper("letter")?)?;
-    let papers = as_one(alloc, first, own.as_slice())?;
+    let papers = as_one(alloc, own.as_slice(), own.as_slice())?;
     Ok(paper_lines(alloc, papers.as_slice())?)
 }
 

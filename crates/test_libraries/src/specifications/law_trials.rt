@@ -4,7 +4,7 @@ use crate::specifications::placed::{
     Kept, Placed, are_apart, are_in_order, are_inside, are_like, columns_of, largest, pages_of,
 };
 use crate::specifications::words::word;
-use layouts::{Arrangement, Binding, Cells, Papers, arrange, bind};
+use layouts::{Arrangement, Binding, Cells, Free, Papers, arrange, bind};
 use lengths::{Grains, paper_by_name};
 use pagespec::Spec;
 use std::alloc::{AllocError, Global};
@@ -90,8 +90,17 @@ fn layouts_tried(out: &mut Answer, numbers: &[u32], on_own_paper: bool, kept: Ke
 fn laid_out(alloc: Global, n: u32, papers: &Papers, kept: Kept) -> Option<Spec> {
     let mut arrangement = Arrangement::plain(Cells::AtLeast(n));
     if kept.margin != 0 {
-        arrangement.margin = Grains::new(3_600_000_000_000)?;
-        arrangement.gap = Grains::new(1_800_000_000_000)?;
+        let margin = Grains::new(3_600_000_000_000)?;
+        let gap = Grains::new(1_800_000_000_000)?;
+        arrangement.free = Free {
+            left: margin,
+            right: margin,
+            bottom: margin,
+            top: margin,
+            across: gap,
+            up: gap,
+            trim: arrangement.free.trim,
+        };
     }
     arrange(alloc, papers, &arrangement).ok()
 }

@@ -2,7 +2,9 @@
 use crate::specifications::answer::Answer;
 use crate::specifications::specifications::written;
 use crate::specifications::words::{count, length, number, number_in, paper, word};
-use layouts::{Arrangement, ArrangementError, Binding, Cells, Papers, Run, Turned, arrange, bind};
+use layouts::{
+    Arrangement, ArrangementError, Binding, Cells, Free, Papers, Run, Turned, arrange, bind,
+};
 use lengths::{Grains, Number, a4};
 use pagespec::Spec;
 use std::fmt::{Debug, Display};
@@ -101,10 +103,32 @@ fn ask(arrangement: &mut Arrangement, text: &str) -> Option<()> {
         ("right_to_left", "") => arrangement.order.right_to_left = true,
         ("left", "") => arrangement.order.turned = Turned::Left,
         ("right", "") => arrangement.order.turned = Turned::Right,
-        ("margin", value) => arrangement.margin = hundred_thousandths(value)?,
-        ("gap", value) => arrangement.gap = hundred_thousandths(value)?,
-        ("trim", value) => arrangement.trim = hundred_thousandths(value)?,
         ("scale", value) => arrangement.scale = Some(billionths(value)?),
+        (name, value) => keep(&mut arrangement.free, name, hundred_thousandths(value)?)?,
+    }
+    Some(())
+}
+
+/// Keeps a length free, at one edge or at all, in one direction or in both.
+fn keep(free: &mut Free, name: &str, length: Grains) -> Option<()> {
+    match name {
+        "margin" => {
+            free.left = length;
+            free.right = length;
+            free.bottom = length;
+            free.top = length;
+        }
+        "left_edge" => free.left = length,
+        "right_edge" => free.right = length,
+        "bottom_edge" => free.bottom = length,
+        "top_edge" => free.top = length,
+        "gap" => {
+            free.across = length;
+            free.up = length;
+        }
+        "across" => free.across = length,
+        "up" => free.up = length,
+        "trim" => free.trim = length,
         _ => return None,
     }
     Some(())
@@ -124,8 +148,7 @@ fn binding(words: &[String]) -> Option<Binding> {
     for word in words.iter().skip(1) {
         match word.as_str().split_once('=').unwrap_or((word.as_str(), "")) {
             ("right_to_left", "") => binding.right_to_left = true,
-            ("gap", value) => binding.gap = hundred_thousandths(value)?,
-            _ => return None,
+            (name, value) => keep(&mut binding.free, name, hundred_thousandths(value)?)?,
         }
     }
     Some(binding)

@@ -2,8 +2,7 @@
 use crate::tests::checks::assert_that;
 use crate::tests::workers;
 use dsc::Document;
-use imposed_again_runs::laws;
-use imposer::{MemorySink, Open, run};
+use imposer::{MemorySink, Open, laws, run};
 use std::alloc::Global;
 use std::sync::Wait;
 use std::test::Fail;

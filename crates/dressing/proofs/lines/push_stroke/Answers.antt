@@ -1,5 +1,6 @@
 use Rattle.std.proofs.Common.{◌≡◌, ◌∙◌, ap, [], ◌∷◌, ◌++◌, List, ℕ, codes}
-use Rattle.dressing.specs.Drawn.{point_text, stroke_line}
+use Rattle.sheet_text.specs.PageNumbers.{point_text}
+use Rattle.dressing.specs.Drawn.{stroke_line}
 use Rattle.dressing.proofs.Joined.{joined}
 use Rattle.dressing.proofs.Plain.{may_stand}
 use Rattle.dressing.proofs.Tame.{stroke}

@@ -23,7 +23,11 @@ returns-in-Ok-clause-laying c =
 pub returns-in-Ok-clause-may_be : goal.returns-in-Ok-clause-may_be
 returns-in-Ok-clause-may_be c =
     let made = c.in-Ok.ensures.made in
-    (ap (λ t. t.grid) made, ap (λ t. t.order) made ∙ sym (ap (λ t. leaf_order t.order.right_to_left) made))
+    record {
+      grid_is = ap (λ t. t.grid) made;
+      order_is = ap (λ t. t.order) made ∙ sym (ap (λ t. leaf_order t.order.right_to_left) made);
+      even = c.in-Ok.ensures.even;
+    }
 
 pub returns-in-Ok-clause-possible : goal.returns-in-Ok-clause-possible
 returns-in-Ok-clause-possible c =

@@ -1,4 +1,4 @@
-use Rattle.std.proofs.Common.{is_some, option_and_then}
+use Rattle.std.proofs.Common.{◌∙◌, is_some, option_and_then}
 use Rattle.impose_cli.proofs.Programs.{printed}
 use Rattle.impose_cli.proofs.program.print_input.Goals as goal
 
@@ -6,4 +6,4 @@ pub returns : goal.returns
 returns g c =
     printed c.args.request.now c.args.input.items (g.W.World.tells c.args.world) c.in-Ok.task c.as_slice.result.now c.write_text.result.outcome
     (is_some c.write_text.result.output) (option_and_then g.W.Output.Write.contents c.write_text.result.output)
-    c.in-Ok.ensures.is_task c.in-Ok.ensures.accepted c.write_text.ensures
+    (c.as_slice.ensures.value ∙ c.in-Ok-printed_task.ensures) c.in-Ok.ensures.is_task c.in-Ok.ensures.accepted c.write_text.ensures

@@ -12,7 +12,7 @@ pub returns-in-Ok-papers_in-clause-paper : goal.returns-in-Ok-papers_in-clause-p
 returns-in-Ok-papers_in-clause-paper c = is_row_paper c.args.request.now c.args.input.now _ _ c.in-Ok.ensures.answer c.in-Ok-papers_in.ensures.paper
 
 pub returns-in-Ok-papers_in-clause-reach : goal.returns-in-Ok-papers_in-clause-reach
-returns-in-Ok-papers_in-clause-reach c = has_reach c.args.request.now c.args.input.now _ _ _ c.in-Ok.ensures.answer c.in-Ok-papers_in.ensures.reach
+returns-in-Ok-papers_in-clause-reach c = has_reach c.args.request.now c.args.input.now _ _ c.in-Ok.ensures.answer c.in-Ok-papers_in.ensures.reach
 
 pub returns-in-Ok-papers_in-clause-behind : goal.returns-in-Ok-papers_in-clause-behind
 returns-in-Ok-papers_in-clause-behind c = has_behind c.args.input.now _ _ c.in-Ok.ensures.answer c.in-Ok-papers_in.ensures.behind

@@ -15,4 +15,4 @@ pub returns : goal.returns
 returns g c =
     made_comes c.args.job.now c.in-Ok.row.sheets _ (option_map (λ n. n.now) c.args.name) (g.W.World.tells c.args.world)
     c.write_sheets.result.outcome (is_some c.write_sheets.result.output) (option_and_then g.W.Output.Write.contents c.write_sheets.result.output)
-    c.in-Ok.ensures.asked c.in-Ok.ensures.stands (both_drawn (c.as_slice.ensures.value ∙ c.in-Ok.ensures.marked) c.in-Ok.ensures.numbered) c.write_sheets.ensures
+    c.in-Ok.ensures.turned (both_drawn (c.as_slice.ensures.value ∙ c.in-Ok.ensures.marked) c.in-Ok.ensures.numbered) c.write_sheets.ensures

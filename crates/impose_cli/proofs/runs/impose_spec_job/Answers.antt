@@ -1,5 +1,4 @@
 use Rattle.std.proofs.Common.{is_some, option_and_then, option_map}
-use Rattle.row_runs.proofs.Refused.{spec_unmade}
 use Rattle.row_runs.specs.BySpec.{ImposesBySpec}
 use Rattle.impose_cli.specs.SpecRows.{RefusesSpecRowJob}
 use Rattle.impose_cli.proofs.Coming.{comes_refused}
@@ -10,7 +9,7 @@ pub returns-in-Err : goal.returns-in-Err
 returns-in-Err g c =
     comes_refused (RefusesSpecRowJob c.args.job.now) (ImposesBySpec c.args.job.now) _ (g.W.World.tells c.args.world) c.asked_fault_of.result
     c.stopped.result.outcome (is_some c.stopped.result.output) (option_and_then g.W.Output.Write.contents c.stopped.result.output) c.stopped.ensures.outcome c.stopped.ensures.output
-    (c.in-Err.error, rw c.pages.ensures.count at c.asked_fault_of.ensures, spec_unmade c.args.job.now c.in-Err.error c.in-Err.ensures.refused)
+    (c.in-Err.error, rw c.pages.ensures.count at c.asked_fault_of.ensures, c.in-Err.ensures.refused)
 
 pub returns : goal.returns
 returns g c =

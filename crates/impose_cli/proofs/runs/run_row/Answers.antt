@@ -12,5 +12,5 @@ pub returns : goal.returns
 returns g c =
     let left = c.impose_task-left.result in
     subst (λ o. Runs c.args.request.now c.args.input.items (g.W.World.tells c.args.world) c.reported.result.outcome (is_some o) (option_and_then g.W.Output.Write.contents o)) (sym c.reported.ensures.output)
-    (row_runs c.args.request.now c.args.input.items c.in-Ok.task c.told_pages-told.result (g.W.World.tells c.args.world) c.reported.result.outcome left.outcome (is_some left.output)
-    (option_and_then g.W.Output.Write.contents left.output) c.requires.rows c.in-Ok.ensures.is_task (rw c.as_slice.ensures.value at c.told_pages-told.ensures) c.reported.ensures.outcome c.impose_task-left.ensures)
+    (row_runs c.args.request.now c.args.input.items c.in-Ok.task c.told_by-told.result (g.W.World.tells c.args.world) c.reported.result.outcome left.outcome (is_some left.output)
+    (option_and_then g.W.Output.Write.contents left.output) c.requires.rows c.in-Ok.ensures.is_task (rw c.as_slice.ensures.value at c.told_by-told.ensures) c.reported.ensures.outcome c.impose_task-left.ensures)

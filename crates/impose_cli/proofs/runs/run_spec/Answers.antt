@@ -18,6 +18,6 @@ pub returns : goal.returns
 returns g c =
     let left = c.impose_by_spec-left.result in
     subst (λ o. Runs c.args.request.now c.args.input.items (g.W.World.tells c.args.world) c.reported.result.outcome (is_some o) (option_and_then g.W.Output.Write.contents o)) (sym c.reported.ensures.output)
-    (spec_runs c.args.request.now c.args.input.items c.in-Ok.task c.told_pages-told.result (g.W.World.tells c.args.world) c.reported.result.outcome left.outcome (is_some left.output)
-    (option_map (λ n. n.now) c.name_of.result) (option_and_then g.W.Output.Write.contents left.output) c.requires.spec c.in-Ok.ensures.is_task (rw c.as_slice.ensures.value at c.told_pages-told.ensures) c.reported.ensures.outcome c.name_of.ensures
+    (spec_runs c.args.request.now c.args.input.items c.in-Ok.task c.told_by-told.result (g.W.World.tells c.args.world) c.reported.result.outcome left.outcome (is_some left.output)
+    (option_map (λ n. n.now) c.name_of.result) (option_and_then g.W.Output.Write.contents left.output) c.requires.spec c.in-Ok.ensures.is_task (rw c.as_slice.ensures.value at c.told_by-told.ensures) c.reported.ensures.outcome c.name_of.ensures
     c.impose_by_spec-left.ensures)

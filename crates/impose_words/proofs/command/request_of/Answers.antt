@@ -9,9 +9,9 @@ returns-in-Err-clause-refused c = inl (c.bad_value.ensures _ (at_once _ c.in-Err
 
 pub returns-in-Err-layout_of-clause-refused : goal.returns-in-Err-layout_of-clause-refused
 returns-in-Err-layout_of-clause-refused c =
-    inl (says_next (rows_of (found_of c.args.found.now)) c.in-Err-layout_of.fault _ _ (sizes_right _ _ _ _ c.in-Ok.ensures.read) c.in-Err-layout_of.ensures.refused)
+    inl (says_next (rows_of (found_of c.args.found.now)) c.in-Err-layout_of.fault _ _ (sizes_right _ _ _ _ _ c.in-Ok.ensures.read) c.in-Err-layout_of.ensures.refused)
 
 pub returns-in-Ok-layout_of-clause-refused : goal.returns-in-Ok-layout_of-clause-refused
 returns-in-Ok-layout_of-clause-refused c =
     IfErr-weaker c.request_for.result _ _
-    (λ f h. inr (c.in-Ok-layout_of.layout, c.in-Ok-layout_of.ensures.read, sizes_right _ _ _ _ c.in-Ok.ensures.read, h)) c.request_for.ensures.refused
+    (λ f h. inr (c.in-Ok-layout_of.layout, c.in-Ok-layout_of.ensures.read, sizes_right _ _ _ _ _ c.in-Ok.ensures.read, h)) c.request_for.ensures.refused

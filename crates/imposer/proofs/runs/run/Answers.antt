@@ -1,5 +1,5 @@
 use Rattle.imposer.specs.Runs.{request}
-use Rattle.imposer.proofs.Made.{says_finished, says_refused, says_written, says_steady, says_failed}
+use Rattle.imposer.proofs.Answered.{says_finished, says_refused, says_written, says_steady, says_failed}
 use Rattle.imposer.proofs.runs.run.Goals as goal
 
 pub returns-clause-finished : goal.returns-clause-finished

@@ -1,9 +1,14 @@
-use Rattle.papers.specs.Reach.{Placing, placing}
-use Rattle.papers.proofs.ReachingPages.{one_more_page}
+use Rattle.std.proofs.Common.{List, Option, ap, ◌∙◌}
+use Rattle.papers.specs.Reach.{placing, reach_of}
+use Rattle.papers.specs.declared.boxes.Edges.{Edges}
+use Rattle.papers.proofs.PageBoxes.{each_box}
 use Rattle.papers.proofs.reach.reach_beyond.Goals as goal
 
-pub loop-page-preserved : goal.loop-page-preserved
-loop-page-preserved c =
-    let pages : Placing = placing c.args.pages.now.taken.now c.args.pages.now.own.now c.args.pages.now.boxes.now c.args.pages.now.cut_apart in
-    one_more_page pages c.args.pages.now.papers.now c.loop-page.page c.index-papers-page.result c.extent_at.result c.loop-page.reach c.with_if_beyond-reach.result
-    c.index-papers-page.is c.loop-page-test.true c.loop-page.invariant c.extent_at.ensures c.with_if_beyond-reach.ensures
+pub returns : goal.returns
+returns c =
+    let pages = c.args.pages.now in
+    let text = c.text-text in
+    let same = each_box pages.document.now text.result.now c.split_at.result.0.now c.header_len.result _
+    text.ensures.text text.ensures.units c.header_len.ensures.value c.split_at.ensures.front c.box_of.ensures in
+    c.reach_with.ensures
+    ∙ ap (λ (boxes : List (Option Edges)). reach_of (placing pages.taken.now pages.own.now boxes pages.cut_apart) pages.papers.now) same

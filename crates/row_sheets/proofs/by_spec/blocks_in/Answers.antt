@@ -1,13 +1,14 @@
 use Rattle.std.proofs.Common.{arith, ◌*◌, length, ap, ◌∙◌}
 use Rattle.std.proofs.lemmas.Nat.{mul-le}
 use Rattle.row_sheets.proofs.BlockByBlock.{counted, few_blocks}
+use Rattle.row_sheets.proofs.NoPlan.{many_places, many_sheets}
 use Rattle.row_sheets.proofs.by_spec.blocks_in.Goals as goal
 
 pub returns-then-blocks-groups-gt-MOST_SHEETS-clause-refused : goal.returns-then-blocks-groups-gt-MOST_SHEETS-clause-refused
 returns-then-blocks-groups-gt-MOST_SHEETS-clause-refused c =
     let on = c.args.on.now in
     let k = counted on.spec.now on.sheet on.page on.row.now c.modulo.result c.div_ceil-blocks.result c.groups-groups.result.now c.modulo.ensures.admissible c.modulo.ensures.value c.groups-groups.ensures.items c.div_ceil-blocks.ensures in
-    omega (arith, k.sheet_total, c.if-blocks-groups-gt-MOST_SHEETS.true)
+    many_sheets on.spec.now on.sheet on.page on.row.now (omega (arith, k.sheet_total, c.if-blocks-groups-gt-MOST_SHEETS.true))
 
 pub slots_in_block-requires : goal.slots_in_block-requires
 slots_in_block-requires c =
@@ -28,7 +29,8 @@ returns-then-blocks-slots_in_block-gt-MOST_PLACES-clause-refused c =
     let on = c.args.on.now in
     let k = counted on.spec.now on.sheet on.page on.row.now c.modulo.result c.div_ceil-blocks.result c.groups-groups.result.now c.modulo.ensures.admissible c.modulo.ensures.value c.groups-groups.ensures.items c.div_ceil-blocks.ensures in
     let total = ap (λ n. c.div_ceil-blocks.result * n) c.slots_in_block.ensures ∙ k.slot_total in
-    (omega (arith, k.sheet_total, c.if-blocks-groups-gt-MOST_SHEETS.false), omega (arith, total, c.if-blocks-slots_in_block-gt-MOST_PLACES.true))
+    many_places on.spec.now on.sheet on.page on.row.now c.modulo.ensures.admissible
+    (omega (arith, k.sheet_total, c.if-blocks-groups-gt-MOST_SHEETS.false)) (omega (arith, total, c.if-blocks-slots_in_block-gt-MOST_PLACES.true))
 
 pub overflow_cast-result : goal.overflow_cast-result
 overflow_cast-result c =

@@ -1,10 +1,10 @@
-//! A run over sheets that were made: pages with papers of their own, and lines in the header and on each sheet.
+//! A run over sheets that were made: pages and sheets with papers of their own, and lines in the header and on each sheet.
 ghost use Rattle.std.specs.Prelude.{◌≡◌};
 ghost use Rattle.sheet_writer.specs.Sinks.{IsCountable};
 
 use crate::tests::checks::{assert_bytes, assert_that};
 use dsc::Document;
-use imposer::{Dress, Job, Lines, MemorySink, Open, Report, SheetLines, Sink, Workers, run_plan};
+use imposer::{Dress, Job, Lines, MemorySink, Numbers, Open, Report, Sink, Workers, run_plan};
 use lengths::{Grains, Number, Paper, paper_by_name};
 use pagespec::{Item, Measure, Turn};
 use sheet_plan::{MadeSheets, MadeSlot, Plan};
@@ -14,14 +14,29 @@ use std::test::Fail;
 use std::thread::Threads;
 use test_tools::{A4_SIDES, TWO_PAGES, UNMOVED, page_body, placed_on, sheet};
 
-/// On the first sheet the second page on A4 and the first on A5; on the other one that alone; and a line at each of the
-/// three places.
+const A5_SIDES: (&str, &str) = ("420", "595");
+
+/// The lines at the start of a sheet of this paper.
+fn told(alloc: Global, sides: (&str, &str)) -> Result<String, AllocError> {
+    let (width, height) = sides;
+    format!(in alloc;
+        "%%PageMedia: {width}x{height}\n\
+        /PStoPSenablepage where {{pop PStoPSenablepage}}\n\
+        {{userdict /showpage 2 copy known {{get dup type /operatortype eq {{pop true}} {{length 0 ne}} ifelse}} {{pop pop true}} ifelse}} ifelse\n\
+        systemdict /setpagedevice known and {{1 dict dup /PageSize [{width} {height}] put systemdict /setpagedevice get exec}} if\n"
+    )
+}
+
+/// On the first sheet the second page on A4 and the first on A5; on the other one that alone; and a line in the header and at
+/// the end of each sheet.
 fn dressed_output(alloc: Global) -> Result<String, AllocError> {
     let first = placed_on(alloc, A4_SIDES, UNMOVED, &page_body(alloc, 1)?)?;
-    let second = placed_on(alloc, ("420", "595"), UNMOVED, &page_body(alloc, 0)?)?;
-    let pages = format!(in alloc; "%%PageMedia: x\n{first}{second}% end\n")?;
+    let second = placed_on(alloc, A5_SIDES, UNMOVED, &page_body(alloc, 0)?)?;
+    let start = told(alloc, A4_SIDES)?;
+    let pages = format!(in alloc; "{start}{first}{second}% end\n")?;
     let first = sheet(alloc, 1, &pages)?;
-    let pages = format!(in alloc; "%%PageMedia: x\n{second}% end\n")?;
+    let start = told(alloc, A5_SIDES)?;
+    let pages = format!(in alloc; "{start}{second}% end\n")?;
     let second = sheet(alloc, 2, &pages)?;
     format!(in alloc;
         "%!PS-Adobe-3.0\n%%Pages: 2\n%%DocumentMedia: x\n%%EndComments\n{first}{second}%%Trailer\n%%EOF\n"
@@ -56,18 +71,18 @@ fn two_sheets(alloc: Global, first: Paper, second: Paper) -> Result<MadeSheets, 
     Ok(sheets)
 }
 
-/// Lines for two sheets, which are the same on both.
-fn lines(alloc: Global) -> Result<Dress, Fail> {
+/// The dress of sheets that report their papers, and end with the same line.
+fn lines<'n>(alloc: Global, numbers: &'n Option<Numbers>) -> Result<Dress<'n>, Fail> {
     let mut header = Lines::new(alloc);
     header.push(b"%%DocumentMedia: x")?;
-    let mut start = Lines::new(alloc);
-    start.push(b"%%PageMedia: x")?;
     let mut finish = Lines::new(alloc);
     finish.push(b"% end")?;
-    let mut dress = Dress::new(alloc, header);
-    dress.push(SheetLines { start, finish })?;
-    dress.push_like(0)?;
-    Ok(dress)
+    Ok(Dress {
+        header,
+        tells_papers: true,
+        finish,
+        numbers,
+    })
 }
 
 /// Runs over the two pages.
@@ -75,16 +90,13 @@ fn run_dressed<R: Threads + Wait + Sync, S: Sink>(
     rt: &R,
     alloc: Global,
     sheets: &MadeSheets,
-    dress: &Dress,
+    dress: &Dress<'_>,
     sink: &mut S,
 ) -> Result<Report, Fail>
     requires { IsCountable (S.seen sink.old) }
 {
     let document = Document::read(alloc, TWO_PAGES.as_bytes())?;
     let plan = Plan::of_sheets(alloc, document.pages(), sheets)?;
-    if dress.len() != sheets.len() {
-        return Err(AllocError)?;
-    }
     let job = Job::made(&plan, &document, sheets, None, Grains::ZERO, dress);
     let workers = Workers {
         preparers: 1,
@@ -98,7 +110,8 @@ fn run_two<R: Threads + Wait + Sync>(rt: &R, alloc: Global) -> Result<(MemorySin
     let a4 = paper_by_name("a4").ok_or(AllocError)?;
     let a5 = paper_by_name("a5").ok_or(AllocError)?;
     let sheets = two_sheets(alloc, a4, a5)?;
-    let dress = lines(alloc)?;
+    let numbers = None;
+    let dress = lines(alloc, &numbers)?;
     let mut sink = MemorySink::new(alloc, 1_000, 1_000, 100)?;
     let report = run_dressed(rt, alloc, &sheets, &dress, &mut sink)?;
     Ok((sink, report))

@@ -1,5 +1,5 @@
 //! Two hundred pages, by few workers and by many.
-ghost use Rattle.imposer.specs.Workers.{AreWorkers};
+ghost use Rattle.planned_runs.specs.Workers.{AreWorkers};
 
 use crate::tests::checks::assert_that;
 use crate::tests::{WHOLE, gather_pairs};

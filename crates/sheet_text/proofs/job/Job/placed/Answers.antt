@@ -7,34 +7,33 @@ use Rattle.made_sheets.specs.Dress.{undressed}
 use Rattle.made_sheets.specs.Dressed.{DressedSheet, dressed_sheets}
 use Rattle.sheet_plan.specs.Plans.{IsSound}
 use Rattle.sheet_plan.specs.OfSheets.{slots_at}
-use Rattle.sheet_text.specs.Dressings.{dressed_by}
+use Rattle.sheet_text.specs.Dressings.{dress_in}
 use Rattle.sheet_text.specs.Jobs.{JobView, AreOfPlan, no_sheet}
 use Rattle.sheet_text.specs.PapersOf.{sheets_on}
-use Rattle.sheet_text.specs.declared.papers.SheetPapers.{SheetPapers}
-use Rattle.sheet_text.proofs.Hemmed.{counted, within_both, slots_are}
+use Rattle.sheet_text.specs.declared.sheet_papers.SheetPapers.{SheetPapers}
+use Rattle.sheet_text.proofs.Dressed.{counted, slots_are}
 use Rattle.sheet_text.proofs.OnePaper.{slot_at, blank_at}
 use Rattle.sheet_text.proofs.Slots.{slot_count, page_within}
 use Rattle.sheet_text.proofs.job.Job.placed.Goals as goal
 
 pub placed-requires-clause-sheet : goal.placed-requires-clause-sheet
 placed-requires-clause-sheet c =
-    let hems = c.in-Made.field-1.now.hems in
+    let dress = dress_in c.in-Made.field-1.now in
     let all = c.in-Made.sheets.now in
     let job = c.args.self.now in
-    let is : dressed_by hems all ≡ job.sheets = ap (λ (p : SheetPapers). sheets_on p c.self.inside.plan.now) (sym c.in-Made.is) ∙ ap (λ (j : JobView). j.sheets) c.self.view_is in
+    let is : dressed_sheets dress all ≡ job.sheets = ap (λ (p : SheetPapers). sheets_on p c.self.inside.plan.now) (sym c.in-Made.is) ∙ ap (λ (j : JobView). j.sheets) c.self.view_is in
     let of : AreOfPlan job.plan job.sheets = subst (λ (j : JobView). AreOfPlan j.plan j.sheets) c.self.view_is c.self.invariant.3 in
-    (within_both hems all c.args.sheet (counted job.plan job.sheets hems all c.args.sheet is of c.requires.sheet)).1
+    counted job.plan job.sheets dress all c.args.sheet is of c.requires.sheet
 
 pub placed-requires-clause-slot : goal.placed-requires-clause-slot
 placed-requires-clause-slot c =
-    let hems = c.in-Made.field-1.now.hems in
+    let dress = dress_in c.in-Made.field-1.now in
     let all = c.in-Made.sheets.now in
     let job = c.args.self.now in
-    let is : dressed_by hems all ≡ job.sheets = ap (λ (p : SheetPapers). sheets_on p c.self.inside.plan.now) (sym c.in-Made.is) ∙ ap (λ (j : JobView). j.sheets) c.self.view_is in
+    let is : dressed_sheets dress all ≡ job.sheets = ap (λ (p : SheetPapers). sheets_on p c.self.inside.plan.now) (sym c.in-Made.is) ∙ ap (λ (j : JobView). j.sheets) c.self.view_is in
     let of : AreOfPlan job.plan job.sheets = subst (λ (j : JobView). AreOfPlan j.plan j.sheets) c.self.view_is c.self.invariant.3 in
-    let lt = counted job.plan job.sheets hems all c.args.sheet is of c.requires.sheet in
     let there : length (slice_index_or job.sheets c.args.sheet no_sheet).slots ≡ length (slots_at all c.args.sheet) =
-    ap (λ (sheets : List DressedSheet). length (slice_index_or sheets c.args.sheet no_sheet).slots) (sym is) ∙ ap (λ (slots : List MadeSlot). length slots) (slots_are hems all c.args.sheet lt) in
+    ap (λ (sheets : List DressedSheet). length (slice_index_or sheets c.args.sheet no_sheet).slots) (sym is) ∙ ap (λ (slots : List MadeSlot). length slots) (slots_are dress all c.args.sheet) in
     let count = slot_count job.plan job.sheets c.args.sheet of in
     let within = c.requires.slot in
     let same = c.from.ensures in
@@ -58,29 +57,27 @@ returns-in-None-clause-value c =
 
 pub returns-in-Made-clause-value : goal.returns-in-Made-clause-value
 returns-in-Made-clause-value c =
-    let hems = c.in-Made.field-1.now.hems in
+    let dress = dress_in c.in-Made.field-1.now in
     let all = c.in-Made.sheets.now in
     let job = c.args.self.now in
-    let is : dressed_by hems all ≡ job.sheets = ap (λ (p : SheetPapers). sheets_on p c.self.inside.plan.now) (sym c.in-Made.is) ∙ ap (λ (j : JobView). j.sheets) c.self.view_is in
+    let is : dressed_sheets dress all ≡ job.sheets = ap (λ (p : SheetPapers). sheets_on p c.self.inside.plan.now) (sym c.in-Made.is) ∙ ap (λ (j : JobView). j.sheets) c.self.view_is in
     let of : AreOfPlan job.plan job.sheets = subst (λ (j : JobView). AreOfPlan j.plan j.sheets) c.self.view_is c.self.invariant.3 in
-    let lt = counted job.plan job.sheets hems all c.args.sheet is of c.requires.sheet in
     ap (λ (sheets : List DressedSheet). slice_get (slice_index_or sheets c.args.sheet no_sheet).slots c.args.slot) (sym is)
-    ∙ ap (λ (slots : List MadeSlot). slice_get slots c.args.slot) (slots_are hems all c.args.sheet lt)
+    ∙ ap (λ (slots : List MadeSlot). slice_get slots c.args.slot) (slots_are dress all c.args.sheet)
     ∙ ap (slice_get (slots_at all c.args.sheet)) (sym c.from.ensures)
     ∙ c.placed.ensures
 
 pub returns-in-Made-clause-page : goal.returns-in-Made-clause-page
 returns-in-Made-clause-page c =
-    let hems = c.in-Made.field-1.now.hems in
+    let dress = dress_in c.in-Made.field-1.now in
     let all = c.in-Made.sheets.now in
     let job = c.args.self.now in
-    let is : dressed_by hems all ≡ job.sheets = ap (λ (p : SheetPapers). sheets_on p c.self.inside.plan.now) (sym c.in-Made.is) ∙ ap (λ (j : JobView). j.sheets) c.self.view_is in
+    let is : dressed_sheets dress all ≡ job.sheets = ap (λ (p : SheetPapers). sheets_on p c.self.inside.plan.now) (sym c.in-Made.is) ∙ ap (λ (j : JobView). j.sheets) c.self.view_is in
     let of : AreOfPlan job.plan job.sheets = subst (λ (j : JobView). AreOfPlan j.plan j.sheets) c.self.view_is c.self.invariant.3 in
     let sound : IsSound job.plan = subst (λ (j : JobView). IsSound j.plan) c.self.view_is c.self.invariant.2 in
     let all_pages : job.plan.pages ≡ length (pages job.units) = subst (λ (j : JobView). j.plan.pages ≡ length (pages j.units)) c.self.view_is c.self.invariant.0 in
-    let lt = counted job.plan job.sheets hems all c.args.sheet is of c.requires.sheet in
     page_within job.plan job.sheets c.args.sheet c.args.slot _ c.placed.result sound of c.requires.sheet all_pages
     (ap (λ (sheets : List DressedSheet). slice_get (slice_index_or sheets c.args.sheet no_sheet).slots c.args.slot) (sym is)
-    ∙ ap (λ (slots : List MadeSlot). slice_get slots c.args.slot) (slots_are hems all c.args.sheet lt)
+    ∙ ap (λ (slots : List MadeSlot). slice_get slots c.args.slot) (slots_are dress all c.args.sheet)
     ∙ ap (slice_get (slots_at all c.args.sheet)) (sym c.from.ensures)
     ∙ c.placed.ensures)

@@ -1,0 +1,152 @@
+//! Words of a command line of pstops as they are written for a shell.
+ghost use Rattle.std.specs.Prelude.{◌≡◌, ◌++◌, ◌<◌, OnOk, flat_map, option_map};
+ghost use Rattle.rules.specs.Numbers.{number_text};
+ghost use Rattle.command_words.specs.Shell as meaning;
+
+use lengths::{Grains, Number, print_number};
+use std::alloc::AllocError;
+
+/// Appends a text if it is said.
+pub fn append_if(said: bool, text: &[u8], out: &mut Vec<u8>) -> Result<(), AllocError>
+    ensures { OnOk result (out.new.items ≡ out.old.items ++ meaning.text_if said text.now) }
+{
+    if said {
+        out.extend_from_slice(text)
+    } else {
+        Ok(())
+    }
+}
+
+/// Whether a command could take a word for an option.
+pub fn begins_with_minus(text: &str) -> bool
+    ensures { result ≡ meaning.begins_with_minus text.now }
+{
+    text.as_bytes().starts_with(b"-")
+}
+
+/// Appends a length in the first unit of which it is a number with at most nine decimals.
+pub fn append_length(length: Grains, out: &mut Vec<u8>) -> Result<(), AllocError>
+    ensures { OnOk result (out.new.items ≡ out.old.items ++ meaning.length_text length) }
+{
+    if let Some(points) = number_in(length, 127) {
+        return append_number(points, b"pt", out);
+    }
+    if let Some(millimetres) = number_in(length, 360) {
+        return append_number(millimetres, b"mm", out);
+    }
+    if let Some(inches) = number_in(length, 9_144) {
+        return append_number(inches, b"in", out);
+    }
+    match number_in(length, 3_600) {
+        Some(centimetres) => append_number(centimetres, b"cm", out),
+        None => Ok(()),
+    }
+}
+
+fn append_number(number: Number, unit: &[u8], out: &mut Vec<u8>) -> Result<(), AllocError>
+    ensures { OnOk result (out.new.items ≡ out.old.items ++ (number_text number ++ unit.now)) }
+{
+    print_number(number, out)?;
+    out.extend_from_slice(unit)
+}
+
+/// A length as a number of a unit, of which 10^-9 is so many grains.
+fn number_in(length: Grains, grains: u128) -> Option<Number>
+    requires { 0 < grains }
+    ensures { result ≡ meaning.number_in length grains }
+{
+    let length = length.get();
+    if length < 0 {
+        return None;
+    }
+    let size = length.unsigned_abs();
+    if size % grains != 0 {
+        return None;
+    }
+    let billionths = size / grains;
+    if billionths > 99_999_999_999_999 {
+        return None;
+    }
+    Number::new(billionths as i64)
+}
+
+/// Appends the option for so many sides of a signature, if there are signatures.
+pub fn append_sides(sides: Option<u32>, out: &mut Vec<u8>) -> Result<(), AllocError>
+    ensures { OnOk result (out.new.items ≡ out.old.items ++ meaning.sides_text sides) }
+{
+    match sides {
+        Some(sides) => {
+            let alloc = *out.allocator();
+            let text = format!(in alloc; " -s {sides}")?;
+            out.extend_from_slice(text.as_str().as_bytes())
+        }
+        None => Ok(()),
+    }
+}
+
+/// Appends the option for a border of this width, if there is one.
+pub fn append_border(border: Option<Grains>, out: &mut Vec<u8>) -> Result<(), AllocError>
+    ensures { OnOk result (out.new.items ≡ out.old.items ++ meaning.border_text border) }
+{
+    match border {
+        Some(width) => {
+            out.extend_from_slice(b" -d ")?;
+            append_length(width, out)
+        }
+        None => Ok(()),
+    }
+}
+
+/// Appends the names of the files that are read and written; standard streams have none.
+pub fn append_files(
+    infile: Option<&str>,
+    outfile: Option<&str>,
+    out: &mut Vec<u8>,
+) -> Result<(), AllocError>
+    ensures { OnOk result (out.new.items ≡ out.old.items
+        ++ meaning.files_text (option_map (λ n. n.now) infile.entry) (option_map (λ n. n.now) outfile.entry)) }
+{
+    match (infile, outfile) {
+        (None, None) => Ok(()),
+        (Some(infile), None) => append_file(infile, out),
+        // pstops has no word for standard input but a file of the system's.
+        (None, Some(outfile)) => {
+            append_file("/dev/stdin", out)?;
+            append_file(outfile, out)
+        }
+        (Some(infile), Some(outfile)) => {
+            append_file(infile, out)?;
+            append_file(outfile, out)
+        }
+    }
+}
+
+/// Appends a file's name in quotes, after a blank. One that begins with a minus sign isn't to be taken for an option.
+fn append_file(name: &str, out: &mut Vec<u8>) -> Result<(), AllocError>
+    ensures { OnOk result (out.new.items ≡ out.old.items ++ meaning.file_text name.now) }
+{
+    out.extend_from_slice(b" '")?;
+    append_if(begins_with_minus(name), b"./", out)?;
+    append_quoted(name.as_bytes(), out)?;
+    out.extend_from_slice(b"'")
+}
+
+fn append_quoted(bytes: &[u8], out: &mut Vec<u8>) -> Result<(), AllocError>
+    ensures { OnOk result (out.new.items ≡ out.old.items ++ flat_map meaning.quoted_byte bytes.now) }
+{
+    for byte in bytes {
+        append_byte(*byte, out)?;
+    }
+    Ok(())
+}
+
+/// A quote ends what is quoted, is written by itself, and begins it again.
+fn append_byte(byte: u8, out: &mut Vec<u8>) -> Result<(), AllocError>
+    ensures { OnOk result (out.new.items ≡ out.old.items ++ meaning.quoted_byte byte) }
+{
+    if byte == b'\'' {
+        return out.extend_from_slice(b"'\\''");
+    }
+    out.push(byte)?;
+    Ok(())
+}

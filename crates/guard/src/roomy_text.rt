@@ -1,0 +1,64 @@
+//! A document's text with room before it, in which the guard is put without moving all of it.
+ghost use Rattle.std.specs.Prelude.{◌≡◌, ◌≤◌, drop, vec_len, option_map, OnErr, OnOk};
+ghost use Rattle.guard.specs.Guard.{guarded};
+
+use crate::text::put_guard_before;
+use lengths::Paper;
+use std::alloc::AllocError;
+use std::marker::Model;
+
+/// A document's text. Before it there may be room, which isn't seen.
+#[derive(Debug, Drop)]
+pub struct RoomyText {
+    bytes: Vec<u8>,
+    /// At which byte the text begins.
+    start: usize,
+}
+
+impl Model for RoomyText {
+    ghost use Rattle.std.specs.Prelude.{◌≤◌, drop, vec_len};
+    ghost use Rattle.guard.specs.Texts.{TextView};
+
+    ghost Value = { TextView };
+
+    ghost view = { λ t. record { items = drop t.start t.bytes.items } };
+
+    ghost invariant = { λ t. t.start ≤ vec_len t.bytes };
+}
+
+impl RoomyText {
+    /// The text that begins at this byte.
+    pub fn behind(start: usize, bytes: Vec<u8>) -> RoomyText
+        requires { start ≤ vec_len bytes }
+        ensures { result.items ≡ drop start bytes.items }
+    {
+        RoomyText { bytes, start }
+    }
+
+    /// Its bytes.
+    pub fn as_slice(&self) -> &[u8]
+        ensures value { result.now ≡ self.now.items }
+    {
+        let (_, text) = self.bytes.as_slice().split_at(self.start);
+        text
+    }
+
+    /// Puts the guard in, for this paper of the sheet. If there is room for it before the text, the header comments alone
+    /// are moved. Refused for memory alone; the text is as it was then.
+    pub fn put_guard(&mut self, sheet_paper: Option<&Paper>) -> Result<(), AllocError>
+        ensures put_in { OnOk result
+            (self.new.items ≡ guarded (option_map (λ p. p.now) sheet_paper.entry) self.old.items) }
+        ensures unchanged { OnErr result (self.new.items ≡ self.old.items) }
+    {
+        self.start = put_guard_before(&mut self.bytes, self.start, sheet_paper)?;
+        Ok(())
+    }
+}
+
+impl From<Vec<u8>> for RoomyText {
+    ghost from_gives = { λ bytes text. text.items ≡ bytes.items };
+
+    fn from(bytes: Vec<u8>) -> RoomyText {
+        RoomyText { bytes, start: 0 }
+    }
+}

@@ -1,0 +1,81 @@
+//! What a document says of itself.
+ghost use Rattle.std.specs.Prelude.{◌≡◌, codes, option_map};
+ghost use Rattle.papers.specs.Media.{comment_value, contents};
+ghost use Rattle.impose_cli.specs.Claims as meaning;
+
+use dsc::header_len;
+use impose_said::Told;
+use impose_words::ImposeRequest;
+use lengths::Paper;
+use papers::{Comment, document_paper, first_comment, first_name};
+use row_runs::told_pages;
+use std::alloc::Global;
+
+/// What a document says of itself, as far as it is reported. Without memory for a name it has none.
+pub(crate) fn told_by(alloc: Global, request: &ImposeRequest, input: &[u8]) -> Told
+    ensures { meaning.IsToldBy request.now input.now result }
+{
+    let pages = told_pages(input);
+    let unknown = kept(alloc, unknown_paper(request, input));
+    Told { pages, unknown }
+}
+
+fn kept(alloc: Global, name: Option<&[u8]>) -> Option<Vec<u8>>
+    ensures { meaning.IsKept (option_map (λ n. n.now) name.entry) (option_map (λ n. n.items) result) }
+{
+    match Vec::from_slice(alloc, name?) {
+        Ok(kept) => Some(kept),
+        Err(_) => None,
+    }
+}
+
+/// The name of the document's paper, if it isn't known, and no paper is named for the pages.
+fn unknown_paper<'t>(request: &ImposeRequest, input: &'t [u8]) -> Option<&'t [u8]>
+    ensures { option_map (λ name. name.now) result
+        ≡ meaning.unknown_paper request.now.page_paper request.now.home_paper input.now }
+{
+    match request.page_paper {
+        Some(_) => None,
+        None => unknown_name(&request.home_paper, input),
+    }
+}
+
+/// The first name in the document's `%%DocumentPaperSizes:`, if none gives its paper (DSC 2.1).
+fn unknown_name<'t>(usual: &Paper, input: &'t [u8]) -> Option<&'t [u8]>
+    ensures { option_map (λ name. name.now) result ≡ meaning.unknown_name usual.now input.now }
+{
+    if is_by_name(document_paper(input, usual)) {
+        return None;
+    }
+    let (header, _) = input.split_at(header_len(input));
+    first_name(names_value(header)?)
+}
+
+fn is_by_name(found: Option<(Paper, Comment)>) -> bool
+    ensures { result ≡ meaning.is_by_name found }
+{
+    match found {
+        Some((_, comment)) => is_name(comment),
+        None => false,
+    }
+}
+
+/// Whether a comment names papers or media.
+fn is_name(comment: Comment) -> bool
+    ensures { result ≡ meaning.is_name comment }
+{
+    match comment {
+        Comment::BoundingBox => false,
+        _ => true,
+    }
+}
+
+/// What comes after the colon of the first `%%DocumentPaperSizes:` among these lines.
+fn names_value(lines: &[u8]) -> Option<&[u8]>
+    ensures { option_map (λ value. value.now) result ≡ comment_value (codes "%%DocumentPaperSizes") (contents lines.now) }
+{
+    match first_comment(lines, b"%%DocumentPaperSizes", b"%%DocumentPaperSizes:") {
+        Some((value, _)) => Some(value),
+        None => None,
+    }
+}

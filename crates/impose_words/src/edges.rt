@@ -1,0 +1,151 @@
+//! What is kept free along the edges of a sheet, and between its cells, as people write it.
+ghost use Rattle.std.specs.Prelude.{◌≡◌, ◌<◌, Some, option_map};
+ghost use Rattle.impose_words.specs.Edges as meaning;
+ghost use Rattle.impose_words.specs.Sizes.{length_with_unit as length_of};
+
+use crate::sizes::length_with_unit;
+use layouts::Free;
+use lengths::Grains;
+
+/// The gaps that the text means: one length, or two with a comma between them.
+pub fn gaps_named(text: &str) -> Option<Free>
+    ensures { result ≡ meaning.gaps_named text.now }
+{
+    match cut_at(text, ',') {
+        None => gaps_of(text, text),
+        Some((across, up)) => gaps_of(across, up),
+    }
+}
+
+/// Two gaps, if both are lengths.
+fn gaps_of(across: &str, up: &str) -> Option<Free>
+    ensures { result ≡ meaning.gaps_of (length_of across.now) (length_of up.now) }
+{
+    Some(Free {
+        across: length_with_unit(across)?,
+        up: length_with_unit(up)?,
+        ..Free::none()
+    })
+}
+
+/// The margins that the text means: one length; two, for the edges on both sides, and for the upper and the lower one; four,
+/// clockwise from the upper edge; or up to four edges by their names.
+pub fn margins_named(text: &str) -> Option<Free>
+    ensures { result ≡ meaning.margins_named text.now }
+{
+    if cut_at(text, '=').is_some() {
+        edges_named(text)
+    } else {
+        lengths_named(text)
+    }
+}
+
+/// One, two or four lengths.
+fn lengths_named(text: &str) -> Option<Free>
+    ensures { result ≡ meaning.lengths_by (meaning.cut_at 44 text.now) text.now }
+{
+    match cut_at(text, ',') {
+        None => margins_of(text, text, text, text),
+        Some((one, rest)) => more_lengths(one, rest),
+    }
+}
+
+/// One or three lengths after the first one.
+fn more_lengths(one: &str, rest: &str) -> Option<Free>
+    ensures { result ≡ meaning.of_more (length_of one.now) (meaning.cut_at 44 rest.now) rest.now }
+{
+    match cut_at(rest, ',') {
+        None => margins_of(rest, one, rest, one),
+        Some((two, rest)) => last_lengths(one, two, rest),
+    }
+}
+
+/// The last two of four lengths.
+fn last_lengths(top: &str, right: &str, rest: &str) -> Option<Free>
+    ensures { result ≡ meaning.of_four (length_of top.now) (length_of right.now) (meaning.cut_at 44 rest.now) }
+{
+    match cut_at(rest, ',') {
+        None => None,
+        Some((bottom, left)) => margins_of(top, right, bottom, left),
+    }
+}
+
+/// Four margins, if all are lengths.
+fn margins_of(top: &str, right: &str, bottom: &str, left: &str) -> Option<Free>
+    ensures { result ≡ meaning.margins_of (length_of top.now) (length_of right.now) (length_of bottom.now) (length_of left.now) }
+{
+    Some(Free {
+        top: length_with_unit(top)?,
+        right: length_with_unit(right)?,
+        bottom: length_with_unit(bottom)?,
+        left: length_with_unit(left)?,
+        ..Free::none()
+    })
+}
+
+/// Up to four edges by their names.
+fn edges_named(text: &str) -> Option<Free>
+    ensures { result ≡ meaning.edges_by (meaning.cut_at 44 text.now) text.now }
+{
+    let none = Some(Free::none());
+    match cut_at(text, ',') {
+        None => edge_in(none, text),
+        Some((part, rest)) => more_edges(edge_in(none, part), rest),
+    }
+}
+
+/// Up to three edges after the first one.
+fn more_edges(free: Option<Free>, text: &str) -> Option<Free>
+    ensures { result ≡ meaning.more_edges free (meaning.cut_at 44 text.now) text.now }
+{
+    match cut_at(text, ',') {
+        None => edge_in(free, text),
+        Some((part, rest)) => last_edges(edge_in(free, part), rest),
+    }
+}
+
+/// The last two of them.
+fn last_edges(free: Option<Free>, text: &str) -> Option<Free>
+    ensures { result ≡ meaning.last_edges free (meaning.cut_at 44 text.now) text.now }
+{
+    match cut_at(text, ',') {
+        None => edge_in(free, text),
+        Some((part, rest)) => edge_in(edge_in(free, part), rest),
+    }
+}
+
+/// One edge, by its name and its length.
+fn edge_in(free: Option<Free>, text: &str) -> Option<Free>
+    ensures { result ≡ meaning.edge_in free text.now }
+{
+    let free = free?;
+    let (name, text) = cut_at(text, '=')?;
+    let margin = length_with_unit(text)?;
+    with_edge(free, name, margin)
+}
+
+/// The margin of the edge with this name.
+fn with_edge(free: Free, name: &str, margin: Grains) -> Option<Free>
+    ensures { result ≡ meaning.with_edge free name.now (Some margin) }
+{
+    let (left, right, top, bottom) = (margin, margin, margin, margin);
+    if name == "left" {
+        Some(Free { left, ..free })
+    } else if name == "right" {
+        Some(Free { right, ..free })
+    } else if name == "top" {
+        Some(Free { top, ..free })
+    } else if name == "bottom" {
+        Some(Free { bottom, ..free })
+    } else {
+        None
+    }
+}
+
+/// The text before the first such character, and the text after it.
+fn cut_at(text: &str, at: char) -> Option<(&str, &str)>
+    requires { at < 128 }
+    ensures { option_map (λ x. (x.0.now, x.1.now)) result ≡ meaning.cut_at at text.now }
+{
+    text.split_once(at)
+}

@@ -1,0 +1,35 @@
+use Rattle.std.proofs.Common.{rules, ◌≡◌, ◌<◌, ◌∙◌, length, drop, ap, sym, true, false, Some}
+use Rattle.rules.specs.Units.{content_of, is_comment}
+use Rattle.papers.specs.Media.{comment_value, value_of}
+use Rattle.papers.specs.Comments.{is_in_head}
+use Rattle.papers.proofs.Heads.{found_behind, found_in_head, head, head_ends}
+use Rattle.papers.proofs.page_heads.text_in_head.Goals as goal
+
+pub returns-then-not-is_in_head : goal.returns-then-not-is_in_head
+returns-then-not-is_in_head c =
+    let some : 0 < length c.loop-rest.rest.now = search rules in
+    let ends : is_in_head c.first_content-content.result.now ≡ false = search rules in
+    let no : is_in_head (content_of c.loop-rest.rest.now) ≡ false = ap is_in_head (sym c.first_content-content.ensures) ∙ ends in
+    sym (sym c.loop-rest.invariant ∙ head_ends c.args.key.now c.loop-rest.rest.now some no)
+
+pub returns-in-Some : goal.returns-in-Some
+returns-in-Some c =
+    let some : 0 < length c.loop-rest.rest.now = search rules in
+    let in_head : is_in_head c.first_content-content.result.now ≡ true = search rules in
+    let goes : is_in_head (content_of c.loop-rest.rest.now) ≡ true = ap is_in_head (sym c.first_content-content.ensures) ∙ in_head in
+    let is : is_comment c.args.key.now c.first_content-content.result.now ≡ true = search rules in
+    let has : is_comment c.args.key.now (content_of c.loop-rest.rest.now) ≡ true = ap (is_comment c.args.key.now) (sym c.first_content-content.ensures) ∙ is in
+    let told : c.in-Some.value.now ≡ value_of c.first_content-content.result.now = search rules in
+    let them = found_in_head c.args.key.now c.loop-rest.rest.now some goes has in
+    sym (sym c.loop-rest.invariant ∙ them ∙ ap (λ content. Some (value_of content)) (sym c.first_content-content.ensures) ∙ ap (λ v. Some v) (sym told))
+
+pub loop-rest-preserved : goal.loop-rest-preserved
+loop-rest-preserved c =
+    let some : 0 < length c.loop-rest.rest.now = search rules in
+    let in_head : is_in_head c.first_content-content.result.now ≡ true = search rules in
+    let goes : is_in_head (content_of c.loop-rest.rest.now) ≡ true = ap is_in_head (sym c.first_content-content.ensures) ∙ in_head in
+    let other : is_comment c.args.key.now c.first_content-content.result.now ≡ false = search rules in
+    let not_it : is_comment c.args.key.now (content_of c.loop-rest.rest.now) ≡ false = ap (is_comment c.args.key.now) (sym c.first_content-content.ensures) ∙ other in
+    let behind = found_behind c.args.key.now c.loop-rest.rest.now some goes not_it in
+    let moved = ap (λ t. comment_value c.args.key.now (head t)) (c.split_at.ensures.back ∙ ap (λ n. drop n c.loop-rest.rest.now) c.line_end_after.ensures.value) in
+    moved ∙ sym behind ∙ c.loop-rest.invariant

@@ -1,0 +1,169 @@
+-- How a gathering ends.
+use Rattle.std.proofs.Common.{ℕ, ◌+◌, ◌<◌, ◌≤◌, ◌≡◌, ◌⊎◌, inl, inr, ⊎_elim, refl, sym, ap, ◌∙◌, subst, arith, Bool, List, [], ◌∷◌, length, take, Option, Some, None, if◌then◌else◌, ◌==◌, eq-eqb}
+use Rattle.std.specs.Prelude.{Err, IfSome, IsNone, IsSome, IsTrue}
+use Rattle.std.specs.Io.KnownBytes.{Appends}
+use Rattle.std.proofs.KnownBytes.{Appends-nil}
+use Rattle.rules.specs.Sheets.{Layout}
+use Rattle.histories.specs.Seats.{whole_share, times}
+use Rattle.sheet_plan.specs.Places.{born_complete}
+use Rattle.gather_table.specs.History.{Entry}
+use Rattle.gather_table.specs.Shared.{TableView, SeatView, IsSeat, own_calls}
+use Rattle.handover.specs.Queue.{Move}
+use Rattle.handover.specs.Passes.{QueueView, PassView, IsPass}
+use Rattle.handover.specs.Shelves.{IsOn}
+use Rattle.handover.specs.declared.receipts.Overflow.{Overflow}
+use Rattle.sheet_text.specs.Jobs.{JobView, output_of}
+use Rattle.sheet_writer.specs.Sinks.{SinkView}
+use Rattle.sheet_writer.specs.Writing.{WroteFirst, HasFront, Stands}
+use Rattle.run_steps.specs.Delivery.{CloseWhatTheyFill}
+use Rattle.run_steps.specs.Duty.{Duty, owed}
+use Rattle.planned_runs.specs.Rooms.{HasRoomForAll}
+use Rattle.planned_runs.specs.Tokens.{AreTokens, AreUnused, done, put}
+use Rattle.run_steps.specs.Gathered.{HasPages, IsGathered, IsHandedOn, AreAllPut}
+use Rattle.planned_runs.specs.Gathering.{Answers, AreWhole, Concludes, HandsBack, GivesUp, IsFreshSeat, IsFreshPass}
+use Rattle.sheet_writer.specs.declared.writing.Halt.{Halt}
+use Rattle.sheet_writer.specs.declared.writing.Halt.TheVariants as halt
+use Rattle.sheet_writer.specs.declared.writing.Progress.{Progress}
+use Rattle.planned_runs.specs.declared.shared.Shared.{Shared}
+use Rattle.planned_runs.specs.declared.tokens.Holding.{Holding}
+use Rattle.planned_runs.specs.declared.gathering.Gathered.{Gathered}
+use Rattle.planned_runs.specs.declared.outcome.RunError.TheVariants.{NoMemory}
+use Rattle.planned_runs.specs.declared.tokens.Tokens.{Tokens}
+use Rattle.run_steps.proofs.Counts.{gathers_all}
+use Rattle.sheet_writer.proofs.Fronts.{starved, if_failed, if_starved}
+use Rattle.planned_runs.proofs.HandedOn.{gathered_handed_on, gathered_all_put}
+use Rattle.planned_runs.proofs.Holdings.{AllAreBack}
+
+-- wherever the collector is, the bytes that it counted are the first of the output
+stands_wrote : (job : JobView) (old new : SinkView) (p : Progress) → Stands job old new p
+    → WroteFirst job old new p.written × ((new.failures ≡ old.failures) ⊎ (new.failures ≡ old.failures + 1))
+stands_wrote job old new p stands = by_halt p.halted refl
+  where
+    by_halt : (h : Option Halt) → p.halted ≡ h → WroteFirst job old new p.written × ((new.failures ≡ old.failures) ⊎ (new.failures ≡ old.failures + 1))
+    by_halt None is = let ended = starved job old new p 0 is stands in (ended.0, inl ended.1)
+    by_halt (Some halt.Failed) is = let here = if_failed job old new p (HasFront job old new p) is stands in (here.0, inr here.1)
+    by_halt (Some halt.NoMemory) is = let here = if_starved job old new p (HasFront job old new p) is stands in (here.0, inl here.1)
+
+-- nothing was collected, or the collector is right
+abbrev pub WasUsed : JobView → (old new : SinkView) → Progress → Type 0
+WasUsed job old new p = ((new ≡ old) × (p.written ≡ 0)) ⊎ Stands job old new p
+
+used_wrote : (job : JobView) (old new : SinkView) (p : Progress) → WasUsed job old new p → Answers job old new (Err (NoMemory p.written))
+used_wrote job old new p used = ⊎_elim
+    (λ u.
+    let none : Appends old.bytes old.bytes (take 0 (output_of job)) = Appends-nil old.bytes in
+    let here : Appends old.bytes new.bytes (take p.written (output_of job)) = subst (λ t. Appends old.bytes t.bytes (take p.written (output_of job))) (sym u.0) (subst (λ n. Appends old.bytes old.bytes (take n (output_of job))) (sym u.1) none) in
+    ((omega (arith, u.1), here), inl (ap (λ v. v.failures) u.0)))
+    (λ stands. stands_wrote job old new p stands)
+    used
+
+gathered_answers : (job : JobView) (start mid last : SinkView) (p : Progress) (ended : Option Holding) (g : Gathered)
+    → WasUsed job start mid p
+    → IfSome ended (λ e. Stands job start mid p)
+    → (IsSome ended → Concludes job mid last p g.outcome)
+    → (IsNone ended → GivesUp p.written g × (last ≡ mid))
+    → Answers job start last g.outcome
+gathered_answers job start mid last p (Some e) g used stood concluded missing = concluded refl start stood
+gathered_answers job start mid last p None g used stood concluded missing =
+    let m = missing refl in
+    subst (λ x. Answers job start last x.outcome) (sym m.0)
+    (subst (λ t. Answers job start t (Err (NoMemory p.written))) (sym m.1) (used_wrote job start mid p used))
+
+-- the same, of a sink that is left as the collector's is
+pub sink_answers : (job : JobView) (start mid last end : SinkView) (p : Progress) (ended : Option Holding) (g : Gathered) → end ≡ last
+    → WasUsed job start mid p
+    → IfSome ended (λ e. Stands job start mid p)
+    → (IsSome ended → Concludes job mid last p g.outcome)
+    → (IsNone ended → GivesUp p.written g × (last ≡ mid))
+    → Answers job start end g.outcome
+sink_answers job start mid last end p ended g same used stood concluded missing =
+    subst (λ t. Answers job start t g.outcome) (sym same) (gathered_answers job start mid last p ended g used stood concluded missing)
+
+-- tokens with all shares have gathered all pages, if their calls weigh what the pages want done and close what they fill
+pub tokens_gathered : (table : TableView) (queue : QueueView) (tokens : Tokens)
+    → AreTokens table queue whole_share tokens → HasPages table.layout
+    → ((h : Duty → ℕ) → done h tokens ≡ owed h table.layout table.layout.pages)
+    → CloseWhatTheyFill (own_calls tokens.seat) → IsGathered table.layout tokens.seat.front
+tokens_gathered table queue tokens a pages w closed =
+    let same : tokens.seat.key ≡ table.layout = a.of_table.1 in
+    subst (λ (l : Layout). IsGathered l tokens.seat.front) same
+    (gathers_all tokens.seat a.seat a.seat_share (subst HasPages (sym same) pages)
+    (λ h. w h ∙ ap (λ (l : Layout). owed h l l.pages) (sym same)) closed)
+
+-- what comes back is whole, and has gathered all
+abbrev pub IsWhole : TableView → QueueView → (by_right : Bool) → Gathered → Type 0
+IsWhole table queue by_right g = IfSome g.tokens (λ t.
+    AreWhole table queue t.0 t.1 × IsHandedOn t.1.front × (IsNone g.unshelved → IsGathered table.layout t.0.front)
+    × (IsTrue by_right → AreAllPut table.layout t.0.front t.1.front))
+
+back_whole : (table : TableView) (queue : QueueView) (by_right : Bool) (e : Holding) (tokens : Option (SeatView × PassView)) (unshelved : Option Overflow)
+    → AreTokens table queue whole_share e.tokens → IsHandedOn e.tokens.pass.front → (IsNone e.unshelved → IsGathered table.layout e.tokens.seat.front)
+    → (IsTrue by_right → AreAllPut table.layout e.tokens.seat.front e.tokens.pass.front)
+    → IfSome tokens (λ t. (t.0 ≡ e.tokens.seat) × (t.1 ≡ e.tokens.pass)) → unshelved ≡ e.unshelved
+    → IfSome tokens (λ t. AreWhole table queue t.0 t.1 × IsHandedOn t.1.front × (IsNone unshelved → IsGathered table.layout t.0.front)
+    × (IsTrue by_right → AreAllPut table.layout t.0.front t.1.front))
+back_whole table queue by_right e None unshelved a h w put same is = tt
+back_whole table queue by_right e (Some t) unshelved a h w put same is = (
+  subst (λ s. AreWhole table queue s t.1) (sym same.0) (subst (λ p. AreWhole table queue e.tokens.seat p) (sym same.1)
+      (record { of_table = a.of_table; of_queue = a.of_queue; seat = a.seat; pass = a.pass; seat_share = a.seat_share; pass_share = a.pass_share })),
+  subst (λ (p : PassView). IsHandedOn p.front) (sym same.1) h,
+  λ none. subst (λ (s : SeatView). IsGathered table.layout s.front) (sym same.0) (w (subst (λ u. IsNone u) is none)),
+  λ yes. subst (λ (z : SeatView × PassView). AreAllPut table.layout z.0.front z.1.front) (λ i. (sym same.0 i, sym same.1 i)) (put yes),
+)
+
+pub gathered_whole : (written : ℕ) {Unchanged : Type 0} {G : Type 0} (run : Shared G) (first : Tokens) (ended : Option Holding) (g : Gathered)
+    → HasPages run.table.now.layout → ((s : ℕ) → put s first ≤ times s (born_complete run.table.now.layout))
+    → (IsTrue run.by_right → (s : ℕ) → put s first ≡ times s (born_complete run.table.now.layout))
+    → IfSome ended (AllAreBack run first)
+    → IfSome ended (λ e. HandsBack e g)
+    → (IsNone ended → GivesUp written g × Unchanged)
+    → IsWhole run.table.now run.ready.now run.by_right g
+gathered_whole written run first (Some e) g pages start exact back concluded missing =
+    back_whole run.table.now run.ready.now run.by_right e g.tokens g.unshelved back.tokens
+    (gathered_handed_on run.table.now run.ready.now first e.tokens back.tokens start back.order.puts)
+    (λ none. tokens_gathered run.table.now run.ready.now e.tokens back.tokens pages (back.work none) back.order.closes)
+    (λ yes. gathered_all_put run.table.now run.ready.now first e.tokens back.tokens (exact yes) (back.puts yes))
+    concluded.same concluded.unshelved
+gathered_whole written run first None g pages start exact back concluded missing =
+    subst (IsWhole run.table.now run.ready.now run.by_right) (sym (missing refl).0) tt
+
+-- a token that comes back is one of the shelf
+pub gathered_unshelved : (written : ℕ) {Unchanged : Type 0} {G : Type 0} (run : Shared G) (first : Tokens) (ended : Option Holding) (g : Gathered)
+    → IfSome ended (AllAreBack run first)
+    → IfSome ended (λ e. HandsBack e g)
+    → (IsNone ended → GivesUp written g × Unchanged)
+    → IfSome g.unshelved (IsOn run.shelf.now)
+gathered_unshelved written run first (Some e) g back concluded missing = subst (λ u. IfSome u (IsOn run.shelf.now)) (sym concluded.unshelved) back.unshelved
+gathered_unshelved written run first None g back concluded missing = subst (λ x. IfSome x.unshelved (IsOn run.shelf.now)) (sym (missing refl).0) tt
+
+-- tokens of which nothing was used have no calls and no moves
+none_inside : (own : List ℕ) → ((x : ℕ) → 0 < times x own → x < 0) → own ≡ []
+none_inside [] inside = refl
+none_inside (x ∷ own) inside = absurd (omega (arith, inside x (once x own)))
+  where
+    one : Bool → ℕ
+    one b = if b then 1 else 0
+
+    same : (x : ℕ) → one (x == x) ≡ 1
+    same x = ap one (eq-eqb x x refl)
+
+    once : (x : ℕ) (own : List ℕ) → 0 < times x (x ∷ own)
+    once x own = omega (arith, same x)
+
+pub fresh_tokens : (table : TableView) (queue : QueueView) (tokens : Tokens) → IsFreshSeat table tokens.seat → IsFreshPass queue tokens.pass → IsSeat tokens.seat → IsPass tokens.pass
+    → AreTokens table queue whole_share tokens × AreUnused tokens
+fresh_tokens table queue tokens seat pass held kept = (
+  record { of_table = seat.0; of_queue = pass.0; seat = held; pass = kept; seat_share = seat.2; pass_share = pass.2 },
+  record {
+    no_calls = none_inside tokens.seat.own (λ x some. subst (λ (f : List Entry). x < length f) seat.1 (held.inside x some));
+    no_moves = none_inside tokens.pass.own (λ x some. subst (λ (f : List Move). x < length f) pass.1 (kept.inside x some));
+  },
+)
+
+-- if there is room for all puts, every complete sheet was put
+pub put_if_room : (table : TableView) (queue : QueueView) (layout : Layout) (count : ℕ) (pass : PassView) (tokens : Option (SeatView × PassView)) (Rest : SeatView × PassView → Type 0) (fits : Bool)
+    → (HasRoomForAll layout count pass → IsTrue fits)
+    → IfSome tokens (λ t. AreWhole table queue t.0 t.1 × IsHandedOn t.1.front × Rest t × (IsTrue fits → AreAllPut layout t.0.front t.1.front))
+    → IfSome tokens (λ t. AreWhole table queue t.0 t.1 × IsHandedOn t.1.front × Rest t × (HasRoomForAll layout count pass → AreAllPut layout t.0.front t.1.front))
+put_if_room table queue layout count pass None Rest fits by whole = tt
+put_if_room table queue layout count pass (Some t) Rest fits by whole = (whole.0, whole.1, whole.2, λ room. whole.3 (by room))

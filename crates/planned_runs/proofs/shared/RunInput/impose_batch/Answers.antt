@@ -1,0 +1,41 @@
+use Rattle.std.proofs.Common.{rules, sym, subst}
+use Rattle.sheet_writer.specs.Writing.{HaveTexts}
+use Rattle.planned_runs.specs.Tokens.{AreTokens, OnlyImposes}
+use Rattle.planned_runs.proofs.Held.{imposes_both}
+use Rattle.planned_runs.proofs.Texts.{have_none}
+use Rattle.planned_runs.proofs.shared.RunInput.impose_batch.Goals as goal
+use Rattle.planned_runs.proofs.shared.RunInput.impose_batch.Goals.{else-loop-test, then-loop-test+in_ok-impose_more+then-not-branch}
+
+pub impose_into-requires-clause-texts : goal.impose_into-requires-clause-texts
+impose_into-requires-clause-texts g c =
+    have_none g.T.SheetTexts.text c.clear.new.self c.clear.ensures.sheets c.clear.ensures.texts
+
+pub loop-preserved : goal.loop-preserved
+loop-preserved g c = record {
+  tokens = c.impose_more.ensures.tokens;
+  imposes = imposes_both _ _ _ c.loop.invariant.imposes c.impose_more.ensures.imposes;
+  texts = search rules;
+}
+
+pub returns-in_err-impose_more-clause-imposes : goal.returns-in_err-impose_more-clause-imposes
+returns-in_err-impose_more-clause-imposes g c = imposes_both _ _ _ c.loop.invariant.imposes c.impose_more.ensures.imposes
+
+pub returns-clause-imposes : goal.returns-clause-imposes
+returns-clause-imposes g c = elim c.loop-test.branch [
+  | else-loop-test w ↦ subst (OnlyImposes c.args.tokens.now) (sym w.tokens-is) c.loop.invariant.imposes
+  | then-loop-test+in_ok-impose_more+then-not-branch w ↦
+      subst (OnlyImposes c.args.tokens.now) (sym w.tokens-is) (imposes_both _ _ _ c.loop.invariant.imposes w.impose_more.ensures.imposes)
+]
+
+pub returns-clause-tokens : goal.returns-clause-tokens
+returns-clause-tokens g c = elim c.loop-test.branch [
+  | else-loop-test w ↦ subst (AreTokens c.args.self.now.shared.now.table.now c.args.self.now.shared.now.ready.now 1) (sym w.tokens-is) c.loop.invariant.tokens
+  | then-loop-test+in_ok-impose_more+then-not-branch w ↦
+      subst (AreTokens c.args.self.now.shared.now.table.now c.args.self.now.shared.now.ready.now 1) (sym w.tokens-is) w.impose_more.ensures.tokens
+]
+
+pub returns-clause-texts : goal.returns-clause-texts
+returns-clause-texts g c = elim c.loop-test.branch [
+  | else-loop-test w ↦ subst (HaveTexts g.T.SheetTexts.text) (sym w.batch-is) c.loop.invariant.texts
+  | then-loop-test+in_ok-impose_more+then-not-branch w ↦ subst (HaveTexts g.T.SheetTexts.text) (sym w.batch-is) w.in_ok-impose_more.ensures.texts
+]

@@ -1,0 +1,154 @@
+//! What a preparer does.
+ghost use Rattle.std.specs.Prelude.{◌≡◌, ℕ, ◌+◌, ◌<◌, ◌%◌, ◌==◌, if◌then◌else◌, IfOk, OnOk, IfSome, IsNone};
+ghost use Rattle.histories.specs.Seats.{total};
+ghost use Rattle.handover.specs.Shelves.{IsOn};
+ghost use Rattle.run_steps.specs.Duty.{Duty, duties};
+ghost use Rattle.planned_runs.specs.Tokens.{AreTokens, AreInOrder, done};
+ghost use Rattle.planned_runs.specs.Promises.{IsHeld, IsNewPreparer, HasPrepared};
+ghost use Rattle.planned_runs.specs.Rooms.{PutsAll, HasRoomFrom, HasRoomForPage, PutsByRight};
+
+use crate::gate::{Gate, Step};
+use crate::shared::Shared;
+use crate::tokens::{Holding, Tokens};
+use crate::turns::Stint;
+use handover::{Overflow, Prepared};
+use run_steps::{Answers, DeliverError, Delivery};
+use std::alloc::AllocError;
+use std::mem;
+use std::sync::Wait;
+
+/// Which of a run's preparers one is.
+#[derive(Clone, Copy)]
+struct PageShare {
+    number: u32,
+    count: u32,
+}
+
+/// What a preparer keeps from one page to the next.
+#[derive(Drop)]
+struct PreparerBench<'d> {
+    stint: Stint,
+    /// Memory for what a delivery is answered.
+    answers: Answers,
+    /// The token of the last page for which the shelf gave no receipt.
+    unshelved: Option<Overflow<'d>>,
+}
+
+impl<'s, 'r, 't, 'd, G: Gate> Shared<'s, 'r, 't, 'd, G> {
+    /// Delivers the preparer's own pages, ascending: those whose number leaves its own when divided by the count.
+    pub(crate) fn prepare_all<R: Wait>(
+        &self,
+        rt: &R,
+        holding: Holding<'d>,
+        number: u32,
+        count: u32,
+    ) -> Result<Holding<'d>, AllocError>
+        requires count { 0 < count }
+        requires holding { IsNewPreparer self.now count number holding }
+        ensures back { IfOk result (IsHeld self.now 1) }
+        ensures prepared { IfOk result (HasPrepared self.now count number) }
+    {
+        let job = self.job;
+        let Holding {
+            mut tokens,
+            unshelved,
+        } = holding;
+        let mut bench = PreparerBench {
+            stint: Stint::new(),
+            answers: Answers::new(self.alloc),
+            unshelved,
+        };
+        let part = PageShare { number, count };
+        for page in 0..job.plan().pages() {
+            self.prepare_own_page(rt, &mut tokens, &mut bench, page, part)?;
+        }
+        self.preparing.end(&mut bench.stint);
+        Ok(Holding {
+            tokens,
+            unshelved: bench.unshelved,
+        })
+    }
+
+    /// Delivers the page if it is this preparer's. A page without a receipt takes the place of an earlier one.
+    fn prepare_own_page<R: Wait>(
+        &self,
+        rt: &R,
+        tokens: &mut Tokens,
+        bench: &mut PreparerBench<'d>,
+        page: u32,
+        part: PageShare,
+    ) -> Result<(), AllocError>
+        requires count { 0 < part.count }
+        requires page { page < self.now.job.now.plan.pages }
+        requires tokens { AreTokens self.now.table.now self.now.ready.now 1 tokens.old }
+        requires unshelved { IfSome bench.old.unshelved (IsOn self.now.shelf.now) }
+        ensures tokens { AreTokens self.now.table.now self.now.ready.now 1 tokens.new }
+        ensures done { OnOk result (IsNone bench.new.unshelved → IsNone bench.old.unshelved × ((h : Duty → ℕ) →
+            done h tokens.new ≡ done h tokens.old + (if page % part.count == part.number
+            then total h (duties self.now.table.now.layout page) else 0))) }
+        ensures put { AreInOrder tokens.old → AreInOrder tokens.new }
+        ensures by_right { OnOk result (HasRoomFrom self.now.table.now.layout part.count part.number page tokens.old
+            → HasRoomFrom self.now.table.now.layout part.count part.number (page + 1) tokens.new
+            × (PutsAll tokens.old → PutsAll tokens.new)) }
+        ensures lost { OnOk result (IfSome bench.new.unshelved (IsOn self.now.shelf.now)) }
+    {
+        if page % part.count != part.number {
+            return Ok(());
+        }
+        self.preparing.go_on(rt, &mut bench.stint);
+        if let Some(lost) = self.prepare_page(rt, tokens, &mut bench.answers, page)? {
+            drop(bench.unshelved.replace(lost));
+        }
+        Ok(())
+    }
+
+    /// Prepares and delivers a page. None if it was delivered, else the token of the page for which the shelf gave no
+    /// receipt.
+    fn prepare_page<R: Wait>(
+        &self,
+        rt: &R,
+        tokens: &mut Tokens,
+        answers: &mut Answers,
+        page: u32,
+    ) -> Result<Option<Overflow<'d>>, AllocError>
+        requires page { page < self.now.job.now.plan.pages }
+        requires tokens { AreTokens self.now.table.now self.now.ready.now 1 tokens.old }
+        ensures tokens { AreTokens self.now.table.now self.now.ready.now 1 tokens.new }
+        ensures done { IfOk result (λ lost. IsNone lost → (h : Duty → ℕ)
+            → done h tokens.new ≡ done h tokens.old + total h (duties self.now.table.now.layout page)) }
+        ensures put { AreInOrder tokens.old → AreInOrder tokens.new }
+        ensures by_right { OnOk result (HasRoomForPage self.now.table.now.layout page tokens.old
+            → PutsByRight self.now.table.now.layout page tokens.old tokens.new) }
+        ensures lost { IfOk result (λ lost. IfSome lost (IsOn self.now.shelf.now)) }
+    {
+        let job = self.job;
+        let delivery = Delivery {
+            plan: job.plan(),
+            table: self.table,
+            shelf: self.shelf,
+            ready: self.ready,
+            as_own: self.is_of_document,
+        };
+        let prepared = Prepared::of_page(self.alloc, job.document(), page)?;
+        let used = mem::replace(answers, Answers::new(self.alloc));
+        self.gate.before(Step::Deliver(page));
+        let answer = delivery.deliver(rt, &mut tokens.seat, &mut tokens.pass, prepared, used);
+        self.gate.after(Step::Deliver(page));
+        match answer {
+            Ok(delivered) => {
+                if !delivered.handed_back.is_empty() {
+                    self.window.lift();
+                }
+                *answers = Answers::of(delivered);
+                Ok(None)
+            }
+            Err(error) => match error {
+                DeliverError::NoMemory(_) => Err(AllocError),
+                DeliverError::ShelfFull(lost) => {
+                    self.window.lift();
+                    Ok(Some(lost))
+                }
+            },
+        }
+    }
+}

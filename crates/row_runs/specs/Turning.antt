@@ -1,0 +1,102 @@
+-- Pages that are turned before they are placed: they are laid as pages of the papers that they have then. All here is this
+-- project's own rules.
+use Rattle.std.specs.Prelude.{◌≡◌, ℕ, ◌+◌, ◌*◌, ◌/◌, ℤ, pos, ◌+ℤ◌, ◌-ℤ◌, ◌*ℤ◌, ◌≤ℤ◌, nat_abs, map}
+use Rattle.rules.specs.Papers.{Paper, Pt}
+use Rattle.rules.specs.Placement.{Point, moved, turned}
+use Rattle.rules.specs.Specification.{Item, Measure, Turn, Upright, Left, Half, Right}
+use Rattle.made_sheets.specs.Made.{MadeSlot, Blank, Placed, MadeSheet}
+use Rattle.layouts.specs.Placed.{fine, stands}
+
+-- a quarter turn more to the left
+abbrev pub further : Turn → Turn
+further Upright = Left
+further Left = Half
+further Half = Right
+further Right = Upright
+
+-- one turn, and then another
+abbrev pub both : Turn → Turn → Turn
+both Upright other = other
+both Left other = further other
+both Half other = further (further other)
+both Right other = further (further (further other))
+
+-- the paper that a page has once it is turned: by a quarter its sides are exchanged (RULES, 13.7)
+abbrev pub turned_paper : Turn → Paper → Paper
+turned_paper Upright paper = paper
+turned_paper Left paper = record { width = paper.height; height = paper.width }
+turned_paper Half paper = paper
+turned_paper Right paper = record { width = paper.height; height = paper.width }
+
+-- where the page's lower left corner is then, on a paper that is so wide and high
+abbrev pub corner : Turn → (width height : ℤ) → Point
+corner Upright width height = record { x = pos 0; y = pos 0 }
+corner Left width height = record { x = width; y = pos 0 }
+corner Half width height = record { x = width; y = height }
+corner Right width height = record { x = pos 0; y = height }
+
+-- how long a side is at this scale, in 10^-5 of a point, of which none is lost
+abbrev pub long : (scale side : ℤ) → ℕ
+long scale side = (nat_abs scale * nat_abs side + 1_269_999_999_999_999) / 1_270_000_000_000_000
+
+-- so many 10^-5 of a point farther, of what is moved by points
+abbrev pub farther : ℤ → Measure → Measure
+farther by m = record { number = m.number +ℤ (pos 10_000 *ℤ by); unit = m.unit }
+
+-- the item by which the page is placed where this one places a page of its turned paper (RULES, 13.7)
+abbrev pub turned_item : Turn → (paper : Paper) → Item → Item
+turned_item turn paper item =
+    let by = turned item.turn (corner turn (pos (long item.scale paper.width)) (pos (long item.scale paper.height))) in
+    record {
+      page = item.page;
+      from_end = item.from_end;
+      turn = both turn item.turn;
+      scale = item.scale;
+      x = farther by.x item.x;
+      y = farther by.y item.y;
+    }
+
+-- a page has its own paper again, by which it is clipped
+abbrev pub turned_slot : Turn → MadeSlot → MadeSlot
+turned_slot turn Blank = Blank
+turned_slot turn (Placed page item paper) = Placed page (turned_item turn paper item) (turned_paper turn paper)
+
+abbrev pub turned_sheet : Turn → MadeSheet → MadeSheet
+turned_sheet turn sheet = record { paper = sheet.paper; slots = map (turned_slot turn) sheet.slots }
+
+-- ---- laws
+
+-- no turn changes nothing; two quarter turns are half a turn, three are one to the right, and four are none
+pub record TurnsOf (slot : MadeSlot) : Type 0 where
+  pub none : turned_slot Upright slot ≡ slot
+  pub two : turned_slot Left (turned_slot Left slot) ≡ turned_slot Half slot
+  pub three : turned_slot Left (turned_slot Half slot) ≡ turned_slot Right slot
+  pub four : turned_slot Left (turned_slot Right slot) ≡ slot
+
+abbrev pub TurnsAddUp : Type 0
+TurnsAddUp = (slot : MadeSlot) → TurnsOf slot
+
+-- where a point of the page is on its turned paper
+abbrev pub on_turned : Turn → (paper : Paper) → Point → Point
+on_turned turn paper p = moved (corner turn paper.width paper.height) (turned turn p)
+
+-- by how much a side is taken as longer than it is, in 10^-9 of a grain
+abbrev pub excess : (scale side : ℕ) → ℤ
+excess scale side = fine (long (pos scale) (pos side)) -ℤ pos (scale * side)
+
+-- it is less than 10^-5 of a point
+pub record IsLittle (z : ℤ) : Type 0 where
+  pub some : pos 0 ≤ℤ z
+  pub less : (z +ℤ pos 1) ≤ℤ fine 1
+
+-- what is drawn is the turned page: each of its points stands where a page of the turned paper has that point, but for what
+-- is rounded
+pub record IsDrawnTurned (turn : Turn) (page : Paper) (item : Item) (width height scale : ℕ) : Type 0 where
+  pub little : IsLittle (excess scale width) × IsLittle (excess scale height)
+  pub stand : (p : Point) → stands (turned_paper turn page) (turned_item turn page item) p
+      ≡ moved (turned item.turn (corner turn (excess scale width) (excess scale height))) (stands page item (on_turned turn page p))
+
+abbrev pub TurnedStands : Type 0
+TurnedStands = (turn : Turn) (page : Paper) (item : Item) (width height scale : ℕ)
+    → page.width ≡ pos width → page.height ≡ pos height → item.scale ≡ pos scale → item.x.unit ≡ Pt → item.y.unit ≡ Pt
+    → IsDrawnTurned turn page item width height scale

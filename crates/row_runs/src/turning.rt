@@ -1,0 +1,207 @@
+//! Pages that are turned before they are placed.
+ghost use Rattle.std.specs.Prelude.{◌≡◌, ◌^◌, ◌<◌, ◌≤◌, IfOk, IfSome, IsTrue, OnOk, length, map, nat_abs, pos};
+ghost use Rattle.rules.specs.Papers.{is_side};
+ghost use Rattle.rules.specs.Placement.{turned as turned_point};
+ghost use Rattle.pagespec.specs.Items.{item_of, measure_of, turn_of};
+ghost use Rattle.sheet_plan.specs.OfSheets.{placed_of, slot_of, slots_at};
+ghost use Rattle.row_runs.specs.Turning as meaning;
+
+use lengths::{Grains, Number, Paper};
+use pagespec::{Item, Measure, Turn};
+use sheet_plan::{MadeSheets, MadeSlot, PlacedSlot};
+use std::alloc::{AllocError, Global};
+
+/// The paper that a page has once it is turned: by a quarter its sides are exchanged.
+pub fn turned_paper(turn: Turn, paper: &Paper) -> Paper
+    ensures { result ≡ meaning.turned_paper (turn_of turn) paper.now }
+{
+    match turn {
+        Turn::None | Turn::Half => *paper,
+        Turn::Left | Turn::Right => paper.turned(),
+    }
+}
+
+/// The papers that pages have once they are turned.
+pub fn turned_papers(
+    alloc: Global,
+    turn: Turn,
+    papers: Vec<Paper>,
+) -> Result<Vec<Paper>, AllocError>
+    ensures { IfOk result (λ turned. turned.items ≡ map (meaning.turned_paper (turn_of turn)) papers.items) }
+{
+    match turn {
+        Turn::None => Ok(papers),
+        _ => all_papers(alloc, turn, papers.as_slice()),
+    }
+}
+
+fn all_papers(alloc: Global, turn: Turn, papers: &[Paper]) -> Result<Vec<Paper>, AllocError>
+    ensures { IfOk result (λ turned. turned.items ≡ map (meaning.turned_paper (turn_of turn)) papers.now) }
+{
+    let mut turned = Vec::new(alloc);
+    for paper in papers {
+        turned.push(turned_paper(turn, paper))?;
+    }
+    Ok(turned)
+}
+
+/// The same sheets with the pages turned, which were laid as pages of the papers that they have then. Refused are, for want
+/// of memory, 2^32 sheets and a place of 100,000 points or more.
+pub(crate) fn turned_sheets(
+    alloc: Global,
+    turn: Turn,
+    sheets: MadeSheets,
+) -> Result<MadeSheets, AllocError>
+    ensures { IfOk result (λ turned. turned ≡ map (meaning.turned_sheet (turn_of turn)) sheets) }
+{
+    match turn {
+        Turn::None => Ok(sheets),
+        _ => all_sheets(alloc, turn, &sheets),
+    }
+}
+
+fn all_sheets(alloc: Global, turn: Turn, sheets: &MadeSheets) -> Result<MadeSheets, AllocError>
+    ensures { IfOk result (λ turned. turned ≡ map (meaning.turned_sheet (turn_of turn)) sheets.now) }
+{
+    let Ok(count) = u32::try_from(sheets.len()) else {
+        return Err(AllocError);
+    };
+    let mut turned = MadeSheets::new(alloc);
+    let mut slots = Vec::new(alloc);
+    for sheet in 0..count {
+        turn_slots(&mut slots, turn, sheets, sheet)?;
+        turned.push(sheets.paper(sheet), slots.as_slice())?;
+    }
+    Ok(turned)
+}
+
+/// The slots of a sheet, turned, in place of those that were there.
+fn turn_slots(
+    slots: &mut Vec<MadeSlot>,
+    turn: Turn,
+    sheets: &MadeSheets,
+    sheet: u32,
+) -> Result<(), AllocError>
+    requires { sheet < length sheets.now }
+    ensures { OnOk result (map slot_of slots.new.items ≡ map (meaning.turned_slot (turn_of turn)) (slots_at sheets.now sheet)) }
+{
+    slots.clear();
+    for slot in 0..sheets.slots(sheet) {
+        slots.push(turned_slot(turn, sheets.placed(sheet, slot))?)?;
+    }
+    Ok(())
+}
+
+fn turned_slot(turn: Turn, slot: Option<PlacedSlot<'_>>) -> Result<MadeSlot, AllocError>
+    ensures { IfOk result (λ turned. slot_of turned ≡ meaning.turned_slot (turn_of turn) (placed_of slot.entry)) }
+{
+    match slot {
+        None => Ok(MadeSlot::Blank),
+        Some(placed) => match turned_item(turn, placed.paper, placed.item) {
+            Some(item) => Ok(MadeSlot::Placed {
+                page: placed.page,
+                item,
+                paper: turned_paper(turn, placed.paper),
+            }),
+            None => Err(AllocError),
+        },
+    }
+}
+
+/// The item by which a page is placed where this one places a page of its turned paper.
+fn turned_item(turn: Turn, paper: &Paper, item: &Item) -> Option<Item>
+    ensures { IfSome result (λ turned. item_of turned ≡ meaning.turned_item (turn_of turn) paper.now (item_of item.now)) }
+{
+    let width = long(item.scale, paper.width());
+    let height = long(item.scale, paper.height());
+    let (x, y) = corner(turn, width, height);
+    let (right, up) = turned_by(item.turn, x, y);
+    Some(Item {
+        turn: both(turn, item.turn),
+        offset: (farther(right, item.offset.0)?, farther(up, item.offset.1)?),
+        ..*item
+    })
+}
+
+/// One turn, and then another.
+fn both(turn: Turn, other: Turn) -> Turn
+    ensures { turn_of result ≡ meaning.both (turn_of turn) (turn_of other) }
+{
+    match turn {
+        Turn::None => other,
+        Turn::Left => further(other),
+        Turn::Half => further(further(other)),
+        Turn::Right => further(further(further(other))),
+    }
+}
+
+/// A quarter turn more to the left.
+fn further(turn: Turn) -> Turn
+    ensures { turn_of result ≡ meaning.further (turn_of turn) }
+{
+    match turn {
+        Turn::None => Turn::Left,
+        Turn::Left => Turn::Half,
+        Turn::Half => Turn::Right,
+        Turn::Right => Turn::None,
+    }
+}
+
+/// Where the lower left corner of a page is on its turned paper, which is so wide and high.
+fn corner(turn: Turn, width: i64, height: i64) -> (i64, i64)
+    requires width { nat_abs width ≤ 10 ^ 17 }
+    requires height { nat_abs height ≤ 10 ^ 17 }
+    ensures x { result.0 ≡ (meaning.corner (turn_of turn) width height).x }
+    ensures y { result.1 ≡ (meaning.corner (turn_of turn) width height).y }
+    ensures x_in_range { nat_abs result.0 ≤ 10 ^ 17 }
+    ensures y_in_range { nat_abs result.1 ≤ 10 ^ 17 }
+{
+    match turn {
+        Turn::None => (0, 0),
+        Turn::Left => (width, 0),
+        Turn::Half => (width, height),
+        Turn::Right => (0, height),
+    }
+}
+
+/// A point, turned about the origin.
+fn turned_by(turn: Turn, x: i64, y: i64) -> (i64, i64)
+    requires x { nat_abs x ≤ 10 ^ 17 }
+    requires y { nat_abs y ≤ 10 ^ 17 }
+    ensures x { result.0 ≡ (turned_point (turn_of turn) (record { x = x; y = y })).x }
+    ensures y { result.1 ≡ (turned_point (turn_of turn) (record { x = x; y = y })).y }
+    ensures x_in_range { nat_abs result.0 ≤ 10 ^ 17 }
+    ensures y_in_range { nat_abs result.1 ≤ 10 ^ 17 }
+{
+    match turn {
+        Turn::None => (x, y),
+        Turn::Left => (-y, x),
+        Turn::Half => (-x, -y),
+        Turn::Right => (y, -x),
+    }
+}
+
+/// How long a side is at this scale, in 10^-5 of a point, of which none is lost.
+fn long(scale: Number, side: Grains) -> i64
+    requires { IsTrue (is_side side) }
+    ensures value { result ≡ pos (meaning.long scale side) }
+    ensures in_range { nat_abs result ≤ 10 ^ 17 }
+{
+    let length = u128::from(scale.billionths().unsigned_abs()) * side.get().unsigned_abs();
+    ((length + 1_269_999_999_999_999) / 1_270_000_000_000_000) as i64
+}
+
+/// So many 10^-5 of a point farther, unless that is out of range.
+fn farther(by: i64, measure: Measure) -> Option<Measure>
+    requires { nat_abs by ≤ 10 ^ 17 }
+    ensures { IfSome result (λ moved. measure_of moved ≡ meaning.farther by (measure_of measure)) }
+{
+    let number = i128::from(measure.number.billionths()) + 10_000 * i128::from(by);
+    match i64::try_from(number) {
+        Ok(number) => Some(Measure {
+            number: Number::new(number)?,
+            unit: measure.unit,
+        }),
+        Err(_) => None,
+    }
+}

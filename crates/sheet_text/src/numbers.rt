@@ -1,0 +1,171 @@
+//! The numbers of pages.
+ghost use Rattle.std.specs.Prelude.{◌≡◌, ◌≤◌, ◌+◌, ◌*◌, ◌^◌, ◌++◌, ◌∷◌, [], nat_abs, pos, IsTrue, OnOk};
+ghost use Rattle.rules.specs.Papers.{is_side};
+ghost use Rattle.made_sheets.specs.Dress.{lines_text};
+ghost use Rattle.pagespec.specs.Items.{item_of, turn_of};
+ghost use Rattle.sheet_plan.specs.OfSheets.{placed_of, slots_at};
+ghost use Rattle.sheet_text.specs.PageNumbers.{corner_text, degrees as degrees_of, font_text, foot_text, middle as middle_of};
+ghost use Rattle.sheet_text.specs.PageNumbers.{number_line, number_lines, rise as rise_of, shown_text, slot_lines};
+
+use crate::rope::Rope;
+use itoa::Buffer;
+use lengths::{Grains, Number, to_grains};
+use pagespec::Turn;
+use sheet_plan::{MadeSheets, PlacedSlot};
+use std::alloc::AllocError;
+
+/// How far a number stands above the foot of its cell, in grains: 18 points.
+const ABOVE_FOOT: i128 = 2_286_000_000_000;
+
+/// The numbers of the pages on sheets.
+#[derive(Drop)]
+pub struct Numbers {
+    /// How large they are.
+    pub size: Grains,
+    /// That of the row's first page.
+    pub first: u32,
+    /// The sheets, on which each page is named by its place in the row, counted from 0.
+    pub places: MadeSheets,
+    /// How far the foot of a page's cell is below the middle of the page; none if the page is its own cell.
+    pub below: Option<Grains>,
+}
+
+/// Appends the lines that draw the numbers of a sheet's pages.
+pub(crate) fn append_numbers(
+    numbers: &Numbers,
+    sheet: u32,
+    text: &mut Rope<'_>,
+) -> Result<(), AllocError>
+    ensures { OnOk result (text.new ≡ text.old ++ lines_text (number_lines numbers.now sheet)) }
+{
+    if sheet as usize >= numbers.places.len() {
+        return Ok(());
+    }
+    for slot in 0..numbers.places.slots(sheet) {
+        append_slot(numbers, numbers.places.placed(sheet, slot), text)?;
+    }
+    Ok(())
+}
+
+/// Appends the line of a slot; a blank has none.
+fn append_slot(
+    numbers: &Numbers,
+    slot: Option<PlacedSlot<'_>>,
+    text: &mut Rope<'_>,
+) -> Result<(), AllocError>
+    ensures { OnOk result (text.new ≡ text.old ++ lines_text (slot_lines numbers.now (placed_of slot.entry))) }
+{
+    match slot {
+        Some(placed) => append_number(numbers, &placed, text),
+        None => Ok(()),
+    }
+}
+
+/// Appends the line that draws a page's number.
+fn append_number(
+    numbers: &Numbers,
+    placed: &PlacedSlot<'_>,
+    text: &mut Rope<'_>,
+) -> Result<(), AllocError>
+    ensures { OnOk result (text.new
+        ≡ text.old ++ lines_text (number_line numbers.now placed.now.page (item_of placed.now.item.now) placed.now.paper.now ∷ [])) }
+{
+    append_font(numbers.size, text)?;
+    append_corner(placed, text)?;
+    append_foot(numbers.below, placed, text)?;
+    append_shown(u64::from(numbers.first) + u64::from(placed.page), text)?;
+    text.append(b"\n")?;
+    Ok(())
+}
+
+/// The font of numbers.
+fn append_font(size: Grains, text: &mut Rope<'_>) -> Result<(), AllocError>
+    ensures { OnOk result (text.new ≡ text.old ++ font_text size) }
+{
+    text.append(b"gsave 0 setgray /Times-Roman findfont ")?;
+    text.append_points(size)?;
+    text.append(b" scalefont setfont ")?;
+    Ok(())
+}
+
+/// Where a page's lower left corner is, and how the page is turned.
+fn append_corner(placed: &PlacedSlot<'_>, text: &mut Rope<'_>) -> Result<(), AllocError>
+    ensures { OnOk result (text.new ≡ text.old ++ corner_text placed.now.paper.now (item_of placed.now.item.now)) }
+{
+    let (x, y) = placed.item.offset;
+    text.append_points(to_grains(x.number, x.unit, placed.paper))?;
+    text.append(b" ")?;
+    text.append_points(to_grains(y.number, y.unit, placed.paper))?;
+    text.append(b" translate ")?;
+    text.append(degrees(placed.item.turn))?;
+    text.append(b" rotate ")?;
+    Ok(())
+}
+
+/// How far a page is turned to the left.
+fn degrees(turn: Turn) -> &'static [u8]
+    ensures { result.now ≡ degrees_of (turn_of turn) }
+{
+    match turn {
+        Turn::None => b"0",
+        Turn::Left => b"90",
+        Turn::Half => b"180",
+        Turn::Right => b"270",
+    }
+}
+
+/// Where a page's number stands, from the page's lower left corner on.
+fn append_foot(
+    below: Option<Grains>,
+    placed: &PlacedSlot<'_>,
+    text: &mut Rope<'_>,
+) -> Result<(), AllocError>
+    ensures { OnOk result (text.new ≡ text.old ++ foot_text below placed.now.paper.now (item_of placed.now.item.now)) }
+{
+    text.append_grains(middle(placed.item.scale, placed.paper.width()))?;
+    text.append(b" ")?;
+    text.append_grains(rise(below, placed))?;
+    text.append(b" moveto (")?;
+    Ok(())
+}
+
+/// How far a number stands above the page's lower edge.
+fn rise(below: Option<Grains>, placed: &PlacedSlot<'_>) -> i128
+    ensures value { result ≡ rise_of below placed.now.paper.now (item_of placed.now.item.now) }
+    ensures in_range { nat_abs result ≤ 2 * 10 ^ 23 }
+{
+    match below {
+        None => ABOVE_FOOT,
+        Some(below) => {
+            middle(placed.item.scale, placed.paper.height()) - below.get() + ABOVE_FOOT
+        }
+    }
+}
+
+/// How far the middle of a page's side is from its beginning, as large as the page is on the sheet.
+fn middle(scale: Number, side: Grains) -> i128
+    requires { IsTrue (is_side side) }
+    ensures value { result ≡ pos (middle_of scale side) }
+    ensures in_range { nat_abs result ≤ 5 * 10 ^ 22 }
+{
+    (scaled(scale, side) / 2_000_000_000) as i128
+}
+
+/// A side as large as the page is on the sheet, in 10^-9 of a grain.
+fn scaled(scale: Number, side: Grains) -> u128
+    requires { IsTrue (is_side side) }
+    ensures value { result ≡ nat_abs scale * nat_abs side }
+    ensures in_range { result ≤ 10 ^ 32 }
+{
+    u128::from(scale.billionths().unsigned_abs()) * side.get().unsigned_abs()
+}
+
+/// The number, in the middle of where it stands.
+fn append_shown(number: u64, text: &mut Rope<'_>) -> Result<(), AllocError>
+    ensures { OnOk result (text.new ≡ text.old ++ shown_text number) }
+{
+    let mut digits = Buffer::new();
+    text.append(digits.format(number).as_bytes())?;
+    text.append(b") dup stringwidth pop -2 div 0 rmoveto show grestore")?;
+    Ok(())
+}

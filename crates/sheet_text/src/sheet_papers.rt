@@ -1,0 +1,11 @@
+//! The papers of a job's pages.
+use crate::dress::Dress;
+use lengths::Paper;
+use sheet_plan::MadeSheets;
+
+/// One paper for all pages; or sheets that were made, whose pages have papers of their own, and their lines.
+#[derive(Drop)]
+pub(crate) enum SheetPapers<'j> {
+    One(Paper),
+    Made(&'j MadeSheets, &'j Dress<'j>),
+}

@@ -1,0 +1,54 @@
+//! The lines by which a sheet reports its paper.
+ghost use Rattle.std.specs.Prelude.{◌≡◌, ◌++◌, OnOk, codes};
+ghost use Rattle.rules.specs.Bytes.{line};
+ghost use Rattle.made_sheets.specs.Dress.{lines_text};
+ghost use Rattle.papers.specs.Told.{setting_line, sheet_lines, size_name, size_text};
+
+use crate::rope::Rope;
+use lengths::Paper;
+use std::alloc::AllocError;
+
+/// Appends the lines of a sheet of this paper, if sheets have several.
+pub(crate) fn append_told(paper: &Paper, text: &mut Rope<'_>) -> Result<(), AllocError>
+    ensures { OnOk result (text.new ≡ text.old ++ lines_text (sheet_lines paper.now)) }
+{
+    append_medium(paper, text)?;
+    text.append(b"/PStoPSenablepage where {pop PStoPSenablepage}\n")?;
+    text.append(
+        b"{userdict /showpage 2 copy known {get dup type /operatortype eq {pop true} {length 0 ne} ifelse} {pop pop true} ifelse} ifelse\n",
+    )?;
+    append_size_if_shown(paper, text)?;
+    Ok(())
+}
+
+/// The line that names its medium.
+fn append_medium(paper: &Paper, text: &mut Rope<'_>) -> Result<(), AllocError>
+    ensures { OnOk result (text.new ≡ text.old ++ line (codes "%%PageMedia: " ++ size_name paper.now)) }
+{
+    text.append(b"%%PageMedia: ")?;
+    text.append_points(paper.width())?;
+    text.append(b"x")?;
+    text.append_points(paper.height())?;
+    text.append(b"\n")?;
+    Ok(())
+}
+
+/// The last of the lines that set the device's page size, which does.
+fn append_size_if_shown(paper: &Paper, text: &mut Rope<'_>) -> Result<(), AllocError>
+    ensures { OnOk result (text.new ≡ text.old ++ line (setting_line paper.now)) }
+{
+    text.append(b"systemdict /setpagedevice known and {1 dict dup /PageSize [")?;
+    append_size(paper, text)?;
+    text.append(b"] put systemdict /setpagedevice get exec} if\n")?;
+    Ok(())
+}
+
+/// Both sides, in points.
+fn append_size(paper: &Paper, text: &mut Rope<'_>) -> Result<(), AllocError>
+    ensures { OnOk result (text.new ≡ text.old ++ size_text paper.now) }
+{
+    text.append_points(paper.width())?;
+    text.append(b" ")?;
+    text.append_points(paper.height())?;
+    Ok(())
+}

@@ -1,0 +1,256 @@
+//! Workers that find no memory: whoever waits for the collector is told to stop, all threads end, and nothing is
+//! returned.
+ghost use Rattle.std.specs.Prelude.{◌≡◌, ⊤};
+
+use super::checks::assert_that;
+use std::alloc::{AllocError, Global};
+use std::process::Abort;
+use std::sync::Wait;
+use std::sync::atomic::AtomicU32;
+use std::sync::atomic::Ordering::SeqCst;
+use std::test::Fail;
+use std::thread;
+use std::thread::Threads;
+use workers::{Collector, Crew, Imposing, Supplies, Work, gather_by};
+
+/// How often a wait yields before it runs out.
+const YIELDS: u32 = 20_000_000;
+
+/// The number of workers of each kind.
+const WORKERS: u32 = 3;
+
+/// What a worker holds: shares, and nothing else.
+#[derive(Drop)]
+struct Held {
+    shares: u64,
+}
+
+/// The ticket with which an imposer would send.
+#[derive(Drop)]
+struct Ticket {}
+
+/// The number of times that the collector collected.
+#[derive(Drop)]
+struct Collected {
+    times: u32,
+}
+
+/// What the threads share. Bit k of `preparers` says that preparer k finds no memory, and bit k of `imposers` that
+/// the imposer that begins as the kth finds none. Every other imposer waits until it is told to stop.
+#[derive(Drop)]
+struct Fates<'a, R> {
+    rt: &'a R,
+    preparers: u32,
+    imposers: u32,
+    /// The number of preparers, and of imposers, that have begun.
+    preparing: AtomicU32,
+    imposing: AtomicU32,
+    /// How often the imposers were told to stop.
+    stopped: AtomicU32,
+    /// The number of waits that ran out.
+    run_out: AtomicU32,
+    /// The number of collections that began after the imposers had been told to stop.
+    late: AtomicU32,
+}
+
+impl<'a, R> Fates<'a, R> {
+    fn new(rt: &'a R, preparers: u32, imposers: u32) -> Fates<'a, R> {
+        Fates {
+            rt,
+            preparers,
+            imposers,
+            preparing: AtomicU32::new(0),
+            imposing: AtomicU32::new(0),
+            stopped: AtomicU32::new(0),
+            run_out: AtomicU32::new(0),
+            late: AtomicU32::new(0),
+        }
+    }
+
+    /// Waits until the word has this value or more, or any wait ran out.
+    fn wait_for(&self, word: &AtomicU32, height: u32) {
+        for _ in 0..YIELDS {
+            if word.load(SeqCst) >= height || self.run_out.load(SeqCst) > 0 {
+                return;
+            }
+            thread::yield_now();
+        }
+        self.run_out.fetch_add(1, SeqCst);
+    }
+}
+
+/// Whether the bit of this number is set.
+fn has_bit(bits: u32, number: u32) -> bool {
+    number < 32 && bits >> number & 1 == 1
+}
+
+impl<'a, R: Abort> Work<Held> for Fates<'a, R> {
+    ghost is_held = { λ _ _. ⊤ };
+
+    ghost share = { λ _ held. held.shares };
+
+    ghost is_new = { λ _ held. held.shares ≡ 1 };
+
+    ghost is_new_preparer = { λ _ _ _ held. held.shares ≡ 1 };
+
+    ghost is_enough = { λ _ _ _ _. ⊤ };
+
+    ghost is_back = { λ _ held. held.shares ≡ 1 };
+
+    ghost has_prepared = { λ _ _ _ _. ⊤ };
+
+    ghost has_imposed = { λ _ _. ⊤ };
+
+    ghost has_gathered = { λ _ _ _ _ _. ⊤ };
+
+    fn prepare<W: Wait>(
+        &self,
+        _rt: &W,
+        held: Held,
+        number: u32,
+        _count: u32,
+    ) -> Result<Held, AllocError> {
+        self.preparing.fetch_add(1, SeqCst);
+        if has_bit(self.preparers, number) {
+            return Err(AllocError);
+        }
+        Ok(held)
+    }
+
+    fn split_preparer(&self, held: &mut Held, _number: u32, _count: u32) -> Held {
+        held.shares -= 1;
+        Held { shares: 1 }
+    }
+
+    fn split(&self, held: &mut Held) -> Held {
+        held.shares -= 1;
+        Held { shares: 1 }
+    }
+
+    fn join(&self, all: Held, theirs: Held) -> Held {
+        let _ = theirs;
+        match all.shares.checked_add(1) {
+            Some(shares) => Held { shares },
+            None => panic!(self.rt; "more shares than there are"),
+        }
+    }
+}
+
+impl<'a, R: Abort> Imposing<Held, Ticket> for Fates<'a, R> {
+    ghost sends = { λ _ _. ⊤ };
+
+    fn impose<W: Wait>(&self, _rt: &W, held: Held, _ticket: Ticket) -> Result<Held, AllocError> {
+        let number = self.imposing.fetch_add(1, SeqCst);
+        if has_bit(self.imposers, number) {
+            return Err(AllocError);
+        }
+        self.wait_for(&self.stopped, 1);
+        Ok(held)
+    }
+
+    fn stop(&self) {
+        self.stopped.fetch_add(1, SeqCst);
+    }
+
+    fn another(&self, _ticket: &mut Ticket) -> Ticket {
+        Ticket {}
+    }
+}
+
+impl<'a, R> Collector<Collected> for Fates<'a, R> {
+    ghost is_ready_to_collect = { λ _ _. ⊤ };
+
+    ghost collected = { λ _ _ _. ⊤ };
+
+    ghost reference = { λ _ _. 0 };
+
+    /// Waits until all workers have begun, as a collector waits for what they send.
+    fn collect<W: Wait>(&self, _rt: &W, state: &mut Collected) {
+        if self.stopped.load(SeqCst) > 0 {
+            self.late.fetch_add(1, SeqCst);
+        }
+        self.wait_for(&self.preparing, WORKERS);
+        self.wait_for(&self.imposing, WORKERS);
+        state.times = state.times.saturating_add(1);
+    }
+}
+
+/// The result of a run of workers: how often the collector collected, the final fates, and the shares that were
+/// returned.
+struct Came {
+    collected: u32,
+    late: u32,
+    run_out: u32,
+    stopped: u32,
+    begun: (u32, u32),
+    shares: Option<u64>,
+}
+
+/// Runs three workers of each kind with these fates.
+fn gather<R: Threads + Wait + Abort + Sync>(
+    rt: &R,
+    alloc: Global,
+    preparers: u32,
+    imposers: u32,
+) -> Came {
+    let fates = Fates::new(rt, preparers, imposers);
+    let supplies = Supplies {
+        crew: Crew {
+            alloc,
+            preparers: WORKERS,
+            imposers: WORKERS,
+        },
+        held: Held { shares: 100 },
+        ticket: Ticket {},
+    };
+    let mut ended = None;
+    let state = Collected { times: 0 };
+    let state = gather_by(rt, &fates, &fates, supplies, state, &mut ended);
+    let shares = match ended {
+        Some(held) => Some(held.shares),
+        None => None,
+    };
+    Came {
+        collected: state.times,
+        late: fates.late.load(SeqCst),
+        run_out: fates.run_out.load(SeqCst),
+        stopped: fates.stopped.load(SeqCst),
+        begun: (fates.preparing.load(SeqCst), fates.imposing.load(SeqCst)),
+        shares,
+    }
+}
+
+/// Whether all workers began, no wait ran out, and these shares were returned.
+fn is_right(came: Came, shares: Option<u64>) -> bool {
+    let Came {
+        collected,
+        late,
+        run_out,
+        stopped,
+        begun,
+        shares: handed_back,
+    } = came;
+    (collected, late, run_out, stopped) == (1, 0, 0, 1)
+        && begun == (WORKERS, WORKERS)
+        && handed_back == shares
+}
+
+#[test]
+fn workers_that_find_memory_hand_back_all(rt: HostRuntime) -> Result<(), Fail> {
+    assert_that(&rt, is_right(gather(&rt, rt.alloc(), 0, 0), Some(100)));
+    Ok(())
+}
+
+// The returned shares are as many as there were, or none.
+#[test]
+fn a_worker_without_memory_lets_nobody_wait(rt: HostRuntime) -> Result<(), Fail> {
+    for preparers in 0..8u32 {
+        for imposers in 0..8u32 {
+            let came = gather(&rt, rt.alloc(), preparers, imposers);
+            let is_whole = preparers == 0 && imposers == 0;
+            let shares = if is_whole { Some(100) } else { None };
+            assert_that(&rt, is_right(came, shares));
+        }
+    }
+    Ok(())
+}
