@@ -167,7 +167,7 @@ impl<'d> Document<'d> {
         let (line, behind) = self.text.split_at(line_len);
         let (rest, _) = behind.split_at(entry(self.starts.as_slice(), 0) - line_len);
         let alloc = *self.starts.allocator();
-        let header = with_count(alloc, line, sheets, lines)?;
+        let header = with_count(alloc, line, sheets, lines, rest.len())?;
         let mut text = filter_header(header, rest)?;
         end_line(&mut text)?;
         Ok(text)

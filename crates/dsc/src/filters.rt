@@ -184,18 +184,22 @@ pub fn filter_header(front: Vec<u8>, text: &[u8]) -> Result<Vec<u8>, AllocError>
     }
 }
 
-/// A document's first line, the number of its sheets in a line after it, and then more lines.
+/// A document's first line, the number of its sheets in a line after it, and then more lines, with room for so many bytes
+/// after them.
 pub fn with_count(
     alloc: Global,
     first: &[u8],
     sheets: u32,
     lines: &[u8],
+    room: usize,
 ) -> Result<Vec<u8>, AllocError>
     ensures { IfOk result (λ v.
         v.items ≡ (first.now ++ line (codes "%%Pages: " ++ decimal sheets)) ++ lines.now) }
 {
     let mut digits = Buffer::new();
-    let mut text = Vec::from_slice(alloc, first)?;
+    let len = room.saturating_add(first.len()).saturating_add(lines.len());
+    let mut text = Vec::with_capacity(alloc, len.saturating_add(32))?;
+    text.extend_from_slice(first)?;
     text.extend_from_slice(b"%%Pages: ")?;
     text.extend_from_slice(digits.format(sheets).as_bytes())?;
     text.push(b'\n')?;
