@@ -12,6 +12,7 @@ use Rattle.rules.specs.Run.{document_of, plan_in}
 use Rattle.dsc.specs.Faults as dsc
 use Rattle.imposer.specs.Options.{AreOptions}
 use Rattle.pagespec.specs.Faults.{fault_named}
+use Rattle.pagespec.specs.Refusals.{IsPlaced}
 use Rattle.sheet_plan.specs.Plans.{planned_in}
 use Rattle.sheet_plan.specs.Places.{born_complete}
 use Rattle.imposer.specs.Faults.{plan_fault_told}
@@ -46,11 +47,12 @@ pub record IsAccepted (r : Request) (spec : Spec) (us : List NestedUnit) : Type 
 abbrev pub Accepted : Request → (Spec → List NestedUnit → Type 0) → Type 0
 Accepted r P = (spec : Spec) × (us : List NestedUnit) × IsAccepted r spec us × P spec us
 
--- what an error says of the checks. A refusal names one that fails, and each before it passes; out of memory comes
--- after the checks that need none; a failed write comes after all of them
+-- what an error says of the checks. A refusal names one that fails, and each before it passes; a syntax fault has a place in
+-- the specification; out of memory comes after the checks that need none; a failed write comes after all of them
 abbrev pub IsRefusal : Request → RunError → Type 0
 IsRefusal r error.Options = AreOptions r.options → ⊥
-IsRefusal r (error.Spec e) = AreOptions r.options × IsSomeAnd (fault_named e) (λ f. Refuses most_slots r.spec f)
+IsRefusal r (error.Spec e) =
+    AreOptions r.options × IsSomeAnd (fault_named e) (λ f. Refuses most_slots r.spec f) × IsPlaced r.spec e
 IsRefusal r (error.Document e) =
     AreOptions r.options × ((spec : Spec) × Takes most_slots r.spec spec)
     × IsSomeAnd (dsc.fault_told e) (λ f. document_of r.input ≡ Err f)
