@@ -13,12 +13,13 @@ use std::thread::Threads;
 use test_cases::{Tally, load};
 
 /// The case files.
-const FILES: [&str; 7] = [
+const FILES: [&str; 8] = [
     "messages.cases",
     "specifications.cases",
     "looks.cases",
     "reports.cases",
     "sheets.cases",
+    "wishes.cases",
     "papers.cases",
     "real_document.cases",
 ];
