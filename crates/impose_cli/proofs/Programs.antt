@@ -140,7 +140,7 @@ made_created : (p : Product) (r : ImposeRequest) (input : List ℕ) (tells : Boo
 made_created product.Sheets r input tells f has_output written h = run_created r input tells f has_output written h
 made_created product.Specification r input tells f has_output written h = elim h [
   | inl stopped ↦ inl stopped.1
-  | inr some ↦ text_created None some.1 tells f has_output written some.4
+  | inr some ↦ text_created None (printed_text r some.0) tells f has_output written some.3
 ]
 made_created product.Plan r input tells f has_output written h = elim h [
   | inl stopped ↦ inl stopped.1

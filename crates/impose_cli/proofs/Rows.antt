@@ -3,6 +3,7 @@ use Rattle.std.proofs.Common.{◌≡◌, ◌⊎◌, ◌∙◌, ap, sym, subst, r
 use Rattle.std.specs.Prelude.{IfSome, length, map, option_map, string_bytes}
 use Rattle.std.specs.Io.KnownBytes.{Appends}
 use Rattle.made_sheets.specs.Made.{MadeSheet}
+use Rattle.made_sheets.specs.Rows.{Row}
 use Rattle.dressing.specs.Numbered.{Drawn}
 use Rattle.sheet_text.specs.declared.numbers.Numbers.{Numbers}
 use Rattle.dressing.specs.declared.strokes.Stroke.{Stroke}
@@ -37,7 +38,7 @@ use Rattle.impose_cli.specs.Tasks.{HasBehind, HasPages}
 use Rattle.impose_cli.specs.Refusals.{RefusesDocument, RefusesFor, RefusesOptions, RefusesRowTask}
 use Rattle.impose_cli.specs.Reaches.{HasReachOver, reach_in, reach_over}
 use Rattle.papers.specs.declared.reach.Reach.{Reach}
-use Rattle.impose_cli.specs.RowTasks.{ArePapersOf, cut_in, papers_in, placed_in, row_paper, text_for, why_no_row, FinishesRow, ImposesTask, IsJobOf, IsRowJob, IsRowPaper, IsRowTask, LaysRows, HasReach, cells_paper, counted_in}
+use Rattle.impose_cli.specs.RowTasks.{ArePapersOf, cut_in, papers_in, placed_in, row_paper, text_for, why_no_row, FinishesRow, ImposesTask, IsJobOf, IsRowJob, IsRowPaper, IsRowTask, LaysRows, HasReach, cells_paper, counted_in, own_in, row_in, row_papers}
 use Rattle.impose_said.specs.declared.fault.ImposeFault.{ImposeFault}
 use Rattle.impose_words.specs.declared.request.Layout.{Layout}
 use Rattle.impose_words.specs.declared.request.Layout.TheVariants as layout
@@ -68,6 +69,14 @@ pub are_papers : (r : ImposeRequest) (input : List ℕ) (us : List NestedUnit) (
     → papers ≡ papers_in r (bytes_of us) us → cut ≡ cut_in r (bytes_of us) us → ArePapersOf r input papers cut
 are_papers r input us papers cut read own cuts = let same = whole input us read in
     record { units = us; document = read; own = own ∙ ap (λ t. papers_in r t us) same; cut_pages = cuts ∙ ap (λ t. cut_in r t us) same }
+
+-- papers are found one after another: the pages' own, those of the row, those that count, and those of turned pages
+pub are_placed : (r : ImposeRequest) (us : List NestedUnit) (row : Row) (own taken counted papers : List Paper) → own ≡ own_in r (bytes_of us) us
+    → row ≡ row_in r us → taken ≡ row_papers row own → counted ≡ placed_in r.layout taken own → papers ≡ map (cells_paper r) counted
+    → papers ≡ papers_in r (bytes_of us) us
+are_placed r us row own taken counted papers own_is row_is taken_is counted_is are =
+    are ∙ ap (map (cells_paper r)) (counted_is ∙ ap (λ t. placed_in r.layout t own) (taken_is ∙ ap (λ w. row_papers w own) row_is)
+    ∙ ap (λ o. placed_in r.layout (row_papers (row_in r us) o) o) own_is)
 
 pub is_row_paper : (r : ImposeRequest) (input : List ℕ) (us : List NestedUnit) (found : Paper × PaperOrigin) → document_of input ≡ Ok us
     → found ≡ row_paper r (bytes_of us) us → IsRowPaper r input found

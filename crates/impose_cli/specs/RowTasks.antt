@@ -1,5 +1,5 @@
 -- What is imposed of a row of pages, and how: a request for a document, if its layout lays rows on sheets.
-use Rattle.std.specs.Prelude.{◌≡◌, ⊤, ℕ, ◌+◌, Bool, true, false, ◌&&◌, if◌then◌else◌, List, [], ◌∷◌, length, Option, Some, None, Result, Ok, Err, IfSome, option_map, option_and_then, slice_get, ◌||◌, not}
+use Rattle.std.specs.Prelude.{◌≡◌, ⊤, ℕ, ◌+◌, Bool, true, false, ◌&&◌, if◌then◌else◌, List, [], ◌∷◌, length, Option, Some, None, Result, Ok, Err, IfSome, option_map, option_and_then, map, slice_get, ◌||◌, not}
 use Rattle.std.specs.List.{list_all}
 use Rattle.std.specs.Ordering.{int_eq}
 use Rattle.rules.specs.Papers.{Paper}

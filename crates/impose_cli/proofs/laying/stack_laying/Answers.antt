@@ -8,8 +8,8 @@ returns-then-not-may_be_stacked-clause-refused c =
     let not : may_be_stacked c.args.duplex c.args.spacing.now.free ≡ false = search rules in
     stack_uneven c.args.cells c.args.duplex c.args.spacing.now c.args.papers.now.page c.args.papers.now.sheet not
 
-pub returns-in-Ok-then-duplex-clause-possible : goal.returns-in-Ok-then-duplex-clause-possible
-returns-in-Ok-then-duplex-clause-possible c =
+pub returns-then-duplex-clause-possible : goal.returns-then-duplex-clause-possible
+returns-then-duplex-clause-possible c =
     let may : may_be_stacked c.args.duplex c.args.spacing.now.free ≡ true = search rules in
     laid_as_cells c.args.cells c.args.duplex c.args.spacing.now c.args.papers.now.page c.args.papers.now.sheet _ may c.in-Ok.ensures.possible
 

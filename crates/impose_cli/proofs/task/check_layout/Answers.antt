@@ -1,7 +1,41 @@
+use Rattle.std.proofs.Common.{◌≡◌, ap, Option, Some, None, String, Global, refl, subst, sym}
+use Rattle.std.specs.Prelude.{option_map}
+use Rattle.rules.specs.Papers.{Paper}
+use Rattle.rows.specs.declared.sewing.Signing.{Signing}
+use Rattle.impose_words.specs.declared.request.Layout.{Layout}
+use Rattle.impose_words.specs.declared.request.Layout.TheVariants as layout
+use Rattle.impose_words.specs.declared.request.Spacing.{Spacing}
+use Rattle.impose_cli.specs.RowTasks.{cells_paper, sheet_paper_in, why_not_laid}
+use Rattle.impose_cli.specs.Unread.{IsPossible}
 use Rattle.impose_cli.proofs.task.check_layout.Goals as goal
+
+-- pages of a paper that is named, in a layout without a specification
+laid : (l : Layout) (s : Spacing) (page : Paper) (sheet : Option Paper) → ((x : String Global) → l ≡ layout.Spec x → ⊥)
+    → ((x : String Global) (signing : Option Signing) → l ≡ layout.SpecRow x signing → ⊥)
+    → why_not_laid l s page (sheet_paper_in l sheet page) ≡ None → IsPossible l s (Some page) sheet
+laid (layout.Spec x) s page sheet no_spec no_row e = absurd (no_spec x refl)
+laid (layout.SpecRow x signing) s page sheet no_spec no_row e = absurd (no_row x signing refl)
+laid (layout.NUp cells) s page sheet no_spec no_row e = e
+laid (layout.Booklet signing long_edge) s page sheet no_spec no_row e = e
+laid (layout.Cards cells) s page sheet no_spec no_row e = e
+laid (layout.Stack cells duplex) s page sheet no_spec no_row e = e
+laid (layout.Notes n) s page sheet no_spec no_row e = e
+laid (layout.Poster columns rows) s page sheet no_spec no_row e = e
+laid layout.Zine s page sheet no_spec no_row e = e
+laid layout.Selection s page sheet no_spec no_row e = e
 
 pub returns-in-Spec-default-clause-possible : goal.returns-in-Spec-default-clause-possible
 returns-in-Spec-default-clause-possible c = rw c.in-Spec-default.is-0 (rw c.as_str.ensures.value at c.check_spec.ensures.possible)
 
 pub returns-in-SpecRow-default-clause-possible : goal.returns-in-SpecRow-default-clause-possible
 returns-in-SpecRow-default-clause-possible c = rw c.in-SpecRow-default.is-0 (rw c.as_str-in-SpecRow-default.ensures.value at c.check_spec-in-SpecRow-default.ensures.possible)
+
+pub returns-in-Ok : goal.returns-in-Ok
+returns-in-Ok c = record {
+  possible = subst (λ (named : Option Paper). IsPossible c.args.request.now.layout c.args.request.now.spacing named c.args.request.now.sheet_paper)
+      (sym (ap (option_map (cells_paper c.args.request.now)) c.in_default-Some.is-1))
+      (laid c.args.request.now.layout c.args.request.now.spacing (cells_paper c.args.request.now c.in_default-Some.page_paper)
+      c.args.request.now.sheet_paper c.in_default-Some.not-Spec-0 c.in_default-Some.not-SpecRow-0
+      (rw c.papers_for-papers.ensures.page at (rw c.papers_for-papers.ensures.sheet at c.in-Ok.ensures.possible)));
+  refused = tt;
+}
