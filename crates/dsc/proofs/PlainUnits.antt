@@ -11,7 +11,7 @@ use Rattle.rules.specs.Filters.{continues}
 use Rattle.dsc.specs.Filters.{drops_of, is_dropped}
 use Rattle.dsc.specs.TrailerBoxes.{box_in}
 use Rattle.dsc.specs.declared.filters.Drops.{Drops}
-use Rattle.dsc.specs.declared.filters.Drops.TheVariants.{PageSetup, DocumentSetup}
+use Rattle.dsc.specs.declared.filters.Drops.TheVariants.{PageSetup, DocumentSetup, SetupAndPapers}
 use Rattle.dsc.proofs.Cases.{by_test, and_false}
 use Rattle.dsc.proofs.Headings.{unbegun, unheaded}
 use Rattle.dsc.proofs.LineLengths.{line_len-within}
@@ -73,6 +73,8 @@ plain_drops PageSetup content h =
     ∙ no_keys (codes "BeginPageSetup" ∷ codes "EndPageSetup" ∷ []) content h
 plain_drops DocumentSetup content h =
     no_keys (codes "Pages" ∷ codes "PageOrder" ∷ codes "BoundingBox" ∷ codes "HiResBoundingBox" ∷ codes "DocumentMedia" ∷ codes "Orientation" ∷ []) content h
+plain_drops SetupAndPapers content h =
+    ap (λ t. t || has_key (codes "%%DocumentPaperSizes" ∷ []) content) (plain_drops DocumentSetup content h) ∙ no_keys (codes "DocumentPaperSizes" ∷ []) content h
 
 pub plain_kept : (drops : Drops) (was : Bool) (u : NestedUnit) → IsPlain u.unit.content → is_dropped drops was u ≡ false
 plain_kept drops was u h =
