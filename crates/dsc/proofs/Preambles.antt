@@ -56,12 +56,15 @@ same_depth content bytes w =
 no_page : (content bytes : List ℕ) → Opening content → begins_page (record { depth = 0; unit = opening_line content bytes }) ≡ false
 no_page content bytes w = ap (λ k. list_any (bytes_eq k) (codes "%%Page" ∷ []) && starts_with nat_eq content (codes "%%Page" ++ 58 ∷ [])) w.1
 
-not_dropped : (rows : List (List ℕ)) (content : List ℕ) → Opening content → drops_with rows content ≡ false
-not_dropped [] content w =
+no_header : (content : List ℕ) → Opening content → drops_in_header content ≡ false
+no_header content w =
     ap (λ k. list_any (bytes_eq k)
     (codes "%%Pages" ∷ codes "%%PageOrder" ∷ codes "%%BoundingBox" ∷ codes "%%HiResBoundingBox" ∷ codes "%%DocumentMedia" ∷ codes "%%Orientation" ∷ [])) w.1
+
+not_dropped : (rows : List (List ℕ)) (content : List ℕ) → Opening content → drops_with rows content ≡ false
+not_dropped [] content w = no_header content w
 not_dropped (l ∷ ls) content w =
-    ap (λ t. t || has_key (codes "%%DocumentPaperSizes" ∷ []) content) (not_dropped [] content w) ∙ ap (λ k. list_any (bytes_eq k) (codes "%%DocumentPaperSizes" ∷ [])) w.1
+    ap (λ t. t || has_key (codes "%%DocumentPaperSizes" ∷ []) content) (no_header content w) ∙ ap (λ k. list_any (bytes_eq k) (codes "%%DocumentPaperSizes" ∷ [])) w.1
 
 first_kept : (rows : List (List ℕ)) (content bytes : List ℕ) (us : List NestedUnit) → Opening content
     → kept (drops_with rows) (record { depth = 0; unit = opening_line content bytes } ∷ us) ≡ record { depth = 0; unit = opening_line content bytes } ∷ kept (drops_with rows) us

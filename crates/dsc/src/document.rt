@@ -179,7 +179,11 @@ impl<'d> Document<'d> {
         ensures text { IfOk result (λ v. v.items ≡ trailer_text self.now) }
     {
         let (_, rest) = self.text.split_at(self.stop);
-        filter_header(Vec::new(*self.starts.allocator()), Drops::DocumentSetup, rest)
+        filter_header(
+            Vec::new(*self.starts.allocator()),
+            Drops::DocumentSetup,
+            rest,
+        )
     }
 
     /// The number of pages after the trailer's first line, outside embedded documents and data. They don't belong
