@@ -4,7 +4,7 @@ in a run of an output. specs/Sheets, Documents, Kept, Unaware and DocumentRun of
 A premise has its words, which are those of docs/PICTURES.md, and what is wrong, or None if it is met."""
 from dataclasses import replace
 from machine import ALWAYS, FONTS, PROVED, USERDICT, Machine, Name, Saved, Scanner, Snapshot, Stopped, is_complete
-from parts import Document, comments_apart, drops_in_header, drops_in_page, first_is_complete
+from parts import Document, comments_apart, drops_beside_lines, drops_in_header, drops_in_page, first_is_complete
 
 # `sheet_names` of specs/Sheets; `restore` is checked after each page.
 SHEET_NAMES = b"showpage userdict save put [ ] concat newpath moveto lineto closepath clip gsave setlinewidth stroke grestore".split()
@@ -13,6 +13,7 @@ PUT_NAMES = {b"showpage", b"ImposeSave"}
 MARKING = b"gsave setgray setlinewidth [ ] setdash newpath moveto lineto stroke grestore".split()
 SIZING = b"where pop ifelse systemdict known and if dict dup [ ] put get exec".split()
 ASKING = b"userdict copy true".split()
+NAMED = "on sheets that report their paper: no %%DocumentPaperSizes is within a string, or has a form feed in it"
 MARKED = "on sheets with marks or lines for notes: the names of these mean the operators"
 SIZED = "on sheets of several papers: the names of the lines that set them mean the operators"
 LOOKING = set(b"""initgraphics currentmatrix setmatrix defaultmatrix initmatrix initclip clippath pathforall setpagedevice erasepage
@@ -63,23 +64,25 @@ def ground(document, further=False):
         ("the graphics state is as initgraphics makes it (a font may be set)", left_set(m.graphics)),
         ("nothing is saved or pushed", "something is" if is_saved(m) else None),
         ("no string, array, procedure or font lies on the operand stack", newer(m)),
-        *on_all_sheets(m, False),
+        *on_all_sheets(m, document, False),
     ], True
 
 
-def on_all_sheets(m, is_guarded):
-    """What is asked besides for sheets with strokes, and for those of several papers (`TakesLines`, `TakesPlainLines`)."""
+def on_all_sheets(m, document, is_guarded):
+    """What is asked besides for sheets that report their paper (`comments_apart_with`), for those with strokes, and for those of several papers
+    (`TakesLines`, `TakesPlainLines`)."""
     def others(names):
         wrong = [name for name in names if m.found(name) != m.system(name)]
         return f"these don't: {text(wrong)}" if wrong else None
 
     flag = None if is_guarded or m.found(b"PStoPSenablepage") is None else "PStoPSenablepage is there"
-    return [(MARKED, others(MARKING)), (SIZED, others(SIZING if is_guarded else SIZING + ASKING) or flag)]
+    apart = comments_apart(document.preamble, drops_beside_lines)
+    return [(NAMED, None if apart else "one is"), (MARKED, others(MARKING)), (SIZED, others(SIZING if is_guarded else SIZING + ASKING) or flag)]
 
 
 def unmet(premises):
     """Which aren't met, without those that only some sheets ask for."""
-    return [f"{words}: {wrong}" for words, wrong in premises if wrong is not None and words not in (MARKED, SIZED)]
+    return [f"{words}: {wrong}" for words, wrong in premises if wrong is not None and words not in (NAMED, MARKED, SIZED)]
 
 
 def left_set(g):

@@ -83,6 +83,11 @@ def drops_in_header(key):
     return key in HEADER_KEYS
 
 
+def drops_beside_lines(key):
+    """If sheets report their paper (docs/RULES.md, 15)."""
+    return drops_in_header(key) or key == b"%%DocumentPaperSizes"
+
+
 def drops_in_page(key):
     return key.startswith(b"%%Page") or key in (b"%%BeginPageSetup", b"%%EndPageSetup")
 

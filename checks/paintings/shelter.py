@@ -127,7 +127,7 @@ def ground(document, g, further):
         ("showpage is the guard's, or one in a writable dictionary", showpage_is(m, g)),
         ("the graphics state is as initgraphics makes it (a font may be set)", reset),
         ("no string, array, procedure or font is on the operand stack", newer(m)),
-        *(on_all_sheets(m, True) if form(m) == GUARDED else ()),
+        *(on_all_sheets(m, document, True) if form(m) == GUARDED else ()),
     ], form(m)
 
 

@@ -18,7 +18,7 @@ use Rattle.pictures.specs.Objects.{Token, Name}
 use Rattle.pictures.specs.Machine.{State, Graphics, Painting}
 use Rattle.pictures.specs.Scanner.{Reading, Between, tokens, IsComplete}
 use Rattle.pictures.specs.Scanner as Scanner
-use Rattle.pictures.specs.Kept.{preamble_comments_apart}
+use Rattle.pictures.specs.Kept.{comments_apart_with}
 use Rattle.pictures.specs.Sheets.{Shown, AllOf, sheet_picture}
 use Rattle.pictures.specs.Documents.{body_of_page, frame_of, shown_slot, shown_sheet, OnSlotsFrom}
 use Rattle.pictures.proofs.Runs.{AreRuns}
@@ -175,7 +175,7 @@ on_begun told I P Q stays f (sheet ∷ all) s i h =
 
 -- A document's sheets, with the lines that report these papers.
 pub document_is_dressed : (R : State → State → Type 0) → AreRuns R → (start : List Token → State) (border : Option Border) (told : List Paper) (strokes : List Stroke) (all : List MadeSheet) (text : List ℕ) (us : List NestedUnit)
-    (picture : ℕ → List Painting) (s : State) (I : State → Type 0) → RunsLines R told strokes I → I s → document_of text ≡ Ok us → preamble_comments_apart us ≡ true
+    (picture : ℕ → List Painting) (s : State) (I : State → Type 0) → RunsLines R told strokes I → I s → document_of text ≡ Ok us → comments_apart_with (telling_of told).header us ≡ true
     → RunsOn R start (bytes_of (preamble us)) s → s.painted ≡ [] → OnSheetsBegun told (BodyBegun R border us picture) s all
     → R (start (tokens (made_output border (dress_of told strokes) all us)))
     (record (after_sheets told s all) { left = tokens (trailer_text us); painted = []; sheets = dressed_pictures border strokes us picture s.graphics all s.sheets })

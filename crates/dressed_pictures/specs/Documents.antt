@@ -16,7 +16,7 @@ use Rattle.dressing.specs.declared.strokes.Stroke.{Stroke}
 use Rattle.pictures.specs.Operators.{Work}
 use Rattle.pictures.specs.Machine.{State, Graphics, Painting, Runs}
 use Rattle.pictures.specs.Scanner.{tokens}
-use Rattle.pictures.specs.Kept.{preamble_comments_apart}
+use Rattle.pictures.specs.Kept.{comments_apart_with}
 use Rattle.pictures.specs.Sheets.{sheet_picture}
 use Rattle.pictures.specs.Documents.{started, frame_of, shown_sheet, PreambleRuns, OnSlots}
 use Rattle.guarded_pictures.specs.Pages.{IsGuarded, GuardedPagePaints}
@@ -73,7 +73,7 @@ DressedDocumentIsShown =
     (sheet : Option Paper) (border : Option Border) (strokes : List Stroke) (all : List MadeSheet) (text : List ℕ)
     (us : List NestedUnit) (picture : ℕ → List Painting) (s : State)
     → document_of text ≡ Ok us → length (guarded sheet text) ≤ most_input_bytes
-    → preamble_comments_apart (units_of (guarded sheet text)) ≡ true
+    → comments_apart_with (telling all).header (units_of (guarded sheet text)) ≡ true
     → PreambleRuns IsGuarded (bytes_of (preamble (units_of (guarded sheet text)))) s
     → TakesLines (told_by all) strokes s
     → OnSheetsBegun (told_by all) (λ at own p. GuardedPagePaints (frame_of border own) us at p (picture p)) s all
@@ -86,7 +86,7 @@ OpenDressedDocumentIsShown =
     (x z : Further) (w : Work) (sheet : Option Paper) (border : Option Border) (strokes : List Stroke)
     (all : List MadeSheet) (text : List ℕ) (us : List NestedUnit) (picture : ℕ → List Painting) (s : State)
     → IsPlacelessThere x → RunsPreambles x z → document_of text ≡ Ok us → length (guarded sheet text) ≤ most_input_bytes
-    → preamble_comments_apart (units_of (guarded sheet text)) ≡ true
+    → comments_apart_with (telling all).header (units_of (guarded sheet text)) ≡ true
     → OpenPreambleRuns z w IsGuarded (bytes_of (preamble (units_of (guarded sheet text)))) s
     → TakesLines (told_by all) strokes s
     → OnSheetsBegun (told_by all) (λ at own p. OpenGuardedPagePaints x (frame_of border own) us at p (picture p)) s all

@@ -12,7 +12,7 @@ use Rattle.dressing.specs.declared.strokes.Stroke.{Stroke}
 use Rattle.pictures.specs.Operators.{Work}
 use Rattle.pictures.specs.Machine.{State, Painting, Runs}
 use Rattle.pictures.specs.Scanner.{tokens}
-use Rattle.pictures.specs.Kept.{preamble_comments_apart}
+use Rattle.pictures.specs.Kept.{comments_apart_with}
 use Rattle.pictures.specs.Documents.{started, PreambleRuns}
 use Rattle.pictures.specs.Unaware.{IsPlainGround, PagePrints, absent}
 use Rattle.open_pictures.specs.Machine.{Further, OpenRuns}
@@ -38,7 +38,7 @@ abbrev pub DressedSheetsShowThePages : Type 0
 DressedSheetsShowThePages =
     (border : Option Border) (strokes : List Stroke) (all : List MadeSheet) (text : List ℕ) (us : List NestedUnit)
     (picture : ℕ → List Painting) (s : State)
-    → document_of text ≡ Ok us → preamble_comments_apart us ≡ true
+    → document_of text ≡ Ok us → comments_apart_with (telling all).header us ≡ true
     → PreambleRuns IsPlainGround (bytes_of (preamble us)) s → TakesPlainLines (told_by all) strokes s
     → OnSheetsBegun (told_by all) (λ at own p. PagePrints us at p (picture p)) s all
     → Runs false (started (tokens (made_output border (marked strokes (telling all)) all us)))
@@ -49,7 +49,7 @@ abbrev pub OpenDressedSheetsShowThePages : Type 0
 OpenDressedSheetsShowThePages =
     (x z : Further) (w : Work) (border : Option Border) (strokes : List Stroke) (all : List MadeSheet) (text : List ℕ)
     (us : List NestedUnit) (picture : ℕ → List Painting) (s : State)
-    → IsBlind x → RunsPreambles x z → document_of text ≡ Ok us → preamble_comments_apart us ≡ true
+    → IsBlind x → RunsPreambles x z → document_of text ≡ Ok us → comments_apart_with (telling all).header us ≡ true
     → OpenPreambleRuns z w IsPlainGround (bytes_of (preamble us)) s → TakesPlainLines (told_by all) strokes s
     → OnSheetsBegun (told_by all) (λ at own p. OpenPagePrints x us at p (picture p)) s all
     → OpenRuns z false (begun w (tokens (made_output border (marked strokes (telling all)) all us)))

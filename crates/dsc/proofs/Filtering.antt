@@ -1,14 +1,17 @@
 -- What is kept, run by run.
 use Rattle.std.specs.Prelude.{Result, Ok, Err, not}
-use Rattle.std.proofs.Common.{append_assoc, append-nil, Bool, true, false, if◌then◌else◌, ◌≡◌, ℕ, suc, ◌+◌, ◌-◌, ◌<◌, List, [], ◌∷◌, ◌++◌, length, take, drop, get_or, refl, ap, arith, sym, ◌∙◌}
+use Rattle.std.proofs.Common.{append_assoc, append-nil, length-append, Bool, true, false, if◌then◌else◌, ◌≡◌, ℕ, suc, ◌+◌, ◌-◌, ◌<◌, List, [], ◌∷◌, ◌++◌, length, take, drop, get_or, refl, ap, arith, sym, ◌∙◌}
 use Rattle.std.proofs.Math.Seq.{take-add}
+use Rattle.rules.specs.Bytes.{line}
 use Rattle.rules.specs.Units.{TextUnit, is_end, FaultyBlock, cut}
 use Rattle.rules.specs.Parts.{NestedUnit, nested, bytes_of}
-use Rattle.rules.specs.Filters.{kept_after, kept, drops_in_header, ended}
+use Rattle.rules.specs.Filters.{kept_after, kept, ended}
+use Rattle.made_sheets.specs.Dress.{lines_text}
+use Rattle.made_sheets.specs.MadeOutput.{drops_with}
 use Rattle.dsc.specs.Units.{or_none, units_of}
 use Rattle.dsc.specs.Filters.{drops_of, is_dropped, of_units, filter_on}
 use Rattle.dsc.specs.declared.filters.Drops.{Drops}
-use Rattle.dsc.specs.declared.filters.Drops.TheVariants.{DocumentSetup}
+use Rattle.dsc.specs.declared.filters.Drops.TheVariants.{DocumentSetup, SetupAndPapers}
 use Rattle.dsc.specs.Views.{at_depth}
 use Rattle.dsc.specs.Walks.{Place, behind, IsPieceOf}
 use Rattle.dsc.proofs.PlainUnits.{plain_kept}
@@ -82,8 +85,17 @@ end_wanted xs byte d true h e w = ended_at xs d true h (ap is_end (sym e) ∙ sy
 end_wanted xs byte d false h e w = ended_at xs d false h (ap is_end (sym e) ∙ sym w)
 
 -- a header's part that is cut without a fault
-pub header_found : (front text : List ℕ) → cut text ≡ Ok (or_none (cut text)) → filter_on DocumentSetup front false 0 0 text ≡ Ok (front ++ bytes_of (kept drops_in_header (units_of text)))
-header_found front text c = ap (of_units (λ us. front ++ bytes_of (kept_after false (drops_of DocumentSetup) (nested us)))) c
+pub header_found : (drops : Drops) (front text : List ℕ) → cut text ≡ Ok (or_none (cut text)) → filter_on drops front false 0 0 text ≡ Ok (front ++ bytes_of (kept (drops_of drops) (units_of text)))
+header_found drops front text c = ap (of_units (λ us. front ++ bytes_of (kept_after false (drops_of drops) (nested us)))) c
+
+-- lines have a text, if there are any
+pub without_lines : (rows : List (List ℕ)) → length (lines_text rows) ≡ 0 → drops_of DocumentSetup ≡ drops_with rows
+without_lines [] e = refl
+without_lines (l ∷ ls) e = absurd (let whole = length-append (line l) (lines_text ls) in let one = length-append l (10 ∷ []) in omega (arith, whole, one, e))
+
+pub with_some_lines : (rows : List (List ℕ)) → 0 < length (lines_text rows) → drops_of SetupAndPapers ≡ drops_with rows
+with_some_lines [] e = absurd (omega (arith, e))
+with_some_lines (l ∷ ls) e = refl
 
 abbrev kept_or : Result (List ℕ) FaultyBlock → List ℕ
 kept_or (Ok x) = x

@@ -7,11 +7,11 @@ use Rattle.std.proofs.lemmas.Slice.Eq.{bytes_eq-Decides}
 use Rattle.std.proofs.Common.{Bool, false, nat_eq, not, ◌||◌, ◌&&◌, ◌==◌, if◌then◌else◌, ◌≡◌, ℕ, ◌+◌, ◌-◌, List, [], ◌∷◌, length, take, refl, ap, arith, length-take, sym, ◌∙◌}
 use Rattle.rules.specs.Units.{TextUnit, is_blank, key, has_key, fields, content_of, line_len, first_unit}
 use Rattle.rules.specs.Parts.{NestedUnit, depth_after, is_outermost_line, begins_page, begins_trailer}
-use Rattle.rules.specs.Filters.{continues}
+use Rattle.rules.specs.Filters.{continues, drops_in_header}
 use Rattle.dsc.specs.Filters.{drops_of, is_dropped}
 use Rattle.dsc.specs.TrailerBoxes.{box_in}
 use Rattle.dsc.specs.declared.filters.Drops.{Drops}
-use Rattle.dsc.specs.declared.filters.Drops.TheVariants.{PageSetup, DocumentSetup}
+use Rattle.dsc.specs.declared.filters.Drops.TheVariants.{PageSetup, DocumentSetup, SetupAndPapers}
 use Rattle.dsc.proofs.Cases.{by_test, and_false}
 use Rattle.dsc.proofs.Headings.{unbegun, unheaded}
 use Rattle.dsc.proofs.LineLengths.{line_len-within}
@@ -67,12 +67,17 @@ plain_box u h =
     ap (λ t. if is_outermost_line u && (t && starts_with nat_eq u.unit.content (codes "%%BoundingBox:")) then Some (fields u.unit.content) else None) (no_keys (codes "BoundingBox" ∷ []) u.unit.content h)
     ∙ ap (λ t. if t then Some (fields u.unit.content) else None) (and_false (is_outermost_line u))
 
+plain_header : (content : List ℕ) → IsPlain content → drops_in_header content ≡ false
+plain_header content h =
+    no_keys (codes "Pages" ∷ codes "PageOrder" ∷ codes "BoundingBox" ∷ codes "HiResBoundingBox" ∷ codes "DocumentMedia" ∷ codes "Orientation" ∷ []) content h
+
 plain_drops : (drops : Drops) (content : List ℕ) → IsPlain content → drops_of drops content ≡ false
 plain_drops PageSetup content h =
     ap (λ t. t || has_key (codes "%%BeginPageSetup" ∷ codes "%%EndPageSetup" ∷ []) content) (unbegun (key content) (codes "%%") (codes "Page") (key_plain content h))
     ∙ no_keys (codes "BeginPageSetup" ∷ codes "EndPageSetup" ∷ []) content h
-plain_drops DocumentSetup content h =
-    no_keys (codes "Pages" ∷ codes "PageOrder" ∷ codes "BoundingBox" ∷ codes "HiResBoundingBox" ∷ codes "DocumentMedia" ∷ codes "Orientation" ∷ []) content h
+plain_drops DocumentSetup content h = plain_header content h
+plain_drops SetupAndPapers content h =
+    ap (λ t. t || has_key (codes "%%DocumentPaperSizes" ∷ []) content) (plain_header content h) ∙ no_keys (codes "DocumentPaperSizes" ∷ []) content h
 
 pub plain_kept : (drops : Drops) (was : Bool) (u : NestedUnit) → IsPlain u.unit.content → is_dropped drops was u ≡ false
 plain_kept drops was u h =

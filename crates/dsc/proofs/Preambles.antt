@@ -8,11 +8,11 @@ use Rattle.std.proofs.lemmas.List.Sums.{take_while-cons}
 use Rattle.std.proofs.lemmas.Slice.Eq.{bytes_eq-Decides}
 use Rattle.std.proofs.Math.Seq.{take-append_seam}
 use Rattle.rules.specs.Bytes.{line}
-use Rattle.rules.specs.Units.{TextUnit, BlockFault, is_end, is_blank, content_of, line_len, key, begins_block, fields, data_len, block, first_unit, cut, BeginsWith}
+use Rattle.rules.specs.Units.{TextUnit, BlockFault, has_key, is_end, is_blank, content_of, line_len, key, begins_block, fields, data_len, block, first_unit, cut, BeginsWith}
 use Rattle.rules.specs.Parts.{NestedUnit, depth_after, nested_from, nested, begins_page, up_to, preamble, bytes_of}
 use Rattle.rules.specs.Filters.{kept_after, kept, drops_in_header, ended, with_count, preamble_text, continues}
 use Rattle.made_sheets.specs.Dress.{lines_text}
-use Rattle.made_sheets.specs.MadeOutput.{with_lines, dressed_preamble}
+use Rattle.made_sheets.specs.MadeOutput.{with_lines, drops_with, dressed_preamble}
 use Rattle.std.proofs.lemmas.List.{append-nil}
 use Rattle.dsc.specs.Units.{or_none, units_of}
 use Rattle.dsc.specs.Documents.{HasItsParts}
@@ -56,16 +56,21 @@ same_depth content bytes w =
 no_page : (content bytes : List ℕ) → Opening content → begins_page (record { depth = 0; unit = opening_line content bytes }) ≡ false
 no_page content bytes w = ap (λ k. list_any (bytes_eq k) (codes "%%Page" ∷ []) && starts_with nat_eq content (codes "%%Page" ++ 58 ∷ [])) w.1
 
-not_dropped : (content : List ℕ) → Opening content → drops_in_header content ≡ false
-not_dropped content w =
+no_header : (content : List ℕ) → Opening content → drops_in_header content ≡ false
+no_header content w =
     ap (λ k. list_any (bytes_eq k)
     (codes "%%Pages" ∷ codes "%%PageOrder" ∷ codes "%%BoundingBox" ∷ codes "%%HiResBoundingBox" ∷ codes "%%DocumentMedia" ∷ codes "%%Orientation" ∷ [])) w.1
 
-first_kept : (content bytes : List ℕ) (us : List NestedUnit) → Opening content
-    → kept drops_in_header (record { depth = 0; unit = opening_line content bytes } ∷ us) ≡ record { depth = 0; unit = opening_line content bytes } ∷ kept drops_in_header us
-first_kept content bytes us w =
+not_dropped : (rows : List (List ℕ)) (content : List ℕ) → Opening content → drops_with rows content ≡ false
+not_dropped [] content w = no_header content w
+not_dropped (l ∷ ls) content w =
+    ap (λ t. t || has_key (codes "%%DocumentPaperSizes" ∷ []) content) (no_header content w) ∙ ap (λ k. list_any (bytes_eq k) (codes "%%DocumentPaperSizes" ∷ [])) w.1
+
+first_kept : (rows : List (List ℕ)) (content bytes : List ℕ) (us : List NestedUnit) → Opening content
+    → kept (drops_with rows) (record { depth = 0; unit = opening_line content bytes } ∷ us) ≡ record { depth = 0; unit = opening_line content bytes } ∷ kept (drops_with rows) us
+first_kept rows content bytes us w =
     let u : NestedUnit = record { depth = 0; unit = opening_line content bytes } in
-    ap (λ t. if t || (false && continues u) then kept_after true drops_in_header us else u ∷ kept_after false drops_in_header us) (not_dropped content w)
+    ap (λ t. if t || (false && continues u) then kept_after true (drops_with rows) us else u ∷ kept_after false (drops_with rows) us) (not_dropped rows content w)
 
 abbrev unit_or : TextUnit → Result TextUnit BlockFault → TextUnit
 unit_or u (Ok v) = v
@@ -99,7 +104,7 @@ abbrev pub PreambleFound : List ℕ → (n start sheets : ℕ) → Type 0
 PreambleFound text n start sheets =
     let rest = take (start - n) (drop n text) in
     (n ≤ start) × (start - n ≤ length (drop n text)) × (cut rest ≡ Ok (or_none (cut rest)))
-    × ((rows : List (List ℕ)) → ended (((take n text ++ line (codes "%%Pages: " ++ decimal sheets)) ++ lines_text rows) ++ bytes_of (kept drops_in_header (units_of rest))) ≡ dressed_preamble sheets rows (units_of text))
+    × ((rows : List (List ℕ)) → ended (((take n text ++ line (codes "%%Pages: " ++ decimal sheets)) ++ lines_text rows) ++ bytes_of (kept (drops_with rows) (units_of rest))) ≡ dressed_preamble sheets rows (units_of text))
 
 preamble_found : (text : List ℕ) (start sheets : ℕ) → starts_with nat_eq text (codes "%!") ≡ true → cut text ≡ Ok (or_none (cut text))
     → start ≡ length (bytes_of (preamble (units_of text))) → PreambleFound text (line_len text) start sheets
@@ -135,9 +140,9 @@ preamble_found text start sheets s c e =
       omega (arith, left, more),
       found ∙ ap (λ r. Ok (or_none r)) (sym found),
       (λ rows.
-          ap (λ vs. ended (((take n text ++ line (codes "%%Pages: " ++ decimal sheets)) ++ lines_text rows) ++ bytes_of (kept drops_in_header vs))) units
-          ∙ ap (λ vs. ended (with_lines sheets rows vs)) (sym (first_kept content (take n text) (nested hs) w))
-          ∙ ap (λ vs. ended (with_lines sheets rows (kept drops_in_header vs))) (sym head)),
+          ap (λ vs. ended (((take n text ++ line (codes "%%Pages: " ++ decimal sheets)) ++ lines_text rows) ++ bytes_of (kept (drops_with rows) vs))) units
+          ∙ ap (λ vs. ended (with_lines sheets rows vs)) (sym (first_kept rows content (take n text) (nested hs) w))
+          ∙ ap (λ vs. ended (with_lines sheets rows (kept (drops_with rows) vs))) (sym head)),
     )
 
 -- the same, from what always holds of a document's fields

@@ -14,7 +14,7 @@ ghost use Rattle.dsc.specs.PagesBehind.{pages_behind};
 
 use crate::bodies::Body;
 use crate::errors::{DscError, widen};
-use crate::filters::{end_line, filter_header, with_count};
+use crate::filters::{Drops, drops_with, end_line, filter_header, with_count};
 use crate::lines::{content_end, line_end_after};
 use crate::page_lines::page_lines;
 use crate::scan::scan;
@@ -158,7 +158,8 @@ impl<'d> Document<'d> {
         Ok(text)
     }
 
-    /// The same, with lines after the number of sheets, each with its line end.
+    /// The same, with lines after the number of sheets, each with its line end. If there are any, lines with the key
+    /// `%%DocumentPaperSizes` are dropped too.
     pub fn dressed_preamble(&self, sheets: u32, lines: &[u8]) -> Result<Vec<u8>, AllocError>
         ensures text { IfOk result (λ v. (rows : List (List ℕ)) → lines.now ≡ lines_text rows →
             v.items ≡ dressed_preamble sheets rows self.now) }
@@ -168,7 +169,7 @@ impl<'d> Document<'d> {
         let (rest, _) = behind.split_at(entry(self.starts.as_slice(), 0) - line_len);
         let alloc = *self.starts.allocator();
         let header = with_count(alloc, line, sheets, lines, rest.len())?;
-        let mut text = filter_header(header, rest)?;
+        let mut text = filter_header(header, drops_with(lines), rest)?;
         end_line(&mut text)?;
         Ok(text)
     }
@@ -178,7 +179,11 @@ impl<'d> Document<'d> {
         ensures text { IfOk result (λ v. v.items ≡ trailer_text self.now) }
     {
         let (_, rest) = self.text.split_at(self.stop);
-        filter_header(Vec::new(*self.starts.allocator()), rest)
+        filter_header(
+            Vec::new(*self.starts.allocator()),
+            Drops::DocumentSetup,
+            rest,
+        )
     }
 
     /// The number of pages after the trailer's first line, outside embedded documents and data. They don't belong

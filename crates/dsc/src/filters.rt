@@ -1,10 +1,12 @@
 //! What is kept of a text.
-ghost use Rattle.std.specs.Prelude.{◌≡◌, ◌+◌, ◌<◌, ◌≤◌, [], ◌++◌, length, take, drop, IfOk, IfErr, OnOk};
+ghost use Rattle.std.specs.Prelude.{◌≡◌, ℕ, ◌+◌, ◌<◌, ◌≤◌, List, [], ◌++◌, length, take, drop, IfOk, IfErr, OnOk};
 ghost use Rattle.std.specs.Prelude.{if◌then◌else◌, false, Ok, codes, decimal};
 ghost use Rattle.rules.specs.Bytes.{line};
 ghost use Rattle.rules.specs.Units.{cut};
 ghost use Rattle.rules.specs.Parts.{bytes_of};
 ghost use Rattle.rules.specs.Filters.{kept, drops_in_header, drops_in_page, ended, prepared};
+ghost use Rattle.made_sheets.specs.Dress.{lines_text};
+ghost use Rattle.made_sheets.specs.MadeOutput.{drops_with};
 ghost use Rattle.dsc.specs.Units.{or_none, units_of};
 ghost use Rattle.dsc.specs.Views.{unit_of, at_depth, Gives};
 ghost use Rattle.dsc.specs.Faults.{block_fault_told, page_fault_told, IsPageError};
@@ -20,11 +22,13 @@ use crate::walk::Walk;
 use itoa::Buffer;
 use std::alloc::{AllocError, Global};
 
-/// The lines that a filter drops: those that set up a page, or those that describe the whole document.
+/// The lines that a filter drops: those that set up a page, those that describe the whole document, or the latter and
+/// those that name its papers.
 #[derive(Clone, Copy)]
 pub enum Drops {
     PageSetup,
     DocumentSetup,
+    SetupAndPapers,
 }
 
 /// Whether a line with this content is dropped if it is outermost.
@@ -34,6 +38,9 @@ fn drops_line(drops: Drops, content: &[u8]) -> bool
     match drops {
         Drops::PageSetup => drops_in_page(content),
         Drops::DocumentSetup => drops_in_header(content),
+        Drops::SetupAndPapers => {
+            drops_in_header(content) || key_of(content) == b"%%DocumentPaperSizes".as_slice()
+        }
     }
 }
 
@@ -172,12 +179,22 @@ pub fn filter<'d>(copied: Vec<u8>, drops: Drops, text: &'d [u8]) -> Result<Kept<
     Ok(kept)
 }
 
-/// Appends to `front` what is kept of a part of a preamble or of a trailer, which has no faulty block.
-pub fn filter_header(front: Vec<u8>, text: &[u8]) -> Result<Vec<u8>, AllocError>
-    requires { cut text.now ≡ Ok (or_none (cut text.now)) }
-    ensures { IfOk result (λ v. v.items ≡ front.items ++ bytes_of (kept drops_in_header (units_of text.now))) }
+/// What is dropped from a preamble with these lines: names of papers too, if there are lines, as they report the papers.
+pub fn drops_with(lines: &[u8]) -> Drops
+    ensures { (rows : List (List ℕ)) → lines.now ≡ lines_text rows → drops_of result ≡ drops_with rows }
 {
-    match filter(front, Drops::DocumentSetup, text) {
+    if lines.is_empty() {
+        return Drops::DocumentSetup;
+    }
+    Drops::SetupAndPapers
+}
+
+/// Appends to `front` what is kept of a part of a preamble or of a trailer, which has no faulty block.
+pub fn filter_header(front: Vec<u8>, drops: Drops, text: &[u8]) -> Result<Vec<u8>, AllocError>
+    requires { cut text.now ≡ Ok (or_none (cut text.now)) }
+    ensures { IfOk result (λ v. v.items ≡ front.items ++ bytes_of (kept (drops_of drops) (units_of text.now))) }
+{
+    match filter(front, drops, text) {
         Ok(kept) => kept.into_copy(),
         Err(CutError::NoMemory) => Err(AllocError),
         Err(CutError::Faulty(_)) => unreachable!(),

@@ -13,7 +13,7 @@ use Rattle.made_sheets.specs.MadeOutput.{made_output}
 use Rattle.dsc.specs.Units.{units_of}
 use Rattle.guard.specs.Guard.{guarded}
 use Rattle.guard.proofs.TheGuard.{guard_stays}
-use Rattle.pictures.specs.Kept.{page_comments_apart, preamble_comments_apart}
+use Rattle.pictures.specs.Kept.{page_comments_apart, comments_apart_with}
 use Rattle.pictures.specs.Machine.{State, Painting, Runs}
 use Rattle.pictures.specs.Scanner.{tokens, IsComplete}
 use Rattle.pictures.specs.Sheets.{Shown}
@@ -49,7 +49,7 @@ page_again frame us again s p picture same h =
 pub states_are_shown : (at : ℕ → State) (least : ℕ) (sheet : Option Paper) (border : Option Border) (dress : Dress) (all : List MadeSheet) (text : List ℕ) (us : List NestedUnit) (picture : ℕ → List Painting)
     → ((k : ℕ) (x : Shown) → PaintsSheltered [] (at (suc k)) (outline_tokens x.placed.numbers) x.placed.body x.picture → Places (Runs false) at (at 0).graphics k x)
     → ((k : ℕ) → least ≤ k → Prints (Runs false) (at k))
-    → IsQuiet dress → document_of text ≡ Ok us → length (guarded sheet text) ≤ most_input_bytes → preamble_comments_apart (units_of (guarded sheet text)) ≡ true
+    → IsQuiet dress → document_of text ≡ Ok us → length (guarded sheet text) ≤ most_input_bytes → comments_apart_with dress.header (units_of (guarded sheet text)) ≡ true
     → IsComplete (bytes_of (preamble (units_of (guarded sheet text)))) → Runs false (started (tokens (bytes_of (preamble (units_of (guarded sheet text)))))) (at 0) → (at 0).left ≡ [] → (at 0).painted ≡ []
     → FirstHas least all → OnSheetsFrom (PaintsFrom border us picture at) 0 all
     → Runs false (started (tokens (made_output border dress all (units_of (guarded sheet text))))) (shown_at at border (units_of (guarded sheet text)) picture all)
@@ -72,7 +72,7 @@ by_specification_shown at frame sides spec us again picture same h =
 
 -- an accepted document in whose preamble the guard has run
 pub guarded_is_shown : (border : Option Border) (dress : Dress) (all : List MadeSheet) (text : List ℕ) (us : List NestedUnit) (picture : ℕ → List Painting) (s : State)
-    → IsQuiet dress → document_of text ≡ Ok us → preamble_comments_apart us ≡ true → PreambleRuns IsGuarded (bytes_of (preamble us)) s
+    → IsQuiet dress → document_of text ≡ Ok us → comments_apart_with dress.header us ≡ true → PreambleRuns IsGuarded (bytes_of (preamble us)) s
     → OnSheetsFrom (Bodies (Runs false) (still s) border us picture) 0 all → MadeIsPrinted border dress all us picture s
 guarded_is_shown border dress all text us picture s q d apart (complete, run, left, painted, printed, g) bodies =
     still_document_is_shown (Runs false) free_are_runs started border dress all text us picture s q d apart (free_runs_on (bytes_of (preamble us)) s complete run left) painted

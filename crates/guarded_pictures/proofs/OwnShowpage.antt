@@ -18,7 +18,7 @@ use Rattle.pictures.specs.Operators.{holder}
 use Rattle.pictures.specs.Chains.{is_same_chain}
 use Rattle.pictures.specs.Machine.{State, Graphics, Painting, Runs}
 use Rattle.pictures.specs.Scanner.{tokens}
-use Rattle.pictures.specs.Kept.{preamble_comments_apart}
+use Rattle.pictures.specs.Kept.{comments_apart_with}
 use Rattle.pictures.specs.Pictures.{printed, past, past_all, sheets_tokens}
 use Rattle.pictures.specs.Sheets.{run_of, Numbers, Shown, closing_tokens, placed_tokens, LeavesAsItWas, page_picture, place_in}
 use Rattle.pictures.specs.Documents.{started, PreambleRuns, FirstHas, OnSheetsFrom, all_sheets}
@@ -201,7 +201,7 @@ own_sheets_are_printed d s xs rest h e b k =
 -- Documents.
 
 pub own_is_shown : (sheet : Option Paper) (border : Option Border) (dress : Dress) (all : List MadeSheet) (text : List ℕ) (us : List NestedUnit) (picture : ℕ → List Painting) (d : ℕ) (s : State)
-    → IsQuiet dress → document_of text ≡ Ok us → length (guarded sheet text) ≤ most_input_bytes → preamble_comments_apart (units_of (guarded sheet text)) ≡ true
+    → IsQuiet dress → document_of text ≡ Ok us → length (guarded sheet text) ≤ most_input_bytes → comments_apart_with dress.header (units_of (guarded sheet text)) ≡ true
     → PreambleRuns (HasItsOwn d) (bytes_of (preamble (units_of (guarded sheet text)))) s → FirstHas 1 all → OnSheetsFrom (PaintsFrom border us picture (asking d s)) 0 all
     → Runs false (started (tokens (made_output border dress all (units_of (guarded sheet text))))) (shown_at (asking d s) border (units_of (guarded sheet text)) picture all)
 own_is_shown sheet border dress all text us picture d s quiet doc few apart (complete, run, left, painted, none_printed, own) has h =

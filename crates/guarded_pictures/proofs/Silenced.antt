@@ -19,7 +19,7 @@ use Rattle.pictures.specs.Operators.{holder, with_operands, judged}
 use Rattle.pictures.specs.Calculations.{compared}
 use Rattle.pictures.specs.Machine.{State, Painting, Runs, push, worked}
 use Rattle.pictures.specs.Scanner.{tokens}
-use Rattle.pictures.specs.Kept.{preamble_comments_apart}
+use Rattle.pictures.specs.Kept.{comments_apart_with}
 use Rattle.pictures.specs.Pictures.{printed, past_all, sheets_tokens}
 use Rattle.pictures.specs.Sheets.{run_of, in_userdict, Numbers, Shown, closing_tokens, placed_tokens, LeavesAsItWas, page_picture}
 use Rattle.pictures.specs.Documents.{started, PreambleRuns, FirstHas, OnSheetsFrom, all_sheets}
@@ -167,7 +167,7 @@ silenced_sheets_are_printed s xs rest h e b k =
 -- Documents.
 
 pub silenced_is_shown : (sheet : Option Paper) (border : Option Border) (dress : Dress) (all : List MadeSheet) (text : List ℕ) (us : List NestedUnit) (picture : ℕ → List Painting) (s : State)
-    → IsQuiet dress → document_of text ≡ Ok us → length (guarded sheet text) ≤ most_input_bytes → preamble_comments_apart (units_of (guarded sheet text)) ≡ true
+    → IsQuiet dress → document_of text ≡ Ok us → length (guarded sheet text) ≤ most_input_bytes → comments_apart_with dress.header (units_of (guarded sheet text)) ≡ true
     → PreambleRuns IsSilenced (bytes_of (preamble (units_of (guarded sheet text)))) s → FirstHas 1 all → OnSheetsFrom (PaintsFrom border us picture (showing s)) 0 all
     → Runs false (started (tokens (made_output border dress all (units_of (guarded sheet text))))) (shown_at (showing s) border (units_of (guarded sheet text)) picture all)
 silenced_is_shown sheet border dress all text us picture s quiet doc few comments (complete, run, left, painted, none_printed, silenced) has h =

@@ -26,7 +26,7 @@ use Rattle.pictures.specs.Objects.{Token}
 use Rattle.pictures.specs.Machine.{State, Painting, Runs}
 use Rattle.pictures.specs.Scanner.{Between, ended, tokens, IsComplete}
 use Rattle.pictures.specs.Sheets.{Numbers, Shown, sheet_picture, sheet_tokens}
-use Rattle.pictures.specs.Kept.{page_comments_apart, preamble_comments_apart}
+use Rattle.pictures.specs.Kept.{page_comments_apart, comments_apart_with}
 use Rattle.pictures.specs.Documents.{started, numbers_of, frame_of, page_of, body_of_page, shown_slot, shown_sheet, pages_past, OnSlotsFrom, OnSheetsFrom, OnSlots, OnSheets, PreambleRuns, all_sheets}
 use Rattle.pictures.specs.Imposed.{IsQuiet, MadeIsPrinted}
 use Rattle.pictures.proofs.DocumentRun.{everywhere_on}
@@ -154,7 +154,7 @@ Apart again own p = page_comments_apart (page_of again p) ≡ true
 
 again_is_shown : (border outer_border : Option Border) (dress outer_dress : Dress) (all outer_all : List MadeSheet) (text : List ℕ) (us again : List NestedUnit) (picture : ℕ → List Painting) (s : State)
     → IsQuiet dress → IsQuiet outer_dress → document_of text ≡ Ok again → pages again ≡ made_texts border dress (pages us) all
-    → preamble_comments_apart again ≡ true → PreambleRuns IsGuarded (bytes_of (preamble again)) s → TakesSheets [] s
+    → comments_apart_with outer_dress.header again ≡ true → PreambleRuns IsGuarded (bytes_of (preamble again)) s → TakesSheets [] s
     → OnSheets (Apart again) outer_all → OnSheets (SheetPaintsWithin border all us picture outer_border s) outer_all
     → MadeIsPrinted outer_border outer_dress outer_all again (made_run_picture border us picture s all) s
 again_is_shown border outer_border dress outer_dress all outer_all text us again picture s quiet outer_quiet d same apart run t kept h =

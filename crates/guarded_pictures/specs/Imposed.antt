@@ -11,7 +11,7 @@ use Rattle.guard.specs.Guard.{guarded}
 use Rattle.papers.specs.Told.{papers_told, telling}
 use Rattle.pictures.specs.Machine.{State, Painting, Runs}
 use Rattle.pictures.specs.Scanner.{tokens}
-use Rattle.pictures.specs.Kept.{preamble_comments_apart}
+use Rattle.pictures.specs.Kept.{comments_apart_with}
 use Rattle.pictures.specs.Documents.{started, frame_of, PreambleRuns, FirstHas, OnSheets, OnSheetsFrom}
 use Rattle.pictures.specs.Imposed.{IsQuiet, MadeIsPrinted}
 use Rattle.guarded_pictures.specs.Pages.{IsGuarded, GuardedPagePaints, PaintsFrom, shown_at}
@@ -42,7 +42,7 @@ MadeDocumentIsShown =
     (sheet : Option Paper) (border : Option Border) (all : List MadeSheet) (text : List ℕ) (us : List NestedUnit)
     (picture : ℕ → List Painting) (s : State)
     → AreToldAsOne all → document_of text ≡ Ok us → length (guarded sheet text) ≤ most_input_bytes
-    → preamble_comments_apart (units_of (guarded sheet text)) ≡ true
+    → comments_apart_with (telling all).header (units_of (guarded sheet text)) ≡ true
     → PreambleRuns IsGuarded (bytes_of (preamble (units_of (guarded sheet text)))) s
     → OnSheets (λ own p. GuardedPagePaints (frame_of border own) us s p (picture p)) all
     → MadeIsPrinted border (telling all) all (units_of (guarded sheet text)) picture s
@@ -53,7 +53,7 @@ OwnMadeDocumentIsShown =
     (sheet : Option Paper) (border : Option Border) (all : List MadeSheet) (text : List ℕ) (us : List NestedUnit)
     (picture : ℕ → List Painting) (d : ℕ) (s : State)
     → AreToldAsOne all → document_of text ≡ Ok us → length (guarded sheet text) ≤ most_input_bytes
-    → preamble_comments_apart (units_of (guarded sheet text)) ≡ true
+    → comments_apart_with (telling all).header (units_of (guarded sheet text)) ≡ true
     → PreambleRuns (HasItsOwn d) (bytes_of (preamble (units_of (guarded sheet text)))) s
     → FirstHas 1 all → OnSheetsFrom (PaintsFrom border us picture (asking d s)) 0 all
     → Runs false (started (tokens (made_output border (telling all) all (units_of (guarded sheet text)))))
@@ -65,7 +65,7 @@ SilencedMadeDocumentIsShown =
     (sheet : Option Paper) (border : Option Border) (all : List MadeSheet) (text : List ℕ) (us : List NestedUnit)
     (picture : ℕ → List Painting) (s : State)
     → AreToldAsOne all → document_of text ≡ Ok us → length (guarded sheet text) ≤ most_input_bytes
-    → preamble_comments_apart (units_of (guarded sheet text)) ≡ true
+    → comments_apart_with (telling all).header (units_of (guarded sheet text)) ≡ true
     → PreambleRuns IsSilenced (bytes_of (preamble (units_of (guarded sheet text)))) s
     → FirstHas 1 all → OnSheetsFrom (PaintsFrom border us picture (showing s)) 0 all
     → Runs false (started (tokens (made_output border (telling all) all (units_of (guarded sheet text)))))

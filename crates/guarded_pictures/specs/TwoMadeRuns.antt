@@ -15,7 +15,7 @@ use Rattle.guard.specs.Guard.{guarded}
 use Rattle.pictures.specs.Machine.{State, Painting}
 use Rattle.pictures.specs.Sheets.{sheet_picture}
 use Rattle.pictures.specs.Documents.{frame_of, page_of, shown_sheet, PreambleRuns, OnSlots, OnSheets, all_sheets, IsPrinted}
-use Rattle.pictures.specs.Kept.{page_comments_apart, preamble_comments_apart}
+use Rattle.pictures.specs.Kept.{comments_apart_with, page_comments_apart, preamble_comments_apart}
 use Rattle.pictures.specs.Imposed.{IsQuiet, MadeIsPrinted}
 use Rattle.guarded_pictures.specs.Shelter.{beginning}
 use Rattle.guarded_pictures.specs.Pages.{IsGuarded}
@@ -55,7 +55,7 @@ TwoMadeRunsAreShown =
     → document_of text ≡ Ok us → depth_behind (page_run us) ≡ 0
     → 0 < length all → length all ≤ most_pages → length (made_output border dress all us) ≤ most_input_bytes
     → length (guarded sheet (made_output border dress all us)) ≤ most_input_bytes
-    → preamble_comments_apart (written_again sheet border dress all us) ≡ true
+    → comments_apart_with outer_dress.header (written_again sheet border dress all us) ≡ true
     → PreambleRuns IsGuarded (bytes_of (preamble (written_again sheet border dress all us))) s → TakesSheets [] s
     → OnSheets (λ paper q. page_comments_apart (page_of (written_again sheet border dress all us) q) ≡ true) outer_all
     → OnSheets (SheetPaintsWithin border all us picture outer_border s) outer_all

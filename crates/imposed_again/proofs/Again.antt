@@ -17,6 +17,7 @@ use Rattle.rules.specs.Output.{Frame, sheet_text, output}
 use Rattle.rules.specs.Run.{document_of, most_input_bytes, most_pages, most_sheets, PlanFault, PlanTooManyPages, TooManySheets, TooManyPlaces, plan_in}
 use Rattle.rules.proofs.Counts.{sheet_count}
 use Rattle.rules.proofs.Signatures.{whole_signatures}
+use Rattle.made_sheets.specs.MadeOutput.{drops_with}
 use Rattle.dsc.specs.Units.{or_none, units_of}
 use Rattle.dsc.proofs.Reading.{accepted_cut, accepted_opening}
 use Rattle.dsc.proofs.PartMarks.{exclusive}
@@ -26,7 +27,7 @@ use Rattle.seams.proofs.LinesMeet.{clash}
 use Rattle.seams.proofs.Texts.{are_units, units_behind, joined_append, joined_is}
 use Rattle.seams.proofs.Splits.{at_depth, same_some, Opens, Split, split, up_to_passed, from_passed, up_to_open, from_open}
 use Rattle.imposed_again.proofs.Recut.{Row, row_of}
-use Rattle.imposed_again.proofs.Keeps.{header_key, kept_units}
+use Rattle.imposed_again.proofs.Keeps.{header_key, paper_key, kept_units}
 use Rattle.imposed_again.proofs.Pieces.{Made, AllBodies, sheet}
 use Rattle.seams.proofs.FirstLine.{and_first, IsFirst, first_is, first_no_page}
 use Rattle.seams.proofs.Accepted.{let_through, some_of, some_pages, accept}
@@ -134,8 +135,9 @@ row_back (u ∷ us) vs r = row_back us vs r.3
 
 -- The first line.
 
-pub first_not_dropped : (u : TextUnit) → IsFirst u → drops_in_header u.content ≡ false
-first_not_dropped u f = ap header_key f.named
+pub first_not_dropped : (lines : List (List ℕ)) (u : TextUnit) → IsFirst u → drops_with lines u.content ≡ false
+first_not_dropped [] u f = ap header_key f.named
+first_not_dropped (l ∷ lines) u f = ap paper_key f.named
 
 pub opened : (z w : List ℕ) → starts_with nat_eq (ended (37 ∷ 33 ∷ z) ++ w) (codes "%!") ≡ true
 opened [] w = refl
@@ -185,7 +187,7 @@ done_by frame all us p (u ∷ pre) e s m l =
     let row : Row ((u ∷ pre) ++ more) = row_of ((u ∷ pre) ++ more) [] [] (subst (λ t. AreUnits t (((u ∷ pre) ++ more) ++ [])) (sym (append-nil (joined ((u ∷ pre) ++ more)))) (subst (AreUnits (joined ((u ∷ pre) ++ more))) (sym (append-nil ((u ∷ pre) ++ more))) are)) in
     let first : IsFirst u = first_is (joined ((u ∷ pre) ++ more)) u (subst (λ ws. starts_with nat_eq (joined ws) (codes "%!") ≡ true) whole s) are.1 in
     let some : 0 < length (pre ++ more) = (let a = length-append pre more in let b = length-append p.run p.rest in let c = p.some in omega (arith, a, b, c)) in
-    let kept_first : drops_in_header u.content ≡ false = first_not_dropped u first in
+    let kept_first : drops_in_header u.content ≡ false = first_not_dropped [] u first in
     let before : preamble_text n ns ≡ ended (with_count n (kept drops_in_header (nested_from 0 (u ∷ pre)))) =
     ap (λ ws. ended (with_count n (kept drops_in_header ws))) (p.preamble_is ∙ ap (nested_from 0) e) in
     let made : Made begins_page 0 (preamble_text n ns) =

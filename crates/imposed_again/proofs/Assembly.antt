@@ -19,7 +19,7 @@ use Rattle.seams.proofs.UnitsMeet.{first_line}
 use Rattle.seams.proofs.Texts.{Goes, goes_append, units_join, joined_is, units_are}
 use Rattle.seams.proofs.Splits.{at_depth, Through, same_some, passes_cons, passes_append, Opens, up_to_passed, from_passed, up_to_open, from_open}
 use Rattle.imposed_again.proofs.Recut.{Row, Stands, Recut, recut, loose, head_of}
-use Rattle.imposed_again.proofs.Keeps.{is_dropped, kept_units, kept_bytes, kept_row, kept_passes, header_mild, header_key}
+use Rattle.imposed_again.proofs.Keeps.{is_dropped, kept_units, kept_bytes, kept_row, kept_passes, mild_with, header_key}
 use Rattle.seams.proofs.Plainly.{text as plain, ◌then◌, number}
 use Rattle.imposed_again.proofs.Pieces.{begins_part, Made, Sheet}
 use Rattle.imposed_again.proofs.Pages.{make, page_blind, part_blind, nothing_and}
@@ -231,8 +231,8 @@ trailer_key u h =
     or_none true e = refl
     or_none false e = e
 
-pub not_dropped : (u : NestedUnit) → drops_in_header u.unit.content ≡ false → is_dropped false drops_in_header u ≡ false
-not_dropped u h = ap (λ t. (is_outermost_line u && t) || false) h ∙ ap (λ t. t || false) (nothing_and (is_outermost_line u))
+pub not_dropped : (drops : List ℕ → Bool) (u : NestedUnit) → drops u.unit.content ≡ false → is_dropped false drops u ≡ false
+not_dropped drops u h = ap (λ t. (is_outermost_line u && t) || false) h ∙ ap (λ t. t || false) (nothing_and (is_outermost_line u))
 
 abbrev content_or : Option (List ℕ × Bool) → List ℕ × Bool
 content_or None = ([], false)
@@ -247,7 +247,7 @@ trailer_made c [] r h x = record { units = []; are = refl; opens = tt; where_shu
 trailer_made z (u ∷ us) r h x =
     let ks : List TextUnit = kept_units false drops_in_header 0 (u ∷ us) in
     let first : ks ≡ u ∷ kept_units false drops_in_header (depth_after 0 u) us =
-    ap (λ b. if b then kept_units true drops_in_header (depth_after 0 u) us else u ∷ kept_units false drops_in_header (depth_after 0 u) us) (not_dropped (at_depth 0 u) (trailer_key (at_depth 0 u) h)) in
+    ap (λ b. if b then kept_units true drops_in_header (depth_after 0 u) us else u ∷ kept_units false drops_in_header (depth_after 0 u) us) (not_dropped drops_in_header (at_depth 0 u) (trailer_key (at_depth 0 u) h)) in
     let c : Recut begins_part ks = recut begins_part part_blind ks (loose ks (kept_row false drops_in_header 0 (u ∷ us) r)) in
     record {
       units = c.units;
@@ -269,7 +269,7 @@ pub count_text : (n : ℕ) (u : TextUnit) (us : List TextUnit) → drops_in_head
 count_text n u us h =
     let d : ℕ = depth_after 0 u in
     let c : List ℕ = count_content n in
-    ap (λ b. with_count n (if b then kept_after true drops_in_header (nested_from d us) else at_depth 0 u ∷ kept_after false drops_in_header (nested_from d us))) (not_dropped (at_depth 0 u) h)
+    ap (λ b. with_count n (if b then kept_after true drops_in_header (nested_from d us) else at_depth 0 u ∷ kept_after false drops_in_header (nested_from d us))) (not_dropped drops_in_header (at_depth 0 u) h)
     ∙ ap (λ t. u.bytes ++ line c ++ t) (kept_bytes false drops_in_header d us) ∙ append_assoc u.bytes (line c) (joined (kept_units false drops_in_header d us))
 
 pub preamble_made : (n : ℕ) (u : TextUnit) (us : List TextUnit) → Row (u ∷ us) → Stands u → drops_in_header u.content ≡ false → passes begins_page 0 (u ∷ us) ≡ Some 0
@@ -285,7 +285,7 @@ preamble_made n u us r s h p =
     let passing : passes begins_page 0 (u ∷ line_unit c ∷ ks) ≡ Some 0 =
     ap (λ b. if b then None else passes begins_page d (line_unit c ∷ ks)) w.0
     ∙ ap (λ b. if b then None else passes begins_page d ks) (nothing_and ((d == 0) && true))
-    ∙ kept_passes begins_page false drops_in_header d us 0 header_mild w.1 in
+    ∙ kept_passes begins_page false drops_in_header d us 0 (mild_with []) w.1 in
     subst (λ t. Made begins_page 0 (ended t)) (sym (count_text n u us h)) (make begins_page (u ∷ line_unit c ∷ ks) 0 page_blind row passing)
 
 -- All of it.

@@ -8,7 +8,8 @@ use Rattle.std.proofs.lemmas.List.Sums.{take_while-cons}
 use Rattle.std.proofs.lemmas.Slice.Eq.{bytes_eq-Decides}
 use Rattle.rules.specs.Units.{TextUnit, key, has_key, is_blank}
 use Rattle.rules.specs.Parts.{NestedUnit, depth_after, nested_from, bytes_of, is_outermost_line}
-use Rattle.rules.specs.Filters.{continues, kept_after, drops_in_header, drops_in_page}
+use Rattle.rules.specs.Filters.{continues, kept_after, drops_in_page}
+use Rattle.made_sheets.specs.MadeOutput.{drops_with}
 use Rattle.dsc.proofs.Cases.{by_test}
 use Rattle.seams.specs.Seams.{joined, passes}
 use Rattle.seams.proofs.Keys.{not_key}
@@ -57,11 +58,15 @@ Mild drops = (content : List ℕ) → drops content ≡ true → (has_key (codes
 abbrev pub header_key : List ℕ → Bool
 header_key k = list_any (bytes_eq k) (codes "%%Pages" ∷ codes "%%PageOrder" ∷ codes "%%BoundingBox" ∷ codes "%%HiResBoundingBox" ∷ codes "%%DocumentMedia" ∷ codes "%%Orientation" ∷ [])
 
+abbrev pub paper_key : List ℕ → Bool
+paper_key k = header_key k || list_any (bytes_eq k) (codes "%%DocumentPaperSizes" ∷ [])
+
 abbrev pub page_key : List ℕ → Bool
 page_key k = starts_with nat_eq k (codes "%%Page") || list_any (bytes_eq k) (codes "%%BeginPageSetup" ∷ codes "%%EndPageSetup" ∷ [])
 
-pub header_mild : Mild drops_in_header
-header_mild content h = (not_key (codes "%%BeginDocument") content header_key h refl, not_key (codes "%%EndDocument") content header_key h refl)
+pub mild_with : (lines : List (List ℕ)) → Mild (drops_with lines)
+mild_with [] content h = (not_key (codes "%%BeginDocument") content header_key h refl, not_key (codes "%%EndDocument") content header_key h refl)
+mild_with (l ∷ lines) content h = (not_key (codes "%%BeginDocument") content paper_key h refl, not_key (codes "%%EndDocument") content paper_key h refl)
 
 pub page_mild : Mild drops_in_page
 page_mild content h = (not_key (codes "%%BeginDocument") content page_key h refl, not_key (codes "%%EndDocument") content page_key h refl)

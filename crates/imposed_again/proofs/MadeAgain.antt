@@ -19,10 +19,10 @@ use Rattle.seams.proofs.UnitsMeet.{first_line}
 use Rattle.seams.specs.Seams.{joined, line_unit, passes}
 use Rattle.made_sheets.specs.Dress.{Dress, lines_text}
 use Rattle.made_sheets.specs.Made.{MadeSheet}
-use Rattle.made_sheets.specs.MadeOutput.{dressed_preamble, made_output, made_sheet_text, with_lines}
+use Rattle.made_sheets.specs.MadeOutput.{dressed_preamble, drops_with, made_output, made_sheet_text, with_lines}
 use Rattle.imposed_again.proofs.Again.{Parts, as_many, first_not_dropped, mapped, opened, parts, row_back, row_front, some_preamble}
 use Rattle.imposed_again.proofs.Assembly.{Assembled, Sheets, Trailing, all_sheets, assembled, count_content, count_whole, depth_is, not_dropped, trailer_made}
-use Rattle.imposed_again.proofs.Keeps.{header_mild, kept_bytes, kept_passes, kept_row, kept_units}
+use Rattle.imposed_again.proofs.Keeps.{kept_bytes, kept_passes, kept_row, kept_units, mild_with}
 use Rattle.imposed_again.proofs.MadePieces.{each_made, lines_joined, lines_pass, lines_row}
 use Rattle.imposed_again.proofs.Pages.{EachBody, all_bodies, make, nothing_and, page_blind, pages_good}
 use Rattle.imposed_again.proofs.Pieces.{AllBodies, Made}
@@ -32,39 +32,39 @@ use Rattle.imposed_again.specs.MadeAgain.{AreTame, IsMadeAgain, IsTameDress, Mad
 
 -- ---- the preamble
 abbrev kept_lines : (lines : List (List ℕ)) (u : TextUnit) (us : List TextUnit) → List TextUnit
-kept_lines lines u us = map line_unit lines ++ kept_units false drops_in_header (depth_after 0 u) us
+kept_lines lines u us = map line_unit lines ++ kept_units false (drops_with lines) (depth_after 0 u) us
 
-dressed_text : (n : ℕ) (lines : List (List ℕ)) (u : TextUnit) (us : List TextUnit) → drops_in_header u.content ≡ false
-    → with_lines n lines (kept drops_in_header (nested_from 0 (u ∷ us))) ≡ joined (u ∷ line_unit (count_content n) ∷ kept_lines lines u us)
+dressed_text : (n : ℕ) (lines : List (List ℕ)) (u : TextUnit) (us : List TextUnit) → drops_with lines u.content ≡ false
+    → with_lines n lines (kept (drops_with lines) (nested_from 0 (u ∷ us))) ≡ joined (u ∷ line_unit (count_content n) ∷ kept_lines lines u us)
 dressed_text n lines u us h =
     let d : ℕ = depth_after 0 u in
     let c : List ℕ = count_content n in
-    let ks : List TextUnit = kept_units false drops_in_header d us in
+    let ks : List TextUnit = kept_units false (drops_with lines) d us in
     let ls : List ℕ = lines_text lines in
-    ap (λ b. with_lines n lines (if b then kept_after true drops_in_header (nested_from d us) else at_depth 0 u ∷ kept_after false drops_in_header (nested_from d us))) (not_dropped (at_depth 0 u) h)
-    ∙ ap (λ t. u.bytes ++ line c ++ ls ++ t) (kept_bytes false drops_in_header d us)
+    ap (λ b. with_lines n lines (if b then kept_after true (drops_with lines) (nested_from d us) else at_depth 0 u ∷ kept_after false (drops_with lines) (nested_from d us))) (not_dropped (drops_with lines) (at_depth 0 u) h)
+    ∙ ap (λ t. u.bytes ++ line c ++ ls ++ t) (kept_bytes false (drops_with lines) d us)
     ∙ append_assoc (u.bytes ++ line c) ls (joined ks)
     ∙ append_assoc u.bytes (line c) (ls ++ joined ks)
     ∙ ap (λ t. u.bytes ++ (line c ++ t)) (sym (joined_append (map line_unit lines) ks ∙ ap (λ t. t ++ joined ks) (lines_joined lines)))
 
 dressed_made : (n : ℕ) (lines : List (List ℕ)) (u : TextUnit) (us : List TextUnit) → AreTame lines → Row (u ∷ us) → Stands u
-    → drops_in_header u.content ≡ false → passes begins_page 0 (u ∷ us) ≡ Some 0
-    → Made begins_page 0 (ended (with_lines n lines (kept drops_in_header (nested_from 0 (u ∷ us)))))
+    → drops_with lines u.content ≡ false → passes begins_page 0 (u ∷ us) ≡ Some 0
+    → Made begins_page 0 (ended (with_lines n lines (kept (drops_with lines) (nested_from 0 (u ∷ us)))))
 dressed_made n lines u us tame r s h p =
     let c : List ℕ = count_content n in
     let d : ℕ = depth_after 0 u in
-    let ks : List TextUnit = kept_units false drops_in_header d us in
+    let ks : List TextUnit = kept_units false (drops_with lines) d us in
     let more : List TextUnit = kept_lines lines u us in
     let w = passes_cons begins_page 0 u us 0 p in
     let alone : first_unit (line c) ≡ Ok (line_unit c) = sym (ap first_unit (append-nil (line c))) ∙ first_line c [] (count_whole n, refl) in
-    let behind : Row more = lines_row lines ks tame (kept_row false drops_in_header d us r.3) in
+    let behind : Row more = lines_row lines ks tame (kept_row false (drops_with lines) d us r.3) in
     let row : Row (u ∷ line_unit c ∷ more) =
     (r.0, r.1, (λ _. s), (omega (arith, length-append c (10 ∷ [])), alone, (λ _. first_line c (37 ∷ []) (count_whole n, refl)), behind)) in
     let passing : passes begins_page 0 (u ∷ line_unit c ∷ more) ≡ Some 0 =
     ap (λ b. if b then None else passes begins_page d (line_unit c ∷ more)) w.0
     ∙ ap (λ b. if b then None else passes begins_page d more) (nothing_and ((d == 0) && true))
     ∙ lines_pass d lines ks tame
-    ∙ kept_passes begins_page false drops_in_header d us 0 header_mild w.1 in
+    ∙ kept_passes begins_page false (drops_with lines) d us 0 (mild_with lines) w.1 in
     subst (λ t. Made begins_page 0 (ended t)) (sym (dressed_text n lines u us h)) (make begins_page (u ∷ line_unit c ∷ more) 0 page_blind row passing)
 
 -- ---- all of it
@@ -89,11 +89,11 @@ done_by border dress all tame us p (u ∷ pre) e s m l =
     let row : Row ((u ∷ pre) ++ more) = row_of ((u ∷ pre) ++ more) [] [] (subst (λ t. AreUnits t (((u ∷ pre) ++ more) ++ [])) (sym (append-nil (joined ((u ∷ pre) ++ more)))) (subst (AreUnits (joined ((u ∷ pre) ++ more))) (sym (append-nil ((u ∷ pre) ++ more))) are)) in
     let first : IsFirst u = first_is (joined ((u ∷ pre) ++ more)) u (subst (λ ws. starts_with nat_eq (joined ws) (codes "%!") ≡ true) whole s) are.1 in
     let some : 0 < length (pre ++ more) = (let a = length-append pre more in let b = length-append p.run p.rest in let c = p.some in omega (arith, a, b, c)) in
-    let kept_first : drops_in_header u.content ≡ false = first_not_dropped u first in
     let lines : List (List ℕ) = dress.header in
+    let kept_first : drops_with lines u.content ≡ false = first_not_dropped lines u first in
     let text : List ℕ = dressed_preamble n lines ns in
-    let before : text ≡ ended (with_lines n lines (kept drops_in_header (nested_from 0 (u ∷ pre)))) =
-    ap (λ ws. ended (with_lines n lines (kept drops_in_header ws))) (p.preamble_is ∙ ap (nested_from 0) e) in
+    let before : text ≡ ended (with_lines n lines (kept (drops_with lines) (nested_from 0 (u ∷ pre)))) =
+    ap (λ ws. ended (with_lines n lines (kept (drops_with lines) ws))) (p.preamble_is ∙ ap (nested_from 0) e) in
     let made : Made begins_page 0 text =
     subst (Made begins_page 0) (sym before) (dressed_made n lines u pre tame.header (row_front (u ∷ pre) more row) (row.2 some) kept_first (sym (ap (passes begins_page 0) e) ∙ p.before)) in
     let behind : AreUnits (joined p.run ++ joined p.rest) (p.run ++ p.rest) =

@@ -1,11 +1,12 @@
 -- What is written of made sheets. By a law, with no dress and one paper for all, it is the output of a
 -- specification.
-use Rattle.std.specs.Prelude.{◌≡◌, ℕ, ◌+◌, ◌++◌, List, [], ◌∷◌, length, flat_map, codes, decimal, Option}
+use Rattle.std.specs.Prelude.{◌≡◌, ℕ, ◌+◌, Bool, ◌||◌, ◌++◌, List, [], ◌∷◌, length, flat_map, codes, decimal, Option}
 use Rattle.std.specs.Prelude.{slice_index_or}
 use Rattle.std.specs.List.{enumerate_from}
 use Rattle.rules.specs.Bytes.{line}
 use Rattle.rules.specs.Specification.{Spec}
 use Rattle.rules.specs.Signatures.{sheets_in}
+use Rattle.rules.specs.Units.{has_key}
 use Rattle.rules.specs.Parts.{NestedUnit, pages, preamble, bytes_of}
 use Rattle.rules.specs.Filters.{kept, drops_in_header, ended, prepared, trailer_text}
 use Rattle.rules.specs.Output.{Border, Frame, opening_text, closing_text, body_text, output}
@@ -35,8 +36,14 @@ with_lines sheets lines [] = []
 with_lines sheets lines (first ∷ us) =
     first.unit.bytes ++ line (codes "%%Pages: " ++ decimal sheets) ++ lines_text lines ++ bytes_of us
 
+-- dropped from a preamble with these lines: if there are any, they report the papers, and the names of papers (DSC 2.1,
+-- %%DocumentPaperSizes) are dropped too
+abbrev pub drops_with : List (List ℕ) → List ℕ → Bool
+drops_with [] content = drops_in_header content
+drops_with (l ∷ ls) content = drops_in_header content || has_key (codes "%%DocumentPaperSizes" ∷ []) content
+
 abbrev pub dressed_preamble : (sheets : ℕ) → List (List ℕ) → List NestedUnit → List ℕ
-dressed_preamble sheets lines us = ended (with_lines sheets lines (kept drops_in_header (preamble us)))
+dressed_preamble sheets lines us = ended (with_lines sheets lines (kept (drops_with lines) (preamble us)))
 
 -- the preamble with the number of sheets, the sheets in order, the trailer
 abbrev pub made_output : (border : Option Border) → Dress → List MadeSheet → List NestedUnit → List ℕ

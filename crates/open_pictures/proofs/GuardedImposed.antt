@@ -14,7 +14,7 @@ use Rattle.papers.specs.Told.{telling}
 use Rattle.pictures.specs.Operators.{Work}
 use Rattle.pictures.specs.Machine.{State, Painting}
 use Rattle.pictures.specs.Scanner.{tokens, IsComplete}
-use Rattle.pictures.specs.Kept.{page_comments_apart, preamble_comments_apart}
+use Rattle.pictures.specs.Kept.{comments_apart_with, page_comments_apart}
 use Rattle.pictures.specs.Documents.{frame_of, OnSheets, all_sheets}
 use Rattle.pictures.specs.Imposed.{IsQuiet}
 use Rattle.pictures.proofs.Sheets.{still}
@@ -35,7 +35,7 @@ use Rattle.open_pictures.proofs.GuardedSheets.{body_places}
 
 -- an accepted document in whose preamble the guard has run
 made_is_shown : (x z : Further) (w : Work) (border : Option Border) (dress : Dress) (all : List MadeSheet) (text : List ℕ) (us : List NestedUnit) (picture : ℕ → List Painting) (s : State)
-    → IsPlacelessThere x → RunsPreambles x z → IsQuiet dress → document_of text ≡ Ok us → preamble_comments_apart us ≡ true → OpenPreambleRuns z w IsGuarded (bytes_of (preamble us)) s
+    → IsPlacelessThere x → RunsPreambles x z → IsQuiet dress → document_of text ≡ Ok us → comments_apart_with dress.header us ≡ true → OpenPreambleRuns z w IsGuarded (bytes_of (preamble us)) s
     → OnSheets (λ own p. OpenGuardedPagePaints x (frame_of border own) us s p (picture p)) all → OpenMadeIsPrinted z w border dress all us picture s
 made_is_shown x z w border dress all text us picture s blind runs q d apart (complete, run, left, painted, printed, guarded) h =
     still_document_is_shown (OpenRuns z false) (open_are_runs z) (begun w) border dress all text us picture s q d apart

@@ -16,7 +16,7 @@ use Rattle.pictures.specs.Objects.{Token}
 use Rattle.pictures.specs.Operators.{Work}
 use Rattle.pictures.specs.Machine.{State, Painting}
 use Rattle.pictures.specs.Scanner.{tokens}
-use Rattle.pictures.specs.Kept.{preamble_comments_apart}
+use Rattle.pictures.specs.Kept.{comments_apart_with}
 use Rattle.pictures.specs.Sheets.{Numbers, Shown, closing_tokens, placed_tokens, page_picture}
 use Rattle.pictures.specs.Documents.{FirstHas, OnSheetsFrom, all_sheets}
 use Rattle.pictures.specs.Imposed.{IsQuiet}
@@ -57,7 +57,7 @@ own_places x z d s k y blind q h p =
     (record { end = p.end; run = p.run; leaves = still_leaves (with_asking d t) p.end ps sheets p.leaves; picture_is = p.picture_is })))
 
 own_is_shown : (x z : Further) (w : Work) (sheet : Option Paper) (border : Option Border) (dress : Dress) (all : List MadeSheet) (text : List ℕ) (us : List NestedUnit) (picture : ℕ → List Painting) (d : ℕ) (s : State)
-    → IsPlacelessThere x → RunsPreambles x z → IsQuiet dress → document_of text ≡ Ok us → length (guarded sheet text) ≤ most_input_bytes → preamble_comments_apart (units_of (guarded sheet text)) ≡ true
+    → IsPlacelessThere x → RunsPreambles x z → IsQuiet dress → document_of text ≡ Ok us → length (guarded sheet text) ≤ most_input_bytes → comments_apart_with dress.header (units_of (guarded sheet text)) ≡ true
     → OpenPreambleRuns z w (HasItsOwn d) (bytes_of (preamble (units_of (guarded sheet text)))) s → FirstHas 1 all → OnSheetsFrom (OpenPaintsFrom x border us picture (asking d s)) 0 all
     → OpenRuns z false (begun w (tokens (made_output border dress all (units_of (guarded sheet text))))) (shown_at (asking d s) border (units_of (guarded sheet text)) picture all)
 own_is_shown x z w sheet border dress all text us picture d s blind runs quiet doc few apart (complete, run, left, painted, printed, own) has h =

@@ -16,7 +16,7 @@ use Rattle.pictures.specs.Objects.{Token}
 use Rattle.pictures.specs.Operators.{Work}
 use Rattle.pictures.specs.Machine.{State, Painting}
 use Rattle.pictures.specs.Scanner.{tokens}
-use Rattle.pictures.specs.Kept.{preamble_comments_apart}
+use Rattle.pictures.specs.Kept.{comments_apart_with}
 use Rattle.pictures.specs.Sheets.{Numbers, Shown, closing_tokens, placed_tokens, page_picture}
 use Rattle.pictures.specs.Documents.{FirstHas, OnSheetsFrom, all_sheets}
 use Rattle.pictures.specs.Imposed.{IsQuiet}
@@ -61,7 +61,7 @@ silenced_places x z s (suc k) y blind q h p ps sheets rest =
     (page_places x t y blind (takes_pages t h.guarded) p ps sheets rest)
 
 silenced_is_shown : (x z : Further) (w : Work) (sheet : Option Paper) (border : Option Border) (dress : Dress) (all : List MadeSheet) (text : List ℕ) (us : List NestedUnit) (picture : ℕ → List Painting) (s : State)
-    → IsPlacelessThere x → RunsPreambles x z → IsQuiet dress → document_of text ≡ Ok us → length (guarded sheet text) ≤ most_input_bytes → preamble_comments_apart (units_of (guarded sheet text)) ≡ true
+    → IsPlacelessThere x → RunsPreambles x z → IsQuiet dress → document_of text ≡ Ok us → length (guarded sheet text) ≤ most_input_bytes → comments_apart_with dress.header (units_of (guarded sheet text)) ≡ true
     → OpenPreambleRuns z w IsSilenced (bytes_of (preamble (units_of (guarded sheet text)))) s → FirstHas 1 all → OnSheetsFrom (OpenPaintsFrom x border us picture (showing s)) 0 all
     → OpenRuns z false (begun w (tokens (made_output border dress all (units_of (guarded sheet text))))) (shown_at (showing s) border (units_of (guarded sheet text)) picture all)
 silenced_is_shown x z w sheet border dress all text us picture s blind runs quiet doc few apart (complete, run, left, painted, printed, silenced) has h =

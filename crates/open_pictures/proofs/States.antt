@@ -16,7 +16,7 @@ use Rattle.guard.proofs.TheGuard.{guard_stays}
 use Rattle.pictures.specs.Operators.{Work}
 use Rattle.pictures.specs.Machine.{State, Painting}
 use Rattle.pictures.specs.Scanner.{tokens, IsComplete}
-use Rattle.pictures.specs.Kept.{preamble_comments_apart}
+use Rattle.pictures.specs.Kept.{comments_apart_with}
 use Rattle.pictures.specs.Sheets.{Shown}
 use Rattle.pictures.specs.Documents.{frame_of, FirstHas, OnSheetsFrom, all_sheets}
 use Rattle.pictures.specs.Imposed.{IsQuiet}
@@ -38,7 +38,7 @@ use Rattle.open_pictures.proofs.GuardedSheets.{page_again, kept_places}
 pub states_are_shown : (x z : Further) (w : Work) (at : ℕ → State) (least : ℕ) (sheet : Option Paper) (border : Option Border) (dress : Dress) (all : List MadeSheet) (text : List ℕ) (us : List NestedUnit) (picture : ℕ → List Painting)
     → ((k : ℕ) (y : Shown) → OpenPaintsSheltered x [] (at (suc k)) (outline_tokens y.placed.numbers) y.placed.body y.picture → Places (OpenRuns z false) at (at 0).graphics k y)
     → ((k : ℕ) → least ≤ k → Prints (OpenRuns z false) (at k))
-    → RunsPreambles x z → IsQuiet dress → document_of text ≡ Ok us → length (guarded sheet text) ≤ most_input_bytes → preamble_comments_apart (units_of (guarded sheet text)) ≡ true
+    → RunsPreambles x z → IsQuiet dress → document_of text ≡ Ok us → length (guarded sheet text) ≤ most_input_bytes → comments_apart_with dress.header (units_of (guarded sheet text)) ≡ true
     → IsComplete (bytes_of (preamble (units_of (guarded sheet text)))) → OpenRuns z false (begun w (tokens (bytes_of (preamble (units_of (guarded sheet text)))))) (at 0) → (at 0).left ≡ [] → (at 0).painted ≡ []
     → FirstHas least all → OnSheetsFrom (OpenPaintsFrom x border us picture at) 0 all
     → OpenRuns z false (begun w (tokens (made_output border dress all (units_of (guarded sheet text))))) (shown_at at border (units_of (guarded sheet text)) picture all)

@@ -17,7 +17,7 @@ use Rattle.pictures.specs.Scanner.{tokens, IsComplete}
 use Rattle.pictures.specs.Sheets.{IsGround}
 use Rattle.pictures.specs.Documents.{started, OnSheets, all_sheets, sheet_pictures}
 use Rattle.pictures.specs.DocumentRun.{PrintsSheetBy}
-use Rattle.pictures.specs.Kept.{preamble_comments_apart}
+use Rattle.pictures.specs.Kept.{comments_apart_with, preamble_comments_apart}
 use Rattle.pictures.specs.Unaware.{IsPlainGround, PrintsBy, PagePrintsBy}
 use Rattle.open_pictures.specs.Machine.{Further, open_step, OpenRuns, open_unaware_step}
 use Rattle.open_pictures.specs.Blindness.{IsBlind, RunsPreambles}
@@ -91,6 +91,6 @@ OpenMadeSheetsShowThePages =
     (x z : Further) (w : Work) (border : Option Border) (dress : Dress) (all : List MadeSheet) (text : List ℕ)
     (us : List NestedUnit) (picture : ℕ → List Painting) (s : State)
     → IsBlind x → RunsPreambles x z → IsQuiet dress → document_of text ≡ Ok us
-    → preamble_comments_apart us ≡ true → OpenPreambleRuns z w IsGround (bytes_of (preamble us)) s → IsPlainGround s
+    → comments_apart_with dress.header us ≡ true → OpenPreambleRuns z w IsGround (bytes_of (preamble us)) s → IsPlainGround s
     → OnSheets (λ paper p. OpenPagePrints x us s p (picture p)) all
     → OpenMadeIsPrinted z w border dress all us picture s

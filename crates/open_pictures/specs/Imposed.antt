@@ -10,7 +10,7 @@ use Rattle.guard.specs.Guard.{guarded}
 use Rattle.papers.specs.Told.{telling}
 use Rattle.pictures.specs.Operators.{Work}
 use Rattle.pictures.specs.Machine.{State, Painting}
-use Rattle.pictures.specs.Kept.{preamble_comments_apart}
+use Rattle.pictures.specs.Kept.{comments_apart_with}
 use Rattle.pictures.specs.Documents.{frame_of, OnSheets}
 use Rattle.guarded_pictures.specs.Pages.{IsGuarded}
 use Rattle.guarded_pictures.specs.Imposed.{AreToldAsOne}
@@ -27,7 +27,7 @@ OpenMadeDocumentIsShown =
     (x z : Further) (w : Work) (sheet : Option Paper) (border : Option Border) (all : List MadeSheet) (text : List ℕ)
     (us : List NestedUnit) (picture : ℕ → List Painting) (s : State)
     → IsPlacelessThere x → RunsPreambles x z → AreToldAsOne all → document_of text ≡ Ok us → length (guarded sheet text) ≤ most_input_bytes
-    → preamble_comments_apart (units_of (guarded sheet text)) ≡ true
+    → comments_apart_with (telling all).header (units_of (guarded sheet text)) ≡ true
     → OpenPreambleRuns z w IsGuarded (bytes_of (preamble (units_of (guarded sheet text)))) s
     → OnSheets (λ own p. OpenGuardedPagePaints x (frame_of border own) us s p (picture p)) all
     → OpenMadeIsPrinted z w border (telling all) all (units_of (guarded sheet text)) picture s

@@ -6,7 +6,7 @@ use Rattle.std.proofs.Common.{arith, ◌≡◌, ℕ, zero, suc, ◌+◌, ◌<◌
 use Rattle.std.proofs.lemmas.List.Sums.{take_while-cons}
 use Rattle.std.proofs.Math.Seq.{drop-append_seam}
 use Rattle.rules.specs.Bytes.{line}
-use Rattle.rules.specs.Filters.{drops_in_header, ended, kept, kept_after, trailer_text}
+use Rattle.rules.specs.Filters.{ended, kept, kept_after, trailer_text}
 use Rattle.rules.specs.Output.{Border}
 use Rattle.rules.specs.Parts.{NestedUnit, begins_page, begins_trailer, bytes_of, depth_after, nested, nested_from, pages, preamble, split_pages, up_to}
 use Rattle.rules.specs.Run.{document_of}
@@ -25,7 +25,7 @@ use Rattle.seams.proofs.Texts.{are_units, joined_is}
 use Rattle.seams.proofs.UnitsMeet.{unit_content, unit_line, unit_same}
 use Rattle.made_sheets.specs.Dress.{Dress, lines_text}
 use Rattle.made_sheets.specs.Made.{MadeSheet}
-use Rattle.made_sheets.specs.MadeOutput.{dressed_preamble, made_output, made_sheet_text, with_lines}
+use Rattle.made_sheets.specs.MadeOutput.{dressed_preamble, drops_with, made_output, made_sheet_text, with_lines}
 use Rattle.imposed_again.proofs.Again.{first_not_dropped}
 use Rattle.imposed_again.proofs.Assembly.{count_content, count_whole, not_dropped}
 use Rattle.imposed_again.proofs.Recut.{Row, Stands, row_of}
@@ -194,8 +194,8 @@ lines_end : (c : List ℕ) (lines : List (List ℕ)) → ends (lines_text (c ∷
 lines_end c [] = ap ends (append-nil (line c)) ∙ ends_more c (10 ∷ []) refl
 lines_end c (d ∷ lines) = ends_more (line c) (lines_text (d ∷ lines)) (lines_end d lines)
 
-abbrev kept_behind : TextUnit → List TextUnit → List NestedUnit
-kept_behind u us = kept_after false drops_in_header (up_to begins_page (nested_from (depth_after 0 u) us))
+abbrev kept_behind : List (List ℕ) → TextUnit → List TextUnit → List NestedUnit
+kept_behind lines u us = kept_after false (drops_with lines) (up_to begins_page (nested_from (depth_after 0 u) us))
 
 no_page : (u : TextUnit) → IsFirst u → begins_page (at_depth 0 u) ≡ false
 no_page u f = false_of (begins_page (at_depth 0 u)) (first_no_page u 0 f)
@@ -206,17 +206,17 @@ no_page u f = false_of (begins_page (at_depth 0 u)) (first_no_page u 0 f)
 
 -- the first line, the count, the lines of the dress, and what else is kept
 preamble_written : (n : ℕ) (lines : List (List ℕ)) (u : TextUnit) (us : List TextUnit) → IsFirst u
-    → dressed_preamble n lines (nested (u ∷ us)) ≡ (u.bytes ++ lines_text (count_content n ∷ lines)) ++ ended (bytes_of (kept_behind u us))
+    → dressed_preamble n lines (nested (u ∷ us)) ≡ (u.bytes ++ lines_text (count_content n ∷ lines)) ++ ended (bytes_of (kept_behind lines u us))
 preamble_written n lines u us f =
     let d : ℕ = depth_after 0 u in
     let before : List NestedUnit = up_to begins_page (nested_from d us) in
     let c : List ℕ = count_content n in
-    let more : List ℕ = bytes_of (kept_behind u us) in
+    let more : List ℕ = bytes_of (kept_behind lines u us) in
     let parts : preamble (nested (u ∷ us)) ≡ at_depth 0 u ∷ before =
     take_while-cons (λ x. not (begins_page x)) (at_depth 0 u) (nested_from d us) ∙ ap (λ b. cond (not b) (at_depth 0 u ∷ before) []) (no_page u f) in
-    ap (λ ws. ended (with_lines n lines (kept drops_in_header ws))) parts
-    ∙ ap (λ b. ended (with_lines n lines (if b then kept_after true drops_in_header before else at_depth 0 u ∷ kept_after false drops_in_header before)))
-    (not_dropped (at_depth 0 u) (first_not_dropped u f))
+    ap (λ ws. ended (with_lines n lines (kept (drops_with lines) ws))) parts
+    ∙ ap (λ b. ended (with_lines n lines (if b then kept_after true (drops_with lines) before else at_depth 0 u ∷ kept_after false (drops_with lines) before)))
+    (not_dropped (drops_with lines) (at_depth 0 u) (first_not_dropped lines u f))
     ∙ ap (λ t. ended (t ++ more)) (append_assoc u.bytes (line c) (lines_text lines))
     ∙ ended_on (u.bytes ++ lines_text (c ∷ lines)) more (ends_more u.bytes (lines_text (c ∷ lines)) (lines_end c lines))
 
@@ -244,7 +244,7 @@ by_first border dress all u us h f s =
     let vs : List NestedUnit = nested (u ∷ us) in
     let c : List ℕ = count_content (length all) in
     let lines : List ℕ = lines_text (c ∷ dress.header) in
-    let kept_more : List ℕ = ended (bytes_of (kept_behind u us)) in
+    let kept_more : List ℕ = ended (bytes_of (kept_behind dress.header u us)) in
     let sheets : List ℕ = flat_map (λ (s, sheet). made_sheet_text border dress (pages vs) s sheet) (enumerate_from 0 all) in
     let last : List ℕ = trailer_text vs in
     let rest : List ℕ = (kept_more ++ sheets) ++ last in

@@ -12,7 +12,7 @@ use Rattle.pictures.specs.Objects.{Token}
 use Rattle.pictures.specs.Machine.{State, Painting, Runs}
 use Rattle.pictures.specs.Scanner.{tokens}
 use Rattle.pictures.specs.Documents.{started, frame_of, sheet_pictures, pages_past_all, FirstHas, OnSheetsFrom, all_sheets}
-use Rattle.pictures.specs.Kept.{preamble_comments_apart}
+use Rattle.pictures.specs.Kept.{comments_apart_with}
 use Rattle.pictures.specs.Unaware.{PagePrints, SheetsShowThePages}
 use Rattle.pictures.specs.Imposed.{IsQuiet, MadeSheetsShowThePages}
 use Rattle.pictures.proofs.Runs.{AreRuns, free_are_runs}
@@ -23,14 +23,14 @@ use Rattle.pictures.proofs.Kept.{dressed_runs_alike}
 use Rattle.pictures.proofs.Own.{page_paints}
 
 -- the preamble with added comments runs like the document's
-begins_alike : (R : State → State → Type 0) (start : List Token → State) (dress : Dress) (sheets : ℕ) (text : List ℕ) (us : List NestedUnit) (s : State) → IsQuiet dress → document_of text ≡ Ok us → preamble_comments_apart us ≡ true
+begins_alike : (R : State → State → Type 0) (start : List Token → State) (dress : Dress) (sheets : ℕ) (text : List ℕ) (us : List NestedUnit) (s : State) → IsQuiet dress → document_of text ≡ Ok us → comments_apart_with dress.header us ≡ true
     → RunsOn R start (bytes_of (preamble us)) s → RunsOn R start (dressed_preamble sheets dress.header us) s
 begins_alike R start dress sheets text us s q d apart run =
     runs_alike R start (bytes_of (preamble us)) (dressed_preamble sheets dress.header us) s (dressed_runs_alike sheets dress.header text us (comments_read dress.header q.header) d apart run.0) run
 
 -- any machine whose runs are these prints a document's sheets
 pub document_is_shown : (R : State → State → Type 0) → AreRuns R → (start : List Token → State) (at : ℕ → State) (least : ℕ) (border : Option Border) (dress : Dress) (all : List MadeSheet) (text : List ℕ) (us : List NestedUnit) (picture : ℕ → List Painting)
-    → IsQuiet dress → document_of text ≡ Ok us → preamble_comments_apart us ≡ true → RunsOn R start (bytes_of (preamble us)) (at 0) → (at 0).painted ≡ []
+    → IsQuiet dress → document_of text ≡ Ok us → comments_apart_with dress.header us ≡ true → RunsOn R start (bytes_of (preamble us)) (at 0) → (at 0).painted ≡ []
     → ((k : ℕ) → least ≤ k → Prints R (at k)) → FirstHas least all → OnSheetsFrom (Bodies R at border us picture) 0 all
     → R (start (tokens (made_output border dress all us)))
     (record (at (pages_past_all 0 all)) { left = tokens (trailer_text us); painted = []; sheets = sheet_pictures border us picture (at 0) all })
@@ -38,7 +38,7 @@ document_is_shown R m start at least border dress all text us picture q d apart 
     bodies_are_shown R m start at least border dress all us picture q (begins_alike R start dress (length all) text us (at 0) q d apart run)
 
 pub still_document_is_shown : (R : State → State → Type 0) → AreRuns R → (start : List Token → State) (border : Option Border) (dress : Dress) (all : List MadeSheet) (text : List ℕ) (us : List NestedUnit) (picture : ℕ → List Painting) (s : State)
-    → IsQuiet dress → document_of text ≡ Ok us → preamble_comments_apart us ≡ true → RunsOn R start (bytes_of (preamble us)) s → s.painted ≡ []
+    → IsQuiet dress → document_of text ≡ Ok us → comments_apart_with dress.header us ≡ true → RunsOn R start (bytes_of (preamble us)) s → s.painted ≡ []
     → Prints R s → OnSheetsFrom (Bodies R (still s) border us picture) 0 all
     → R (start (tokens (made_output border dress all us))) (record s { left = tokens (trailer_text us); sheets = sheet_pictures border us picture s all })
 still_document_is_shown R m start border dress all text us picture s q d apart run =

@@ -10,16 +10,16 @@ use Rattle.rules.specs.Filters.{continues, kept, kept_after, drops_in_header, dr
 use Rattle.rules.specs.Run.{DocumentFault, NoPages, InputTooManyPages, InputTooLong, NotPostScript, of_block, refuse_if, with_pages, document_of}
 use Rattle.rules.specs.Output.{body_text}
 use Rattle.made_sheets.specs.Dress.{lines_text}
-use Rattle.made_sheets.specs.MadeOutput.{with_lines, dressed_preamble}
+use Rattle.made_sheets.specs.MadeOutput.{with_lines, drops_with, dressed_preamble}
 use Rattle.rules.proofs.Whole.{units_make_text}
 use Rattle.rules.proofs.CutUnits.{cut_is_units, same_ok, apart_results, none_below}
 use Rattle.pictures.specs.Objects.{Token}
 use Rattle.pictures.specs.Scanner.{Reading, Between, InComment, scan_from, behind, tokens, IsComplete}
 use Rattle.pictures.specs.Scanner as Scanner
-use Rattle.pictures.specs.Kept.{reading_behind, is_between, has_form_feed, goes, apart_at, comments_apart, apart_in, first_is_complete, preamble_comments_apart, KeptRunsAlike, PreambleRunsAlike}
+use Rattle.pictures.specs.Kept.{reading_behind, is_between, has_form_feed, goes, apart_at, comments_apart, apart_in, first_is_complete, comments_apart_with, KeptRunsAlike, PreambleRunsAlike}
 use Rattle.pictures.proofs.Tests.{by_test, first, second}
 use Rattle.pictures.proofs.Scanned.{scan_behind}
-use Rattle.pictures.proofs.LinesRead.{begins, more_begins, header_begins, body_begins, HasNone, unit_read}
+use Rattle.pictures.proofs.LinesRead.{begins, more_begins, begins_with, body_begins, HasNone, unit_read}
 use Rattle.pictures.proofs.NumberTokens.{Reads, reads_join}
 use Rattle.pictures.proofs.Comments.{count_line}
 
@@ -244,15 +244,15 @@ count_same sheets (u ∷ ks) e = put_same (line (codes "%%Pages: " ++ decimal sh
 abbrev RunsAlike : List ℕ → List NestedUnit → Type 0
 RunsAlike first us = (tokens (ended first) ≡ tokens (bytes_of (preamble us))) × IsComplete (ended first)
 
-begun_alike : (first_text text : List ℕ) (us : List NestedUnit) → document_of text ≡ Ok us → preamble_comments_apart us ≡ true → IsComplete (bytes_of (preamble us))
-    → (first_is_complete (kept drops_in_header (preamble us)) ≡ true → scan_from Between first_text ≡ scan_from Between (bytes_of (kept drops_in_header (preamble us))))
+begun_alike : (lines : List (List ℕ)) (first_text text : List ℕ) (us : List NestedUnit) → document_of text ≡ Ok us → comments_apart_with lines us ≡ true → IsComplete (bytes_of (preamble us))
+    → (first_is_complete (kept (drops_with lines) (preamble us)) ≡ true → scan_from Between first_text ≡ scan_from Between (bytes_of (kept (drops_with lines) (preamble us))))
     → RunsAlike first_text us
-begun_alike first_text text us e a c f =
+begun_alike lines first_text text us e a c f =
     let all : List NestedUnit = preamble us in
-    let some : List NestedUnit = kept drops_in_header all in
-    let apart : Bool = comments_apart false drops_in_header Between all in
+    let some : List NestedUnit = kept (drops_with lines) all in
+    let apart : Bool = comments_apart false (drops_with lines) Between all in
     let same : scan_from Between (bytes_of some) ≡ scan_from Between (bytes_of all) =
-    kept_same drops_in_header false Between all header_begins (lines_up_to begins_page us (document_lines text us e)) (first apart (first_is_complete some) a) c in
+    kept_same (drops_with lines) false Between all (begins_with lines) (lines_up_to begins_page us (document_lines text us e)) (first apart (first_is_complete some) a) c in
     let begun : scan_from Between first_text ≡ scan_from Between (bytes_of all) = f (second apart (first_is_complete some) a) ∙ same in
     let read : scan_from Between (ended first_text) ≡ scan_from Between (bytes_of all) =
     with_end first_text (ap (λ x. x.1) begun ∙ c) ∙ begun in
@@ -260,11 +260,11 @@ begun_alike first_text text us e a c f =
 
 pub preamble_runs_alike : PreambleRunsAlike
 preamble_runs_alike sheets text us e a c =
-    begun_alike (with_count sheets (kept drops_in_header (preamble us))) text us e a c (count_same sheets (kept drops_in_header (preamble us)))
+    begun_alike [] (with_count sheets (kept drops_in_header (preamble us))) text us e a c (count_same sheets (kept drops_in_header (preamble us)))
 
 -- and so does one that has lines without tokens in its header
 pub dressed_runs_alike : (sheets : ℕ) (lines : List (List ℕ)) (text : List ℕ) (us : List NestedUnit) → Reads Between (lines_text lines) [] Between → document_of text ≡ Ok us
-    → preamble_comments_apart us ≡ true → IsComplete (bytes_of (preamble us))
+    → comments_apart_with lines us ≡ true → IsComplete (bytes_of (preamble us))
     → (tokens (dressed_preamble sheets lines us) ≡ tokens (bytes_of (preamble us))) × IsComplete (dressed_preamble sheets lines us)
 dressed_runs_alike sheets lines text us none e a c =
-    begun_alike (with_lines sheets lines (kept drops_in_header (preamble us))) text us e a c (lines_same sheets lines (kept drops_in_header (preamble us)) none)
+    begun_alike lines (with_lines sheets lines (kept (drops_with lines) (preamble us))) text us e a c (lines_same sheets lines (kept (drops_with lines) (preamble us)) none)

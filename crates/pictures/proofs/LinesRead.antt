@@ -7,6 +7,7 @@ use Rattle.std.proofs.Common.{◌≡◌, ℕ, suc, ◌+◌, refl, ap, ◌∙◌,
 use Rattle.rules.specs.Bytes.{line_feed, carriage_return, colon}
 use Rattle.rules.specs.Units.{TextUnit, BlockFault, is_end, is_blank, content_of, end_len, line_len, key, first_unit, block, begins_block, data_len, fields}
 use Rattle.rules.specs.Filters.{drops_in_header, drops_in_page}
+use Rattle.made_sheets.specs.MadeOutput.{drops_with}
 use Rattle.rules.proofs.CutUnits.{same_ok, apart_results}
 use Rattle.pictures.specs.Scanner.{Between, InComment, scan_from, behind, ends_comment, form_feed, percent_sign}
 use Rattle.pictures.specs.Kept.{has_form_feed}
@@ -50,9 +51,15 @@ pub more_begins : (content : List ℕ) → starts_with nat_eq content (codes "%%
 more_begins [] e = absurd (true≢false (sym e))
 more_begins (b ∷ k) e = eq-eqb b percent_sign (sym (eqb-true percent_sign b (first (percent_sign == b) (starts_with nat_eq k (codes "%+")) e)))
 
-pub header_begins : (content : List ℕ) → drops_in_header content ≡ true → begins content ≡ true
+header_begins : (content : List ℕ) → drops_in_header content ≡ true → begins content ≡ true
 header_begins content e = key_begins content
     (any_begins (key content) (codes "%%Pages" ∷ codes "%%PageOrder" ∷ codes "%%BoundingBox" ∷ codes "%%HiResBoundingBox" ∷ codes "%%DocumentMedia" ∷ codes "%%Orientation" ∷ []) refl e)
+
+pub begins_with : (lines : List (List ℕ)) (content : List ℕ) → drops_with lines content ≡ true → begins content ≡ true
+begins_with [] content e = header_begins content e
+begins_with (l ∷ lines) content e =
+    or_elim (drops_in_header content) (list_any (bytes_eq (key content)) (codes "%%DocumentPaperSizes" ∷ [])) (header_begins content)
+    (λ named. key_begins content (any_begins (key content) (codes "%%DocumentPaperSizes" ∷ []) refl named)) e
 
 pub body_begins : (content : List ℕ) → drops_in_page content ≡ true → begins content ≡ true
 body_begins content e = key_begins content

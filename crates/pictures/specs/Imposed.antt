@@ -12,7 +12,7 @@ use Rattle.pictures.specs.Machine.{State, Painting, Runs}
 use Rattle.pictures.specs.Scanner.{percent_sign, ends_comment, tokens}
 use Rattle.pictures.specs.Sheets.{IsGround}
 use Rattle.pictures.specs.Documents.{started, sheet_pictures, OnSheets, PreambleRuns}
-use Rattle.pictures.specs.Kept.{preamble_comments_apart}
+use Rattle.pictures.specs.Kept.{comments_apart_with}
 use Rattle.pictures.specs.Unaware.{IsPlainGround, PagePrints}
 
 -- Lines that a machine passes over.
@@ -52,6 +52,6 @@ MadeSheetsShowThePages =
     (border : Option Border) (dress : Dress) (all : List MadeSheet) (text : List ℕ) (us : List NestedUnit)
     (picture : ℕ → List Painting) (s : State)
     → IsQuiet dress → document_of text ≡ Ok us
-    → preamble_comments_apart us ≡ true → PreambleRuns IsGround (bytes_of (preamble us)) s → IsPlainGround s
+    → comments_apart_with dress.header us ≡ true → PreambleRuns IsGround (bytes_of (preamble us)) s → IsPlainGround s
     → OnSheets (λ paper p. PagePrints us s p (picture p)) all
     → MadeIsPrinted border dress all us picture s

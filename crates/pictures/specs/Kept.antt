@@ -4,8 +4,9 @@ use Rattle.std.specs.Prelude.{Ok, Err}
 use Rattle.rules.specs.Units.{cut, TextUnit, FaultyBlock}
 use Rattle.rules.specs.Parts.{NestedUnit, nested, is_outermost_line, bytes_of, preamble}
 use Rattle.rules.specs.Run.{document_of}
-use Rattle.rules.specs.Filters.{continues, drops_in_header, drops_in_page, kept, prepared, preamble_text}
+use Rattle.rules.specs.Filters.{continues, drops_in_page, kept, prepared, preamble_text}
 use Rattle.rules.specs.Output.{body_text}
+use Rattle.made_sheets.specs.MadeOutput.{drops_with}
 use Rattle.pictures.specs.Scanner.{Reading, Between, form_feed, scan_from, tokens, IsComplete}
 
 -- the reader's state after a text
@@ -48,11 +49,14 @@ abbrev pub first_is_complete : List NestedUnit → Bool
 first_is_complete [] = true
 first_is_complete (u ∷ us) = is_between (reading_behind Between u.unit.bytes)
 
--- this holds for the preamble
+-- this holds for the preamble, if these lines are put into it, and if none are
+abbrev pub comments_apart_with : (lines : List (List ℕ)) → List NestedUnit → Bool
+comments_apart_with lines us =
+    comments_apart false (drops_with lines) Between (preamble us)
+    && first_is_complete (kept (drops_with lines) (preamble us))
+
 abbrev pub preamble_comments_apart : List NestedUnit → Bool
-preamble_comments_apart us =
-    comments_apart false drops_in_header Between (preamble us)
-    && first_is_complete (kept drops_in_header (preamble us))
+preamble_comments_apart us = comments_apart_with [] us
 
 -- a law: the tokens of what is kept of such a page are the page's
 abbrev pub KeptRunsAlike : Type 0

@@ -53,4 +53,4 @@ each_page (suc (suc (suc p))) lt = absurd (omega (arith, lt))
 
 pub barcode_is_shown : BarcodeIsShown
 unfolding digits
-barcode_is_shown = shown barcode us preamble_run 0 3 picture refl refl refl refl refl is_ready_then each_page
+barcode_is_shown = shown barcode us preamble_run 0 3 picture refl refl refl refl refl refl is_ready_then each_page

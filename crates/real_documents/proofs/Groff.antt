@@ -47,4 +47,4 @@ each_page (suc (suc p)) lt = absurd (omega (arith, lt))
 
 pub groff_is_shown : GroffIsShown
 unfolding digits
-groff_is_shown = shown groff us preamble_run 589 2 picture refl refl refl refl refl is_ready_then each_page
+groff_is_shown = shown groff us preamble_run 589 2 picture refl refl refl refl refl refl is_ready_then each_page

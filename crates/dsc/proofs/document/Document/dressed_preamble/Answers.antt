@@ -3,8 +3,9 @@ use Rattle.std.proofs.Common.{ap, sym, subst, ◌∙◌, ◌≡◌, ◌≤◌, �
 use Rattle.rules.specs.Bytes.{line}
 use Rattle.rules.specs.Units.{cut}
 use Rattle.rules.specs.Parts.{bytes_of}
-use Rattle.rules.specs.Filters.{kept, drops_in_header, ended}
-use Rattle.made_sheets.specs.MadeOutput.{dressed_preamble}
+use Rattle.rules.specs.Filters.{kept, ended}
+use Rattle.made_sheets.specs.MadeOutput.{drops_with, dressed_preamble}
+use Rattle.dsc.specs.Filters.{drops_of}
 use Rattle.dsc.specs.Units.{or_none, units_of}
 use Rattle.dsc.proofs.Preambles.{PreambleFound, preamble_at}
 use Rattle.dsc.proofs.document.Document.dressed_preamble.Goals as goal
@@ -37,8 +38,9 @@ returns c =
     let header : c.in_ok-header.header.items ≡ (take c.line_end_after-line_len.result c.self.inside.text.now ++ count) ++ c.args.lines.now = c.in_ok-header.ensures ∙ ap (λ t. (t ++ count) ++ c.args.lines.now) c.split_at.ensures.front in
     record {
       text = λ rows is.
-          c.in_ok-end_line.ensures ∙ ap ended (c.in_ok-text.ensures ∙ ap (λ t. t ++ bytes_of (kept drops_in_header (units_of c.split_at-2.result.0.now))) header
-          ∙ ap (λ t. ((take c.line_end_after-line_len.result c.self.inside.text.now ++ count) ++ c.args.lines.now) ++ bytes_of (kept drops_in_header (units_of t))) rest
-          ∙ ap (λ ls. ((take c.line_end_after-line_len.result c.self.inside.text.now ++ count) ++ ls) ++ bytes_of (kept drops_in_header (units_of (take (c.entry.result - c.line_end_after-line_len.result) (drop c.line_end_after-line_len.result c.self.inside.text.now))))) is)
+          c.in_ok-end_line.ensures ∙ ap ended (c.in_ok-text.ensures ∙ ap (λ t. t ++ bytes_of (kept (drops_of c.drops_with.result) (units_of c.split_at-2.result.0.now))) header
+          ∙ ap (λ f. ((take c.line_end_after-line_len.result c.self.inside.text.now ++ count) ++ c.args.lines.now) ++ bytes_of (kept f (units_of c.split_at-2.result.0.now))) (c.drops_with.ensures rows is)
+          ∙ ap (λ t. ((take c.line_end_after-line_len.result c.self.inside.text.now ++ count) ++ c.args.lines.now) ++ bytes_of (kept (drops_with rows) (units_of t))) rest
+          ∙ ap (λ ls. ((take c.line_end_after-line_len.result c.self.inside.text.now ++ count) ++ ls) ++ bytes_of (kept (drops_with rows) (units_of (take (c.entry.result - c.line_end_after-line_len.result) (drop c.line_end_after-line_len.result c.self.inside.text.now))))) is)
           ∙ found.3 rows ∙ ap (dressed_preamble c.args.sheets rows) c.self.view_is;
     }
