@@ -5,7 +5,7 @@ A composite is a dictionary by its number, here as there; a reference says what 
 from dataclasses import dataclass, replace
 from decimal import Decimal
 from machine import (COMPARED, LACKED, Bound, Frame, SystemDictionary, Array, Call, Dictionary, Font, Literal, Mark, Name, Number, Operands, Operator, Procedure, Reference, Saved, String, Truth,
-                     anything, from_hexadecimal, is_count, is_numbers, is_six_numbers, is_token, run_all, sort_of, whole)
+                     anything, calculated, from_hexadecimal, is_count, is_numbers, is_six_numbers, is_token, run_all, sort_of, whole)
 
 PUT_NAMES = (b"showpage", b"ImposeSave")
 
@@ -254,8 +254,8 @@ def stopped(m):
     m.frames.append(Frame([*procedure.items, Truth(False)]))
 
 
-def latest_font(m):
-    for call in reversed(m.graphics.settings):
+def latest_font(settings):
+    for call in reversed(settings):
         if call.name == b"setfont":
             return call.operands[0].made_of
         if call.name == b"selectfont":
@@ -264,12 +264,31 @@ def latest_font(m):
     raise Operands
 
 
+def width_by(settings, data):
+    """Numbers without a value: terms of the font and the text."""
+    font = repr(latest_font(settings)).encode()
+    return [Number(None, None, (font, data.hex().encode(), end)) for end in (b"stringwidth pop", b"stringwidth exch pop")]
+
+
 def string_width(m):
-    """A number without a value: a term of the font and the text."""
     (o,) = m.taken(anything)
-    data, font = there(string_of(m, o)), latest_font(m)
-    for end in (b"stringwidth pop", b"stringwidth exch pop"):
-        m.operands.append(Number(None, None, (repr(font).encode(), data.hex().encode(), end)))
+    m.operands += width_by(m.graphics.settings, there(string_of(m, o)))
+
+
+def point_of(g, width=width_by):
+    """The end of the path, from what was written under the current transformation."""
+    sums = []
+    for segment in reversed(g.path):
+        name, operands = segment.call.name, segment.call.operands
+        within(segment.chain == g.chain)
+        if name in (b"moveto", b"lineto", b"curveto"):
+            point = operands[1::-1]
+            for by in reversed(sums):
+                point = [calculated(b"add", a, b) for a, b in zip(point, by)]
+            return point
+        within(name in (b"rmoveto", b"rlineto", b"rcurveto", b"show"))
+        sums.append(width(segment.settings, operands[0].data) if name == b"show" else operands[1::-1])
+    raise Operands
 
 
 def new(sort):
@@ -371,6 +390,7 @@ NAMED = {
     b"astore": store_all, b"currentdict": lambda m: m.operands.append(Dictionary(m.dictionaries[-1])), b"store": store, b"cvs": to_string, b"cvn": to_name,
     b"languagelevel": answers(whole(3)), b"currentpacking": answers(Truth(False)), b"setpacking": lambda m: m.taken(Truth), b"definefont": define_font,
     b"makefont": make_font, b"maxlength": capacity, b"stopped": stopped, b"stringwidth": string_width,
+    b"currentpoint": lambda m: m.operands.extend(point_of(m.graphics)),
     b"ISOLatin1Encoding": lambda m: m.operands.append(Array([Literal(name) for name in ISOLATIN1])), b"sethsbcolor": draws(b"sethsbcolor", "sets", Number, Number, Number), b"setflat": draws(b"setflat", "sets", Number),
     b"setstrokeadjust": draws(b"setstrokeadjust", "sets", Truth), b"setoverprint": draws(b"setoverprint", "sets", Truth),
     b"arct": draws(b"arct", "segments", *[Number] * 5), **{name: draws(name, "shows", is_numbers, String) for name in (b"xshow", b"yshow", b"xyshow")},

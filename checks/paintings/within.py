@@ -10,11 +10,12 @@ import further as more
 import law
 import shelter
 import stubs
-from machine import PROVED, SYSTEMDICT, Dictionary, Font, Machine, Matrix, Operands, Scanner, Stopped, SystemDictionary
+from machine import FONTS, PROVED, SYSTEMDICT, Dictionary, Font, Machine, Matrix, Operands, Scanner, Stopped, SystemDictionary, whole
 from parts import Document
-from values import VALUES
+from values import VALUES, point_of
 
 HERE = Path(__file__).resolve().parent
+NOUGHT = whole(0)
 PAPER = (595, 842)
 PREAMBLE, PAGES = "preamble", "pages"
 AT_NAME = "the name "
@@ -56,9 +57,12 @@ NAMES = names()
 
 
 OF_A_MATRIX = b" of a matrix"
+ELSEWHERE = b" of another transformation"
 
 
 def of_table(name):
+    if name.endswith(ELSEWHERE):
+        return "path", "8.2, 4.4.1", "the end of the path, which wasn't written under the current matrix, through its inverse"
     if name.endswith(OF_A_MATRIX):
         return "matrices", "8.2, 4.3.3", "a matrix is an array of six numbers"
     return NAMES.get(name, ("unknown", "", ""))
@@ -66,6 +70,22 @@ def of_table(name):
 
 def looks_of(name):
     return of_table(name)[0]
+
+
+def is_written(g):
+    """Whether the current point is what was written under the current transformation, or a sum of that, or there is none."""
+    try:
+        point_of(g, lambda settings, data: latest_setting(settings))
+    except Operands:
+        return not g.path
+    return True
+
+
+def latest_setting(settings):
+    """A font is set; how wide a text is doesn't matter here."""
+    if not any(call.name in FONTS for call in settings):
+        raise Operands
+    return NOUGHT, NOUGHT
 
 
 def takes(m, name):
@@ -110,6 +130,8 @@ class Noted:
             self.lacks(m, name)
 
     def lacks(self, m, name):
+        if name == b"currentpoint" and not is_written(m.graphics):
+            name += ELSEWHERE
         matrix = name in OF_MATRICES and any(isinstance(o, Matrix) for o in m.operands[-OF_MATRICES[name] :])
         self.further[self.part(m)].add(name + OF_A_MATRIX if matrix else name)
 

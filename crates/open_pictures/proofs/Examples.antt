@@ -7,3 +7,4 @@ pub mod Freer
 pub mod Applied
 pub mod AppliedOwn
 pub mod Values
+pub mod Points

@@ -7,6 +7,7 @@ use Rattle.pictures.specs.Unaware.{no_saved}
 use Rattle.pictures.specs.Machine.{State, Kept, step}
 use Rattle.guarded_pictures.specs.Pages.{Around, placed_at, kept_at}
 use Rattle.open_pictures.specs.Operators.{Sight, sight_of, Stroke, Outcome, Blind, struck, all_struck, come_to, blindly, Table, Stop, entry, next_stop, called, looked_up, by_table, TakesOthers, taken_plain, Answer, strokes_of, answered, answers_on}
+use Rattle.open_pictures.proofs.Points.{point_is_placeless}
 use Rattle.open_pictures.proofs.Operators.{stops, acts_in, rest_there, past}
 use Rattle.open_pictures.specs.Shelter.{SeesNoMatrices, TablesArePlacelessThere, AnswersSeeNoMatrices}
 
@@ -35,11 +36,16 @@ kept_there a ks = map (kept_at a.place) ks ++ a.kept
 abbrev begun_with : Outcome → List Kept → State → State
 begun_with o ks s = record s { left = o.next ++ s.left; work = o.work; kept = ks }
 
+sight_there : (a : Around) (s : State) → sight_of (placed_at a s) ≡ record (sight_of s) { kept = kept_there a s.kept }
+sight_there a s =
+    ap (λ p. record (sight_of s) { kept = kept_there a s.kept; point = p }) (point_is_placeless a.place s.graphics.chain s.graphics.path)
+
 comes_there : (a : Around) (f : Blind) (s t : State) (r : Option Outcome) → f (sight_of s) ≡ r → SeesNoMatrices f → come_to r s ≡ Some t → blindly f (placed_at a s) ≡ Some (placed_at a t)
 comes_there a f s t None g q e = absurd (never t e)
 comes_there a f s t (Some o) g q e =
     let z = q (sight_of s) o (kept_there a s.kept) g in
-    ap (λ r. come_to r (placed_at a s)) z.1
+    ap (λ y. come_to (f y) (placed_at a s)) (sight_there a s)
+    ∙ ap (λ r. come_to r (placed_at a s)) z.1
     ∙ ap (λ l. Some (all_struck o.strokes (record (placed_at a s) { left = l; work = o.work; kept = kept_there a s.kept }))) (sym (append_assoc o.next s.left a.left))
     ∙ ap (λ r. Some r) (all_struck_at a o.strokes (begun_with o s.kept s))
     ∙ ap (λ ks. Some (placed_at a (all_struck o.strokes (begun_with o ks s)))) (sym z.0)

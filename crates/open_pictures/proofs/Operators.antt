@@ -15,6 +15,7 @@ use Rattle.pictures.proofs.Shifted.{up_taken, ups_same}
 use Rattle.pictures.proofs.Names.{meaning_agrees}
 use Rattle.open_pictures.specs.Operators.{Sight, sight_of, Stroke, Outcome, Blind, struck, all_struck, come_to, blindly, Table, Stop, AtName, AtOperands, stop_of, next_stop, entry, only_names, after_first, called, looked_up, by_table, IsOutside, TakesOthers, AsksForNone, AllAskForNone, taken_plain, Answer, strokes_of, answered, answers_on, answering}
 use Rattle.open_pictures.specs.Operators.{TablesArePlaceless, TablesAreBlind, AnswersAskForNone}
+use Rattle.open_pictures.proofs.Points.{point_is_placeless}
 
 never : {A : Type 0} (x : A) → None ≡ Some x → ⊥
 never x e = true≢false (ap is_none e)
@@ -47,8 +48,11 @@ comes_there a s t (Some o) e =
     there a None = None
     there a (Some t) = Some (state_at a t)
 
+sight_there : (a : Around) (s : State) → sight_of (state_at a s) ≡ sight_of s
+sight_there a s = ap (λ p. record (sight_of s) { point = p }) (point_is_placeless a.place s.graphics.chain s.graphics.path)
+
 pub blindly_there : (f : Blind) (a : Around) (s t : State) → blindly f s ≡ Some t → blindly f (state_at a s) ≡ Some (state_at a t)
-blindly_there f a s t e = comes_there a s t (f (sight_of s)) e
+blindly_there f a s t e = ap (λ z. come_to (f z) (state_at a s)) (sight_there a s) ∙ comes_there a s t (f (sight_of s)) e
 
 -- By name.
 

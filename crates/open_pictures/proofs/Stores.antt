@@ -74,6 +74,7 @@ given_with sight os store = record {
   dictionaries = sight.work.dictionaries;
   made = sight.work.made;
   settings = sight.settings;
+  point = sight.point;
 }
 
 given_same : (n : ℕ) (sight : Sight) (es : List Entry) → Agree n es sight.work.entries → given_of (upped es sight) ≡ given_of sight

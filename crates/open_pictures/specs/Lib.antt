@@ -3,6 +3,8 @@
 -- showpage of their own, or an empty one. Last, operators on values, and a table of such.
 pub mod Machine
 pub mod Blindness
+pub mod Strings
+pub mod Points
 pub mod Operators
 pub mod Sheets
 pub mod Documents
@@ -13,6 +15,5 @@ pub mod Imposed
 pub mod OwnShowpage
 pub mod Silenced
 pub mod Stores
-pub mod Strings
 pub mod Composites
 pub mod Values

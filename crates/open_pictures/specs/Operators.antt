@@ -10,16 +10,24 @@ use Rattle.pictures.specs.Unaware.{put_names, no_saved}
 use Rattle.pictures.specs.Shifted.{Agree, up_work}
 use Rattle.open_pictures.specs.Machine.{Further}
 use Rattle.open_pictures.specs.Blindness.{IsPlaceless, IsBlind}
+use Rattle.open_pictures.specs.Points.{Point, point_of}
 
 -- What an operator may see: the operands and the dictionaries, what matrices hold, the settings of the graphics state
--- (fonts, colours, lines). Not the transformation, the path, the clip, what is saved and what is painted
+-- (fonts, colours, lines), the current point in user space. Not the transformation, the path, the clip, what is saved and
+-- what is painted
 pub record Sight : Type 0 where
   pub work : Work
   pub kept : List Kept
   pub settings : List Call
+  pub point : Option Point
 
 abbrev pub sight_of : State → Sight
-sight_of s = record { work = s.work; kept = s.kept; settings = s.graphics.settings }
+sight_of s = record {
+  work = s.work;
+  kept = s.kept;
+  settings = s.graphics.settings;
+  point = point_of s.graphics.chain s.graphics.path;
+}
 
 -- one thing that it does to the graphics state or the sheet, as an operator of the machine does: a segment of the path,
 -- a matrix of the chain, a setting, a painting ..

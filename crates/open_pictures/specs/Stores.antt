@@ -7,6 +7,7 @@ use Rattle.pictures.specs.Dictionaries.{Entry, entry_of}
 use Rattle.pictures.specs.Operators.{Work}
 use Rattle.pictures.specs.Unaware.{no_saved, no_saved_in}
 use Rattle.open_pictures.specs.Blindness.{IsBlind}
+use Rattle.open_pictures.specs.Points.{Point}
 use Rattle.open_pictures.specs.Operators.{Sight, Outcome, Blind, Stroke, Table, by_table, IsOutside, AsksForNone}
 use Rattle.open_pictures.specs.Shelter.{SeesNoMatrices, IsPlacelessThere}
 
@@ -14,13 +15,14 @@ abbrev pub Store : Type 0
 Store = (dictionary : ℕ) → (key : List ℕ) → Option Object
 
 -- what such an operator may see: the operands above the topmost save, what dictionaries have, the numbers of those on
--- the stack, how many have been made, and the settings of the graphics state
+-- the stack, how many have been made, the settings of the graphics state, and the current point in user space
 pub record Given : Type 0 where
   pub operands : List Object
   pub store : Store
   pub dictionaries : List ℕ
   pub made : ℕ
   pub settings : List Call
+  pub point : Option Point
 
 -- what comes of it: what is run next, the operands in place of those, entries that are put (the latest first), how many
 -- dictionaries have been made, what it draws
@@ -64,6 +66,7 @@ given_of sight = record {
   dictionaries = sight.work.dictionaries;
   made = sight.work.made;
   settings = sight.settings;
+  point = sight.point;
 }
 
 abbrev pub changed_work : Change → Work → Work

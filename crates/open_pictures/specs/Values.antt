@@ -6,7 +6,7 @@ use Rattle.std.specs.Char.{is_ascii_digit}
 use Rattle.std.specs.Prelude.{◌≡◌, ℕ, ◌+◌, List, [], ◌∷◌, ◌++◌, map, reverse, flat_map, length, take, drop, Bool, true, false, not}
 use Rattle.std.specs.Prelude.{◌&&◌, ◌||◌, ◌==◌, nat_lt, nat_le, if◌then◌else◌, Option, Some, None, codes, bytes_eq, decimal, option_map}
 use Rattle.rules.specs.Numbers.{number_of}
-use Rattle.pictures.specs.Objects.{Token, Number, Literal, Hexadecimal, Bound, Name, Object, Plain, Truth, Mark, Array, Procedure, SystemDictionary, Operator, Call}
+use Rattle.pictures.specs.Objects.{Token, Number, Literal, Hexadecimal, Bound, Name, Object, Plain, Truth, Mark, Array, Procedure, SystemDictionary, Operator}
 use Rattle.pictures.specs.Objects.{Dictionary, Font, Kind, Computes, Controls, Draws, CloseArray, Get, Put, Length, LoadArray, Compare}
 use Rattle.pictures.specs.Objects.{ForAll, Where, Load, Known, MakeDictionary, MakeExecutable, Looks, CopiesPage, Want, ANumber, AText, AnArray, AMatrix, ATruth, Comparison, Effect, Sets, Shows, Segments}
 use Rattle.pictures.specs.Dictionaries.{has, system, is_lacked}
@@ -17,6 +17,7 @@ use Rattle.open_pictures.specs.Blindness.{IsBlind}
 use Rattle.open_pictures.specs.Operators.{Blind, Table, by_table, AsksForNone}
 use Rattle.open_pictures.specs.Shelter.{SeesNoMatrices, IsPlacelessThere}
 use Rattle.open_pictures.specs.Stores.{Store, Given, Change, Valued, is_put, by_stores}
+use Rattle.open_pictures.specs.Points.{Point, width_by, latest_font}
 use Rattle.open_pictures.specs.Strings.{as_hexadecimal, decimals_compared, words, isolatin1}
 use Rattle.open_pictures.specs.Composites.{Composite, frozen_key, array_tag, string_tag, element_tag, null_tag, reference, referred, null, element_at}
 use Rattle.open_pictures.specs.Composites.{element_token, element_entry, element_entries, number_object, array_of, string_of}
@@ -415,44 +416,13 @@ abbrev pub run_stopped : List Object → Given → Option Change
 run_stopped (Procedure ts ∷ os) given = run_next (ts ++ Bound (codes "false") ∷ []) os given
 run_stopped os given = None
 
--- A text's width in user space, by the font that is set: a number without a value, as a term.
+abbrev pub point_left : Option Point → List Object → Given → Option Change
+point_left None os given = None
+point_left (Some p) os given = leaving (Plain (Number p.y) ∷ Plain (Number p.x) ∷ os) given
 
-abbrev pub token_text : Token → List ℕ
-token_text (Number text) = text
-token_text (Literal name) = codes "/" ++ name
-token_text (Name name) = name
-token_text t = []
-
--- what the font was made of, the first of it first
-abbrev pub font_text : List Token → List ℕ
-font_text [] = []
-font_text (t ∷ ts) = font_text ts ++ token_text t ++ codes " "
-
-abbrev pub latest_font : List Call → Option (List Token)
-latest_font [] = None
-latest_font (c ∷ cs) =
-    if bytes_eq c.name (codes "setfont") then of_font c.operands
-    else if bytes_eq c.name (codes "selectfont") then of_selected c.operands
-    else latest_font cs
-  where
-    of_font : List Object → Option (List Token)
-    of_font (Font ts ∷ os) = Some ts
-    of_font os = None
-
-    of_selected : List Object → Option (List Token)
-    of_selected (Plain size ∷ Plain name ∷ os) = Some (size ∷ name ∷ [])
-    of_selected os = None
-
-abbrev pub widths : Option (List Token) → Option (List ℕ) → List Object → Given → Option Change
-widths (Some font) (Some bytes) os given =
-    leaving (
-    Plain (Number (font_text font ++ codes "<" ++ as_hexadecimal bytes ++ codes "> stringwidth exch pop"))
-    ∷ Plain (Number (font_text font ++ codes "<" ++ as_hexadecimal bytes ++ codes "> stringwidth pop")) ∷ os)
-    given
-widths font bytes os given = None
-
+-- `stringwidth`
 abbrev pub width_of : List Object → Given → Option Change
-width_of (o ∷ os) given = widths (latest_font given.settings) (string_of given.store o) os given
+width_of (o ∷ os) given = point_left (width_by (latest_font given.settings) (string_of given.store o)) os given
 width_of os given = None
 
 abbrev pub drop_truth : List Object → Given → Option Change
@@ -486,6 +456,7 @@ rows =
     ∷ row (codes "maxlength") (λ given. capacity_of given.operands given)
     ∷ row (codes "stopped") (λ given. run_stopped given.operands given)
     ∷ row (codes "stringwidth") (λ given. width_of given.operands given)
+    ∷ row (codes "currentpoint") (λ given. point_left given.point given.operands given)
     ∷ row (codes "ISOLatin1Encoding") (λ given. leaving (Array (map (λ name. Literal name) (words isolatin1)) ∷ given.operands) given)
     ∷ row (codes "sethsbcolor") (drawing (codes "sethsbcolor") (ANumber ∷ ANumber ∷ ANumber ∷ []) Sets)
     ∷ row (codes "setflat") (drawing (codes "setflat") (ANumber ∷ []) Sets)
