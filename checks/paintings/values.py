@@ -286,8 +286,13 @@ def point_of(g, width=width_by):
             for by in reversed(sums):
                 point = [calculated(b"add", a, b) for a, b in zip(point, by)]
             return point
-        within(name in (b"rmoveto", b"rlineto", b"rcurveto", b"show"))
-        sums.append(width(segment.settings, operands[0].data) if name == b"show" else operands[1::-1])
+        if name == b"xyshow":
+            by = operands[0].items
+            within(len(by) == 2 * len(operands[1].data))
+            sums += reversed(list(zip(by[::2], by[1::2])))
+        else:
+            within(name in (b"rmoveto", b"rlineto", b"rcurveto", b"show"))
+            sums.append(width(segment.settings, operands[0].data) if name == b"show" else operands[1::-1])
     raise Operands
 
 

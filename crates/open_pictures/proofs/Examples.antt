@@ -8,3 +8,4 @@ pub mod Applied
 pub mod AppliedOwn
 pub mod Values
 pub mod Points
+pub mod Loops

@@ -98,7 +98,7 @@ abbrev Asks : ℕ → Blind → Sight → Outcome → List Entry → Type 0
 Asks m f sight o es = (fs : List Entry) × (f (upped es sight) ≡ Some (record o { work = up_work fs o.work })) × Agree m fs o.work.entries
 
 abbrev made_by : Change → Sight → Outcome
-made_by c sight = record { next = c.next; work = changed_work c sight.work; kept = sight.kept; strokes = c.strokes }
+made_by c sight = record { next = c.next; past = c.past; work = changed_work c sight.work; kept = sight.kept; strokes = c.strokes }
 
 operands_up : (os ps : List Object) → no_saved os ≡ true → os ++ from_save (ups ps) ≡ ups (os ++ from_save ps)
 operands_up os ps e =
@@ -107,6 +107,7 @@ operands_up os ps e =
 abbrev with_them : Change → Sight → List Entry → List Object → Outcome
 with_them c sight es os = record {
   next = c.next;
+  past = c.past;
   work = record { operands = os; dictionaries = sight.work.dictionaries; entries = c.puts ++ es; made = c.made };
   kept = sight.kept;
   strokes = c.strokes;

@@ -122,18 +122,19 @@ items_of store o = or_items (array_of store o) (items_for string_tag store o)
 -- What an operator leaves.
 
 abbrev pub leaving : List Object → Given → Option Change
-leaving os given = Some (record { next = []; operands = os; puts = []; made = given.made; strokes = [] })
+leaving os given = Some (record { next = []; past = None; operands = os; puts = []; made = given.made; strokes = [] })
 
 abbrev pub putting : List Entry → List Object → Given → Option Change
-putting puts os given = Some (record { next = []; operands = os; puts = puts; made = given.made; strokes = [] })
+putting puts os given = Some (record { next = []; past = None; operands = os; puts = puts; made = given.made; strokes = [] })
 
 abbrev pub run_next : List Token → List Object → Given → Option Change
-run_next ts os given = Some (record { next = ts; operands = os; puts = []; made = given.made; strokes = [] })
+run_next ts os given = Some (record { next = ts; past = None; operands = os; puts = []; made = given.made; strokes = [] })
 
 -- a new composite with these elements, pushed
 abbrev pub making : (tag count : ℕ) → List Object → List Object → Given → Option Change
 making tag count items os given = Some (record {
   next = [];
+  past = None;
   operands = reference (record { tag = tag; number = given.made + 1; first = 0; count = count }) ∷ os;
   puts = element_entries (given.made + 1) 0 items;
   made = given.made + 1;

@@ -1,6 +1,6 @@
 -- Further operators by their names. One that is a function of what it may see, which is all but where the page is, is
 -- placeless whatever it does.
-use Rattle.std.specs.Prelude.{◌≡◌, ℕ, zero, suc, List, [], ◌∷◌, ◌++◌, if◌then◌else◌, Option, Some, None}
+use Rattle.std.specs.Prelude.{◌≡◌, ℕ, zero, suc, List, [], ◌∷◌, ◌++◌, if◌then◌else◌, Option, Some, None, bytes_eq}
 use Rattle.pictures.specs.Objects.{Token, Name, Bound, Object, Saved, Operator, Kind, Computes, Controls, Draws, Looks, CopiesPage, Effect, Call}
 use Rattle.pictures.specs.Dictionaries.{Entry, meaning, system}
 use Rattle.pictures.specs.Operators.{Work, with_operands, also, computed, controlled, taken}
@@ -35,9 +35,11 @@ pub record Stroke : Type 0 where
   pub effect : Effect
   pub call : Call
 
--- what comes of it: what is run next, the operands and dictionaries, what matrices hold, what it draws
+-- what comes of it: what is run next, a name up to which it drops what is left to run, if it drops any; the operands and
+-- dictionaries, what matrices hold, what it draws
 pub record Outcome : Type 0 where
   pub next : List Token
+  pub past : Option (List ℕ)
   pub work : Work
   pub kept : List Kept
   pub strokes : List Stroke
@@ -55,9 +57,24 @@ abbrev pub all_struck : List Stroke → State → State
 all_struck [] s = s
 all_struck (x ∷ xs) s = all_struck xs (struck x s)
 
+-- what is left after that name
+abbrev pub after_name : List ℕ → List Token → Option (List Token)
+after_name name [] = None
+after_name name (Name other ∷ ts) = if bytes_eq other name then Some ts else after_name name ts
+after_name name (Bound other ∷ ts) = if bytes_eq other name then Some ts else after_name name ts
+after_name name (t ∷ ts) = after_name name ts
+
+abbrev pub after_past : Option (List ℕ) → List Token → Option (List Token)
+after_past None ts = Some ts
+after_past (Some name) ts = after_name name ts
+
+abbrev pub going_on : Outcome → Option (List Token) → State → Option State
+going_on o None s = None
+going_on o (Some ts) s = Some (all_struck o.strokes (record s { left = o.next ++ ts; work = o.work; kept = o.kept }))
+
 abbrev pub come_to : Option Outcome → State → Option State
 come_to None s = None
-come_to (Some o) s = Some (all_struck o.strokes (record s { left = o.next ++ s.left; work = o.work; kept = o.kept }))
+come_to (Some o) s = going_on o (after_past o.past s.left) s
 
 -- such an operator in a machine
 abbrev pub blindly : Blind → State → Option State
@@ -156,6 +173,7 @@ answered None strokes rest sight = None
 answered (Some rs) strokes rest sight =
     if no_saved rs then Some (record {
       next = [];
+      past = None;
       work = with_operands sight.work (rs ++ rest);
       kept = sight.kept;
       strokes = strokes;

@@ -1,6 +1,6 @@
 -- The current point (PostScript Language Reference, third edition, 4.4.1) in user space. Where a page is doesn't change it: it is
 -- what was written, or a sum of that.
-use Rattle.std.specs.Prelude.{◌≡◌, ℕ, List, [], ◌∷◌, ◌++◌, map, length, flat_map, Bool, if◌then◌else◌, Option, Some, None, codes, bytes_eq}
+use Rattle.std.specs.Prelude.{◌≡◌, ℕ, ◌*◌, ◌==◌, List, [], ◌∷◌, ◌++◌, map, length, flat_map, Bool, if◌then◌else◌, Option, Some, None, codes, bytes_eq}
 use Rattle.pictures.specs.Objects.{Token, Number, Name, Literal, Text, Hexadecimal, Opens, Closes, Bound, Unknown, Object, Plain, Truth, Mark}
 use Rattle.pictures.specs.Objects.{Array, Procedure, Dictionary, SystemDictionary, Matrix, Saved, Font, Operator, Call, Add}
 use Rattle.pictures.specs.Calculations.{calculated}
@@ -103,12 +103,28 @@ bytes_shown (Plain (Text raw) ∷ os) = Some (characters raw)
 bytes_shown (Plain (Hexadecimal digits) ∷ os) = Some (hexadecimal_bytes digits)
 bytes_shown os = None
 
+-- `xyshow`: each of its characters has two numbers
+
+abbrev pub moved_along : Point → List Token → Option Point
+moved_along p [] = Some p
+moved_along p (Number x ∷ Number y ∷ ts) = moved_along (record { x = calculated Add p.x x; y = calculated Add p.y y }) ts
+moved_along p ts = None
+
+abbrev pub moved_each : Option Point → List Token → Option (List ℕ) → Option Point
+moved_each (Some p) ts (Some bytes) = if length ts == 2 * length bytes then moved_along p ts else None
+moved_each p ts bytes = None
+
+abbrev pub moved_by_all : Option Point → List Object → Option Point
+moved_by_all p (Array ts ∷ os) = moved_each p ts (bytes_shown os)
+moved_by_all p os = None
+
 -- where an element of the path ends, if it begins there; the settings are those with which a text was shown
 abbrev pub end_of : Call → (settings : List Call) → (start : Option Point) → Option Point
 end_of c settings start =
     if among c.name (codes "moveto" ∷ codes "lineto" ∷ codes "curveto" ∷ []) then two_numbers c.operands
     else if among c.name (codes "rmoveto" ∷ codes "rlineto" ∷ codes "rcurveto" ∷ []) then moved_by start (two_numbers c.operands)
     else if bytes_eq c.name (codes "show") then moved_by start (width_by (latest_font settings) (bytes_shown c.operands))
+    else if bytes_eq c.name (codes "xyshow") then moved_by_all start c.operands
     else None
 
 -- the end of a path under this transformation, if all that it is calculated from was written under the same one

@@ -24,10 +24,11 @@ pub record Given : Type 0 where
   pub settings : List Call
   pub point : Option Point
 
--- what comes of it: what is run next, the operands in place of those, entries that are put (the latest first), how many
--- dictionaries have been made, what it draws
+-- what comes of it: what is run next, a name up to which it drops what is left to run, the operands in place of those, entries
+-- that are put (the latest first), how many dictionaries have been made, what it draws
 pub record Change : Type 0 where
   pub next : List Token
+  pub past : Option (List ℕ)
   pub operands : List Object
   pub puts : List Entry
   pub made : ℕ
@@ -82,7 +83,7 @@ abbrev pub change_made : Option Change → Sight → Option Outcome
 change_made None sight = None
 change_made (Some c) sight =
     if no_saved c.operands && no_saved_in c.puts then
-    Some (record { next = c.next; work = changed_work c sight.work; kept = sight.kept; strokes = c.strokes })
+    Some (record { next = c.next; past = c.past; work = changed_work c sight.work; kept = sight.kept; strokes = c.strokes })
     else None
 
 abbrev pub by_store : Valued → Blind

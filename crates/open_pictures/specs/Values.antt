@@ -151,7 +151,7 @@ capacity = Plain (Number (codes "maxlength"))
 abbrev pub make_dictionary : List Object → Given → Option Change
 make_dictionary (Plain (Number text) ∷ os) given =
     if list_all is_ascii_digit text then None
-    else Some (record { next = []; operands = Dictionary (given.made + 1) ∷ os; puts = []; made = given.made + 1; strokes = [] })
+    else Some (record { next = []; past = None; operands = Dictionary (given.made + 1) ∷ os; puts = []; made = given.made + 1; strokes = [] })
 make_dictionary os given = None
 
 abbrev pub capacity_of : List Object → Given → Option Change
@@ -196,6 +196,7 @@ font_key = 261 ∷ []
 abbrev pub with_font : List Token → List Token → List Object → Given → Option Change
 with_font ts us os given = Some (record {
   next = Literal font_key ∷ element_token array_tag (given.made + 1) 0 ∷ ts;
+  past = None;
   operands = os;
   puts = element_entry (given.made + 1) 0 (Font us) ∷ [];
   made = given.made + 1;
@@ -390,6 +391,7 @@ abbrev pub drawing_with : List ℕ → Effect → Option (List Object × List Ob
 drawing_with name effect None given = None
 drawing_with name effect (Some (os, rest)) given = Some (record {
   next = [];
+  past = None;
   operands = rest;
   puts = [];
   made = given.made;

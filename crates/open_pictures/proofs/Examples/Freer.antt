@@ -17,7 +17,7 @@ use Rattle.pictures.proofs.Examples.TwoUp.{end_by}
 -- `[ [..] ]`, and no more: a value that is known by what it was made of
 abbrev nested : List Object → Sight → Option Outcome
 nested (Array ts ∷ Mark ∷ os) sight =
-    Some (record { next = []; work = with_operands sight.work (Font ts ∷ os); kept = sight.kept; strokes = [] })
+    Some (record { next = []; past = None; work = with_operands sight.work (Font ts ∷ os); kept = sight.kept; strokes = [] })
 nested os sight = None
 
 abbrev close : Blind
@@ -50,7 +50,7 @@ takes_others (Computes CloseArray) f sight o e k =
 takes_others kind f sight o e k = absurd (never f e)
 
 abbrev made_of : List Token → List Object → Sight → Outcome
-made_of ts os sight = record { next = []; work = with_operands sight.work (Font ts ∷ os); kept = sight.kept; strokes = [] }
+made_of ts os sight = record { next = []; past = None; work = with_operands sight.work (Font ts ∷ os); kept = sight.kept; strokes = [] }
 
 asks_on : (n : ℕ) (os : List Object) (sight : Sight) (o : Outcome) (es : List Entry) → Agree n es sight.work.entries → nested os sight ≡ Some o
     → (fs : List Entry) × (nested (ups os) (record sight { work = up_work es sight.work }) ≡ Some (record o { work = up_work fs o.work })) × Agree n fs o.work.entries

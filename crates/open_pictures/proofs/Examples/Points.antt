@@ -44,6 +44,11 @@ after_text : left_by (codes "/Times-Roman findfont 12 scalefont setfont 10 20 mo
 unfolding digits
 after_text = refl
 
+after_each : left_by (codes "/Times-Roman findfont 12 scalefont setfont 10 20 moveto (ab) [1 2 3 4] xyshow currentpoint")
+    ≡ Some (number (codes "26") ∷ number (codes "14") ∷ [])
+unfolding digits
+after_each = refl
+
 -- a path may have none
 nowhere : left_by (codes "1 2 moveto newpath currentpoint") ≡ None
 unfolding digits
