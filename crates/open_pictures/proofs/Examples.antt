@@ -9,3 +9,4 @@ pub mod AppliedOwn
 pub mod Values
 pub mod Points
 pub mod Loops
+pub mod Matrices

@@ -114,7 +114,7 @@ stop_meant : (table : Table) (name : List ℕ) (o : Option Object) (s : State) (
 stop_meant table name None s found q e z = refl
 stop_meant table name (Some (Operator other (Looks CopiesPage))) s found q e z = refl
 stop_meant table name (Some (Operator other kind)) s found q e z =
-    outside_stops kind other s (q kind z.0 (sight_of s) z.1 (subst (λ r. entry table r ≡ Some z.0) (sym (some_same (AtOperands kind) found e)) z.2) z.3)
+    outside_stops kind other s (q other kind z.0 (sight_of s) z.1 (subst (λ r. entry table r ≡ Some z.0) (sym (some_same (AtOperands other kind) found e)) z.2) z.3)
 stop_meant table name (Some o) s found q e z = absurd (never found e)
 
 found_of : (b : Bool) (r : Option Stop) (found : Stop) → (if b then None else r) ≡ Some found → r ≡ Some found
@@ -226,11 +226,11 @@ tables_are_blind table p q = record {
 
 -- a table of names alone has no freer forms
 pub names_take_others : (names : List ℕ → Option Blind) → TakesOthers (only_names names)
-names_take_others names kind f sight o e k = absurd (never f e)
+names_take_others names name kind f sight o e k = absurd (never f e)
 
 pub names_ask : (names : List ℕ → Option Blind) → ((name : List ℕ) (f : Blind) → names name ≡ Some f → AsksForNone f) → AllAskForNone (only_names names)
 names_ask names q (AtName name) f e = q name f e
-names_ask names q (AtOperands kind) f e = absurd (never f e)
+names_ask names q (AtOperands name kind) f e = absurd (never f e)
 
 -- Answers.
 

@@ -164,19 +164,19 @@ split_at_save [] = refl
 split_at_save (Saved level ∷ os) = refl
 split_at_save (o ∷ os) = ap (λ ps. o ∷ ps) (split_at_save os)
 
-form_outside : (formed : Kind → Valued) (kind : Kind) (sight : Sight) (o : Outcome) (r : Option Change) → formed kind (given_of sight) ≡ r
+form_outside : (formed : List ℕ → Kind → Valued) (name : List ℕ) (kind : Kind) (sight : Sight) (o : Outcome) (r : Option Change) → formed name kind (given_of sight) ≡ r
     → FormsTakeOthers formed → change_made r sight ≡ Some o → IsOutside kind sight.work
-form_outside formed kind sight o None t q e = absurd (never o e)
-form_outside formed kind sight o (Some c) t q e = q kind sight c t
+form_outside formed name kind sight o None t q e = absurd (never o e)
+form_outside formed name kind sight o (Some c) t q e = q name kind sight c t
 
-stores_take_others : (named : List ℕ → Option Valued) (formed : Kind → Valued) (others : List ℕ → Option Blind) → FormsTakeOthers formed
+stores_take_others : (named : List ℕ → Option Valued) (formed : List ℕ → Kind → Valued) (others : List ℕ → Option Blind) → FormsTakeOthers formed
     → TakesOthers (by_stores named formed others)
-stores_take_others named formed others q kind f sight o e k =
-    form_outside formed kind sight o (formed kind (given_of sight)) refl q
-    (ap (λ g. g sight) (some_same (by_store (formed kind)) f e) ∙ k)
+stores_take_others named formed others q name kind f sight o e k =
+    form_outside formed name kind sight o (formed name kind (given_of sight)) refl q
+    (ap (λ g. g sight) (some_same (by_store (formed name kind)) f e) ∙ k)
 
 -- what is so of each operator on values, and of the others, is so of all of the table
-all_so : (P : Blind → Type 0) (named : List ℕ → Option Valued) (formed : Kind → Valued) (others : List ℕ → Option Blind)
+all_so : (P : Blind → Type 0) (named : List ℕ → Option Valued) (formed : List ℕ → Kind → Valued) (others : List ℕ → Option Blind)
     → ((g : Valued) → P (by_store g)) → ((name : List ℕ) (f : Blind) → others name ≡ Some f → P f)
     → (stop : Stop) (f : Blind) → entry (by_stores named formed others) stop ≡ Some f → P f
 all_so P named formed others p q (AtName name) f e = by_name (named name) e
@@ -184,7 +184,7 @@ all_so P named formed others p q (AtName name) f e = by_name (named name) e
     by_name : (r : Option Valued) → or_else (option_map by_store r) (others name) ≡ Some f → P f
     by_name None e = q name f e
     by_name (Some g) e = subst P (some_same (by_store g) f e) (p g)
-all_so P named formed others p q (AtOperands kind) f e = subst P (some_same (by_store (formed kind)) f e) (p (formed kind))
+all_so P named formed others p q (AtOperands name kind) f e = subst P (some_same (by_store (formed name kind)) f e) (p (formed name kind))
 
 pub stores_are_blind : StoresAreBlind
 stores_are_blind named formed others t q =

@@ -16,4 +16,5 @@ pub mod OwnShowpage
 pub mod Silenced
 pub mod Stores
 pub mod Composites
+pub mod Matrices
 pub mod Values

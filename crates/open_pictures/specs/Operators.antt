@@ -85,12 +85,12 @@ blindly f s = come_to (f (sight_of s)) s
 -- operands aren't those that it takes
 pub data Stop : Type 0 where
   AtName : (name : List ℕ) → Stop
-  AtOperands : Kind → Stop
+  AtOperands : (name : List ℕ) → Kind → Stop
 
 abbrev pub stop_of : List ℕ → Option Object → Option Stop
 stop_of name None = Some (AtName name)
 stop_of name (Some (Operator other (Looks CopiesPage))) = Some (AtName other)
-stop_of name (Some (Operator other kind)) = Some (AtOperands kind)
+stop_of name (Some (Operator other kind)) = Some (AtOperands other kind)
 stop_of name o = None
 
 -- not by a name that the sheet's text puts
@@ -103,14 +103,14 @@ next_stop ts s = None
 -- further operators by their names, and freer forms of operators that the machine has
 pub record Table : Type 0 where
   pub names : List ℕ → Option Blind
-  pub forms : Kind → Option Blind
+  pub forms : List ℕ → Kind → Option Blind
 
 abbrev pub entry : Table → Stop → Option Blind
 entry table (AtName name) = table.names name
-entry table (AtOperands kind) = table.forms kind
+entry table (AtOperands name kind) = table.forms name kind
 
 abbrev pub only_names : (List ℕ → Option Blind) → Table
-only_names names = record { names = names; forms = λ kind. None }
+only_names names = record { names = names; forms = λ name kind. None }
 
 abbrev pub after_first : List Token → List Token
 after_first [] = []
@@ -138,7 +138,7 @@ IsOutside kind w = ⊥
 -- a freer form takes only what the operator itself doesn't take
 abbrev pub TakesOthers : Table → Type 0
 TakesOthers table =
-    (kind : Kind) (f : Blind) (sight : Sight) (o : Outcome) → table.forms kind ≡ Some f → f sight ≡ Some o
+    (name : List ℕ) (kind : Kind) (f : Blind) (sight : Sight) (o : Outcome) → table.forms name kind ≡ Some f → f sight ≡ Some o
     → IsOutside kind sight.work
 
 -- It asks for none of the names that the sheet's text puts, and not for the level of a save: with those names, and the

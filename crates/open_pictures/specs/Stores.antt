@@ -103,28 +103,28 @@ abbrev pub or_else : Option Blind → Option Blind → Option Blind
 or_else None other = other
 or_else (Some f) other = Some f
 
--- a freer form of each kind, which stops where there is none
-abbrev pub by_stores : (named : List ℕ → Option Valued) → (formed : Kind → Valued) → (others : List ℕ → Option Blind) → Table
+-- a freer form of each operator, which stops where there is none
+abbrev pub by_stores : (named : List ℕ → Option Valued) → (formed : List ℕ → Kind → Valued) → (others : List ℕ → Option Blind) → Table
 by_stores named formed others = record {
   names = λ name. or_else (option_map by_store (named name)) (others name);
-  forms = λ kind. Some (by_store (formed kind));
+  forms = λ name kind. Some (by_store (formed name kind));
 }
 
 -- a freer form goes on only where the operator doesn't take the operands
-abbrev pub FormsTakeOthers : (Kind → Valued) → Type 0
+abbrev pub FormsTakeOthers : (List ℕ → Kind → Valued) → Type 0
 FormsTakeOthers formed =
-    (kind : Kind) (sight : Sight) (c : Change) → formed kind (given_of sight) ≡ Some c → IsOutside kind sight.work
+    (name : List ℕ) (kind : Kind) (sight : Sight) (c : Change) → formed name kind (given_of sight) ≡ Some c → IsOutside kind sight.work
 
 -- with any others that ask for none of the names that the sheet's text puts, they are blind: a law
 abbrev pub StoresAreBlind : Type 0
 StoresAreBlind =
-    (named : List ℕ → Option Valued) (formed : Kind → Valued) (others : List ℕ → Option Blind) → FormsTakeOthers formed
+    (named : List ℕ → Option Valued) (formed : List ℕ → Kind → Valued) (others : List ℕ → Option Blind) → FormsTakeOthers formed
     → ((name : List ℕ) (f : Blind) → others name ≡ Some f → AsksForNone f)
     → IsBlind (by_table (by_stores named formed others))
 
 -- and with any others that don't look at what matrices hold, they are placeless under the guard: a law
 abbrev pub StoresArePlacelessThere : Type 0
 StoresArePlacelessThere =
-    (named : List ℕ → Option Valued) (formed : Kind → Valued) (others : List ℕ → Option Blind) → FormsTakeOthers formed
+    (named : List ℕ → Option Valued) (formed : List ℕ → Kind → Valued) (others : List ℕ → Option Blind) → FormsTakeOthers formed
     → ((name : List ℕ) (f : Blind) → others name ≡ Some f → SeesNoMatrices f)
     → IsPlacelessThere (by_table (by_stores named formed others))

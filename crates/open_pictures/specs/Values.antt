@@ -8,7 +8,7 @@ use Rattle.std.specs.Prelude.{◌&&◌, ◌||◌, ◌==◌, nat_lt, nat_le, if�
 use Rattle.rules.specs.Numbers.{number_of}
 use Rattle.pictures.specs.Objects.{Token, Number, Literal, Hexadecimal, Bound, Name, Object, Plain, Truth, Mark, Array, Procedure, SystemDictionary, Operator}
 use Rattle.pictures.specs.Objects.{Dictionary, Font, Kind, Computes, Controls, Draws, CloseArray, Get, Put, Length, LoadArray, Compare}
-use Rattle.pictures.specs.Objects.{ForAll, Where, Load, Known, MakeDictionary, MakeExecutable, Looks, CopiesPage, Want, ANumber, AText, AnArray, AMatrix, ATruth, Comparison, Effect, Sets, Shows, Segments}
+use Rattle.pictures.specs.Objects.{ForAll, Where, Load, Known, MakeDictionary, MakeExecutable, Looks, CopiesPage, Want, ANumber, AText, AnArray, AMatrix, ATruth, Comparison, Effect, Sets, Shows, Segments, Transforms}
 use Rattle.pictures.specs.Dictionaries.{has, system, is_lacked}
 use Rattle.pictures.specs.Calculations.{whole_of, whole_text}
 use Rattle.pictures.specs.Operators.{objects_compared, sameness, taken, fits, nth}
@@ -17,11 +17,12 @@ use Rattle.open_pictures.specs.Blindness.{IsBlind}
 use Rattle.open_pictures.specs.Operators.{Blind, Table, by_table, AsksForNone}
 use Rattle.open_pictures.specs.Shelter.{SeesNoMatrices, IsPlacelessThere}
 use Rattle.open_pictures.specs.Stores.{Store, Given, Change, Valued, is_put, by_stores}
-use Rattle.open_pictures.specs.Points.{Point, width_by, latest_font}
+use Rattle.open_pictures.specs.Points.{width_by, latest_font}
 use Rattle.open_pictures.specs.Strings.{as_hexadecimal, decimals_compared, words, isolatin1}
 use Rattle.open_pictures.specs.Composites.{Composite, frozen_key, array_tag, string_tag, element_tag, null_tag, reference, referred, null, element_at}
 use Rattle.open_pictures.specs.Composites.{element_token, element_entry, element_entries, number_object, array_of, string_of}
-use Rattle.open_pictures.specs.Composites.{characters_of, items_for, items_of, leaving, putting, run_next, making}
+use Rattle.open_pictures.specs.Composites.{characters_of, items_for, items_of, leaving, putting, run_next, point_left, making}
+use Rattle.open_pictures.specs.Matrices.{fill_identity, fill_matrix, combine, move_by, point_by, distance_by, transform_more}
 
 -- Freer forms.
 
@@ -242,21 +243,14 @@ abbrev pub compare_more : Comparison → List Object → Given → Option Change
 compare_more c (b ∷ a ∷ os) given = judging (objects_compared c a b) (compared_more c given.store a b) os given
 compare_more c os given = None
 
-abbrev pub shown_by : List Want → Option (List ℕ)
-shown_by [] = Some (codes "show")
-shown_by (a ∷ b ∷ []) = Some (codes "ashow")
-shown_by (a ∷ b ∷ c ∷ []) = Some (codes "widthshow")
-shown_by (a ∷ b ∷ c ∷ d ∷ e ∷ []) = Some (codes "awidthshow")
-shown_by wants = None
-
-abbrev pub showing : Option (List ℕ) → Option (List ℕ) → List Object → Given → Option Change
-showing (Some name) (Some bytes) os given = run_next (Bound name ∷ []) (Plain (Hexadecimal (as_hexadecimal bytes)) ∷ os) given
-showing name bytes os given = None
+abbrev pub showing : List ℕ → Option (List ℕ) → List Object → Given → Option Change
+showing name None os given = None
+showing name (Some bytes) os given = run_next (Bound name ∷ []) (Plain (Hexadecimal (as_hexadecimal bytes)) ∷ os) given
 
 -- `show` and the like, of a string that may change: what is painted is what it has then
-abbrev pub show_more : List Want → List Object → Given → Option Change
-show_more wants (Plain (Bound name) ∷ os) given = showing (shown_by wants) (string_of given.store (Plain (Bound name))) os given
-show_more wants os given = None
+abbrev pub show_more : List ℕ → List Object → Given → Option Change
+show_more name (Plain (Bound ref) ∷ os) given = showing name (string_of given.store (Plain (Bound ref))) os given
+show_more name os given = None
 
 -- what a procedure with this element runs
 abbrev pub run_token : Composite → ℕ → Object → Token
@@ -279,21 +273,23 @@ abbrev pub make_executable : List Object → Given → Option Change
 make_executable (Plain (Bound name) ∷ os) given = make_procedure (referred name) os given
 make_executable os given = None
 
-abbrev pub formed : Kind → Valued
-formed (Computes Where) given = where_more given.operands given
-formed (Computes Load) given = load_more given.operands given
-formed (Computes Known) given = known_more given.operands given
-formed (Computes MakeDictionary) given = make_dictionary given.operands given
-formed (Computes MakeExecutable) given = make_executable given.operands given
-formed (Computes CloseArray) given = closed_array (down_to_mark [] given.operands) given
-formed (Computes Get) given = get_from given.operands given
-formed (Computes Put) given = put_into given.operands given
-formed (Computes Length) given = length_of given.operands given
-formed (Computes LoadArray) given = load_from given.operands given
-formed (Computes (Compare c)) given = compare_more c given.operands given
-formed (Controls ForAll) given = for_all given.operands given
-formed (Draws (AText ∷ wants) Shows) given = show_more wants given.operands given
-formed kind given = None
+abbrev pub formed : List ℕ → Kind → Valued
+formed name (Computes Where) given = where_more given.operands given
+formed name (Computes Load) given = load_more given.operands given
+formed name (Computes Known) given = known_more given.operands given
+formed name (Computes MakeDictionary) given = make_dictionary given.operands given
+formed name (Computes MakeExecutable) given = make_executable given.operands given
+formed name (Computes CloseArray) given = closed_array (down_to_mark [] given.operands) given
+formed name (Computes Get) given = get_from given.operands given
+formed name (Computes Put) given = put_into given.operands given
+formed name (Computes Length) given = length_of given.operands given
+formed name (Computes LoadArray) given = load_from given.operands given
+formed name (Computes (Compare c)) given = compare_more c given.operands given
+formed name (Controls ForAll) given = for_all given.operands given
+formed name (Draws (AText ∷ wants) Shows) given = show_more name given.operands given
+formed name (Draws (ANumber ∷ wants) Transforms) given = fill_matrix name given.operands given
+formed name (Draws (AMatrix ∷ wants) Transforms) given = transform_more name given.operands given
+formed name kind given = None
 
 -- By name.
 
@@ -418,10 +414,6 @@ abbrev pub run_stopped : List Object → Given → Option Change
 run_stopped (Procedure ts ∷ os) given = run_next (ts ++ Bound (codes "false") ∷ []) os given
 run_stopped os given = None
 
-abbrev pub point_left : Option Point → List Object → Given → Option Change
-point_left None os given = None
-point_left (Some p) os given = leaving (Plain (Number p.y) ∷ Plain (Number p.x) ∷ os) given
-
 -- `stringwidth`
 abbrev pub width_of : List Object → Given → Option Change
 width_of (o ∷ os) given = point_left (width_by (latest_font given.settings) (string_of given.store o)) os given
@@ -459,6 +451,10 @@ rows =
     ∷ row (codes "stopped") (λ given. run_stopped given.operands given)
     ∷ row (codes "stringwidth") (λ given. width_of given.operands given)
     ∷ row (codes "currentpoint") (λ given. point_left given.point given.operands given)
+    ∷ row (codes "identmatrix") (λ given. fill_identity given.operands given)
+    ∷ row (codes "concatmatrix") (λ given. combine given.operands given)
+    ∷ row (codes "transform") (λ given. move_by point_by given.operands given)
+    ∷ row (codes "dtransform") (λ given. move_by distance_by given.operands given)
     ∷ row (codes "ISOLatin1Encoding") (λ given. leaving (Array (map (λ name. Literal name) (words isolatin1)) ∷ given.operands) given)
     ∷ row (codes "sethsbcolor") (drawing (codes "sethsbcolor") (ANumber ∷ ANumber ∷ ANumber ∷ []) Sets)
     ∷ row (codes "setflat") (drawing (codes "setflat") (ANumber ∷ []) Sets)
