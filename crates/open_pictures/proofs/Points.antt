@@ -1,6 +1,6 @@
 -- The current point in user space is the same in every place.
-use Rattle.std.specs.Prelude.{Option, Some, None, if◌then◌else◌, bytes_eq, flat_map}
-use Rattle.std.proofs.Common.{◌≡◌, ℕ, refl, ap, ap₂, ◌∙◌, sym, Bool, true, false, List, [], ◌∷◌, ◌++◌, map, true≢false}
+use Rattle.std.specs.Prelude.{None, if◌then◌else◌, bytes_eq, flat_map}
+use Rattle.std.proofs.Common.{◌≡◌, ℕ, refl, ap, ap₂, ◌∙◌, sym, Bool, true, false, List, [], ◌∷◌, ◌++◌, true≢false}
 use Rattle.std.proofs.lemmas.Grind.{flat_map-append}
 use Rattle.std.proofs.lemmas.List.{append_cancel_right}
 use Rattle.std.proofs.lemmas.Slice.Eq.{bytes_eq-Decides}

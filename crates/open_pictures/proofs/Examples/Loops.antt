@@ -1,9 +1,9 @@
 -- Operators that drop a part of what is left to run, up to a name: `exit`, and one that reads data up to its end. With them
 -- the table is blind as before.
-use Rattle.std.specs.Prelude.{Option, Some, None, if◌then◌else◌, codes, bytes_eq, ◌||◌, option_map}
+use Rattle.std.specs.Prelude.{Option, Some, None, codes, bytes_eq, ◌||◌, option_map}
 use Rattle.std.proofs.Common.{◌≡◌, ℕ, Bool, true, false, List, [], ◌∷◌, ◌++◌, refl, ap, subst, true≢false, is_none}
 use Rattle.std.specs.Fmt.{digits}
-use Rattle.pictures.specs.Objects.{Token, Opens, Closes, Bound, Object, Plain, Procedure}
+use Rattle.pictures.specs.Objects.{Opens, Closes, Bound, Object, Plain, Procedure}
 use Rattle.pictures.specs.Scanner.{tokens}
 use Rattle.pictures.proofs.Examples.TwoUp.{number, end_by}
 use Rattle.open_pictures.specs.Machine.{open_step}

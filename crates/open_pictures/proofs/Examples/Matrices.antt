@@ -1,8 +1,7 @@
 -- Matrices of numbers; and at which matrices the machine stops.
-use Rattle.std.proofs.Common.{◌≡◌, List, [], ◌∷◌, refl, Some, None}
-use Rattle.std.specs.Prelude.{codes, Option}
+use Rattle.std.proofs.Common.{◌≡◌, [], ◌∷◌, refl, Some, None}
+use Rattle.std.specs.Prelude.{codes}
 use Rattle.std.specs.Fmt.{digits}
-use Rattle.pictures.specs.Objects.{Object}
 use Rattle.pictures.proofs.Examples.TwoUp.{number}
 use Rattle.open_pictures.proofs.Examples.Values.{left_by}
 

@@ -1,9 +1,18 @@
 -- The current point: as it was written, whatever the transformation; and where the machine stops.
-use Rattle.std.proofs.Common.{◌≡◌, List, [], ◌∷◌, refl, Some, None}
-use Rattle.std.specs.Prelude.{codes, Option}
+use Rattle.std.proofs.Common.{◌≡◌, ℕ, List, [], ◌∷◌, refl, Some, None, false, map}
+use Rattle.std.specs.Prelude.{codes, Option, Ok, option_map}
 use Rattle.std.specs.Fmt.{digits}
+use Rattle.rules.specs.Units.{◌>>=◌}
+use Rattle.rules.specs.Run.{document_of}
+use Rattle.rules.specs.Output.{output}
 use Rattle.pictures.specs.Objects.{Object}
-use Rattle.pictures.proofs.Examples.TwoUp.{number}
+use Rattle.pictures.specs.Machine.{Painting}
+use Rattle.pictures.specs.Scanner.{tokens}
+use Rattle.pictures.specs.Documents.{started}
+use Rattle.pictures.proofs.Examples.TwoUp.{number, end_by}
+use Rattle.pictures.proofs.Examples.Premises.{document_with, half, frame}
+use Rattle.open_pictures.specs.Machine.{open_step}
+use Rattle.open_pictures.specs.Values.{values}
 use Rattle.open_pictures.proofs.Examples.Values.{left_by}
 
 as_written : left_by (codes "2 3 scale 10 20 moveto currentpoint") ≡ Some (number (codes "20") ∷ number (codes "10") ∷ [])
@@ -53,3 +62,26 @@ after_each = refl
 nowhere : left_by (codes "1 2 moveto newpath currentpoint") ≡ None
 unfolding digits
 nowhere = refl
+
+-- On its sheet a page has the points that it has by itself, unlike that of `Looking`: a line from the current point.
+
+abbrev line : List ℕ
+line = codes "0 9 moveto currentpoint exch 4 add exch lineto stroke"
+
+-- of each painting on each sheet the operands of its path's elements, the latest first
+abbrev sheets_of : List ℕ → Option (List (List (List (List Object))))
+sheets_of text = option_map (λ s. points s.sheets) (end_by (open_step values false) 2000 (started (tokens text)))
+  where
+    points : List (List Painting) → List (List (List (List Object)))
+    points sheets = map (λ sheet. map (λ p. map (λ y. y.call.operands) p.graphics.path) sheet) sheets
+
+abbrev line_on_sheet : List (List (List (List Object)))
+line_on_sheet = (((number (codes "9") ∷ number (codes "4") ∷ []) ∷ (number (codes "9") ∷ number (codes "0") ∷ []) ∷ []) ∷ []) ∷ []
+
+own : sheets_of (document_with [] (line ∷ [])) ≡ Some line_on_sheet
+unfolding digits
+own = refl
+
+on_its_sheet : (document_of (document_with [] (line ∷ [])) >>= λ us. Ok (sheets_of (output frame None half us))) ≡ Ok (Some line_on_sheet)
+unfolding digits
+on_its_sheet = refl
