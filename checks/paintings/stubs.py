@@ -2,9 +2,11 @@
 painting they note. What the laws with further operators say holds of any that don't look at where the page is, so it doesn't matter for
 them what these would do. `install` changes further.py for the rest of the process. Not for `compare`, which draws."""
 import further
-from boxes import inverse, product
+from boxes import IDENTITY, inverse, product
 from further import CONSTANTS, FURTHER, LACKING, OVER, STANDARD, anything, is_array, operator
-from machine import SYSTEMDICT, Array, Call, Dictionary, File, Literal, Matrix, Number, Procedure, Stopped, String, Truth, number
+from machine import (FONTS, SYSTEMDICT, Array, Call, Dictionary, File, Literal, Matrix, Number, Operands, Procedure, Stopped, String, Truth, frozen,
+                     number, whole)
+from values import point_of, within
 
 MATRICES = {name: OVER[name] for name in (b"matrix", b"currentmatrix", b"setmatrix", b"defaultmatrix")}
 DICTIONARIES = (b"statusdict", b"errordict", b"$error", b"serverdict", b"globaldict", b"currentpagedevice")
@@ -26,7 +28,7 @@ def settings(name, count):
 
 
 def shows(name, count):
-    operator(name, *[anything] * count)(lambda m, *os: m.drawn(Call(name.encode(), ()), "shows"))
+    operator(name, *[anything] * count)(lambda m, *os: m.drawn(Call(name.encode(), tuple(map(frozen, os))), "shows"))
 
 
 def answers(name, count, answer):
@@ -103,13 +105,39 @@ def chain_of(m, o):
     return m.kept[o.number]
 
 
+NOUGHT = whole(0)
+
+
+def is_written(g):
+    """Whether the current point is what was written under the current transformation, or a sum of that, or there is none."""
+    def width(settings, data):
+        within(any(call.name in FONTS for call in settings))
+        return NOUGHT, NOUGHT
+
+    try:
+        point_of(g, width)
+    except Operands:
+        return not g.path
+    return True
+
+
+def holds(m, o):
+    """A matrix that an operator of the machine filled holds a transformation, not numbers."""
+    return isinstance(o, Matrix) and o.number in m.kept
+
+
 def filled(name, *kinds):
-    """Another form of an operator, which fills the matrix on top; matrices hold lists of transformations here."""
+    """Another form of an operator, which fills the matrix on top; matrices hold lists of transformations here. One that was just made is an array
+    of numbers from when numbers are put into it."""
     def put_in(chain_by):
         other = FURTHER.get(name)
 
         def perform(m):
-            if not m.operands or not isinstance(m.operands[-1], Matrix):
+            given = m.operands[-1 - len(kinds) :]
+            if not given or not isinstance(given[-1], Matrix):
+                return other(m)
+            if not any(holds(m, o) for o in given):
+                m.operands[-len(given) :] = [Array([number(v) for v in IDENTITY]) if isinstance(o, Matrix) else o for o in given]
                 return other(m)
             o, *operands = m.taken(Matrix, *kinds)
             m.fill(o.number, chain_by(m, *operands))
@@ -131,11 +159,11 @@ def font_by(of_array):
     return perform
 
 
-def caught(of_others):
-    """An error that `stopped` catches."""
+def current_point(of_others):
+    """As the table has it, if it can; a text has no width here. That there is none is an error, which `stopped` catches."""
     def perform(m):
         try:
-            of_others(m)
+            m.operands += point_of(m.graphics, lambda settings, data: (NOUGHT, NOUGHT)) if is_written(m.graphics) and m.graphics.path else of_others(m)
         except Stopped:
             if not any(frame.kind == "stopped" for frame in m.frames):
                 raise
@@ -199,6 +227,6 @@ def install():
         operator(name, *kinds)(perform)
     operator("filter", anything, anything)(lambda m, name, source: File())
     FURTHER[b"copy"] = copied(FURTHER[b"copy"])
-    FURTHER[b"currentpoint"] = caught(FURTHER[b"currentpoint"])
+    FURTHER[b"currentpoint"] = current_point(further.current_point)
     OVER[b"makefont"] = font_by(OVER[b"makefont"])
     OVER[b"wcheck"] = other_form_of_wcheck

@@ -4,8 +4,8 @@ the closed machine stops, and are tried there alone. NAMED are those that it lac
 A composite is a dictionary by its number, here as there; a reference says what it is, and which interval of it."""
 from dataclasses import dataclass, replace
 from decimal import Decimal
-from machine import (COMPARED, LACKED, Bound, Frame, SystemDictionary, Array, Call, Dictionary, Font, Literal, Mark, Name, Number, Operands, Operator, Procedure, Reference, Saved, String, Truth,
-                     anything, from_hexadecimal, is_count, is_numbers, is_six_numbers, is_token, run_all, sort_of, whole)
+from machine import (COMPARED, LACKED, Bound, Frame, SystemDictionary, Array, Call, Dictionary, Font, Literal, Mark, Matrix, Name, Number, Operands, Operator, Procedure, Reference, Saved, String, Truth,
+                     anything, calculated, from_hexadecimal, is_count, is_numbers, is_six_numbers, is_token, run_all, sort_of, whole)
 
 PUT_NAMES = (b"showpage", b"ImposeSave")
 
@@ -254,8 +254,8 @@ def stopped(m):
     m.frames.append(Frame([*procedure.items, Truth(False)]))
 
 
-def latest_font(m):
-    for call in reversed(m.graphics.settings):
+def latest_font(settings):
+    for call in reversed(settings):
         if call.name == b"setfont":
             return call.operands[0].made_of
         if call.name == b"selectfont":
@@ -264,12 +264,90 @@ def latest_font(m):
     raise Operands
 
 
+def width_by(settings, data):
+    """Numbers without a value: terms of the font and the text."""
+    font = repr(latest_font(settings)).encode()
+    return [Number(None, None, (font, data.hex().encode(), end)) for end in (b"stringwidth pop", b"stringwidth exch pop")]
+
+
 def string_width(m):
-    """A number without a value: a term of the font and the text."""
     (o,) = m.taken(anything)
-    data, font = there(string_of(m, o)), latest_font(m)
-    for end in (b"stringwidth pop", b"stringwidth exch pop"):
-        m.operands.append(Number(None, None, (repr(font).encode(), data.hex().encode(), end)))
+    m.operands += width_by(m.graphics.settings, there(string_of(m, o)))
+
+
+def point_of(g, width=width_by):
+    """The end of the path, from what was written under the current transformation."""
+    sums = []
+    for segment in reversed(g.path):
+        name, operands = segment.call.name, segment.call.operands
+        within(segment.chain == g.chain)
+        if name in (b"moveto", b"lineto", b"curveto"):
+            point = operands[1::-1]
+            for by in reversed(sums):
+                point = [calculated(b"add", a, b) for a, b in zip(point, by)]
+            return point
+        if name == b"xyshow":
+            by = operands[0].items
+            within(len(by) == 2 * len(operands[1].data))
+            sums += reversed(list(zip(by[::2], by[1::2])))
+        else:
+            within(name in (b"rmoveto", b"rlineto", b"rcurveto", b"show"))
+            sums.append(width(segment.settings, operands[0].data) if name == b"show" else operands[1::-1])
+    raise Operands
+
+
+# Matrices of numbers: specs/Matrices.
+
+
+def affine_of(m, o):
+    items = there(array_of(m, o))
+    within(len(items) == 6 and all(isinstance(item, Number) for item in items))
+    return items
+
+
+def distance_by(by, x, y):
+    return [calculated(b"add", calculated(b"mul", x, p), calculated(b"mul", y, q)) for p, q in ((by[0], by[2]), (by[1], by[3]))]
+
+
+def point_by(by, x, y):
+    return [calculated(b"add", p, q) for p, q in zip(distance_by(by, x, y), by[4:])]
+
+
+def filling(m, o, items):
+    """Numbers are put into the matrix that was made last. It is an array from then on."""
+    within(o.number == m.made)
+    made(m, "array", 6, items)
+
+
+def fills(items_by, *kinds):
+    def perform(m):
+        o, *operands = m.taken(Matrix, *kinds)
+        filling(m, o, items_by(m, *operands))
+
+    return perform
+
+
+def combined(m, n, o):
+    a, b, c, d, x, y = affine_of(m, o)
+    n = affine_of(m, n)
+    return [*distance_by(n, a, b), *distance_by(n, c, d), *point_by(n, x, y)]
+
+
+def moves(by):
+    def perform(m):
+        o, y, x = m.taken(anything, Number, Number)
+        m.operands += by(affine_of(m, o), x, y)
+
+    return perform
+
+
+def concatenates(m):
+    (o,) = m.taken(Reference)
+    m.operands.append(Array(affine_of(m, o)))
+    m.perform(m.called)
+
+
+ONE, NOUGHT = whole(1), whole(0)
 
 
 def new(sort):
@@ -371,12 +449,16 @@ NAMED = {
     b"astore": store_all, b"currentdict": lambda m: m.operands.append(Dictionary(m.dictionaries[-1])), b"store": store, b"cvs": to_string, b"cvn": to_name,
     b"languagelevel": answers(whole(3)), b"currentpacking": answers(Truth(False)), b"setpacking": lambda m: m.taken(Truth), b"definefont": define_font,
     b"makefont": make_font, b"maxlength": capacity, b"stopped": stopped, b"stringwidth": string_width,
+    b"currentpoint": lambda m: m.operands.extend(point_of(m.graphics)), b"transform": moves(point_by), b"dtransform": moves(distance_by),
+    b"identmatrix": fills(lambda m: [ONE, NOUGHT, NOUGHT, ONE, NOUGHT, NOUGHT]), b"concatmatrix": fills(combined, anything, anything),
     b"ISOLatin1Encoding": lambda m: m.operands.append(Array([Literal(name) for name in ISOLATIN1])), b"sethsbcolor": draws(b"sethsbcolor", "sets", Number, Number, Number), b"setflat": draws(b"setflat", "sets", Number),
     b"setstrokeadjust": draws(b"setstrokeadjust", "sets", Truth), b"setoverprint": draws(b"setoverprint", "sets", Truth),
     b"arct": draws(b"arct", "segments", *[Number] * 5), **{name: draws(name, "shows", is_numbers, String) for name in (b"xshow", b"yshow", b"xyshow")},
 }
 FORMED = {
     b"where": where, b"known": known, b"load": load, b"]": close_array, b"get": get, b"put": put, b"length": length, b"cvx": executable, b"dict": make_dictionary, b"aload": load_array, b"forall": for_all, **{name: compares(name) for name in COMPARED},
+    b"concat": concatenates, b"translate": fills(lambda m, y, x: [ONE, NOUGHT, NOUGHT, ONE, x, y], Number, Number),
+    b"scale": fills(lambda m, y, x: [x, NOUGHT, NOUGHT, y, NOUGHT, NOUGHT], Number, Number),
     **dict.fromkeys((b"show", b"ashow", b"widthshow", b"awidthshow"), shows),
 }
 

@@ -4,13 +4,14 @@ The closed machine is tried first, then that with the table of operators on valu
 with any further operators, of crates/open_pictures. The operators are noted that a run uses. names.tsv says of each whether it looks at where the page
 is."""
 import copy
+import re
 from dataclasses import dataclass, field
 from pathlib import Path
 import further as more
 import law
 import shelter
 import stubs
-from machine import PROVED, SYSTEMDICT, Dictionary, Font, Machine, Matrix, Operands, Scanner, Stopped, SystemDictionary
+from machine import PROVED, SYSTEMDICT, Dictionary, Font, Machine, Operands, Scanner, Stopped, SystemDictionary, is_six_numbers
 from parts import Document
 from values import VALUES
 
@@ -18,8 +19,10 @@ HERE = Path(__file__).resolve().parent
 PAPER = (595, 842)
 PREAMBLE, PAGES = "preamble", "pages"
 AT_NAME = "the name "
-# Operators that read or fill a matrix that is among so many operands; other forms of the closed machine's.
-OF_MATRICES = {b"forall": 2, b"get": 2, b"put": 3, b"aload": 1, b"astore": 1, b"makefont": 1, b"concat": 1, b"getinterval": 3, b"putinterval": 3}
+# Operators that read or fill a matrix that is among so many operands.
+OF_MATRICES = {b"forall": 2, b"get": 2, b"put": 3, b"aload": 1, b"astore": 1, b"makefont": 1, b"concat": 1, b"getinterval": 3, b"putinterval": 3,
+               b"identmatrix": 1, b"translate": 3, b"scale": 3, b"rotate": 2, b"concatmatrix": 3, b"invertmatrix": 2,
+               b"transform": 1, b"itransform": 1, b"dtransform": 1, b"idtransform": 1}
 # What is a font there is a dictionary here.
 AS_FONTS = {b"findfont", b"scalefont", b"setfont", b"selectfont"}
 OPEN = "open_pictures::laws::"
@@ -55,13 +58,36 @@ def names():
 NAMES = names()
 
 
-OF_A_MATRIX = b" of a matrix"
+# What a further operator is asked of, if its row in names.tsv is of other operands.
+OTHERS = {
+    b"of another transformation": ("path", "8.2, 4.4.1", "the end of the path, which wasn't written under the current matrix, through its inverse"),
+    b"of a matrix": ("matrices", "8.2, 4.3.3", "the matrix was filled by the current one, or by such a matrix"),
+    b"by numbers": ("no", "8.2, 4.3.3", "by a matrix of six numbers, not by the current one"),
+    b"of other data": ("text", "8.2", "data that isn't digits, or doesn't end in the same part"),
+}
 
 
 def of_table(name):
-    if name.endswith(OF_A_MATRIX):
-        return "matrices", "8.2, 4.3.3", "a matrix is an array of six numbers"
-    return NAMES.get(name, ("unknown", "", ""))
+    plain, _, others = name.partition(b" ")
+    return OTHERS.get(others) or NAMES.get(plain, ("unknown", "", ""))
+
+
+def of_other_operands(m, name):
+    """The operator, with what it is asked of, if that matters (OTHERS)."""
+    operands = m.operands[-OF_MATRICES[name] :] if name in OF_MATRICES else []
+    if any(stubs.holds(m, o) for o in operands):
+        return name + b" of a matrix"
+    if name.endswith(b"transform") and m.operands and is_six_numbers(m.operands[-1]):
+        return name + b" by numbers"
+    if name == b"currentpoint" and not stubs.is_written(m.graphics):
+        return name + b" of another transformation"
+    if name == b"eexec" and not DIGITS.match(m.scanner.text, m.scanner.at):
+        return name + b" of other data"
+    return name
+
+
+# What a font is encrypted as, and the end of it: tokens, as all other text.
+DIGITS = re.compile(rb"[0-9a-fA-F\s]*cleartomark\s")
 
 
 def looks_of(name):
@@ -110,8 +136,7 @@ class Noted:
             self.lacks(m, name)
 
     def lacks(self, m, name):
-        matrix = name in OF_MATRICES and any(isinstance(o, Matrix) for o in m.operands[-OF_MATRICES[name] :])
-        self.further[self.part(m)].add(name + OF_A_MATRIX if matrix else name)
+        self.further[self.part(m)].add(of_other_operands(m, name))
 
     def finds(self, m, key):
         if key in more.CONSTANTS and key not in (b"systemdict",):

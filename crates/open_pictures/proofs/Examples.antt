@@ -7,3 +7,6 @@ pub mod Freer
 pub mod Applied
 pub mod AppliedOwn
 pub mod Values
+pub mod Points
+pub mod Loops
+pub mod Matrices

@@ -6,8 +6,9 @@ use Rattle.pictures.specs.Operators.{with_operands}
 use Rattle.pictures.specs.Unaware.{no_saved}
 use Rattle.pictures.specs.Machine.{State, Kept, step}
 use Rattle.guarded_pictures.specs.Pages.{Around, placed_at, kept_at}
-use Rattle.open_pictures.specs.Operators.{Sight, sight_of, Stroke, Outcome, Blind, struck, all_struck, come_to, blindly, Table, Stop, entry, next_stop, called, looked_up, by_table, TakesOthers, taken_plain, Answer, strokes_of, answered, answers_on}
-use Rattle.open_pictures.proofs.Operators.{stops, acts_in, rest_there, past}
+use Rattle.open_pictures.specs.Operators.{Sight, sight_of, Stroke, Outcome, Blind, struck, all_struck, after_past, going_on, come_to, blindly, Table, Stop, entry, next_stop, called, looked_up, by_table, TakesOthers, taken_plain, Answer, strokes_of, answered, answers_on}
+use Rattle.open_pictures.proofs.Points.{point_is_placeless}
+use Rattle.open_pictures.proofs.Operators.{stops, acts_in, rest_there, past_there, past}
 use Rattle.open_pictures.specs.Shelter.{SeesNoMatrices, TablesArePlacelessThere, AnswersSeeNoMatrices}
 
 never : {A : Type 0} (x : A) → None ≡ Some x → ⊥
@@ -32,22 +33,34 @@ all_struck_at a (x ∷ xs) s = ap (all_struck xs) (struck_at a x.effect x.call s
 abbrev kept_there : Around → List Kept → List Kept
 kept_there a ks = map (kept_at a.place) ks ++ a.kept
 
-abbrev begun_with : Outcome → List Kept → State → State
-begun_with o ks s = record s { left = o.next ++ s.left; work = o.work; kept = ks }
+abbrev begun_with : Outcome → List Token → List Kept → State → State
+begun_with o ts ks s = record s { left = o.next ++ ts; work = o.work; kept = ks }
 
-comes_there : (a : Around) (f : Blind) (s t : State) (r : Option Outcome) → f (sight_of s) ≡ r → SeesNoMatrices f → come_to r s ≡ Some t → blindly f (placed_at a s) ≡ Some (placed_at a t)
-comes_there a f s t None g q e = absurd (never t e)
-comes_there a f s t (Some o) g q e =
-    let z = q (sight_of s) o (kept_there a s.kept) g in
-    ap (λ r. come_to r (placed_at a s)) z.1
-    ∙ ap (λ l. Some (all_struck o.strokes (record (placed_at a s) { left = l; work = o.work; kept = kept_there a s.kept }))) (sym (append_assoc o.next s.left a.left))
-    ∙ ap (λ r. Some r) (all_struck_at a o.strokes (begun_with o s.kept s))
-    ∙ ap (λ ks. Some (placed_at a (all_struck o.strokes (begun_with o ks s)))) (sym z.0)
+sight_there : (a : Around) (s : State) → sight_of (placed_at a s) ≡ record (sight_of s) { kept = kept_there a s.kept }
+sight_there a s =
+    ap (λ p. record (sight_of s) { kept = kept_there a s.kept; point = p }) (point_is_placeless a.place s.graphics.chain s.graphics.path)
+
+goes_there : (a : Around) (f : Blind) (s t : State) (o : Outcome) (r : Option (List Token)) → after_past o.past s.left ≡ r
+    → (o.kept ≡ s.kept) × (f (record (sight_of s) { kept = kept_there a s.kept }) ≡ Some (record o { kept = kept_there a s.kept }))
+    → going_on o r s ≡ Some t → blindly f (placed_at a s) ≡ Some (placed_at a t)
+goes_there a f s t o None d z e = absurd (never t e)
+goes_there a f s t o (Some ts) d z e =
+    ap (λ y. come_to (f y) (placed_at a s)) (sight_there a s)
+    ∙ ap (λ r. come_to r (placed_at a s)) z.1
+    ∙ ap (λ r. going_on (record o { kept = kept_there a s.kept }) r (placed_at a s)) (past_there o.past s.left a.left ts d)
+    ∙ ap (λ l. Some (all_struck o.strokes (record (placed_at a s) { left = l; work = o.work; kept = kept_there a s.kept }))) (sym (append_assoc o.next ts a.left))
+    ∙ ap (λ r. Some r) (all_struck_at a o.strokes (begun_with o ts s.kept s))
+    ∙ ap (λ ks. Some (placed_at a (all_struck o.strokes (begun_with o ts ks s)))) (sym z.0)
     ∙ ap (there a) e
   where
     there : Around → Option State → Option State
     there a None = None
     there a (Some t) = Some (placed_at a t)
+
+comes_there : (a : Around) (f : Blind) (s t : State) (r : Option Outcome) → f (sight_of s) ≡ r → SeesNoMatrices f → come_to r s ≡ Some t → blindly f (placed_at a s) ≡ Some (placed_at a t)
+comes_there a f s t None g q e = absurd (never t e)
+comes_there a f s t (Some o) g q e =
+    goes_there a f s t o (after_past o.past s.left) refl (q (sight_of s) o (kept_there a s.kept) g) e
 
 called_there : (a : Around) (s t : State) (r : Option Blind) → ((f : Blind) → r ≡ Some f → SeesNoMatrices f) → called r s ≡ Some t → called r (placed_at a s) ≡ Some (placed_at a t)
 called_there a s t None q e = absurd (never t e)
@@ -85,7 +98,7 @@ some_same x y e = ap (or_x x) e
     or_x x (Some y) = y
 
 abbrev made_with : List Object → List Stroke → Sight → Outcome
-made_with os strokes sight = record { next = []; work = with_operands sight.work os; kept = sight.kept; strokes = strokes }
+made_with os strokes sight = record { next = []; past = None; work = with_operands sight.work os; kept = sight.kept; strokes = strokes }
 
 abbrev holding : List Kept → Sight → Sight
 holding ks sight = record sight { kept = ks }

@@ -9,6 +9,7 @@ pub mod Output
 pub mod Own
 pub mod Imposed
 pub mod DocumentRun
+pub mod Points
 pub mod Operators
 pub mod Sheltering
 pub mod GuardedOperators

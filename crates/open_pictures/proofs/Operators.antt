@@ -1,6 +1,6 @@
 -- Operators that see no place are placeless, whatever they do; and those that answer by their operands and the settings ask for
 -- none of the names that the sheet's text puts.
-use Rattle.std.specs.Prelude.{Option, Some, None, if◌then◌else◌, option_map}
+use Rattle.std.specs.Prelude.{Option, Some, None, if◌then◌else◌, option_map, bytes_eq}
 use Rattle.std.proofs.Common.{◌≡◌, ℕ, zero, suc, refl, ap, ◌∙◌, sym, subst, Bool, true, false, List, [], ◌∷◌, ◌++◌, append_assoc, true≢false, is_none}
 use Rattle.std.proofs.lemmas.List.{map-append}
 use Rattle.pictures.specs.Objects.{Token, Name, Bound, Object, Saved, Operator, Kind, Computes, Controls, Draws, Looks, CopiesPage, Effect, Segments, Transforms, Sets, Paints, PaintsBeside, Shows, Clips, Forgets, Call}
@@ -13,11 +13,19 @@ use Rattle.pictures.specs.Unaware.{put_names, no_saved}
 use Rattle.pictures.specs.Shifted.{up, ups, Agree, AllAgree, up_work, up_state}
 use Rattle.pictures.proofs.Shifted.{up_taken, ups_same}
 use Rattle.pictures.proofs.Names.{meaning_agrees}
-use Rattle.open_pictures.specs.Operators.{Sight, sight_of, Stroke, Outcome, Blind, struck, all_struck, come_to, blindly, Table, Stop, AtName, AtOperands, stop_of, next_stop, entry, only_names, after_first, called, looked_up, by_table, IsOutside, TakesOthers, AsksForNone, AllAskForNone, taken_plain, Answer, strokes_of, answered, answers_on, answering}
+use Rattle.open_pictures.specs.Operators.{Sight, sight_of, Stroke, Outcome, Blind, struck, all_struck, after_name, after_past, going_on, come_to, blindly, Table, Stop, AtName, AtOperands, stop_of, next_stop, entry, only_names, after_first, called, looked_up, by_table, IsOutside, TakesOthers, AsksForNone, AllAskForNone, taken_plain, Answer, strokes_of, answered, answers_on, answering}
 use Rattle.open_pictures.specs.Operators.{TablesArePlaceless, TablesAreBlind, AnswersAskForNone}
+use Rattle.open_pictures.proofs.Points.{point_is_placeless}
 
 never : {A : Type 0} (x : A) → None ≡ Some x → ⊥
 never x e = true≢false (ap is_none e)
+
+some_same : {A : Type 0} (x y : A) → Some x ≡ Some y → x ≡ y
+some_same x y e = ap (or_x x) e
+  where
+    or_x : {A : Type 0} → A → Option A → A
+    or_x x None = x
+    or_x x (Some y) = y
 
 -- What is drawn.
 
@@ -36,19 +44,45 @@ all_struck_at : (a : Around) (xs : List Stroke) (s : State) → all_struck xs (s
 all_struck_at a [] s = refl
 all_struck_at a (x ∷ xs) s = ap (all_struck xs) (struck_at a x.effect x.call s) ∙ all_struck_at a xs (struck x s)
 
-comes_there : (a : Around) (s t : State) (r : Option Outcome) → come_to r s ≡ Some t → come_to r (state_at a s) ≡ Some (state_at a t)
-comes_there a s t None e = absurd (never t e)
-comes_there a s t (Some o) e =
-    ap (λ l. Some (all_struck o.strokes (record (state_at a s) { left = l; work = o.work; kept = o.kept }))) (sym (append_assoc o.next s.left a.left))
-    ∙ ap (λ r. Some r) (all_struck_at a o.strokes (record s { left = o.next ++ s.left; work = o.work; kept = o.kept }))
+if_there : (b : Bool) (ts more us : List Token) (r there : Option (List Token)) → (r ≡ Some us → there ≡ Some (us ++ more))
+    → (if b then Some ts else r) ≡ Some us → (if b then Some (ts ++ more) else there) ≡ Some (us ++ more)
+if_there true ts more us r there f e = ap (λ l. Some (l ++ more)) (some_same ts us e)
+if_there false ts more us r there f e = f e
+
+name_there : (name : List ℕ) (ts more us : List Token) → after_name name ts ≡ Some us → after_name name (ts ++ more) ≡ Some (us ++ more)
+name_there name [] more us e = absurd (never us e)
+name_there name (Name other ∷ ts) more us e =
+    if_there (bytes_eq other name) ts more us (after_name name ts) (after_name name (ts ++ more)) (name_there name ts more us) e
+name_there name (Bound other ∷ ts) more us e =
+    if_there (bytes_eq other name) ts more us (after_name name ts) (after_name name (ts ++ more)) (name_there name ts more us) e
+name_there name (t ∷ ts) more us e = name_there name ts more us e
+
+pub past_there : (past : Option (List ℕ)) (ts more us : List Token) → after_past past ts ≡ Some us → after_past past (ts ++ more) ≡ Some (us ++ more)
+past_there None ts more us e = ap (λ l. Some (l ++ more)) (some_same ts us e)
+past_there (Some name) ts more us e = name_there name ts more us e
+
+goes_there : (a : Around) (o : Outcome) (s t : State) (r : Option (List Token)) → after_past o.past s.left ≡ r → going_on o r s ≡ Some t
+    → come_to (Some o) (state_at a s) ≡ Some (state_at a t)
+goes_there a o s t None d e = absurd (never t e)
+goes_there a o s t (Some ts) d e =
+    ap (λ r. going_on o r (state_at a s)) (past_there o.past s.left a.left ts d)
+    ∙ ap (λ l. Some (all_struck o.strokes (record (state_at a s) { left = l; work = o.work; kept = o.kept }))) (sym (append_assoc o.next ts a.left))
+    ∙ ap (λ r. Some r) (all_struck_at a o.strokes (record s { left = o.next ++ ts; work = o.work; kept = o.kept }))
     ∙ ap (there a) e
   where
     there : Around → Option State → Option State
     there a None = None
     there a (Some t) = Some (state_at a t)
 
+comes_there : (a : Around) (s t : State) (r : Option Outcome) → come_to r s ≡ Some t → come_to r (state_at a s) ≡ Some (state_at a t)
+comes_there a s t None e = absurd (never t e)
+comes_there a s t (Some o) e = goes_there a o s t (after_past o.past s.left) refl e
+
+sight_there : (a : Around) (s : State) → sight_of (state_at a s) ≡ sight_of s
+sight_there a s = ap (λ p. record (sight_of s) { point = p }) (point_is_placeless a.place s.graphics.chain s.graphics.path)
+
 pub blindly_there : (f : Blind) (a : Around) (s t : State) → blindly f s ≡ Some t → blindly f (state_at a s) ≡ Some (state_at a t)
-blindly_there f a s t e = comes_there a s t (f (sight_of s)) e
+blindly_there f a s t e = ap (λ z. come_to (f z) (state_at a s)) (sight_there a s) ∙ comes_there a s t (f (sight_of s)) e
 
 -- By name.
 
@@ -57,13 +91,6 @@ called_there a s t None e = absurd (never t e)
 called_there a s t (Some f) e = blindly_there f a s t e
 
 -- where a further operator goes on the machine stops
-
-some_same : {A : Type 0} (x y : A) → Some x ≡ Some y → x ≡ y
-some_same x y e = ap (or_x x) e
-  where
-    or_x : {A : Type 0} → A → Option A → A
-    or_x x None = x
-    or_x x (Some y) = y
 
 outside_stops : (kind : Kind) (name : List ℕ) (s : State) → IsOutside kind s.work → perform false name kind s ≡ None
 outside_stops (Computes c) name s e = ap (λ r. worked r s) e
@@ -87,7 +114,7 @@ stop_meant : (table : Table) (name : List ℕ) (o : Option Object) (s : State) (
 stop_meant table name None s found q e z = refl
 stop_meant table name (Some (Operator other (Looks CopiesPage))) s found q e z = refl
 stop_meant table name (Some (Operator other kind)) s found q e z =
-    outside_stops kind other s (q kind z.0 (sight_of s) z.1 (subst (λ r. entry table r ≡ Some z.0) (sym (some_same (AtOperands kind) found e)) z.2) z.3)
+    outside_stops kind other s (q other kind z.0 (sight_of s) z.1 (subst (λ r. entry table r ≡ Some z.0) (sym (some_same (AtOperands other kind) found e)) z.2) z.3)
 stop_meant table name (Some o) s found q e z = absurd (never found e)
 
 found_of : (b : Bool) (r : Option Stop) (found : Stop) → (if b then None else r) ≡ Some found → r ≡ Some found
@@ -161,12 +188,18 @@ struck_up : (n : ℕ) (xs : List Stroke) (s t : State) (fs : List Entry) (fss : 
 struck_up n [] s t fs fss a h e = subst (λ z. Up n (Some (up_state fs fss s)) z) (some_same s t e) (fs, fss, refl, a, h)
 struck_up n (x ∷ xs) s t fs fss a h e = struck_up n xs (struck x s) t fs fss a h e
 
+goes_up : (n : ℕ) (o : Outcome) (s t : State) (es fs : List Entry) (ess : List (List Entry)) (r : Option (List Token)) → Agree n fs o.work.entries
+    → AllAgree n ess s.saves → going_on o r s ≡ Some t → Up n (going_on (record o { work = up_work fs o.work }) r (up_state es ess s)) t
+goes_up n o s t es fs ess None a h e = absurd (never t e)
+goes_up n o s t es fs ess (Some ts) a h e =
+    struck_up n o.strokes (record s { left = o.next ++ ts; work = o.work; kept = o.kept }) t fs ess a h e
+
 comes_up : (n : ℕ) (f : Blind) (s t : State) (es : List Entry) (ess : List (List Entry)) (r : Option Outcome) → f (sight_of s) ≡ r → AsksForNone f
     → Agree n es s.work.entries → AllAgree n ess s.saves → come_to r s ≡ Some t → Up n (blindly f (up_state es ess s)) t
 comes_up n f s t es ess None g q a h e = absurd (never t e)
 comes_up n f s t es ess (Some o) g q a h e =
     let z = q n (sight_of s) o es g a in
-    let y = struck_up n o.strokes (record s { left = o.next ++ s.left; work = o.work; kept = o.kept }) t z.0 ess z.2 h e in
+    let y = goes_up n o s t es z.0 ess (after_past o.past s.left) z.2 h e in
     (y.0, y.1, ap (λ r. come_to r (up_state es ess s)) z.1 ∙ y.2, y.3, y.4)
 
 called_up : (n : ℕ) (s t : State) (es : List Entry) (ess : List (List Entry)) (r : Option Blind) → ((f : Blind) → r ≡ Some f → AsksForNone f)
@@ -193,11 +226,11 @@ tables_are_blind table p q = record {
 
 -- a table of names alone has no freer forms
 pub names_take_others : (names : List ℕ → Option Blind) → TakesOthers (only_names names)
-names_take_others names kind f sight o e k = absurd (never f e)
+names_take_others names name kind f sight o e k = absurd (never f e)
 
 pub names_ask : (names : List ℕ → Option Blind) → ((name : List ℕ) (f : Blind) → names name ≡ Some f → AsksForNone f) → AllAskForNone (only_names names)
 names_ask names q (AtName name) f e = q name f e
-names_ask names q (AtOperands kind) f e = absurd (never f e)
+names_ask names q (AtOperands name kind) f e = absurd (never f e)
 
 -- Answers.
 
@@ -218,7 +251,7 @@ abbrev Asks : ℕ → Blind → Sight → Outcome → List Entry → Type 0
 Asks m f sight o es = (fs : List Entry) × (f (upped es sight) ≡ Some (record o { work = up_work fs o.work })) × Agree m fs o.work.entries
 
 abbrev made_with : List Object → List Stroke → Sight → Outcome
-made_with os strokes sight = record { next = []; work = with_operands sight.work os; kept = sight.kept; strokes = strokes }
+made_with os strokes sight = record { next = []; past = None; work = with_operands sight.work os; kept = sight.kept; strokes = strokes }
 
 on_clean : (name : List ℕ) (n : ℕ) (e : Option Effect) (answer : Answer) (m : ℕ) (sight : Sight) (o : Outcome) (es : List Entry) (os rest rs : List Object) (b : Bool)
     → taken_plain n sight.work.operands ≡ Some (os, rest) → answer os sight.settings ≡ Some rs → no_saved rs ≡ b → Agree m es sight.work.entries

@@ -74,6 +74,7 @@ given_with sight os store = record {
   dictionaries = sight.work.dictionaries;
   made = sight.work.made;
   settings = sight.settings;
+  point = sight.point;
 }
 
 given_same : (n : ℕ) (sight : Sight) (es : List Entry) → Agree n es sight.work.entries → given_of (upped es sight) ≡ given_of sight
@@ -97,7 +98,7 @@ abbrev Asks : ℕ → Blind → Sight → Outcome → List Entry → Type 0
 Asks m f sight o es = (fs : List Entry) × (f (upped es sight) ≡ Some (record o { work = up_work fs o.work })) × Agree m fs o.work.entries
 
 abbrev made_by : Change → Sight → Outcome
-made_by c sight = record { next = c.next; work = changed_work c sight.work; kept = sight.kept; strokes = c.strokes }
+made_by c sight = record { next = c.next; past = c.past; work = changed_work c sight.work; kept = sight.kept; strokes = c.strokes }
 
 operands_up : (os ps : List Object) → no_saved os ≡ true → os ++ from_save (ups ps) ≡ ups (os ++ from_save ps)
 operands_up os ps e =
@@ -106,6 +107,7 @@ operands_up os ps e =
 abbrev with_them : Change → Sight → List Entry → List Object → Outcome
 with_them c sight es os = record {
   next = c.next;
+  past = c.past;
   work = record { operands = os; dictionaries = sight.work.dictionaries; entries = c.puts ++ es; made = c.made };
   kept = sight.kept;
   strokes = c.strokes;
@@ -162,19 +164,19 @@ split_at_save [] = refl
 split_at_save (Saved level ∷ os) = refl
 split_at_save (o ∷ os) = ap (λ ps. o ∷ ps) (split_at_save os)
 
-form_outside : (formed : Kind → Valued) (kind : Kind) (sight : Sight) (o : Outcome) (r : Option Change) → formed kind (given_of sight) ≡ r
+form_outside : (formed : List ℕ → Kind → Valued) (name : List ℕ) (kind : Kind) (sight : Sight) (o : Outcome) (r : Option Change) → formed name kind (given_of sight) ≡ r
     → FormsTakeOthers formed → change_made r sight ≡ Some o → IsOutside kind sight.work
-form_outside formed kind sight o None t q e = absurd (never o e)
-form_outside formed kind sight o (Some c) t q e = q kind sight c t
+form_outside formed name kind sight o None t q e = absurd (never o e)
+form_outside formed name kind sight o (Some c) t q e = q name kind sight c t
 
-stores_take_others : (named : List ℕ → Option Valued) (formed : Kind → Valued) (others : List ℕ → Option Blind) → FormsTakeOthers formed
+stores_take_others : (named : List ℕ → Option Valued) (formed : List ℕ → Kind → Valued) (others : List ℕ → Option Blind) → FormsTakeOthers formed
     → TakesOthers (by_stores named formed others)
-stores_take_others named formed others q kind f sight o e k =
-    form_outside formed kind sight o (formed kind (given_of sight)) refl q
-    (ap (λ g. g sight) (some_same (by_store (formed kind)) f e) ∙ k)
+stores_take_others named formed others q name kind f sight o e k =
+    form_outside formed name kind sight o (formed name kind (given_of sight)) refl q
+    (ap (λ g. g sight) (some_same (by_store (formed name kind)) f e) ∙ k)
 
 -- what is so of each operator on values, and of the others, is so of all of the table
-all_so : (P : Blind → Type 0) (named : List ℕ → Option Valued) (formed : Kind → Valued) (others : List ℕ → Option Blind)
+all_so : (P : Blind → Type 0) (named : List ℕ → Option Valued) (formed : List ℕ → Kind → Valued) (others : List ℕ → Option Blind)
     → ((g : Valued) → P (by_store g)) → ((name : List ℕ) (f : Blind) → others name ≡ Some f → P f)
     → (stop : Stop) (f : Blind) → entry (by_stores named formed others) stop ≡ Some f → P f
 all_so P named formed others p q (AtName name) f e = by_name (named name) e
@@ -182,7 +184,7 @@ all_so P named formed others p q (AtName name) f e = by_name (named name) e
     by_name : (r : Option Valued) → or_else (option_map by_store r) (others name) ≡ Some f → P f
     by_name None e = q name f e
     by_name (Some g) e = subst P (some_same (by_store g) f e) (p g)
-all_so P named formed others p q (AtOperands kind) f e = subst P (some_same (by_store (formed kind)) f e) (p (formed kind))
+all_so P named formed others p q (AtOperands name kind) f e = subst P (some_same (by_store (formed name kind)) f e) (p (formed name kind))
 
 pub stores_are_blind : StoresAreBlind
 stores_are_blind named formed others t q =

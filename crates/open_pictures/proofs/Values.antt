@@ -4,8 +4,8 @@ use Rattle.std.specs.Prelude.{Option, Some, None, if◌then◌else◌, length, o
 use Rattle.std.specs.List.{list_all}
 use Rattle.std.specs.Char.{is_ascii_digit}
 use Rattle.std.proofs.Common.{◌≡◌, ℕ, refl, ap, ap₂, ◌∙◌, sym, Bool, true, false, not, ◌&&◌, ◌||◌, List, [], ◌∷◌, ◌++◌, true≢false, is_none}
-use Rattle.pictures.specs.Objects.{Token, Number, Literal, Bound, Object, Plain, Mark, Procedure, SystemDictionary, Font, Computation, Computes, Controls, Draws}
-use Rattle.pictures.specs.Objects.{CloseArray, Get, Put, Length, LoadArray, Compare, ForAll, Where, Load, Known, MakeDictionary, MakeExecutable, Want, AText, Comparison, Shows}
+use Rattle.pictures.specs.Objects.{Token, Number, Literal, Bound, Object, Plain, Mark, Matrix, Procedure, SystemDictionary, Font, Computation, Computes, Controls, Draws}
+use Rattle.pictures.specs.Objects.{CloseArray, Get, Put, Length, LoadArray, Compare, ForAll, Where, Load, Known, MakeDictionary, MakeExecutable, Want, ANumber, AText, AMatrix, Comparison, Shows, Transforms}
 use Rattle.pictures.specs.Dictionaries.{Entry, has, system, is_lacked, or, meaning, entry_of}
 use Rattle.pictures.specs.Operators.{Work, with_operands, taken, collected, gathered, judged, loaded, located, holder, known_there, objects_compared, computed_on, controlled_on}
 use Rattle.pictures.proofs.Tests.{first, second}
@@ -13,6 +13,7 @@ use Rattle.pictures.proofs.Names.{not_true}
 use Rattle.open_pictures.specs.Operators.{Sight, Blind, AsksForNone}
 use Rattle.open_pictures.specs.Stores.{Given, Change, FormsTakeOthers, above_save, from_save, is_put, unlevelled, seen, given_of}
 use Rattle.open_pictures.specs.Composites.{array_tag, making}
+use Rattle.open_pictures.specs.Matrices.{fill_matrix, transform_more}
 use Rattle.open_pictures.specs.Values.{down_to_mark, are_tokens, closed_array, pushing, system_value, is_in_interpreters, has_any, where_more, load_more, known_more, make_dictionary, get_from, put_into, length_of, load_from, for_all, judging, compared_more, compare_more, show_more, make_executable, formed, named, no_others, ValuesAreBlind, ValuesArePlacelessThere}
 use Rattle.open_pictures.proofs.Stores.{split_at_save, stores_are_blind, stores_are_placeless_there}
 
@@ -180,10 +181,20 @@ compare_outside k (b ∷ a ∷ os) rest given c w e =
     ap (λ r. judged r (with_operands w (os ++ rest))) (judge_outside (objects_compared k a b) (compared_more k given.store a b) os given c e)
 compare_outside k os rest given c w e = absurd (never c e)
 
-show_outside : (wants : List Want) (os rest : List Object) (given : Given) (c : Change) → show_more wants os given ≡ Some c
+show_outside : (name : List ℕ) (wants : List Want) (os rest : List Object) (given : Given) (c : Change) → show_more name os given ≡ Some c
     → taken (AText ∷ wants) (os ++ rest) ≡ None
-show_outside wants (Plain (Bound name) ∷ os) rest given c e = refl
-show_outside wants os rest given c e = absurd (never c e)
+show_outside name wants (Plain (Bound ref) ∷ os) rest given c e = refl
+show_outside name wants os rest given c e = absurd (never c e)
+
+fill_outside : (name : List ℕ) (wants : List Want) (os rest : List Object) (given : Given) (c : Change) → fill_matrix name os given ≡ Some c
+    → taken (ANumber ∷ wants) (os ++ rest) ≡ None
+fill_outside name wants (Matrix number ∷ Plain (Number y) ∷ Plain (Number x) ∷ os) rest given c e = refl
+fill_outside name wants os rest given c e = absurd (never c e)
+
+transform_outside : (name : List ℕ) (wants : List Want) (os rest : List Object) (given : Given) (c : Change) → transform_more name os given ≡ Some c
+    → taken (AMatrix ∷ wants) (os ++ rest) ≡ None
+transform_outside name wants (Plain (Bound ref) ∷ os) rest given c e = refl
+transform_outside name wants os rest given c e = absurd (never c e)
 
 abbrev above : Sight → List Object
 above sight = above_save sight.work.operands
@@ -196,30 +207,34 @@ computes_so : (sight : Sight) (k : Computation) → computed_on k (above sight +
 computes_so sight k e = ap (λ os. computed_on k os sight.work) (split_at_save sight.work.operands) ∙ e
 
 forms_take_others : FormsTakeOthers formed
-forms_take_others (Computes Where) sight c e = computes_so sight Where (where_outside sight (above sight) (below sight) c e)
-forms_take_others (Computes Load) sight c e = computes_so sight Load (load_outside_more sight (above sight) (below sight) c e)
-forms_take_others (Computes Known) sight c e = computes_so sight Known (known_outside (above sight) (below sight) (given_of sight) c sight.work e)
-forms_take_others (Computes MakeDictionary) sight c e =
+forms_take_others name (Computes Where) sight c e = computes_so sight Where (where_outside sight (above sight) (below sight) c e)
+forms_take_others name (Computes Load) sight c e = computes_so sight Load (load_outside_more sight (above sight) (below sight) c e)
+forms_take_others name (Computes Known) sight c e = computes_so sight Known (known_outside (above sight) (below sight) (given_of sight) c sight.work e)
+forms_take_others name (Computes MakeDictionary) sight c e =
     computes_so sight MakeDictionary (dictionary_outside (above sight) (below sight) (given_of sight) c sight.work e)
-forms_take_others (Computes MakeExecutable) sight c e =
+forms_take_others name (Computes MakeExecutable) sight c e =
     computes_so sight MakeExecutable (executable_outside (above sight) (below sight) (given_of sight) c sight.work e)
-forms_take_others (Computes CloseArray) sight c e =
+forms_take_others name (Computes CloseArray) sight c e =
     computes_so sight CloseArray
     (ap (λ r. gathered r sight.work) (close_on (above sight) (below sight) (given_of sight) c (down_to_mark [] (above sight)) refl e))
-forms_take_others (Computes Get) sight c e = computes_so sight Get (get_outside (above sight) (below sight) (given_of sight) c sight.work e)
-forms_take_others (Computes Put) sight c e = computes_so sight Put (put_outside (above sight) (below sight) (given_of sight) c sight.work e)
-forms_take_others (Computes Length) sight c e =
+forms_take_others name (Computes Get) sight c e = computes_so sight Get (get_outside (above sight) (below sight) (given_of sight) c sight.work e)
+forms_take_others name (Computes Put) sight c e = computes_so sight Put (put_outside (above sight) (below sight) (given_of sight) c sight.work e)
+forms_take_others name (Computes Length) sight c e =
     computes_so sight Length (length_outside (above sight) (below sight) (given_of sight) c sight.work e)
-forms_take_others (Computes LoadArray) sight c e =
+forms_take_others name (Computes LoadArray) sight c e =
     computes_so sight LoadArray (load_outside (above sight) (below sight) (given_of sight) c sight.work e)
-forms_take_others (Computes (Compare k)) sight c e =
+forms_take_others name (Computes (Compare k)) sight c e =
     computes_so sight (Compare k) (compare_outside k (above sight) (below sight) (given_of sight) c sight.work e)
-forms_take_others (Controls ForAll) sight c e =
+forms_take_others name (Controls ForAll) sight c e =
     ap (λ os. controlled_on ForAll os sight.work) (split_at_save sight.work.operands)
     ∙ all_outside (above sight) (below sight) (given_of sight) c sight.work e
-forms_take_others (Draws (AText ∷ wants) Shows) sight c e =
-    ap (taken (AText ∷ wants)) (split_at_save sight.work.operands) ∙ show_outside wants (above sight) (below sight) (given_of sight) c e
-forms_take_others kind sight c e = absurd (never c e)
+forms_take_others name (Draws (AText ∷ wants) Shows) sight c e =
+    ap (taken (AText ∷ wants)) (split_at_save sight.work.operands) ∙ show_outside name wants (above sight) (below sight) (given_of sight) c e
+forms_take_others name (Draws (ANumber ∷ wants) Transforms) sight c e =
+    ap (taken (ANumber ∷ wants)) (split_at_save sight.work.operands) ∙ fill_outside name wants (above sight) (below sight) (given_of sight) c e
+forms_take_others name (Draws (AMatrix ∷ wants) Transforms) sight c e =
+    ap (taken (AMatrix ∷ wants)) (split_at_save sight.work.operands) ∙ transform_outside name wants (above sight) (below sight) (given_of sight) c e
+forms_take_others name kind sight c e = absurd (never c e)
 
 pub no_others_ask : (name : List ℕ) (f : Blind) → no_others name ≡ Some f → AsksForNone f
 no_others_ask name f e = absurd (never f e)

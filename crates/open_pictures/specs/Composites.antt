@@ -8,6 +8,7 @@ use Rattle.rules.specs.Numbers.{number_of}
 use Rattle.pictures.specs.Objects.{Token, Number, Literal, Name, Text, Hexadecimal, Bound, Object, Plain, Array}
 use Rattle.pictures.specs.Dictionaries.{Entry}
 use Rattle.open_pictures.specs.Stores.{Store, Given, Change}
+use Rattle.open_pictures.specs.Points.{Point}
 use Rattle.open_pictures.specs.Strings.{characters, hexadecimal_bytes}
 
 abbrev pub array_tag : ℕ
@@ -122,18 +123,23 @@ items_of store o = or_items (array_of store o) (items_for string_tag store o)
 -- What an operator leaves.
 
 abbrev pub leaving : List Object → Given → Option Change
-leaving os given = Some (record { next = []; operands = os; puts = []; made = given.made; strokes = [] })
+leaving os given = Some (record { next = []; past = None; operands = os; puts = []; made = given.made; strokes = [] })
 
 abbrev pub putting : List Entry → List Object → Given → Option Change
-putting puts os given = Some (record { next = []; operands = os; puts = puts; made = given.made; strokes = [] })
+putting puts os given = Some (record { next = []; past = None; operands = os; puts = puts; made = given.made; strokes = [] })
 
 abbrev pub run_next : List Token → List Object → Given → Option Change
-run_next ts os given = Some (record { next = ts; operands = os; puts = []; made = given.made; strokes = [] })
+run_next ts os given = Some (record { next = ts; past = None; operands = os; puts = []; made = given.made; strokes = [] })
+
+abbrev pub point_left : Option Point → List Object → Given → Option Change
+point_left None os given = None
+point_left (Some p) os given = leaving (Plain (Number p.y) ∷ Plain (Number p.x) ∷ os) given
 
 -- a new composite with these elements, pushed
 abbrev pub making : (tag count : ℕ) → List Object → List Object → Given → Option Change
 making tag count items os given = Some (record {
   next = [];
+  past = None;
   operands = reference (record { tag = tag; number = given.made + 1; first = 0; count = count }) ∷ os;
   puts = element_entries (given.made + 1) 0 items;
   made = given.made + 1;

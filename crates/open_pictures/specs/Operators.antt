@@ -1,6 +1,6 @@
 -- Further operators by their names. One that is a function of what it may see, which is all but where the page is, is
 -- placeless whatever it does.
-use Rattle.std.specs.Prelude.{◌≡◌, ℕ, zero, suc, List, [], ◌∷◌, ◌++◌, if◌then◌else◌, Option, Some, None}
+use Rattle.std.specs.Prelude.{◌≡◌, ℕ, zero, suc, List, [], ◌∷◌, ◌++◌, if◌then◌else◌, Option, Some, None, bytes_eq}
 use Rattle.pictures.specs.Objects.{Token, Name, Bound, Object, Saved, Operator, Kind, Computes, Controls, Draws, Looks, CopiesPage, Effect, Call}
 use Rattle.pictures.specs.Dictionaries.{Entry, meaning, system}
 use Rattle.pictures.specs.Operators.{Work, with_operands, also, computed, controlled, taken}
@@ -10,16 +10,24 @@ use Rattle.pictures.specs.Unaware.{put_names, no_saved}
 use Rattle.pictures.specs.Shifted.{Agree, up_work}
 use Rattle.open_pictures.specs.Machine.{Further}
 use Rattle.open_pictures.specs.Blindness.{IsPlaceless, IsBlind}
+use Rattle.open_pictures.specs.Points.{Point, point_of}
 
 -- What an operator may see: the operands and the dictionaries, what matrices hold, the settings of the graphics state
--- (fonts, colours, lines). Not the transformation, the path, the clip, what is saved and what is painted
+-- (fonts, colours, lines), the current point in user space. Not the transformation, the path, the clip, what is saved and
+-- what is painted
 pub record Sight : Type 0 where
   pub work : Work
   pub kept : List Kept
   pub settings : List Call
+  pub point : Option Point
 
 abbrev pub sight_of : State → Sight
-sight_of s = record { work = s.work; kept = s.kept; settings = s.graphics.settings }
+sight_of s = record {
+  work = s.work;
+  kept = s.kept;
+  settings = s.graphics.settings;
+  point = point_of s.graphics.chain s.graphics.path;
+}
 
 -- one thing that it does to the graphics state or the sheet, as an operator of the machine does: a segment of the path,
 -- a matrix of the chain, a setting, a painting ..
@@ -27,9 +35,11 @@ pub record Stroke : Type 0 where
   pub effect : Effect
   pub call : Call
 
--- what comes of it: what is run next, the operands and dictionaries, what matrices hold, what it draws
+-- what comes of it: what is run next, a name up to which it drops what is left to run, if it drops any; the operands and
+-- dictionaries, what matrices hold, what it draws
 pub record Outcome : Type 0 where
   pub next : List Token
+  pub past : Option (List ℕ)
   pub work : Work
   pub kept : List Kept
   pub strokes : List Stroke
@@ -47,9 +57,24 @@ abbrev pub all_struck : List Stroke → State → State
 all_struck [] s = s
 all_struck (x ∷ xs) s = all_struck xs (struck x s)
 
+-- what is left after that name
+abbrev pub after_name : List ℕ → List Token → Option (List Token)
+after_name name [] = None
+after_name name (Name other ∷ ts) = if bytes_eq other name then Some ts else after_name name ts
+after_name name (Bound other ∷ ts) = if bytes_eq other name then Some ts else after_name name ts
+after_name name (t ∷ ts) = after_name name ts
+
+abbrev pub after_past : Option (List ℕ) → List Token → Option (List Token)
+after_past None ts = Some ts
+after_past (Some name) ts = after_name name ts
+
+abbrev pub going_on : Outcome → Option (List Token) → State → Option State
+going_on o None s = None
+going_on o (Some ts) s = Some (all_struck o.strokes (record s { left = o.next ++ ts; work = o.work; kept = o.kept }))
+
 abbrev pub come_to : Option Outcome → State → Option State
 come_to None s = None
-come_to (Some o) s = Some (all_struck o.strokes (record s { left = o.next ++ s.left; work = o.work; kept = o.kept }))
+come_to (Some o) s = going_on o (after_past o.past s.left) s
 
 -- such an operator in a machine
 abbrev pub blindly : Blind → State → Option State
@@ -60,12 +85,12 @@ blindly f s = come_to (f (sight_of s)) s
 -- operands aren't those that it takes
 pub data Stop : Type 0 where
   AtName : (name : List ℕ) → Stop
-  AtOperands : Kind → Stop
+  AtOperands : (name : List ℕ) → Kind → Stop
 
 abbrev pub stop_of : List ℕ → Option Object → Option Stop
 stop_of name None = Some (AtName name)
 stop_of name (Some (Operator other (Looks CopiesPage))) = Some (AtName other)
-stop_of name (Some (Operator other kind)) = Some (AtOperands kind)
+stop_of name (Some (Operator other kind)) = Some (AtOperands other kind)
 stop_of name o = None
 
 -- not by a name that the sheet's text puts
@@ -78,14 +103,14 @@ next_stop ts s = None
 -- further operators by their names, and freer forms of operators that the machine has
 pub record Table : Type 0 where
   pub names : List ℕ → Option Blind
-  pub forms : Kind → Option Blind
+  pub forms : List ℕ → Kind → Option Blind
 
 abbrev pub entry : Table → Stop → Option Blind
 entry table (AtName name) = table.names name
-entry table (AtOperands kind) = table.forms kind
+entry table (AtOperands name kind) = table.forms name kind
 
 abbrev pub only_names : (List ℕ → Option Blind) → Table
-only_names names = record { names = names; forms = λ kind. None }
+only_names names = record { names = names; forms = λ name kind. None }
 
 abbrev pub after_first : List Token → List Token
 after_first [] = []
@@ -113,7 +138,7 @@ IsOutside kind w = ⊥
 -- a freer form takes only what the operator itself doesn't take
 abbrev pub TakesOthers : Table → Type 0
 TakesOthers table =
-    (kind : Kind) (f : Blind) (sight : Sight) (o : Outcome) → table.forms kind ≡ Some f → f sight ≡ Some o
+    (name : List ℕ) (kind : Kind) (f : Blind) (sight : Sight) (o : Outcome) → table.forms name kind ≡ Some f → f sight ≡ Some o
     → IsOutside kind sight.work
 
 -- It asks for none of the names that the sheet's text puts, and not for the level of a save: with those names, and the
@@ -148,6 +173,7 @@ answered None strokes rest sight = None
 answered (Some rs) strokes rest sight =
     if no_saved rs then Some (record {
       next = [];
+      past = None;
       work = with_operands sight.work (rs ++ rest);
       kept = sight.kept;
       strokes = strokes;

@@ -7,6 +7,7 @@ use Rattle.pictures.specs.Dictionaries.{Entry, entry_of}
 use Rattle.pictures.specs.Operators.{Work}
 use Rattle.pictures.specs.Unaware.{no_saved, no_saved_in}
 use Rattle.open_pictures.specs.Blindness.{IsBlind}
+use Rattle.open_pictures.specs.Points.{Point}
 use Rattle.open_pictures.specs.Operators.{Sight, Outcome, Blind, Stroke, Table, by_table, IsOutside, AsksForNone}
 use Rattle.open_pictures.specs.Shelter.{SeesNoMatrices, IsPlacelessThere}
 
@@ -14,18 +15,20 @@ abbrev pub Store : Type 0
 Store = (dictionary : ℕ) → (key : List ℕ) → Option Object
 
 -- what such an operator may see: the operands above the topmost save, what dictionaries have, the numbers of those on
--- the stack, how many have been made, and the settings of the graphics state
+-- the stack, how many have been made, the settings of the graphics state, and the current point in user space
 pub record Given : Type 0 where
   pub operands : List Object
   pub store : Store
   pub dictionaries : List ℕ
   pub made : ℕ
   pub settings : List Call
+  pub point : Option Point
 
--- what comes of it: what is run next, the operands in place of those, entries that are put (the latest first), how many
--- dictionaries have been made, what it draws
+-- what comes of it: what is run next, a name up to which it drops what is left to run, the operands in place of those, entries
+-- that are put (the latest first), how many dictionaries have been made, what it draws
 pub record Change : Type 0 where
   pub next : List Token
+  pub past : Option (List ℕ)
   pub operands : List Object
   pub puts : List Entry
   pub made : ℕ
@@ -64,6 +67,7 @@ given_of sight = record {
   dictionaries = sight.work.dictionaries;
   made = sight.work.made;
   settings = sight.settings;
+  point = sight.point;
 }
 
 abbrev pub changed_work : Change → Work → Work
@@ -79,7 +83,7 @@ abbrev pub change_made : Option Change → Sight → Option Outcome
 change_made None sight = None
 change_made (Some c) sight =
     if no_saved c.operands && no_saved_in c.puts then
-    Some (record { next = c.next; work = changed_work c sight.work; kept = sight.kept; strokes = c.strokes })
+    Some (record { next = c.next; past = c.past; work = changed_work c sight.work; kept = sight.kept; strokes = c.strokes })
     else None
 
 abbrev pub by_store : Valued → Blind
@@ -99,28 +103,28 @@ abbrev pub or_else : Option Blind → Option Blind → Option Blind
 or_else None other = other
 or_else (Some f) other = Some f
 
--- a freer form of each kind, which stops where there is none
-abbrev pub by_stores : (named : List ℕ → Option Valued) → (formed : Kind → Valued) → (others : List ℕ → Option Blind) → Table
+-- a freer form of each operator, which stops where there is none
+abbrev pub by_stores : (named : List ℕ → Option Valued) → (formed : List ℕ → Kind → Valued) → (others : List ℕ → Option Blind) → Table
 by_stores named formed others = record {
   names = λ name. or_else (option_map by_store (named name)) (others name);
-  forms = λ kind. Some (by_store (formed kind));
+  forms = λ name kind. Some (by_store (formed name kind));
 }
 
 -- a freer form goes on only where the operator doesn't take the operands
-abbrev pub FormsTakeOthers : (Kind → Valued) → Type 0
+abbrev pub FormsTakeOthers : (List ℕ → Kind → Valued) → Type 0
 FormsTakeOthers formed =
-    (kind : Kind) (sight : Sight) (c : Change) → formed kind (given_of sight) ≡ Some c → IsOutside kind sight.work
+    (name : List ℕ) (kind : Kind) (sight : Sight) (c : Change) → formed name kind (given_of sight) ≡ Some c → IsOutside kind sight.work
 
 -- with any others that ask for none of the names that the sheet's text puts, they are blind: a law
 abbrev pub StoresAreBlind : Type 0
 StoresAreBlind =
-    (named : List ℕ → Option Valued) (formed : Kind → Valued) (others : List ℕ → Option Blind) → FormsTakeOthers formed
+    (named : List ℕ → Option Valued) (formed : List ℕ → Kind → Valued) (others : List ℕ → Option Blind) → FormsTakeOthers formed
     → ((name : List ℕ) (f : Blind) → others name ≡ Some f → AsksForNone f)
     → IsBlind (by_table (by_stores named formed others))
 
 -- and with any others that don't look at what matrices hold, they are placeless under the guard: a law
 abbrev pub StoresArePlacelessThere : Type 0
 StoresArePlacelessThere =
-    (named : List ℕ → Option Valued) (formed : Kind → Valued) (others : List ℕ → Option Blind) → FormsTakeOthers formed
+    (named : List ℕ → Option Valued) (formed : List ℕ → Kind → Valued) (others : List ℕ → Option Blind) → FormsTakeOthers formed
     → ((name : List ℕ) (f : Blind) → others name ≡ Some f → SeesNoMatrices f)
     → IsPlacelessThere (by_table (by_stores named formed others))

@@ -6,9 +6,9 @@ use Rattle.std.specs.Char.{is_ascii_digit}
 use Rattle.std.specs.Prelude.{◌≡◌, ℕ, ◌+◌, List, [], ◌∷◌, ◌++◌, map, reverse, flat_map, length, take, drop, Bool, true, false, not}
 use Rattle.std.specs.Prelude.{◌&&◌, ◌||◌, ◌==◌, nat_lt, nat_le, if◌then◌else◌, Option, Some, None, codes, bytes_eq, decimal, option_map}
 use Rattle.rules.specs.Numbers.{number_of}
-use Rattle.pictures.specs.Objects.{Token, Number, Literal, Hexadecimal, Bound, Name, Object, Plain, Truth, Mark, Array, Procedure, SystemDictionary, Operator, Call}
+use Rattle.pictures.specs.Objects.{Token, Number, Literal, Hexadecimal, Bound, Name, Object, Plain, Truth, Mark, Array, Procedure, SystemDictionary, Operator}
 use Rattle.pictures.specs.Objects.{Dictionary, Font, Kind, Computes, Controls, Draws, CloseArray, Get, Put, Length, LoadArray, Compare}
-use Rattle.pictures.specs.Objects.{ForAll, Where, Load, Known, MakeDictionary, MakeExecutable, Looks, CopiesPage, Want, ANumber, AText, AnArray, AMatrix, ATruth, Comparison, Effect, Sets, Shows, Segments}
+use Rattle.pictures.specs.Objects.{ForAll, Where, Load, Known, MakeDictionary, MakeExecutable, Looks, CopiesPage, Want, ANumber, AText, AnArray, AMatrix, ATruth, Comparison, Effect, Sets, Shows, Segments, Transforms}
 use Rattle.pictures.specs.Dictionaries.{has, system, is_lacked}
 use Rattle.pictures.specs.Calculations.{whole_of, whole_text}
 use Rattle.pictures.specs.Operators.{objects_compared, sameness, taken, fits, nth}
@@ -17,10 +17,12 @@ use Rattle.open_pictures.specs.Blindness.{IsBlind}
 use Rattle.open_pictures.specs.Operators.{Blind, Table, by_table, AsksForNone}
 use Rattle.open_pictures.specs.Shelter.{SeesNoMatrices, IsPlacelessThere}
 use Rattle.open_pictures.specs.Stores.{Store, Given, Change, Valued, is_put, by_stores}
+use Rattle.open_pictures.specs.Points.{width_by, latest_font}
 use Rattle.open_pictures.specs.Strings.{as_hexadecimal, decimals_compared, words, isolatin1}
 use Rattle.open_pictures.specs.Composites.{Composite, frozen_key, array_tag, string_tag, element_tag, null_tag, reference, referred, null, element_at}
 use Rattle.open_pictures.specs.Composites.{element_token, element_entry, element_entries, number_object, array_of, string_of}
-use Rattle.open_pictures.specs.Composites.{characters_of, items_for, items_of, leaving, putting, run_next, making}
+use Rattle.open_pictures.specs.Composites.{characters_of, items_for, items_of, leaving, putting, run_next, point_left, making}
+use Rattle.open_pictures.specs.Matrices.{fill_identity, fill_matrix, combine, move_by, point_by, distance_by, transform_more}
 
 -- Freer forms.
 
@@ -150,7 +152,7 @@ capacity = Plain (Number (codes "maxlength"))
 abbrev pub make_dictionary : List Object → Given → Option Change
 make_dictionary (Plain (Number text) ∷ os) given =
     if list_all is_ascii_digit text then None
-    else Some (record { next = []; operands = Dictionary (given.made + 1) ∷ os; puts = []; made = given.made + 1; strokes = [] })
+    else Some (record { next = []; past = None; operands = Dictionary (given.made + 1) ∷ os; puts = []; made = given.made + 1; strokes = [] })
 make_dictionary os given = None
 
 abbrev pub capacity_of : List Object → Given → Option Change
@@ -195,6 +197,7 @@ font_key = 261 ∷ []
 abbrev pub with_font : List Token → List Token → List Object → Given → Option Change
 with_font ts us os given = Some (record {
   next = Literal font_key ∷ element_token array_tag (given.made + 1) 0 ∷ ts;
+  past = None;
   operands = os;
   puts = element_entry (given.made + 1) 0 (Font us) ∷ [];
   made = given.made + 1;
@@ -240,21 +243,14 @@ abbrev pub compare_more : Comparison → List Object → Given → Option Change
 compare_more c (b ∷ a ∷ os) given = judging (objects_compared c a b) (compared_more c given.store a b) os given
 compare_more c os given = None
 
-abbrev pub shown_by : List Want → Option (List ℕ)
-shown_by [] = Some (codes "show")
-shown_by (a ∷ b ∷ []) = Some (codes "ashow")
-shown_by (a ∷ b ∷ c ∷ []) = Some (codes "widthshow")
-shown_by (a ∷ b ∷ c ∷ d ∷ e ∷ []) = Some (codes "awidthshow")
-shown_by wants = None
-
-abbrev pub showing : Option (List ℕ) → Option (List ℕ) → List Object → Given → Option Change
-showing (Some name) (Some bytes) os given = run_next (Bound name ∷ []) (Plain (Hexadecimal (as_hexadecimal bytes)) ∷ os) given
-showing name bytes os given = None
+abbrev pub showing : List ℕ → Option (List ℕ) → List Object → Given → Option Change
+showing name None os given = None
+showing name (Some bytes) os given = run_next (Bound name ∷ []) (Plain (Hexadecimal (as_hexadecimal bytes)) ∷ os) given
 
 -- `show` and the like, of a string that may change: what is painted is what it has then
-abbrev pub show_more : List Want → List Object → Given → Option Change
-show_more wants (Plain (Bound name) ∷ os) given = showing (shown_by wants) (string_of given.store (Plain (Bound name))) os given
-show_more wants os given = None
+abbrev pub show_more : List ℕ → List Object → Given → Option Change
+show_more name (Plain (Bound ref) ∷ os) given = showing name (string_of given.store (Plain (Bound ref))) os given
+show_more name os given = None
 
 -- what a procedure with this element runs
 abbrev pub run_token : Composite → ℕ → Object → Token
@@ -277,21 +273,23 @@ abbrev pub make_executable : List Object → Given → Option Change
 make_executable (Plain (Bound name) ∷ os) given = make_procedure (referred name) os given
 make_executable os given = None
 
-abbrev pub formed : Kind → Valued
-formed (Computes Where) given = where_more given.operands given
-formed (Computes Load) given = load_more given.operands given
-formed (Computes Known) given = known_more given.operands given
-formed (Computes MakeDictionary) given = make_dictionary given.operands given
-formed (Computes MakeExecutable) given = make_executable given.operands given
-formed (Computes CloseArray) given = closed_array (down_to_mark [] given.operands) given
-formed (Computes Get) given = get_from given.operands given
-formed (Computes Put) given = put_into given.operands given
-formed (Computes Length) given = length_of given.operands given
-formed (Computes LoadArray) given = load_from given.operands given
-formed (Computes (Compare c)) given = compare_more c given.operands given
-formed (Controls ForAll) given = for_all given.operands given
-formed (Draws (AText ∷ wants) Shows) given = show_more wants given.operands given
-formed kind given = None
+abbrev pub formed : List ℕ → Kind → Valued
+formed name (Computes Where) given = where_more given.operands given
+formed name (Computes Load) given = load_more given.operands given
+formed name (Computes Known) given = known_more given.operands given
+formed name (Computes MakeDictionary) given = make_dictionary given.operands given
+formed name (Computes MakeExecutable) given = make_executable given.operands given
+formed name (Computes CloseArray) given = closed_array (down_to_mark [] given.operands) given
+formed name (Computes Get) given = get_from given.operands given
+formed name (Computes Put) given = put_into given.operands given
+formed name (Computes Length) given = length_of given.operands given
+formed name (Computes LoadArray) given = load_from given.operands given
+formed name (Computes (Compare c)) given = compare_more c given.operands given
+formed name (Controls ForAll) given = for_all given.operands given
+formed name (Draws (AText ∷ wants) Shows) given = show_more name given.operands given
+formed name (Draws (ANumber ∷ wants) Transforms) given = fill_matrix name given.operands given
+formed name (Draws (AMatrix ∷ wants) Transforms) given = transform_more name given.operands given
+formed name kind given = None
 
 -- By name.
 
@@ -389,6 +387,7 @@ abbrev pub drawing_with : List ℕ → Effect → Option (List Object × List Ob
 drawing_with name effect None given = None
 drawing_with name effect (Some (os, rest)) given = Some (record {
   next = [];
+  past = None;
   operands = rest;
   puts = [];
   made = given.made;
@@ -415,44 +414,9 @@ abbrev pub run_stopped : List Object → Given → Option Change
 run_stopped (Procedure ts ∷ os) given = run_next (ts ++ Bound (codes "false") ∷ []) os given
 run_stopped os given = None
 
--- A text's width in user space, by the font that is set: a number without a value, as a term.
-
-abbrev pub token_text : Token → List ℕ
-token_text (Number text) = text
-token_text (Literal name) = codes "/" ++ name
-token_text (Name name) = name
-token_text t = []
-
--- what the font was made of, the first of it first
-abbrev pub font_text : List Token → List ℕ
-font_text [] = []
-font_text (t ∷ ts) = font_text ts ++ token_text t ++ codes " "
-
-abbrev pub latest_font : List Call → Option (List Token)
-latest_font [] = None
-latest_font (c ∷ cs) =
-    if bytes_eq c.name (codes "setfont") then of_font c.operands
-    else if bytes_eq c.name (codes "selectfont") then of_selected c.operands
-    else latest_font cs
-  where
-    of_font : List Object → Option (List Token)
-    of_font (Font ts ∷ os) = Some ts
-    of_font os = None
-
-    of_selected : List Object → Option (List Token)
-    of_selected (Plain size ∷ Plain name ∷ os) = Some (size ∷ name ∷ [])
-    of_selected os = None
-
-abbrev pub widths : Option (List Token) → Option (List ℕ) → List Object → Given → Option Change
-widths (Some font) (Some bytes) os given =
-    leaving (
-    Plain (Number (font_text font ++ codes "<" ++ as_hexadecimal bytes ++ codes "> stringwidth exch pop"))
-    ∷ Plain (Number (font_text font ++ codes "<" ++ as_hexadecimal bytes ++ codes "> stringwidth pop")) ∷ os)
-    given
-widths font bytes os given = None
-
+-- `stringwidth`
 abbrev pub width_of : List Object → Given → Option Change
-width_of (o ∷ os) given = widths (latest_font given.settings) (string_of given.store o) os given
+width_of (o ∷ os) given = point_left (width_by (latest_font given.settings) (string_of given.store o)) os given
 width_of os given = None
 
 abbrev pub drop_truth : List Object → Given → Option Change
@@ -486,6 +450,11 @@ rows =
     ∷ row (codes "maxlength") (λ given. capacity_of given.operands given)
     ∷ row (codes "stopped") (λ given. run_stopped given.operands given)
     ∷ row (codes "stringwidth") (λ given. width_of given.operands given)
+    ∷ row (codes "currentpoint") (λ given. point_left given.point given.operands given)
+    ∷ row (codes "identmatrix") (λ given. fill_identity given.operands given)
+    ∷ row (codes "concatmatrix") (λ given. combine given.operands given)
+    ∷ row (codes "transform") (λ given. move_by point_by given.operands given)
+    ∷ row (codes "dtransform") (λ given. move_by distance_by given.operands given)
     ∷ row (codes "ISOLatin1Encoding") (λ given. leaving (Array (map (λ name. Literal name) (words isolatin1)) ∷ given.operands) given)
     ∷ row (codes "sethsbcolor") (drawing (codes "sethsbcolor") (ANumber ∷ ANumber ∷ ANumber ∷ []) Sets)
     ∷ row (codes "setflat") (drawing (codes "setflat") (ANumber ∷ []) Sets)

@@ -6,6 +6,7 @@ ghost use Rattle.open_pictures.specs.Operators.{AnswersAskForNone, TablesAreBlin
 ghost use Rattle.open_pictures.specs.Sheets.{OpenPageIsPlaced, OpenPlacingCommutes, OpenSheetsArePrinted};
 ghost use Rattle.open_pictures.specs.Imposed.{OpenMadeDocumentIsShown};
 ghost use Rattle.open_pictures.specs.OwnShowpage.{OpenOwnMadeDocumentIsShown, OpenOwnPageIsPlaced, OpenOwnShowpageIsShown};
+ghost use Rattle.open_pictures.specs.Points.{PointIsPlaceless};
 ghost use Rattle.open_pictures.specs.Pages.{OpenGuardedDocumentIsShown, OpenGuardedPageIsPlaced, OpenGuardedSheetsShowThePages};
 ghost use Rattle.open_pictures.specs.Silenced.{OpenSilencedDocumentIsShown, OpenSilencedMadeDocumentIsShown, OpenSilencedPageIsPlaced};
 ghost use Rattle.open_pictures.specs.Stores.{StoresAreBlind, StoresArePlacelessThere, StoresAskForNone, StoresSeeNoMatrices};
@@ -35,6 +36,11 @@ pub fn open_own_picture()
 /// With any further operators that are blind, a machine prints of an output, sheet by sheet, what the document's own pages print, placed.
 pub fn open_sheets_show_the_pages()
     ensures { OpenSheetsShowThePages }
+{}
+
+/// The current point in user space is the same in every place.
+pub fn point_is_placeless()
+    ensures { PointIsPlaceless }
 {}
 
 /// Operators that see no place are placeless, whatever they do.

@@ -53,7 +53,7 @@ sees_if true f e = subst (λ g. SeesNoMatrices g) (ap blind_of e) (answers_see_n
 
 all_see : (stop : Stop) (f : Blind) → entry (only_names names) stop ≡ Some f → SeesNoMatrices f
 all_see (AtName name) f e = sees_if (bytes_eq name (codes "xyshow")) f e
-all_see (AtOperands kind) f e = absurd (never f e)
+all_see (AtOperands name kind) f e = absurd (never f e)
 
 pub placeless : IsPlacelessThere x
 placeless = tables_are_placeless_there (only_names names) (names_take_others names) all_see

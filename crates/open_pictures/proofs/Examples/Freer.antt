@@ -17,15 +17,15 @@ use Rattle.pictures.proofs.Examples.TwoUp.{end_by}
 -- `[ [..] ]`, and no more: a value that is known by what it was made of
 abbrev nested : List Object → Sight → Option Outcome
 nested (Array ts ∷ Mark ∷ os) sight =
-    Some (record { next = []; work = with_operands sight.work (Font ts ∷ os); kept = sight.kept; strokes = [] })
+    Some (record { next = []; past = None; work = with_operands sight.work (Font ts ∷ os); kept = sight.kept; strokes = [] })
 nested os sight = None
 
 abbrev close : Blind
 close sight = nested sight.work.operands sight
 
-abbrev forms : Kind → Option Blind
-forms (Computes CloseArray) = Some close
-forms kind = None
+abbrev forms : List ℕ → Kind → Option Blind
+forms name (Computes CloseArray) = Some close
+forms name kind = None
 
 abbrev table : Table
 table = record { names = λ name. None; forms = forms }
@@ -45,12 +45,12 @@ outside (Array ts ∷ Mark ∷ os) sight o e = refl
 outside os sight o e = absurd (never o e)
 
 takes_others : TakesOthers table
-takes_others (Computes CloseArray) f sight o e k =
+takes_others name (Computes CloseArray) f sight o e k =
     outside sight.work.operands sight o (subst (λ g. g sight ≡ Some o) (sym (close_is f e)) k)
-takes_others kind f sight o e k = absurd (never f e)
+takes_others name kind f sight o e k = absurd (never f e)
 
 abbrev made_of : List Token → List Object → Sight → Outcome
-made_of ts os sight = record { next = []; work = with_operands sight.work (Font ts ∷ os); kept = sight.kept; strokes = [] }
+made_of ts os sight = record { next = []; past = None; work = with_operands sight.work (Font ts ∷ os); kept = sight.kept; strokes = [] }
 
 asks_on : (n : ℕ) (os : List Object) (sight : Sight) (o : Outcome) (es : List Entry) → Agree n es sight.work.entries → nested os sight ≡ Some o
     → (fs : List Entry) × (nested (ups os) (record sight { work = up_work es sight.work }) ≡ Some (record o { work = up_work fs o.work })) × Agree n fs o.work.entries
@@ -65,9 +65,9 @@ asks_on n os sight o es a e = absurd (never o e)
 
 all_ask : AllAskForNone table
 all_ask (AtName name) f e = absurd (never f e)
-all_ask (AtOperands (Computes CloseArray)) f e =
+all_ask (AtOperands name (Computes CloseArray)) f e =
     subst (λ g. AsksForNone g) (close_is f e) (λ n sight o es k a. asks_on n sight.work.operands sight o es a k)
-all_ask (AtOperands kind) f e = absurd (never f e)
+all_ask (AtOperands name kind) f e = absurd (never f e)
 
 blind : IsBlind (by_table table)
 blind = tables_are_blind table takes_others all_ask

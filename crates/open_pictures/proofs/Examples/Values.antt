@@ -11,7 +11,7 @@ use Rattle.open_pictures.specs.Documents.{begun, plain_work}
 use Rattle.open_pictures.specs.Values.{values}
 
 -- what a text leaves on the operand stack, the topmost first
-abbrev left_by : List ℕ → Option (List Object)
+abbrev pub left_by : List ℕ → Option (List Object)
 left_by text = option_map (λ s. s.work.operands) (end_by (open_step values false) 1000 (begun plain_work (tokens text)))
 
 -- what it paints, with which operands, the latest first
