@@ -112,7 +112,7 @@ fn run_two<R: Threads + Wait + Sync>(rt: &R, alloc: Global) -> Result<(MemorySin
     let sheets = two_sheets(alloc, a4, a5)?;
     let numbers = None;
     let dress = lines(alloc, &numbers)?;
-    let mut sink = MemorySink::new(alloc, 1_000, 1_000, 100)?;
+    let mut sink = MemorySink::new(alloc, 3_000, 1_000, 100)?;
     let report = run_dressed(rt, alloc, &sheets, &dress, &mut sink)?;
     Ok((sink, report))
 }
