@@ -99,7 +99,7 @@ fn laid_out(alloc: Global, n: u32, papers: &Papers, kept: Kept) -> Option<Spec> 
             top: margin,
             across: gap,
             up: gap,
-            trim: arrangement.free.trim,
+            ..Free::none()
         };
     }
     arrange(alloc, papers, &arrangement).ok()
