@@ -1,6 +1,6 @@
 -- Operators of a table that don't look at what matrices hold are placeless under the guard too.
 use Rattle.std.specs.Prelude.{Option, Some, None, if◌then◌else◌}
-use Rattle.std.proofs.Common.{◌≡◌, ℕ, Bool, true, refl, ap, ◌∙◌, sym, subst, false, List, [], ◌∷◌, ◌++◌, map, append_assoc, true≢false, is_none}
+use Rattle.std.proofs.Common.{◌≡◌, ℕ, Bool, true, refl, ap, ◌∙◌, sym, subst, false, List, [], ◌∷◌, ◌++◌, map, append_assoc}
 use Rattle.pictures.specs.Objects.{Token, Name, Bound, Object, Effect, Segments, Transforms, Sets, Paints, PaintsBeside, Shows, Clips, Forgets, Call}
 use Rattle.pictures.specs.Operators.{with_operands}
 use Rattle.pictures.specs.Unaware.{no_saved}
@@ -8,11 +8,8 @@ use Rattle.pictures.specs.Machine.{State, Kept, step}
 use Rattle.guarded_pictures.specs.Pages.{Around, placed_at, kept_at}
 use Rattle.open_pictures.specs.Operators.{Sight, sight_of, Stroke, Outcome, Blind, struck, all_struck, after_past, going_on, come_to, blindly, Table, Stop, entry, next_stop, called, looked_up, by_table, TakesOthers, taken_plain, Answer, strokes_of, answered, answers_on}
 use Rattle.open_pictures.proofs.Points.{point_is_placeless}
-use Rattle.open_pictures.proofs.Operators.{stops, acts_in, rest_there, past_there, past}
+use Rattle.open_pictures.proofs.Operators.{never, some_same, stops, acts_in, rest_there, past_there, past}
 use Rattle.open_pictures.specs.Shelter.{SeesNoMatrices, TablesArePlacelessThere, AnswersSeeNoMatrices}
-
-never : {A : Type 0} (x : A) → None ≡ Some x → ⊥
-never x e = true≢false (ap is_none e)
 
 struck_at : (a : Around) (e : Effect) (c : Call) (s : State)
     → struck (record { effect = e; call = c }) (placed_at a s) ≡ placed_at a (struck (record { effect = e; call = c }) s)
@@ -89,13 +86,6 @@ pub tables_are_placeless_there : TablesArePlacelessThere
 tables_are_placeless_there table p q a s t e k = by_next table a s t (next_stop s.left s) p q refl k
 
 -- Answers.
-
-some_same : {A : Type 0} (x y : A) → Some x ≡ Some y → x ≡ y
-some_same x y e = ap (or_x x) e
-  where
-    or_x : {A : Type 0} → A → Option A → A
-    or_x x None = x
-    or_x x (Some y) = y
 
 abbrev made_with : List Object → List Stroke → Sight → Outcome
 made_with os strokes sight = record { next = []; past = None; work = with_operands sight.work os; kept = sight.kept; strokes = strokes }

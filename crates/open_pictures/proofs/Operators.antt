@@ -17,10 +17,10 @@ use Rattle.open_pictures.specs.Operators.{Sight, sight_of, Stroke, Outcome, Blin
 use Rattle.open_pictures.specs.Operators.{TablesArePlaceless, TablesAreBlind, AnswersAskForNone}
 use Rattle.open_pictures.proofs.Points.{point_is_placeless}
 
-never : {A : Type 0} (x : A) → None ≡ Some x → ⊥
+pub never : {A : Type 0} (x : A) → None ≡ Some x → ⊥
 never x e = true≢false (ap is_none e)
 
-some_same : {A : Type 0} (x y : A) → Some x ≡ Some y → x ≡ y
+pub some_same : {A : Type 0} (x y : A) → Some x ≡ Some y → x ≡ y
 some_same x y e = ap (or_x x) e
   where
     or_x : {A : Type 0} → A → Option A → A

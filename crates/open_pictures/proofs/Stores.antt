@@ -1,6 +1,6 @@
 -- Operators on values ask for none of the names that the sheet's text puts, see no matrices, and so are blind and placeless.
 use Rattle.std.specs.Prelude.{Option, Some, None, if◌then◌else◌, option_map, codes, bytes_eq}
-use Rattle.std.proofs.Common.{◌≡◌, ℕ, refl, ap, ap₂, ◌∙◌, sym, subst, Bool, true, false, not, ◌&&◌, ◌||◌, ◌==◌, List, [], ◌∷◌, ◌++◌, true≢false, is_none}
+use Rattle.std.proofs.Common.{◌≡◌, ℕ, refl, ap, ap₂, ◌∙◌, sym, subst, Bool, true, false, not, ◌&&◌, ◌||◌, ◌==◌, List, [], ◌∷◌, ◌++◌, true≢false}
 use Rattle.std.proofs.Math.Path.{fun_ext}
 use Rattle.std.proofs.lemmas.List.{map-append}
 use Rattle.pictures.specs.Objects.{Object, Procedure, Saved, Kind}
@@ -15,18 +15,8 @@ use Rattle.open_pictures.specs.Operators.{Sight, Outcome, Blind, Stop, AtName, A
 use Rattle.open_pictures.specs.Shelter.{SeesNoMatrices}
 use Rattle.open_pictures.specs.Stores.{Store, Given, Change, Valued, above_save, from_save, is_put, unlevelled, seen, given_of, changed_work, change_made, by_store, or_else, by_stores, FormsTakeOthers}
 use Rattle.open_pictures.specs.Stores.{StoresAskForNone, StoresSeeNoMatrices, StoresAreBlind, StoresArePlacelessThere}
-use Rattle.open_pictures.proofs.Operators.{tables_are_blind}
+use Rattle.open_pictures.proofs.Operators.{never, some_same, tables_are_blind}
 use Rattle.open_pictures.proofs.GuardedOperators.{tables_are_placeless_there}
-
-never : {A : Type 0} (x : A) → None ≡ Some x → ⊥
-never x e = true≢false (ap is_none e)
-
-some_same : {A : Type 0} (x y : A) → Some x ≡ Some y → x ≡ y
-some_same x y e = ap (or_x x) e
-  where
-    or_x : {A : Type 0} → A → Option A → A
-    or_x x None = x
-    or_x x (Some y) = y
 
 -- What is seen is the same.
 
