@@ -9,13 +9,15 @@ mod mistakes;
 mod reports;
 mod said;
 mod shown;
+mod statuses;
 
 pub use fault::{IdleOption, ImposeFault, Packing};
 pub use finished::{Done, Finished, PaperOrigin, Told};
 pub use inputs::of_document;
-pub use messages::{command_text, fault_status, fault_text};
+pub use messages::{command_text, fault_text};
 pub use mistakes::words_text;
 pub use reports::{
     behind_text, cut_text, note_text, reach_text, report_text, told_text, unknown_text,
 };
 pub use said::text_said;
+pub use statuses::fault_status;

@@ -1,18 +1,15 @@
-//! What is said of a fault, and with which exit status the program ends.
-ghost use Rattle.std.specs.Prelude.{◌≡◌};
-ghost use Rattle.impose_said.specs.Statuses.{fault_status as status_of_fault, words_status as status_of_words};
+//! What is said of a fault.
 
 use crate::fault::{IdleOption, ImposeFault, Packing};
 use crate::mistakes::looks_like_file;
 use crate::shown::shown_word;
-use clap::error::ErrorKind;
 use command_words::{caret_below, group_place, item_place, large_place, name_of, range_place};
 use dsc::DscError;
 use impose_words::{
     GridCommand, ImposeRequest, Layout, Opt, PageChoice, Product, ProductOption, RequestFault,
     lacks_unit, number_in,
 };
-use imposer::{RunError, run_status};
+use imposer::RunError;
 use layouts::ArrangementError;
 use lengths::Paper;
 use pagespec::SpecError;
@@ -22,44 +19,6 @@ use rows::RowError;
 use sheet_plan::{MadeError, PlanError};
 use std::alloc::{AllocError, Global};
 use std::io;
-
-/// The exit status of a fault: 1 if the specification, the layout, the document or the plan is refused, 2 if the
-/// command line or an option is, 3 if memory, reading or writing failed, and 0 after a call for help or for the
-/// version.
-pub fn fault_status(fault: &ImposeFault) -> u8
-    ensures { result ≡ status_of_fault fault.now }
-{
-    match fault {
-        ImposeFault::Command(RequestFault::NoMemory) => 3,
-        ImposeFault::Command(RequestFault::Words(error)) => words_status(error.kind()),
-        ImposeFault::Command(_) => 2,
-        ImposeFault::Layout(ArrangementError::NoMemory)
-        | ImposeFault::Poster(PosterError::NoMemory) => 3,
-        ImposeFault::Row(RowError::NoMemory) | ImposeFault::Sheets(MadeError::NoMemory) => 3,
-        ImposeFault::Layout(_)
-        | ImposeFault::Poster(_)
-        | ImposeFault::Row(_)
-        | ImposeFault::Sheets(_) => 1,
-        ImposeFault::NoSuchPage { .. } | ImposeFault::NoSpecification | ImposeFault::NoInput => 1,
-        ImposeFault::SeveralPapers
-        | ImposeFault::Pdf
-        | ImposeFault::Compressed(_)
-        | ImposeFault::JobLanguage => 1,
-        ImposeFault::DosEps | ImposeFault::Utf16 | ImposeFault::TooLong => 1,
-        ImposeFault::Idle(_) | ImposeFault::OverInput => 2,
-        ImposeFault::Read(_) | ImposeFault::Write { .. } => 3,
-        ImposeFault::Run(error) => run_status(error),
-    }
-}
-
-fn words_status(kind: ErrorKind) -> u8
-    ensures { result ≡ status_of_words kind }
-{
-    match kind {
-        ErrorKind::DisplayHelp | ErrorKind::DisplayVersion => 0,
-        _ => 2,
-    }
-}
 
 /// What is said of a fault, without a line end after it. The request is there once the command line is taken.
 pub fn fault_text(
