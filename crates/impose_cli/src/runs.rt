@@ -30,7 +30,7 @@ use dsc::Document;
 use guard::RoomyText;
 use impose_said::{Done, Finished, ImposeFault, PaperOrigin, Told};
 use impose_words::{ImposeRequest, Layout};
-use imposer::{Job, Open, Options, Report, RunError, run_plan};
+use imposer::{Job, Nobody, Open, Options, Report, RunError, run_plan};
 use lengths::{Grains, Paper};
 use pagespec::{Spec, read_spec};
 use papers::{Cut, Reach};
@@ -344,7 +344,7 @@ fn write_job<R: Threads + Wait + Sync, W: World>(
         Ok(sink) => sink,
         Err(refused) => return uncreated(refused),
     };
-    match run_plan(rt, alloc, job, WORKERS, &Open, &mut sink) {
+    match run_plan(rt, alloc, job, WORKERS, &Open, &mut sink, &mut Nobody) {
         Ok(report) => {
             let (is_whole, written) = write_out(sink);
             if is_whole {

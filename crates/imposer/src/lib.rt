@@ -8,8 +8,8 @@ mod statuses;
 
 pub use options::Options;
 pub use planned_runs::{
-    Gate, Gathered, GatheredPlan, Look, Open, Report, RunError, Step, Workers, gather, gather_plan,
-    run_plan,
+    Gate, Gathered, GatheredPlan, Listener, Look, Nobody, Open, Report, RunError, Step, Workers,
+    gather, run_plan,
 };
 pub use run_steps::{DeliverError, Delivered, ImposeError, Imposed, deliver, impose};
 pub use runs::run;

@@ -15,7 +15,7 @@ ghost use Rattle.imposer.specs.Runs.{IsUnwritten, IsGiven, AnswersRequest};
 use crate::options::{Options, are_valid};
 use dsc::Document;
 use pagespec::{Spec, read_spec};
-use planned_runs::{Gate, Report, RunError, run_plan};
+use planned_runs::{Gate, Nobody, Report, RunError, run_plan};
 use sheet_plan::{Plan, PlanError};
 use sheet_text::Job;
 use sheet_writer::Sink;
@@ -106,7 +106,7 @@ fn run_read<R: Threads + Wait + Sync, G: Gate + Sync, S: Sink>(
         Err(error) => return Err(RunError::from(error)),
     };
     let job = Job::new(&plan, &given.document, options.paper, options.border);
-    run_plan(rt, alloc, &job, options.workers, gate, sink)
+    run_plan(rt, alloc, &job, options.workers, gate, sink, &mut Nobody)
 }
 
 /// Plans the pages in their order, or in signatures if a number of sides is given.

@@ -6,6 +6,7 @@ mod collector;
 mod gate;
 mod gathering;
 mod imposing;
+mod listener;
 mod outcome;
 mod planned;
 mod preparing;
@@ -21,6 +22,7 @@ mod worker_counts;
 
 pub use gate::{Gate, Look, Open, Step};
 pub use gathering::{Gathered, gather};
+pub use listener::{GatheredPlan, Listener, Nobody};
 pub use outcome::{Report, RunError};
-pub use planned::{GatheredPlan, gather_plan, run_plan};
+pub use planned::run_plan;
 pub use worker_counts::Workers;

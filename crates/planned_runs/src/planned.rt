@@ -1,25 +1,24 @@
 //! A run on sheets that were planned.
-ghost use Rattle.std.specs.Prelude.{◌≡◌, ◌+◌, ◌<◌, IfOk, IfErr, IfSome, IsNone, OnOk, Ok};
+ghost use Rattle.std.specs.Prelude.{◌≡◌, ◌+◌, ◌<◌, IfOk, IfErr, OnOk, Ok};
 ghost use Rattle.std.specs.Io.KnownBytes.{Appends};
 ghost use Rattle.rules.specs.Output.{output};
-ghost use Rattle.rules.specs.Sheets.{layout};
 ghost use Rattle.sheet_writer.specs.Sinks.{IsCountable};
 ghost use Rattle.sheet_text.specs.Jobs.{output_of};
-ghost use Rattle.run_steps.specs.Gathered.{IsGathered, IsHandedOn, AreAllPut};
-ghost use Rattle.planned_runs.specs.Gathering.{Answers, AreWhole, ReportsOf, TokensComeBack, WrotePartOf};
-ghost use Rattle.planned_runs.specs.Outcomes.{IsNoRefusal};
+ghost use Rattle.planned_runs.specs.Gathering.{Answers, ReportsOf, WrotePartOf};
+ghost use Rattle.planned_runs.specs.Listening.{HearsOfRun, IsOfJob};
+ghost use Rattle.planned_runs.specs.Outcomes.{FailedIn, IsNoRefusal};
 ghost use Rattle.planned_runs.specs.Workers.{AreWorkers};
-ghost use Rattle.planned_runs.specs.Outcomes.{FailedIn};
 
 use crate::gate::Gate;
-use crate::gathering::{Gathered, gather_run};
+use crate::gathering::gather_run;
+use crate::listener::{GatheredPlan, Listener};
 use crate::outcome::{Report, RunError};
 use crate::rooms::ready_for;
 use crate::shared::Floor;
 use crate::tokens::Tokens;
 use crate::worker_counts::Workers;
 use gather_table::GatherTable;
-use handover::{Ready, Shelf};
+use handover::Shelf;
 use sheet_text::Job;
 use sheet_writer::Sink;
 use std::alloc::{AllocError, Global};
@@ -30,14 +29,18 @@ use std::thread::Threads;
 /// specification, or sheets that were made, with the lines of a dress.
 ///
 /// The only errors are `NoMemory` and `Write`, after which the sink has taken the first `written` bytes of the output.
-/// The sink isn't flushed. It is `gather_plan`, whose table and queue are dropped.
-pub fn run_plan<R: Threads + Wait + Sync, G: Gate + Sync, S: Sink>(
+/// The sink isn't flushed. At the end the listener gets the table and the queue, with the tokens of all calls on them.
+///
+/// Preparers and imposers run in threads of their own, and the caller's thread writes the sheets in order, each as soon
+/// as all before it are written.
+pub fn run_plan<R: Threads + Wait + Sync, G: Gate + Sync, S: Sink, L: Listener>(
     rt: &R,
     alloc: Global,
     job: &Job<'_, '_>,
     workers: Workers,
     gate: &G,
     sink: &mut S,
+    listener: &mut L,
 ) -> Result<Report, RunError>
     requires workers { AreWorkers workers }
     requires countable { IsCountable (S.seen sink.old) }
@@ -50,27 +53,22 @@ pub fn run_plan<R: Threads + Wait + Sync, G: Gate + Sync, S: Sink>(
     // At Ok the sink didn't fail in the call, and after an error as often as the error allows: at Write once.
     ensures steady { OnOk result ((S.seen sink.new).failures ≡ (S.seen sink.old).failures) }
     ensures failed { IfErr result (λ e. FailedIn e (S.seen sink.old) (S.seen sink.new)) }
+    // The listener heard once of the job's own table, with all calls on it; or of nothing, if memory ran out before that.
+    ensures heard { HearsOfRun job.now (L.heard listener.old) (L.heard listener.new) result }
 {
     match gather_plan(rt, alloc, job, workers, gate, sink) {
-        Ok(ended) => ended.gathered.outcome,
+        Ok(ended) => {
+            let outcome = ended.gathered.outcome;
+            listener.ended(ended);
+            outcome
+        }
         Err(AllocError) => Err(RunError::NoMemory { written: 0 }),
     }
 }
 
-/// A run that has ended, with the table and the queue that it made: they show all that its workers called.
-#[derive(Drop)]
-pub struct GatheredPlan<'j, 'd> {
-    pub table: GatherTable<'j>,
-    pub queue: Ready,
-    pub gathered: Gathered<'d>,
-}
-
-/// `run_plan`, which hands back the table and the queue that it made, with the tokens of all calls on them. Out of memory
-/// it fails before these are there, and has written nothing.
-///
-/// Preparers and imposers run in threads of their own, and the caller's thread writes the sheets in order, each as soon
-/// as all before it are written.
-pub fn gather_plan<'j, 'd, R: Threads + Wait + Sync, G: Gate + Sync, S: Sink>(
+/// `run_plan`, which hands back what its listener gets. Out of memory it fails before there is a table, and has written
+/// nothing.
+fn gather_plan<'j, 'd, R: Threads + Wait + Sync, G: Gate + Sync, S: Sink>(
     rt: &R,
     alloc: Global,
     job: &Job<'j, 'd>,
@@ -80,21 +78,10 @@ pub fn gather_plan<'j, 'd, R: Threads + Wait + Sync, G: Gate + Sync, S: Sink>(
 ) -> Result<GatheredPlan<'j, 'd>, AllocError>
     requires workers { AreWorkers workers }
     requires countable { IsCountable (S.seen sink.old) }
-    // The sink took the whole output, or as much of it as the error says.
     ensures answers { IfOk result (λ ended.
         Answers job.now (S.seen sink.old) (S.seen sink.new) ended.gathered.outcome) }
     ensures unwritten { IfErr result (λ e. S.seen sink.new ≡ S.seen sink.old) }
-    ensures own_table { IfOk result (λ ended. ended.table.layout ≡ layout job.now.plan) }
-    // Seat and pass come back with all shares, but after out of memory: so their histories have the calls of all workers.
-    ensures handed_back { IfOk result (λ ended. TokensComeBack ended.gathered) }
-    ensures whole { IfOk result (λ ended. IfSome ended.gathered.tokens (λ t. AreWhole ended.table ended.queue t.0 t.1)) }
-    // One publish for each page, one mark for each needed slot, one closing for each group of a wide sheet that has such a
-    // slot, and exactly one completing call for each sheet that has pages.
-    ensures gathered { IfOk result (λ ended. IsNone ended.gathered.unshelved
-        → IfSome ended.gathered.tokens (λ t. IsGathered ended.table.layout t.0.front)) }
-    // Each complete sheet was put on the queue exactly once, and what was taken and what is left is what was put.
-    ensures handed_on { IfOk result (λ ended. IfSome ended.gathered.tokens (λ t. IsHandedOn t.1.front
-        × AreAllPut ended.table.layout t.0.front t.1.front)) }
+    ensures of_job { IfOk result (IsOfJob job.now) }
 {
     let (queue, pass) = ready_for(alloc, job.plan(), workers.preparers)?;
     let (table, seat) = GatherTable::new(alloc, job.plan())?;

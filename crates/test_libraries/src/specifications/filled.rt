@@ -50,8 +50,8 @@ pub fn two_columns() -> Option<Setting>
         rows: 1,
     };
     match Setting::of(&papers, &Arrangement::plain(cells)) {
-        Ok(setting) => Some(setting),
-        Err(_) => None,
+        Ok(setting) if setting.grid.size() >= 2 => Some(setting),
+        _ => None,
     }
 }
 
@@ -75,10 +75,14 @@ fn filled(out: &mut Answer, words: &[String], papers: &[Paper]) -> Option<()> {
 /// The pages of each sheet, or why there are none.
 fn tell(out: &mut Answer, made: Result<MadeSheets, ArrangementError>) {
     match made {
-        Ok(made) => match Plan::of_sheets(out.alloc, 8, &made) {
-            Ok(plan) => page_lists(out, &plan),
-            Err(error) => out.refusal(error),
-        },
+        Ok(made) => tell_sheets(out, &made),
+        Err(error) => out.refusal(error),
+    }
+}
+
+fn tell_sheets(out: &mut Answer, made: &MadeSheets) {
+    match Plan::of_sheets(out.alloc, 8, made) {
+        Ok(plan) => page_lists(out, &plan),
         Err(error) => out.refusal(error),
     }
 }

@@ -140,7 +140,8 @@ fn hundred_thousandths(text: &str) -> Option<Grains> {
 }
 
 fn billionths(text: &str) -> Option<Number> {
-    Number::new(i64::try_from(number_in(text)?).ok()?)
+    let number = i64::try_from(number_in(text)?).ok()?;
+    Number::new(number)
 }
 
 fn binding(words: &[String]) -> Option<Binding> {

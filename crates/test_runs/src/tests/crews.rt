@@ -42,15 +42,42 @@ struct Fates<'a, R> {
     rt: &'a R,
     preparers: u32,
     imposers: u32,
-    /// The number of preparers, and of imposers, that have begun.
-    preparing: AtomicU32,
-    imposing: AtomicU32,
+    begun: Begun,
     /// How often the imposers were told to stop.
     stopped: AtomicU32,
-    /// The number of waits that ran out.
-    run_out: AtomicU32,
-    /// The number of collections that began after the imposers had been told to stop.
-    late: AtomicU32,
+    failed: Failed,
+}
+
+/// The number of preparers, and of imposers, that have begun.
+#[derive(Drop)]
+struct Begun {
+    preparers: AtomicU32,
+    imposers: AtomicU32,
+}
+
+impl Begun {
+    fn none() -> Begun {
+        Begun {
+            preparers: AtomicU32::new(0),
+            imposers: AtomicU32::new(0),
+        }
+    }
+}
+
+/// The number of waits that ran out, and of collections that began after the imposers had been told to stop.
+#[derive(Drop)]
+struct Failed {
+    waits: AtomicU32,
+    collections: AtomicU32,
+}
+
+impl Failed {
+    fn none() -> Failed {
+        Failed {
+            waits: AtomicU32::new(0),
+            collections: AtomicU32::new(0),
+        }
+    }
 }
 
 impl<'a, R> Fates<'a, R> {
@@ -59,23 +86,21 @@ impl<'a, R> Fates<'a, R> {
             rt,
             preparers,
             imposers,
-            preparing: AtomicU32::new(0),
-            imposing: AtomicU32::new(0),
+            begun: Begun::none(),
             stopped: AtomicU32::new(0),
-            run_out: AtomicU32::new(0),
-            late: AtomicU32::new(0),
+            failed: Failed::none(),
         }
     }
 
     /// Waits until the word has this value or more, or any wait ran out.
     fn wait_for(&self, word: &AtomicU32, height: u32) {
         for _ in 0..YIELDS {
-            if word.load(SeqCst) >= height || self.run_out.load(SeqCst) > 0 {
+            if word.load(SeqCst) >= height || self.failed.waits.load(SeqCst) > 0 {
                 return;
             }
             thread::yield_now();
         }
-        self.run_out.fetch_add(1, SeqCst);
+        self.failed.waits.fetch_add(1, SeqCst);
     }
 }
 
@@ -110,7 +135,7 @@ impl<'a, R: Abort> Work<Held> for Fates<'a, R> {
         number: u32,
         _count: u32,
     ) -> Result<Held, AllocError> {
-        self.preparing.fetch_add(1, SeqCst);
+        self.begun.preparers.fetch_add(1, SeqCst);
         if has_bit(self.preparers, number) {
             return Err(AllocError);
         }
@@ -140,7 +165,7 @@ impl<'a, R: Abort> Imposing<Held, Ticket> for Fates<'a, R> {
     ghost sends = { λ _ _. ⊤ };
 
     fn impose<W: Wait>(&self, _rt: &W, held: Held, _ticket: Ticket) -> Result<Held, AllocError> {
-        let number = self.imposing.fetch_add(1, SeqCst);
+        let number = self.begun.imposers.fetch_add(1, SeqCst);
         if has_bit(self.imposers, number) {
             return Err(AllocError);
         }
@@ -167,10 +192,10 @@ impl<'a, R> Collector<Collected> for Fates<'a, R> {
     /// Waits until all workers have begun, as a collector waits for what they send.
     fn collect<W: Wait>(&self, _rt: &W, state: &mut Collected) {
         if self.stopped.load(SeqCst) > 0 {
-            self.late.fetch_add(1, SeqCst);
+            self.failed.collections.fetch_add(1, SeqCst);
         }
-        self.wait_for(&self.preparing, WORKERS);
-        self.wait_for(&self.imposing, WORKERS);
+        self.wait_for(&self.begun.preparers, WORKERS);
+        self.wait_for(&self.begun.imposers, WORKERS);
         state.times = state.times.saturating_add(1);
     }
 }
@@ -212,10 +237,13 @@ fn gather<R: Threads + Wait + Abort + Sync>(
     };
     Came {
         collected: state.times,
-        late: fates.late.load(SeqCst),
-        run_out: fates.run_out.load(SeqCst),
+        late: fates.failed.collections.load(SeqCst),
+        run_out: fates.failed.waits.load(SeqCst),
         stopped: fates.stopped.load(SeqCst),
-        begun: (fates.preparing.load(SeqCst), fates.imposing.load(SeqCst)),
+        begun: (
+            fates.begun.preparers.load(SeqCst),
+            fates.begun.imposers.load(SeqCst),
+        ),
         shares,
     }
 }

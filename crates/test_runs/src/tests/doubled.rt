@@ -75,6 +75,15 @@ impl Done {
         }
     }
 
+    /// Adds what another has done.
+    fn join(&mut self, other: &Done) -> Result<(), AllocError> {
+        self.closed = self.closed.saturating_add(other.closed);
+        self.stored.extend_from_slice(other.stored.as_slice())?;
+        self.marked.extend_from_slice(other.marked.as_slice())?;
+        self.filled.extend_from_slice(other.filled.as_slice())?;
+        self.completed.extend_from_slice(other.completed.as_slice())
+    }
+
     /// Adds what a mark of this slot, on this sheet, was answered.
     fn add_reply(&mut self, slot: u32, sheet: u32, reply: Reply) -> Result<(), AllocError> {
         match reply {
@@ -171,12 +180,7 @@ fn together(
     other: Result<Done, AllocError>,
 ) -> Result<Done, AllocError> {
     let mut all = one?;
-    let other = other?;
-    all.stored.extend_from_slice(other.stored.as_slice())?;
-    all.marked.extend_from_slice(other.marked.as_slice())?;
-    all.filled.extend_from_slice(other.filled.as_slice())?;
-    all.closed = all.closed.saturating_add(other.closed);
-    all.completed.extend_from_slice(other.completed.as_slice())?;
+    all.join(&other?)?;
     Ok(all)
 }
 

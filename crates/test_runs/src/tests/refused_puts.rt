@@ -8,7 +8,7 @@ use crate::tests::checks::assert_that;
 use dsc::Document;
 use gather_table::GatherTable;
 use handover::{Ready, Shelf};
-use imposer::{Gate, Gathered, Job, MemorySink, Report, Step, Workers, gather};
+use imposer::{Gate, Job, MemorySink, Report, Step, Workers, gather};
 use lengths::a4;
 use pagespec::read_spec;
 use sheet_plan::Plan;
@@ -70,6 +70,26 @@ fn gather_with<R: Threads + Wait + Sync>(
         odd: AtomicUsize::new(0),
         run_out: AtomicUsize::new(0),
     };
+    let report = gather_at(rt, alloc, job, room, &gate, sink)?;
+    if gate.run_out.load(SeqCst) == 0 {
+        Ok(Some(report))
+    } else {
+        Ok(None)
+    }
+}
+
+/// Gathers the job by two workers of each kind at this gate.
+fn gather_at<R: Threads + Wait + Sync>(
+    rt: &R,
+    alloc: Global,
+    job: &Job<'_, '_>,
+    room: u32,
+    gate: &FirstSheetByTheSecond,
+    sink: &mut MemorySink,
+) -> Result<Report, Fail>
+    requires room { 0 < room }
+    requires countable { sink.old.failures < 10 }
+{
     let (table, seat) = GatherTable::new(alloc, job.plan())?;
     let shelf = Shelf::new(alloc)?;
     let (ready, pass) = Ready::by_right(alloc, room.max(job.sheets()))?;
@@ -77,19 +97,10 @@ fn gather_with<R: Threads + Wait + Sync>(
         preparers: 2,
         imposers: 2,
     };
-    let Gathered {
-        outcome,
-        unshelved: _,
-        tokens: _,
-    } = gather(
-        rt, alloc, job, &table, seat, &shelf, &ready, pass, workers, &gate, sink,
+    let gathered = gather(
+        rt, alloc, job, &table, seat, &shelf, &ready, pass, workers, gate, sink,
     );
-    let report = outcome?;
-    if gate.run_out.load(SeqCst) == 0 {
-        Ok(Some(report))
-    } else {
-        Ok(None)
-    }
+    Ok(gathered.outcome?)
 }
 
 /// The same of six pages: what was written, and what was reported.

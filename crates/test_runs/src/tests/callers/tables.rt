@@ -11,6 +11,7 @@ use pagespec::read_spec;
 use sheet_plan::Plan;
 use std::alloc::Global;
 use std::io::Write;
+use std::process::Abort;
 use std::test::Fail;
 use test_tools::same_items;
 
@@ -270,15 +271,22 @@ fn in_both<'s>(
 ) -> Result<Option<&'s str>, Fail> {
     let spec = read_spec(alloc, text)?;
     let plan = Plan::new(alloc, &spec, pages)?;
-    let table = PlainTable::new(alloc, &plan)?;
-    let wrong = first_wrong(alloc, &mut OneThread { table, plan: &plan }, story)?;
-    let (table, seat) = GatherTable::new(alloc, &plan)?;
+    Ok(told_plainly(alloc, &plan, story)?.or(told_seated(alloc, &plan, story)?))
+}
+
+fn told_plainly<'s>(alloc: Global, plan: &Plan, story: &'s str) -> Result<Option<&'s str>, Fail> {
+    let table = PlainTable::new(alloc, plan)?;
+    first_wrong(alloc, &mut OneThread { table, plan }, story)
+}
+
+fn told_seated<'s>(alloc: Global, plan: &Plan, story: &'s str) -> Result<Option<&'s str>, Fail> {
+    let (table, seat) = GatherTable::new(alloc, plan)?;
     let mut seated = Seated {
         table: &table,
-        plan: &plan,
+        plan,
         seat,
     };
-    Ok(wrong.or(first_wrong(alloc, &mut seated, story)?))
+    first_wrong(alloc, &mut seated, story)
 }
 
 // The same of a page in each of so many slots.
@@ -437,13 +445,23 @@ const PAGE_COMES: &str = "\
 fn fills_group(alloc: Global, group: u32, left: u64) -> Result<String, NoMemory> {
     let first = group.saturating_mul(64);
     let last = first.saturating_add(63);
+    let mut story = marks_of(alloc, group, first, last)?;
+    story.push_str(&closing_of(alloc, group, last, left)?)?;
+    Ok(story)
+}
+
+fn marks_of(alloc: Global, group: u32, first: u32, last: u32) -> Result<String, NoMemory> {
     format!(in alloc;
         "group {group} = Some(18446744073709551615)\n\
         marks {first} {last} = all Fresh\n\
         group {group} = Some(9223372036854775808)\n\
-        close {group} = None\n\
-        mark {last} = Some(Fills({group}))\n\
-        group {group} = Some(0)\n\
+        close {group} = None\n"
+    )
+}
+
+fn closing_of(alloc: Global, group: u32, last: u32, left: u64) -> Result<String, NoMemory> {
+    format!(in alloc;
+        "mark {last} = Some(Fills({group}))\n\
         mark {last} = Some(Repeated)\n\
         close {group} = Some(Closed)\n\
         look = Some({left})\n\
@@ -535,6 +553,12 @@ fn in_lanes<'s>(alloc: Global, text: &str, story: &'s str) -> Result<Option<&'s 
     first_wrong(alloc, &mut Lanes { text }, story)
 }
 
+// No line of the story is answered otherwise than it says.
+fn follow<R: Abort>(rt: &R, alloc: Global, text: &str, story: &str) -> Result<(), Fail> {
+    assert_told(rt, in_lanes(alloc, text, story)?);
+    Ok(())
+}
+
 // So many pages, and a sheet: sheets of two slots take turns.
 const PAIRS: &str = "\
     100 0 = Some((0, 0))\n\
@@ -569,11 +593,11 @@ const AMONG_WIDE_SHEETS: &str = "\
 
 #[test]
 fn lanes_follow_one_another(rt: HostRuntime) -> Result<(), Fail> {
-    assert_told(&rt, in_lanes(rt.alloc(), "2:0+1", PAIRS)?);
-    assert_told(&rt, in_lanes(rt.alloc(), "3:0+1,2", MIXED)?);
-    let whole = same_items(rt.alloc(), "0", 64)?;
-    assert_told(&rt, in_lanes(rt.alloc(), &whole, WHOLE_WORDS)?);
-    let wide = format!(in rt.alloc(); "2:0+1,{whole}+0,0+1")?;
-    assert_told(&rt, in_lanes(rt.alloc(), &wide, AMONG_WIDE_SHEETS)?);
-    Ok(())
+    let alloc = rt.alloc();
+    follow(&rt, alloc, "2:0+1", PAIRS)?;
+    follow(&rt, alloc, "3:0+1,2", MIXED)?;
+    let whole = same_items(alloc, "0", 64)?;
+    follow(&rt, alloc, &whole, WHOLE_WORDS)?;
+    let wide = format!(in alloc; "2:0+1,{whole}+0,0+1")?;
+    follow(&rt, alloc, &wide, AMONG_WIDE_SHEETS)
 }

@@ -4,7 +4,9 @@ ghost use Rattle.sheet_writer.specs.Sinks.{IsCountable};
 
 use crate::tests::checks::{assert_bytes, assert_that};
 use dsc::Document;
-use imposer::{Dress, Job, Lines, MemorySink, Numbers, Open, Report, Sink, Workers, run_plan};
+use imposer::{
+    Dress, Job, Lines, MemorySink, Nobody, Numbers, Open, Report, Sink, Workers, run_plan,
+};
 use lengths::{Grains, Number, Paper, paper_by_name};
 use pagespec::{Item, Measure, Turn};
 use sheet_plan::{MadeSheets, MadeSlot, Plan};
@@ -102,7 +104,7 @@ fn run_dressed<R: Threads + Wait + Sync, S: Sink>(
         preparers: 1,
         imposers: 1,
     };
-    Ok(run_plan(rt, alloc, &job, workers, &Open, sink)?)
+    Ok(run_plan(rt, alloc, &job, workers, &Open, sink, &mut Nobody)?)
 }
 
 /// Runs over them, with lines: what is written, and what is reported.
