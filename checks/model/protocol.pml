@@ -108,7 +108,7 @@
 /* FinishedSheets::last */
 #define LAST(m, n, o) (MOST(MOST((m) & 15, (n) & 15), (o) & 15) - 1)
 
-/* What threads share. Setup::new, gather_as: channel, places and the queue of written sheets have room for a window. */
+/* What threads share. Setup::new, channel_of, gather_as: channel, places and the queue of written sheets have room for a window. */
 byte missing[S];
 chan q = [S] of { byte };                /* Ready; what a pass may put is counted in each pass's room */
 #ifndef SPENT
@@ -420,7 +420,7 @@ inline further()
 	fi
 }
 
-/* RunInput::impose, RunInput::impose_ready, RunInput::impose_next */
+/* RunInput::impose, RunInput::impose_ready, RunInput::impose_all, RunInput::impose_next */
 proctype imposer()
 {
 	byte held;                       /* a bit for each sheet */
@@ -780,7 +780,7 @@ init
 	byte memory;
 #endif
 
-	/* The table: run_plan, gather_on. Ready::by_right, most_puts_in_all: the pass has room for all puts. */
+	/* The table: run_plan, gather_plan, gather_run, gather_on. Ready::by_right, most_puts_in_all: the pass has room for all puts. */
 	d_step {
 		n = 0;
 		do
