@@ -2,7 +2,7 @@
 use Rattle.std.proofs.Common.{◌≡◌, ℕ, ◌-◌, ◌*◌, Bool, true, false, Option, Some, None, sym, subst}
 use Rattle.std.specs.Prelude.{if◌then◌else◌, nat_abs}
 use Rattle.rules.specs.Papers.{Paper}
-use Rattle.layouts.specs.Cells.{size, whole}
+use Rattle.layouts.specs.Cells.{whole}
 use Rattle.layouts.specs.Fitted.{fitted, fitted_back, why_not_fitted, HaveOneFold}
 use Rattle.layouts.specs.Laws.{IsPaper, LiesBefore, LiesBehind}
 use Rattle.layouts.proofs.Fitting.{one_fold}

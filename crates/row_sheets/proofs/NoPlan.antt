@@ -1,6 +1,6 @@
 -- Sheets of a specification on a row that pass a limit: they are no plan, and the limit is their first fault.
-use Rattle.std.proofs.Common.{arith, cond, ◌≡◌, ℕ, ◌+◌, ◌<◌, ◌≤◌, Bool, true, false, List, [], ◌∷◌, ◌++◌, length, map, get_or, suc, refl, sym, ap, subst, ◌∙◌}
-use Rattle.std.specs.Prelude.{◌&&◌, All, Err, None, Option, Some, flat_map, nat_le, not, position, sum_by}
+use Rattle.std.proofs.Common.{arith, cond, ◌≡◌, ℕ, ◌+◌, ◌<◌, ◌≤◌, Bool, true, false, List, [], ◌∷◌, length, map, get_or, suc, refl, sym, ap, subst, ◌∙◌}
+use Rattle.std.specs.Prelude.{◌&&◌, All, Err, None, Some, flat_map, nat_le, not, position, sum_by}
 use Rattle.std.specs.List.{position_from, range_with_len}
 use Rattle.std.proofs.lemmas.Bool.Decides.{nat_tests}
 use Rattle.std.proofs.lemmas.List.{length-map}

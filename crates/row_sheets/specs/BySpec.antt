@@ -1,11 +1,12 @@
 -- The sheets of a specification on a row, which may be any pages and blanks. All here is this project's own rules.
-use Rattle.std.specs.Prelude.{◌≡◌, ⊤, ℕ, ◌≤◌, List, length, map, Option}
+use Rattle.std.specs.Prelude.{◌≡◌, ℕ, ◌≤◌, List, length, map, sum_by, Option}
 use Rattle.rules.specs.Papers.{Paper}
-use Rattle.rules.specs.Run.{most_pages}
+use Rattle.rules.specs.Run.{most_pages, most_sheets, most_places}
 use Rattle.rules.specs.Specification.{Item, Spec}
 use Rattle.rules.specs.Sheets.{Slot, place}
 use Rattle.rules.specs.Signatures.{entry_of, sheets_in}
 use Rattle.made_sheets.specs.Made.{MadeSlot, MadeSheet, made_slot, made_of}
+use Rattle.made_sheets.specs.MadePlans.{slot_count}
 use Rattle.made_sheets.specs.Rows.{Row, all_pages, in_order_of, sheets_of_row}
 use Rattle.sheet_plan.specs.MadeRefusals.{RefusesMade}
 use Rattle.sheet_plan.specs.declared.error.MadeError.{MadeError}
@@ -32,7 +33,11 @@ slot_by page row modulo block item = made_slot page (entry_of row (place modulo 
 abbrev pub sheet_by : (sheet page : Paper) → Row → (modulo block : ℕ) → List Item → MadeSheet
 sheet_by sheet page row modulo block group = record { paper = sheet; slots = map (slot_by page row modulo block) group }
 
--- why the sheets aren't made: of so few pages they are no plan, and this is their first fault; or memory ran out
+-- there are no more sheets, and no more slots on them, than a plan may have
+abbrev pub AreFew : List MadeSheet → Type 0
+AreFew all = (length all ≤ most_sheets) × (sum_by slot_count all ≤ most_places)
+
+-- why the sheets aren't made: of so few pages they are no plan, and this is their first fault; or memory ran out for them
 abbrev pub WhyNoSheets : List MadeSheet → MadeError → Type 0
-WhyNoSheets all error.NoMemory = ⊤
+WhyNoSheets all error.NoMemory = AreFew all
 WhyNoSheets all e = (pages : ℕ) → pages ≤ most_pages → RefusesMade pages all e

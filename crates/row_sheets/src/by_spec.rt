@@ -4,7 +4,7 @@ ghost use Rattle.rules.specs.Run.{most_sheets};
 ghost use Rattle.rules.specs.Sheets.{blocks as blocks_of, place};
 ghost use Rattle.pagespec.specs.Items.{groups_of, item_of};
 ghost use Rattle.sheet_plan.specs.OfSheets.{slot_of};
-ghost use Rattle.row_sheets.specs.BySpec.{by_spec, slot_by, sheet_by, WhyNoSheets};
+ghost use Rattle.row_sheets.specs.BySpec.{by_spec, slot_by, sheet_by, WhyNoSheets, AreFew};
 
 use lengths::Paper;
 use pagespec::{Item, Spec};
@@ -29,6 +29,7 @@ pub struct SpecOnRow<'s> {
 /// there would be more than a plan may have are refused before any memory is asked for.
 pub fn spec_sheets(alloc: Global, on: &SpecOnRow<'_>) -> Result<MadeSheets, MadeError>
     ensures made { IfOk result (λ made. made ≡ by_spec on.now.spec.now on.now.sheet on.now.page on.now.row.now) }
+    ensures few { IfOk result AreFew }
     ensures refused { IfErr result (WhyNoSheets
         (by_spec on.now.spec.now on.now.sheet on.now.page on.now.row.now)) }
 {
@@ -50,6 +51,7 @@ pub fn spec_sheets(alloc: Global, on: &SpecOnRow<'_>) -> Result<MadeSheets, Made
 fn blocks_in(on: &SpecOnRow<'_>) -> Result<u32, MadeError>
     ensures value { IfOk result (λ n. n ≡ blocks_of on.now.spec.now.modulo (length on.now.row.now)) }
     ensures few { IfOk result (λ n. n ≤ most_sheets) }
+    ensures kept { IfOk result (λ n. AreFew (by_spec on.now.spec.now on.now.sheet on.now.page on.now.row.now)) }
     ensures refused { IfErr result (WhyNoSheets
         (by_spec on.now.spec.now on.now.sheet on.now.page on.now.row.now)) }
 {

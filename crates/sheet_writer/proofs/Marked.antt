@@ -1,13 +1,13 @@
 -- The places of sheets that came together say where each of them is.
-use Rattle.std.proofs.Common.{ℕ, zero, suc, ◌+◌, ◌%◌, ◌<◌, ◌≡◌, ◌∙◌, sym, ap, subst, refl, true, false, below_more, ne_eqb}
+use Rattle.std.proofs.Common.{ℕ, zero, suc, ◌+◌, ◌%◌, ◌<◌, ◌≤◌, ◌≡◌, ◌∙◌, sym, ap, subst, refl, true, false, below_more, ne_eqb, arith}
 use Rattle.std.proofs.Common.{slice_set, slice_index_or, List, [], ◌∷◌, Option, Some, None, length}
 use Rattle.std.specs.Prelude.{◌≢◌, All, slice_get}
 use Rattle.std.proofs.lemmas.Option.{same_Some, slice_get_within, get_or_from_slice_get, slice_get-get_or}
 use Rattle.sheet_writer.specs.declared.early.FinishedSheets.{FinishedSheets}
 use Rattle.sheet_writer.specs.declared.early.Place.{Place}
 use Rattle.sheet_writer.specs.declared.early.Early.{Early}
-use Rattle.sheet_writer.specs.Places.{place_of, HavePlacesOfTheirOwn, is_number, is_nth, is_there, has_come}
-use Rattle.sheet_writer.proofs.Places.{length_filled, get_filled, number_is}
+use Rattle.sheet_writer.specs.Places.{last_of, place_of, HavePlacesOfTheirOwn, is_number, is_nth, is_there, has_come}
+use Rattle.sheet_writer.proofs.Places.{length_filled, get_filled, number_is, number_is_not}
 
 -- the places of the first n of these sheets say that each is in this group
 abbrev pub AreMarked : Early → List ℕ → (group n : ℕ) → List Place → Type 0
@@ -94,3 +94,36 @@ come_as_before early finished group groups places sheet same free kept elsewhere
     there None = refl
     there (Some p) =
         there_as_before finished sheet p.nth (not_among (slice_get finished.sheets.items p.nth) p.nth refl) early.groups.items group p.group free
+
+-- the last of some sheets is at least each of them
+at_most_last : (sheets : List ℕ) (nth sheet : ℕ) → slice_get sheets nth ≡ Some sheet → sheet ≤ last_of sheets
+at_most_last [] nth sheet at = absurd (cc (at))
+at_most_last (one ∷ sheets) zero sheet at = let is : one ≡ sheet = same_Some one sheet at in omega (arith, is)
+at_most_last (one ∷ sheets) (suc nth) sheet at = let rest = at_most_last sheets nth sheet at in omega (arith, rest)
+
+-- a sheet outside the group stays there when the group is taken
+there_when_taken : (finished : FinishedSheets) (sheet nth : ℕ) → is_number sheet (slice_get finished.sheets.items nth) ≡ false
+    → (groups : List (Option FinishedSheets)) (group k : ℕ) → slice_get groups group ≡ Some (Some finished)
+    → is_nth sheet nth (slice_get (slice_set groups group None) k) ≡ is_nth sheet nth (slice_get groups k)
+there_when_taken finished sheet nth other [] group k there = refl
+there_when_taken finished sheet nth other (g ∷ groups) zero zero there = sym (ap (λ x. is_nth sheet nth x) there ∙ other)
+there_when_taken finished sheet nth other (g ∷ groups) zero (suc k) there = refl
+there_when_taken finished sheet nth other (g ∷ groups) (suc group) zero there = refl
+there_when_taken finished sheet nth other (g ∷ groups) (suc group) (suc k) there = there_when_taken finished sheet nth other groups group k there
+
+-- whether a later sheet than those of the group has come doesn't change
+pub later_as_before : (early : Early) (finished : FinishedSheets) (group : ℕ) (left : Option FinishedSheets) (sheet later : ℕ)
+    → slice_get early.groups.items group ≡ Some (Some finished) → left ≡ None → last_of finished.sheets.items ≡ sheet → sheet < later
+    → is_there later (slice_set early.groups.items group left) (slice_get early.places.items (later % length (slice_set early.groups.items group left))) ≡ has_come early later
+later_as_before early finished group left sheet later there none last less =
+    come_by early.groups.items early.groups.items group later left early.places.items refl
+    ∙ ap (λ x. is_there later (slice_set early.groups.items group x) (slice_get early.places.items (place_of early later))) none
+    ∙ stays (slice_get early.places.items (place_of early later))
+  where
+    stays : (p : Option Place) → is_there later (slice_set early.groups.items group None) p ≡ is_there later early.groups.items p
+    stays None = refl
+    stays (Some p) =
+        there_when_taken finished later p.nth
+        (number_is_not later (slice_get finished.sheets.items p.nth)
+        (λ found. let most = at_most_last finished.sheets.items p.nth later found in omega (arith, most, last, less)))
+        early.groups.items group p.group there

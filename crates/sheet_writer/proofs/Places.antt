@@ -40,7 +40,7 @@ comes_by early sheet place p o finished at lt is group_lt group_is holds =
 pub number_is : (sheet : ℕ) (at : Option ℕ) → at ≡ Some sheet → is_number sheet at ≡ true
 number_is sheet at is = ap (λ x. is_number sheet x) is ∙ eq-eqb sheet sheet refl
 
-number_is_not : (sheet : ℕ) (at : Option ℕ) → (at ≡ Some sheet → ⊥) → is_number sheet at ≡ false
+pub number_is_not : (sheet : ℕ) (at : Option ℕ) → (at ≡ Some sheet → ⊥) → is_number sheet at ≡ false
 number_is_not sheet None other = refl
 number_is_not sheet (Some number) other = ne_eqb number sheet (λ same. other (ap (λ x. Some x) same))
 

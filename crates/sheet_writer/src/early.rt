@@ -215,6 +215,7 @@ impl<'r> Early<'r> {
         ensures freed { IfSome result (λ m. in_place self.new sheet ≡ Some None) }
         ensures others { (k : ℕ) → k ≢ place_of self.old sheet
             → slice_get self.new.groups.items k ≡ slice_get self.old.groups.items k }
+        ensures stays { (later : ℕ) → sheet < later → has_come self.new later ≡ has_come self.old later }
         ensures none { IsNone result → self.new ≡ self.old }
     {
         let place = self.place_of(sheet);

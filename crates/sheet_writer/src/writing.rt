@@ -132,6 +132,8 @@ pub fn write_early<'r, S: Sink, B: Spent<'r>>(
     ensures far { result.halted ≡ None
         → (length job.now.plan.sheets ≤ result.next) ⊎ (has_come early.new result.next ≡ false) }
     ensures early { AreEarly job.now early.new.groups.items }
+    // It lets none of the sheets go that are still to be written.
+    ensures stays { (sheet : ℕ) → result.next ≤ sheet → has_come early.new sheet ≡ has_come early.old sheet }
     ensures steady { result.halted ≡ None → (S.seen sink.new).failures ≡ (S.seen sink.old).failures }
 {
     let mut progress = progress;

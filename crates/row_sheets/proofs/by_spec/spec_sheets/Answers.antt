@@ -1,7 +1,7 @@
-use Rattle.std.proofs.Common.{arith, ℕ, ◌≡◌, map, sym, ap, ◌∙◌}
+use Rattle.std.proofs.Common.{arith, ℕ, ◌≡◌, map, sym, ap, subst, ◌∙◌}
 use Rattle.std.specs.Prelude.{flat_map}
 use Rattle.std.specs.List.{range_with_len}
-use Rattle.row_sheets.specs.BySpec.{sheet_by}
+use Rattle.row_sheets.specs.BySpec.{sheet_by, AreFew}
 use Rattle.row_sheets.proofs.BlockByBlock.{block_more}
 use Rattle.row_sheets.proofs.GroupByGroup.{made_sheets_are}
 use Rattle.row_sheets.proofs.by_spec.spec_sheets.Goals as goal
@@ -18,3 +18,6 @@ returns-clause-made c =
     c.loop-block.invariant
     ∙ ap (λ n. flat_map f (range_with_len 0 n)) ((let done : c.loop-block.block ≡ c.in-Ok.blocks = omega (arith, c.loop-block-test.false, c.loop-block.auto.block-end) in done) ∙ c.in-Ok.ensures.value)
     ∙ sym (made_sheets_are on.sheet on.page on.row.now on.spec.now)
+
+pub returns-clause-few : goal.returns-clause-few
+returns-clause-few c = subst AreFew (sym (returns-clause-made c)) c.in-Ok.ensures.kept
