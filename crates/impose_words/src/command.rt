@@ -1,6 +1,7 @@
 //! What the words ask for.
 ghost use Rattle.std.specs.Prelude.{◌≡◌, [], ◌∷◌, IfOk, IfErr, None, Option, Some, codes, false, map, option_map, string_bytes, true};
 ghost use Rattle.clap.specs.Words.{Text, fault_of, first_of, found_of, is_simple, rows_of, subcommand_of, subcommand_rows_of};
+ghost use Rattle.lengths.specs.Lengths.{a4};
 ghost use Rattle.impose_words.specs.Command.{impose};
 ghost use Rattle.impose_words.specs.Words.{AsksFor, Entered, ReadsSizes, Reads, border_found, file_asked, given, is_outfile};
 ghost use Rattle.impose_words.specs.Words.{gaps_found, margins_found};
@@ -49,6 +50,7 @@ pub fn read_command(alloc: Global, words: &[String]) -> Result<ImposeRequest, Re
     // The command takes the words, and the request is what it finds among them.
     ensures read { IfOk result (λ request.
         Entered (map string_bytes words.now) (λ name found. Reads name found request)) }
+    ensures home { IfOk result (λ request. request.home_paper ≡ a4) }
     // A fault is the first that there is.
     ensures refused { IfErr result (Refuses (map string_bytes words.now)) }
     // What the command takes and finds is a function of the words, since it is a simple one.
@@ -90,6 +92,7 @@ fn request_of(
     found: &ArgMatches<'_>,
 ) -> Result<ImposeRequest, RequestFault>
     ensures read { IfOk result (Reads name.now (rows_of (found_of found.now))) }
+    ensures home { IfOk result (λ request. request.home_paper ≡ a4) }
     ensures refused { IfErr result (RefusesFound name.now (rows_of (found_of found.now))) }
 {
     let sizes = match sizes_of(found) {
@@ -112,6 +115,7 @@ fn request_for(
     requires sizes { ReadsSizes (rows_of (found_of found.now)) sizes.page_paper sizes.sheet_paper sizes.border sizes.turn }
     ensures read { (name : Text) → AsksFor name (rows_of (found_of found.now)) layout
         → IfOk result (Reads name (rows_of (found_of found.now))) }
+    ensures home { IfOk result (λ request. request.home_paper ≡ a4) }
     ensures refused { IfErr result (λ f. Says (rows_of (found_of found.now)) f (wrong_for layout (rows_of (found_of found.now)))) }
 {
     let spacing = match spacing_of(&layout, found) {
