@@ -13,7 +13,7 @@ use pagespec::Turn;
 use rows::{Choice, Part, Signing};
 
 /// How the pages are laid out.
-#[derive(Debug, Drop)]
+#[derive(Drop)]
 pub enum Layout {
     /// A page in each of these cells of a sheet.
     NUp(Cells),
@@ -90,7 +90,7 @@ impl Layout {
 }
 
 /// What is kept free on sheets, how far leaves creep, in which order one reads sheets, and at which scale the pages are.
-#[derive(Clone, Copy, Debug, PartialEq, Eq)]
+#[derive(Clone, Copy)]
 pub struct Spacing {
     pub free: Free,
     /// Pages of a booklet's innermost leaves are moved towards the fold by this.
@@ -206,7 +206,7 @@ fn some_gap(gap: Grains) -> Grains
 }
 
 /// Which pages are imposed, and in which order.
-#[derive(Debug, Drop)]
+#[derive(Drop)]
 pub struct PageChoice {
     /// The pages, as ranges name them; all pages if there are none.
     pub ranges: Option<String>,
@@ -257,7 +257,7 @@ fn ranges_of(ranges: &Option<String>) -> Option<&[u8]>
 }
 
 /// What is made.
-#[derive(Debug, Drop)]
+#[derive(Drop)]
 pub enum Product {
     /// The sheets.
     Sheets,
@@ -270,7 +270,7 @@ pub enum Product {
 }
 
 /// What a command line asks for.
-#[derive(Debug, Drop)]
+#[derive(Drop)]
 pub struct ImposeRequest {
     pub layout: Layout,
     /// What is kept free, order and scale; for a selection or a specification nothing is asked for.

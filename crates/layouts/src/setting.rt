@@ -25,7 +25,7 @@ use pagespec::Item;
 
 /// A sheet with its cells, into each of which a page is fitted by its own sides: what is kept free, rows and columns, the
 /// order of the cells, and the scale if one is asked for.
-#[derive(Clone, Copy, Debug, PartialEq, Eq)]
+#[derive(Clone, Copy)]
 pub struct Setting {
     pub room: Room,
     pub grid: Grid,

@@ -14,14 +14,14 @@ use std::alloc::AllocError;
 
 /// Where the places of a sheet are: in the cells of a grid, in this order; or it has one place, a tile of a page that goes
 /// over sheets in so many rows and columns, row by row from the head, and each from the left.
-#[derive(Clone, Copy, Debug, PartialEq, Eq)]
+#[derive(Clone, Copy)]
 pub enum Places {
     Cells { grid: Grid, order: Order },
     Tiles { grid: Grid },
 }
 
 /// How sheets are printed, and where their places are.
-#[derive(Clone, Copy, Debug, PartialEq, Eq)]
+#[derive(Clone, Copy)]
 pub struct Reading {
     pub sides: Sides,
     pub places: Places,

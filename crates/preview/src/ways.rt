@@ -16,7 +16,7 @@ use std::alloc::{AllocError, Global};
 const MOST_TOLD: usize = 16;
 
 /// How a page lies on a sheet: their papers, and the page's scale.
-#[derive(Clone, Copy, Debug, PartialEq, Eq)]
+#[derive(Clone, Copy, PartialEq, Eq)]
 pub(crate) struct Way {
     pub(crate) page: Paper,
     pub(crate) sheet: Paper,

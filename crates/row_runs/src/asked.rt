@@ -26,7 +26,7 @@ use sheet_plan::{MadeError, MadeSheets};
 use std::alloc::Global;
 
 /// How a row is laid on sheets.
-#[derive(Clone, Copy, Debug, PartialEq, Eq)]
+#[derive(Clone, Copy)]
 pub enum Laying {
     /// Each page as it is, on a sheet of its own paper, and each blank on a sheet of this one.
     AsTheyAre {
