@@ -1,15 +1,20 @@
--- A command with subcommands, read off what they are made of.
-use Rattle.std.proofs.Common.{◌≡◌, ◌∙◌, ap, refl, sym, true, false, Bool, map, List, [], ◌∷◌, not, ◌&&◌}
-use Rattle.std.specs.Prelude.{codes}
-use Rattle.std.specs.List.{fold, list_all}
-use Rattle.clap.specs.Words.{AddsInTurn, AddsSubcommand, App, app_of, is_simple, new_app, with_subcommand}
-use Rattle.clap.specs.Walk.{is_empty}
+-- The command and its subcommands, read off the tables that they are made of.
+use Rattle.std.proofs.Common.{◌≡◌, ◌∙◌, ap, refl, true, false, Bool, Bor, List, [], ◌∷◌, ◌++◌, not, ◌&&◌}
+use Rattle.std.specs.Prelude.{codes, is_some}
+use Rattle.std.specs.List.{fold}
+use Rattle.clap.specs.Words.{AddsArg, AddsSubcommand, App, app_of, is_simple, new_app, rule_of, with_rule, with_subcommand}
+use Rattle.clap.specs.Walk.{is_empty, is_simple_arg}
 use Rattle.clap.specs.Simple.{on_top}
 use Rattle.clap.specs.Faults.{is_simple_and_free}
 use Rattle.clap.proofs.SimpleLemmas.{is_false}
+use Rattle.clap.specs.declared.builder.arg.Arg.{Arg}
 use Rattle.clap.specs.declared.builder.command.Command.{Command}
 use Rattle.clap.specs.declared.builder.command.Command.TheViews.{out-Command}
 use Rattle.impose_words.specs.Command.{first_apps, impose, other_apps, with_top}
+use Rattle.impose_words.specs.Tables.{app_in, rule_in, with_app, with_row}
+use Rattle.impose_words.specs.declared.arguments.Argument.{Argument}
+use Rattle.impose_words.specs.declared.arguments.Argument.TheVariants as argument
+use Rattle.impose_words.specs.declared.arguments.Subcommand.{Subcommand}
 
 pub impose_is_simple : is_simple impose ≡ true
 unfolding impose
@@ -19,7 +24,11 @@ pub impose_is_free : is_simple_and_free impose ≡ true
 unfolding impose
 impose_is_free = refl
 
-pub impose_is_made : fold (λ a sub. with_subcommand a sub.top) (fold (λ a sub. with_subcommand a sub.top) (on_top with_top (new_app (codes "impose"))) first_apps) other_apps ≡ impose
+-- what the command is made of is what its table has
+abbrev pub made : App → App
+made a = fold (λ a sub. with_subcommand a sub.top) a (first_apps ++ other_apps)
+
+pub impose_is_made : made (on_top with_top (new_app (codes "impose"))) ≡ impose
 unfolding impose
 impose_is_made = refl
 
@@ -27,14 +36,36 @@ both : (a b : Bool) → (a && b) ≡ true → (a ≡ true) × (b ≡ true)
 both true b e = (refl, e)
 both false b e = cc
 
-abbrev pub is_plain : App → Bool
+-- ---- an argument
+
+is_simple_row : (row : Argument) → (rule_in row).is_simple ≡ true
+is_simple_row (argument.Required id name help) = refl
+is_simple_row (argument.Positional id name help) = refl
+is_simple_row (argument.Valued id name help) = refl
+is_simple_row (argument.LetteredValued letter id name help) = refl
+is_simple_row (argument.Flag id help) = refl
+is_simple_row (argument.LetteredFlag letter id help) = refl
+
+-- a simple argument isn't global
+is_local : (a : Arg) → is_simple_arg a ≡ true → a.global ≡ false
+is_local a e =
+    let p = both (is_empty a.overrides.items) _ e in
+    let q = both (is_empty a.default_vals_ifs.items) _ p.1 in
+    let r = both (is_empty a.groups.items) _ q.1 in
+    let s = both (not (is_some a.val_delim)) _ r.1 in
+    let t = both (not (is_some a.terminator)) _ s.1 in
+    let u = both (not a.allow_hyphen_values) _ t.1 in
+    let v = both (not a.allow_negative_numbers) _ u.1 in
+    let w = both (not a.require_equals) _ v.1 in
+    is_false _ (both (not a.last) (not a.global) w.1).1
+
+pub adds_row : (c d : Command) (a : Arg) (row : Argument) → AddsArg c a d → rule_of a ≡ rule_in row → app_of d ≡ with_row (app_of c) row
+adds_row c d a row h is = h.shape (is_local a (ap (λ r. r.is_simple) is ∙ is_simple_row row)) ∙ ap (with_rule (app_of c)) is
+
+-- ---- a subcommand
+
+abbrev is_plain : App → Bool
 is_plain a = a.top.is_plain
-
-pub first_are_plain : list_all is_plain first_apps ≡ true
-first_are_plain = refl
-
-pub others_are_plain : list_all is_plain other_apps ≡ true
-others_are_plain = refl
 
 -- a plain command has no global argument
 no_globals : (c : Command) → is_plain (app_of c) ≡ true → (out-Command c).has_globals ≡ false
@@ -45,11 +76,16 @@ no_globals c e =
     let r = both (not f.has_globals) _ q.1 in
     is_false _ r.0
 
--- a command to which subcommands were added in turn
-pub subcommands_app : (c d : Command) (xs : List Command) → AddsInTurn AddsSubcommand c xs d → list_all is_plain (map app_of xs) ≡ true
-    → app_of d ≡ fold (λ a sub. with_subcommand a sub.top) (app_of c) (map app_of xs)
-subcommands_app c d [] h e = ap app_of (sym h)
-subcommands_app c d (x ∷ xs) h e =
-    let p = both _ _ e in
-    subcommands_app h.0 d xs h.2 p.1
-    ∙ ap (λ a. fold (λ a sub. with_subcommand a sub.top) a (map app_of xs)) (h.1.shape (no_globals x p.0))
+-- arguments leave it plain
+plain_rows : (a : App) (rows : List Argument) → is_plain (fold with_row a rows) ≡ is_plain a
+plain_rows a [] = refl
+plain_rows a (row ∷ rows) = plain_rows (with_row a row) rows
+
+plain_groups : (a : App) (groups : List (Bor (List Argument))) → is_plain (fold (λ app group. fold with_row app group.now) a groups) ≡ is_plain a
+plain_groups a [] = refl
+plain_groups a (group ∷ groups) = plain_groups (fold with_row a group.now) groups ∙ plain_rows a group.now
+
+pub adds_command : (c sub d : Command) (row : Subcommand) → AddsSubcommand c sub d → app_of sub ≡ app_in row → app_of d ≡ with_app (app_of c) row
+adds_command c sub d row h is =
+    h.shape (no_globals sub (ap is_plain is ∙ plain_groups (new_app row.name.now) row.groups.now))
+    ∙ ap (λ a. with_subcommand (app_of c) a.top) is

@@ -1,6 +1,7 @@
--- Read in this order: the command and its values, sizes, edges, signatures, cells, choices of pages, what is kept free and what is made
--- among them; what the words ask for; what is refused.
+-- Read in this order: the command, the tables that it is made of, and its values, sizes, edges, signatures, cells, choices of pages,
+-- what is kept free and what is made among them; what the words ask for; what is refused.
 pub mod Command
+pub mod Tables
 pub mod Sizes
 pub mod Edges
 pub mod Signatures

@@ -1,15 +1,11 @@
 //! The command, its subcommands and their arguments.
-ghost use Rattle.std.specs.Prelude.{◌≡◌, IfOk, codes, map, true};
-ghost use Rattle.std.specs.List.{list_all};
+ghost use Rattle.std.specs.Prelude.{◌≡◌, IfOk};
+ghost use Rattle.std.specs.List.{fold};
 ghost use Rattle.clap.specs.Words.{app_of, rule_of};
-ghost use Rattle.command_words.specs.Arguments.{fits};
-ghost use Rattle.impose_words.specs.Command.{booklet_app, booklet_rules, cards_app, cell_rules, common_rules};
-ghost use Rattle.impose_words.specs.Command.{count_rule, first_apps, first_rule, flag_rule, impose, laid_rules};
-ghost use Rattle.impose_words.specs.Command.{letter_p, letter_q, lettered, notes_app, numbers_rule, nup_app};
-ghost use Rattle.impose_words.specs.Command.{option_rule, other_apps, positional_rule, poster_app, required_rule};
-ghost use Rattle.impose_words.specs.Command.{select_app, spec_app, stack_app, subcommand_app, zine_app};
+ghost use Rattle.impose_words.specs.Command.{flag_rule, impose, positional_rule};
+ghost use Rattle.impose_words.specs.Tables.{app_in, rule_in, with_app, with_row};
 
-use clap::{Arg, ArgAction, Command, value_parser};
+use clap::{Arg, ArgAction, Command};
 use std::alloc::{AllocError, Global};
 
 /// What help ends in.
@@ -30,449 +26,423 @@ Examples:
   impose booklet --pages 3-14 in.ps out.ps
   impose-pdf booklet in.pdf out.pdf   a booklet of a PDF";
 
+/// An argument of a subcommand: its name, which an option has behind `--`; what help calls its value, if it has one; and what
+/// help says of it.
+#[derive(Clone, Copy)]
+enum Argument {
+    /// A word that has to be there.
+    Required(&'static str, &'static str, &'static str),
+    /// A word that may be there.
+    Positional(&'static str, &'static str, &'static str),
+    /// An option with a value.
+    Valued(&'static str, &'static str, &'static str),
+    /// The same, with a letter too.
+    LetteredValued(char, &'static str, &'static str, &'static str),
+    /// An option without a value.
+    Flag(&'static str, &'static str),
+    /// The same, with a letter too.
+    LetteredFlag(char, &'static str, &'static str),
+}
+
+/// A subcommand: its name, what help says of it, and its arguments before those that every subcommand has, in groups that it
+/// may share with others.
+struct Subcommand {
+    name: &'static str,
+    about: &'static str,
+    groups: &'static [&'static [Argument]],
+}
+
+const SUBCOMMANDS: [Subcommand; 9] = [
+    Subcommand {
+        name: "nup",
+        about: "Several pages on each sheet, as large as they fit",
+        groups: &[&[COUNT], &CELLS, &LAID],
+    },
+    Subcommand {
+        name: "booklet",
+        about: "A booklet, to be printed on both sides, folded and stapled",
+        groups: &[&BOOKLET, &LAID],
+    },
+    Subcommand {
+        name: "zine",
+        about: "Eight pages on one side of a sheet, to be folded thrice and cut once",
+        groups: &[&ZINE, &LAID],
+    },
+    Subcommand {
+        name: "cards",
+        about: "Each page several times on a sheet, to be cut",
+        groups: &[&[CARDS_COUNT], &CELLS, &LAID],
+    },
+    Subcommand {
+        name: "stack",
+        about: "Several pages on each sheet: cut the pile, lay its parts on one another, and the pages run on",
+        groups: &[&[COUNT], &CELLS, &[DUPLEX], &LAID],
+    },
+    Subcommand {
+        name: "notes",
+        about: "Pages one below another, and beside each of them lines for notes",
+        groups: &[&NOTES, &LAID],
+    },
+    Subcommand {
+        name: "poster",
+        about: "Each page over several sheets, to be glued together",
+        groups: &[&POSTER, &LAID],
+    },
+    Subcommand {
+        name: "select",
+        about: "Some pages, in the order in which they are named, each on a sheet of its own",
+        groups: &[&[RANGES, NUMBERS, NUMBERS_FROM], &[TURN, PLAN, PREVIEW]],
+    },
+    Subcommand {
+        name: "spec",
+        about: "Pages as a page specification of pstops places them",
+        groups: &[&SPEC, &[PAGES]],
+    },
+];
+
+const COUNT: Argument = Argument::Required(
+    "count",
+    "N",
+    "How many pages, from 1 to 1024, or columns and rows, as 2x4",
+);
+
+const CARDS_COUNT: Argument = Argument::Required(
+    "count",
+    "N",
+    "How often each page is on a sheet, from 1 to 1024, or columns and rows, as 2x4",
+);
+
+const DUPLEX: Argument = Argument::Flag("duplex", "For sheets that are printed on both sides");
+
+/// What commands have that lay pages in cells, after the number of these.
+const CELLS: [Argument; 11] = [
+    Argument::Valued(
+        "order",
+        "ORDER",
+        "Where pages go on: right-down, down-right, left-down or down-left [default: right-down]",
+    ),
+    Argument::Valued(
+        "turned",
+        "SIDE",
+        "The pages lie on their sides, and are turned to the left or to the right to be read",
+    ),
+    Argument::Valued(
+        "scale",
+        "SCALE",
+        "The scale of the pages, as 0.7 [default: as large as they fit]",
+    ),
+    SAME_SCALE,
+    MARGIN,
+    Argument::Valued(
+        "gap",
+        "LENGTHS",
+        "Keep so much free between pages, as 5mm, or 5mm,1cm side by side and one above another",
+    ),
+    TRIM,
+    Argument::Valued(
+        "marks",
+        "MARKS",
+        "Draw short lines where sheets are cut: cut",
+    ),
+    NUMBERS,
+    NUMBERS_FROM,
+    Argument::Flag("rtl", "From the right to the left"),
+];
+
+const BOOKLET: [Argument; 11] = [
+    Argument::Valued(
+        "signature",
+        "SIDES",
+        "Leaves of so many sides, a multiple of four; auto is eight leaves at most [default: all pages]",
+    ),
+    Argument::Valued(
+        "creep",
+        "LENGTH",
+        "Move pages of the innermost leaf so much towards the fold, and of others less, as 2mm",
+    ),
+    Argument::Flag("long-edge", "For printers that flip on the long edge"),
+    SAME_SCALE,
+    MARGIN,
+    Argument::Valued(
+        "gap",
+        "LENGTHS",
+        "Keep so much free at the fold, half of it on each side",
+    ),
+    TRIM,
+    Argument::Valued(
+        "marks",
+        "MARKS",
+        "Draw short lines at the fold (fold), where the margin is cut off (cut), or both (fold,cut)",
+    ),
+    NUMBERS,
+    NUMBERS_FROM,
+    Argument::Flag("rtl", "Bind the booklet at the right"),
+];
+
+const ZINE: [Argument; 4] = [
+    SAME_SCALE,
+    MARGIN,
+    Argument::Valued(
+        "gap",
+        "LENGTHS",
+        "Keep so much free at the folds, half of it on each side",
+    ),
+    Argument::Flag("rtl", "Bind the zine at the right"),
+];
+
+const NOTES: [Argument; 7] = [
+    Argument::Required("count", "N", "How many pages, from 1 to 512"),
+    SAME_SCALE,
+    MARGIN,
+    Argument::Valued(
+        "gap",
+        "LENGTHS",
+        "Keep so much free between pages, and before the lines",
+    ),
+    TRIM,
+    NUMBERS,
+    NUMBERS_FROM,
+];
+
+const POSTER: [Argument; 3] = [
+    Argument::Required(
+        "count",
+        "CxR",
+        "Columns and rows of sheets, as 2x3, at most 1024 sheets in all",
+    ),
+    Argument::Valued(
+        "overlap",
+        "LENGTH",
+        "So much of the page is on both of two neighbouring sheets, as 1cm",
+    ),
+    MARGIN,
+];
+
+const SPEC: [Argument; 2] = [
+    Argument::Required(
+        "specs",
+        "SPECS",
+        "A page specification, as 2:0L@.7(21cm,0)+1L@.7(21cm,14.85cm), of the pages that are chosen",
+    ),
+    Argument::Valued(
+        "signature",
+        "SIDES",
+        "Put the pages into signatures of so many sides first, a multiple of four, or auto",
+    ),
+];
+
+const SAME_SCALE: Argument = Argument::Flag(
+    "same-scale",
+    "Pages of smaller papers have the scale of the largest one",
+);
+
+const MARGIN: Argument = Argument::Valued(
+    "margin",
+    "LENGTHS",
+    "Keep so much free along the edges of a sheet: 5mm, SIDES,ENDS, TOP,RIGHT,BOTTOM,LEFT, or left=2cm",
+);
+
+const TRIM: Argument = Argument::Valued(
+    "trim",
+    "LENGTH",
+    "Take each page as smaller by so much along each side, so that it is printed larger",
+);
+
+const NUMBERS: Argument = Argument::Valued(
+    "numbers",
+    "SIZE",
+    "Draw the number of each page at its foot, so large, as 10pt",
+);
+
+const NUMBERS_FROM: Argument = Argument::Valued(
+    "numbers-from",
+    "NUMBER",
+    "The number of the first page [default: 1]",
+);
+
+/// What commands have that choose pages by an option, and lay them on sheets.
+const LAID: [Argument; 4] = [TURN, PLAN, PREVIEW, PAGES];
+
+const TURN: Argument = Argument::Valued(
+    "turn",
+    "SIDE",
+    "Turn each page before it is placed: to the left, to the right, or by half",
+);
+
+const PLAN: Argument = Argument::Flag(
+    "plan",
+    "Print which page is where on each sheet, and impose nothing",
+);
+
+const PREVIEW: Argument = Argument::Valued(
+    "preview",
+    "FILE",
+    "Draw the sheets into FILE, an SVG, or to standard output for -, and impose nothing",
+);
+
+const PAGES: Argument = Argument::Valued("pages", "RANGES", RANGES_HELP);
+
+const RANGES: Argument = Argument::Required("ranges", "RANGES", RANGES_HELP);
+
+const RANGES_HELP: &str =
+    "Pages, as 7, 3-9, 9-3, 5- or _1 (the last), blank for an empty one, with commas between them";
+
+/// The arguments that every subcommand has, in the order of `common_rules` (specs/Command.antt).
+const COMMON: [Argument; 11] = [
+    Argument::Flag("odd", "Of these the first, the third and so on"),
+    Argument::Flag("even", "Of these the second, the fourth and so on"),
+    Argument::Flag("reverse", "The last of these first"),
+    Argument::Positional(
+        "infile",
+        "INFILE",
+        "The document; - or nothing is standard input",
+    ),
+    Argument::Positional(
+        "outfile",
+        "OUTFILE",
+        "The sheets; - or nothing is standard output",
+    ),
+    Argument::LetteredValued(
+        'p',
+        "paper",
+        "PAPER",
+        "The paper of the pages, as a4, a5-landscape or 210x297mm [default: the document's]",
+    ),
+    Argument::Valued(
+        "sheet",
+        "PAPER",
+        "The paper of the sheets [default: that of the pages]",
+    ),
+    Argument::Valued(
+        "border",
+        "WIDTH",
+        "Draw a border round each page, as 1pt or .5mm",
+    ),
+    Argument::Flag(
+        "unguarded",
+        "Leave the document's own operators as they are",
+    ),
+    Argument::Flag(
+        "print-spec",
+        "Print the specification and a line of pstops for it, and impose nothing",
+    ),
+    Argument::LetteredFlag('q', "quiet", "Leave the report out"),
+];
+
 /// The command with its subcommands.
 pub(crate) fn command<'a>(alloc: Global) -> Result<Command<'a>, AllocError>
     ensures { IfOk result (λ c. app_of c ≡ impose) }
 {
-    let top = Command::new(alloc, "impose")
+    let bare = Command::new(alloc, "impose")
         .version("1.0")
         .about("Puts the pages of a PostScript document on sheets of paper")
         .after_help(PAPERS_AND_EXAMPLES)
         .subcommand_required(true)
         .arg_required_else_help(true);
-    let with_first = top.subcommands(first_commands(alloc)?)?;
-    with_first.subcommands(other_commands(alloc)?)
+    with_subcommands(alloc, bare, &SUBCOMMANDS)
 }
 
-/// Those with cells that are cut or folded.
-fn first_commands<'a>(alloc: Global) -> Result<Vec<Command<'a>>, AllocError>
-    ensures { IfOk result (λ v. map app_of v.items ≡ first_apps) }
-{
-    let nup = nup(alloc)?;
-    let booklet = booklet(alloc)?;
-    let zine = zine(alloc)?;
-    let cards = cards(alloc)?;
-    let stack = stack(alloc)?;
-    Ok(vec![in alloc; nup, booklet, zine, cards, stack]?)
-}
-
-fn other_commands<'a>(alloc: Global) -> Result<Vec<Command<'a>>, AllocError>
-    ensures { IfOk result (λ v. map app_of v.items ≡ other_apps) }
-{
-    let notes = notes(alloc)?;
-    let poster = poster(alloc)?;
-    let select = select(alloc)?;
-    let spec = spec(alloc)?;
-    Ok(vec![in alloc; notes, poster, select, spec]?)
-}
-
-fn nup<'a>(alloc: Global) -> Result<Command<'a>, AllocError>
-    ensures { IfOk result (λ c. app_of c ≡ nup_app) }
-{
-    let about = "Several pages on each sheet, as large as they fit";
-    let help = "How many pages, from 1 to 1024, or columns and rows, as 2x4";
-    subcommand(
-        alloc,
-        "nup",
-        about,
-        cell_args(alloc, help)?,
-        laid_args(alloc)?,
-    )
-}
-
-fn cards<'a>(alloc: Global) -> Result<Command<'a>, AllocError>
-    ensures { IfOk result (λ c. app_of c ≡ cards_app) }
-{
-    let about = "Each page several times on a sheet, to be cut";
-    let help = "How often each page is on a sheet, from 1 to 1024, or columns and rows, as 2x4";
-    subcommand(
-        alloc,
-        "cards",
-        about,
-        cell_args(alloc, help)?,
-        laid_args(alloc)?,
-    )
-}
-
-fn stack<'a>(alloc: Global) -> Result<Command<'a>, AllocError>
-    ensures { IfOk result (λ c. app_of c ≡ stack_app) }
-{
-    let about =
-        "Several pages on each sheet: cut the pile, lay its parts on one another, and the pages run on";
-    let help = "How many pages, from 1 to 1024, or columns and rows, as 2x4";
-    let duplex = flag(alloc, "duplex").help("For sheets that are printed on both sides");
-    let laid = vec![in alloc;
-        duplex,
-        turn(alloc),
-        plan(alloc),
-        preview(alloc),
-        pages(alloc),
-    ]?;
-    subcommand(alloc, "stack", about, cell_args(alloc, help)?, laid)
-}
-
-fn notes<'a>(alloc: Global) -> Result<Command<'a>, AllocError>
-    ensures { IfOk result (λ c. app_of c ≡ notes_app) }
-{
-    let about = "Pages one below another, and beside each of them lines for notes";
-    let own = vec![in alloc;
-        count(alloc, "How many pages, from 1 to 512"),
-        same_scale(alloc),
-        margin(alloc),
-        gap(
-            alloc,
-            "Keep so much free between pages, and before the lines"
-        ),
-        trim(alloc),
-        numbers(alloc),
-        numbers_from(alloc),
-    ]?;
-    subcommand(alloc, "notes", about, own, laid_args(alloc)?)
-}
-
-fn poster<'a>(alloc: Global) -> Result<Command<'a>, AllocError>
-    ensures { IfOk result (λ c. app_of c ≡ poster_app) }
-{
-    let about = "Each page over several sheets, to be glued together";
-    let own = vec![in alloc;
-        required(alloc, "count", "CxR").help(
-            "Columns and rows of sheets, as 2x3, at most 1024 sheets in all"
-        ),
-        option(alloc, "overlap", "LENGTH").help(
-            "So much of the page is on both of two neighbouring sheets, as 1cm"
-        ),
-        margin(alloc),
-    ]?;
-    subcommand(alloc, "poster", about, own, laid_args(alloc)?)
-}
-
-fn booklet<'a>(alloc: Global) -> Result<Command<'a>, AllocError>
-    ensures { IfOk result (λ c. app_of c ≡ booklet_app) }
-{
-    let about = "A booklet, to be printed on both sides, folded and stapled";
-    subcommand(
-        alloc,
-        "booklet",
-        about,
-        booklet_args(alloc)?,
-        laid_args(alloc)?,
-    )
-}
-
-fn booklet_args<'a>(alloc: Global) -> Result<Vec<Arg<'a>>, AllocError>
-    ensures { IfOk result (λ v. map rule_of v.items ≡ booklet_rules) }
-{
-    let args = vec![in alloc;
-        signature(alloc),
-        creep(alloc),
-        flag(alloc, "long-edge").help("For printers that flip on the long edge"),
-        same_scale(alloc),
-        margin(alloc),
-        gap(
-            alloc,
-            "Keep so much free at the fold, half of it on each side"
-        ),
-        trim(alloc),
-        marks(
-            alloc,
-            "Draw short lines at the fold (fold), where the margin is cut off (cut), or both (fold,cut)"
-        ),
-        numbers(alloc),
-        numbers_from(alloc),
-        rtl(alloc, "Bind the booklet at the right"),
-    ]?;
-    Ok(args)
-}
-
-fn zine<'a>(alloc: Global) -> Result<Command<'a>, AllocError>
-    ensures { IfOk result (λ c. app_of c ≡ zine_app) }
-{
-    let about = "Eight pages on one side of a sheet, to be folded thrice and cut once";
-    let own = vec![in alloc;
-        same_scale(alloc),
-        margin(alloc),
-        gap(
-            alloc,
-            "Keep so much free at the folds, half of it on each side"
-        ),
-        rtl(alloc, "Bind the zine at the right"),
-    ]?;
-    subcommand(alloc, "zine", about, own, laid_args(alloc)?)
-}
-
-fn select<'a>(alloc: Global) -> Result<Command<'a>, AllocError>
-    ensures { IfOk result (λ c. app_of c ≡ select_app) }
-{
-    let about = "Some pages, in the order in which they are named, each on a sheet of its own";
-    let own = vec![in alloc;
-        required(alloc, "ranges", "RANGES").help(RANGES_HELP),
-        numbers(alloc),
-        numbers_from(alloc),
-    ]?;
-    let look = vec![in alloc; turn(alloc), plan(alloc), preview(alloc)]?;
-    subcommand(alloc, "select", about, own, look)
-}
-
-fn spec<'a>(alloc: Global) -> Result<Command<'a>, AllocError>
-    ensures { IfOk result (λ c. app_of c ≡ spec_app) }
-{
-    let about = "Pages as a page specification of pstops places them";
-    let own = vec![in alloc;
-        required(alloc, "specs", "SPECS").help(
-            "A page specification, as 2:0L@.7(21cm,0)+1L@.7(21cm,14.85cm), of the pages that are chosen"
-        ),
-        option(alloc, "signature", "SIDES").help(
-            "Put the pages into signatures of so many sides first, a multiple of four, or auto"
-        ),
-    ]?;
-    let chosen = vec![in alloc; pages(alloc)]?;
-    subcommand(alloc, "spec", about, own, chosen)
-}
-
-/// What commands have that lay pages in cells.
-fn cell_args<'a>(alloc: Global, help: &'a str) -> Result<Vec<Arg<'a>>, AllocError>
-    ensures { IfOk result (λ v. map rule_of v.items ≡ cell_rules) }
-{
-    let args = vec![in alloc;
-        count(alloc, help),
-        option(alloc, "order", "ORDER").help(
-            "Where pages go on: right-down, down-right, left-down or down-left [default: right-down]"
-        ),
-        option(alloc, "turned", "SIDE").help(
-            "The pages lie on their sides, and are turned to the left or to the right to be read"
-        ),
-        option(alloc, "scale", "SCALE").help(
-            "The scale of the pages, as 0.7 [default: as large as they fit]"
-        ),
-        same_scale(alloc),
-        margin(alloc),
-        gap(
-            alloc,
-            "Keep so much free between pages, as 5mm, or 5mm,1cm side by side and one above another"
-        ),
-        trim(alloc),
-        marks(alloc, "Draw short lines where sheets are cut: cut"),
-        numbers(alloc),
-        numbers_from(alloc),
-        rtl(alloc, "From the right to the left"),
-    ]?;
-    Ok(args)
-}
-
-/// What commands have that choose pages by an option, and lay them on sheets.
-fn laid_args<'a>(alloc: Global) -> Result<Vec<Arg<'a>>, AllocError>
-    ensures { IfOk result (λ v. map rule_of v.items ≡ laid_rules) }
-{
-    Ok(vec![in alloc; turn(alloc), plan(alloc), preview(alloc), pages(alloc)]?)
-}
-
-fn count<'a>(alloc: Global, help: &'a str) -> Arg<'a>
-    ensures { rule_of result ≡ count_rule }
-{
-    required(alloc, "count", "N").help(help)
-}
-
-fn same_scale<'a>(alloc: Global) -> Arg<'a>
-    ensures { rule_of result ≡ flag_rule (codes "same-scale") }
-{
-    flag(alloc, "same-scale").help("Pages of smaller papers have the scale of the largest one")
-}
-
-fn signature<'a>(alloc: Global) -> Arg<'a>
-    ensures { rule_of result ≡ option_rule (codes "signature") }
-{
-    option(alloc, "signature", "SIDES").help(
-        "Leaves of so many sides, a multiple of four; auto is eight leaves at most [default: all pages]",
-    )
-}
-
-fn creep<'a>(alloc: Global) -> Arg<'a>
-    ensures { rule_of result ≡ option_rule (codes "creep") }
-{
-    option(alloc, "creep", "LENGTH").help(
-        "Move pages of the innermost leaf so much towards the fold, and of others less, as 2mm",
-    )
-}
-
-fn margin<'a>(alloc: Global) -> Arg<'a>
-    ensures { rule_of result ≡ option_rule (codes "margin") }
-{
-    option(alloc, "margin", "LENGTHS").help(
-        "Keep so much free along the edges of a sheet: 5mm, SIDES,ENDS, TOP,RIGHT,BOTTOM,LEFT, or left=2cm",
-    )
-}
-
-fn gap<'a>(alloc: Global, help: &'a str) -> Arg<'a>
-    ensures { rule_of result ≡ option_rule (codes "gap") }
-{
-    option(alloc, "gap", "LENGTHS").help(help)
-}
-
-fn trim<'a>(alloc: Global) -> Arg<'a>
-    ensures { rule_of result ≡ option_rule (codes "trim") }
-{
-    option(alloc, "trim", "LENGTH").help(
-        "Take each page as smaller by so much along each side, so that it is printed larger",
-    )
-}
-
-fn marks<'a>(alloc: Global, help: &'a str) -> Arg<'a>
-    ensures { rule_of result ≡ option_rule (codes "marks") }
-{
-    option(alloc, "marks", "MARKS").help(help)
-}
-
-fn numbers<'a>(alloc: Global) -> Arg<'a>
-    ensures { rule_of result ≡ numbers_rule }
-{
-    option(alloc, "numbers", "SIZE").help(
-        "Draw the number of each page at its foot, so large, as 10pt",
-    )
-}
-
-fn numbers_from<'a>(alloc: Global) -> Arg<'a>
-    ensures { rule_of result ≡ first_rule }
-{
-    option(alloc, "numbers-from", "NUMBER").help("The number of the first page [default: 1]")
-}
-
-fn rtl<'a>(alloc: Global, help: &'a str) -> Arg<'a>
-    ensures { rule_of result ≡ flag_rule (codes "rtl") }
-{
-    flag(alloc, "rtl").help(help)
-}
-
-fn odd<'a>(alloc: Global) -> Arg<'a>
-    ensures { rule_of result ≡ flag_rule (codes "odd") }
-{
-    flag(alloc, "odd").help("Of these the first, the third and so on")
-}
-
-fn even<'a>(alloc: Global) -> Arg<'a>
-    ensures { rule_of result ≡ flag_rule (codes "even") }
-{
-    flag(alloc, "even").help("Of these the second, the fourth and so on")
-}
-
-fn reverse<'a>(alloc: Global) -> Arg<'a>
-    ensures { rule_of result ≡ flag_rule (codes "reverse") }
-{
-    flag(alloc, "reverse").help("The last of these first")
-}
-
-fn turn<'a>(alloc: Global) -> Arg<'a>
-    ensures { rule_of result ≡ option_rule (codes "turn") }
-{
-    option(alloc, "turn", "SIDE").help(
-        "Turn each page before it is placed: to the left, to the right, or by half",
-    )
-}
-
-fn plan<'a>(alloc: Global) -> Arg<'a>
-    ensures { rule_of result ≡ flag_rule (codes "plan") }
-{
-    flag(alloc, "plan").help("Print which page is where on each sheet, and impose nothing")
-}
-
-fn preview<'a>(alloc: Global) -> Arg<'a>
-    ensures { rule_of result ≡ option_rule (codes "preview") }
-{
-    option(alloc, "preview", "FILE").help(
-        "Draw the sheets into FILE, an SVG, or to standard output for -, and impose nothing",
-    )
-}
-
-const RANGES_HELP: &str =
-    "Pages, as 7, 3-9, 9-3, 5- or _1 (the last), blank for an empty one, with commas between them";
-
-fn pages<'a>(alloc: Global) -> Arg<'a>
-    ensures { rule_of result ≡ option_rule (codes "pages") }
-{
-    option(alloc, "pages", "RANGES").help(RANGES_HELP)
-}
-
-/// A subcommand with arguments of its own, those that it shares with some others, and those that every subcommand has.
-fn subcommand<'a>(
+fn with_subcommands<'a>(
     alloc: Global,
-    name: &'a str,
-    about: &'a str,
-    own: Vec<Arg<'a>>,
-    shared: Vec<Arg<'a>>,
+    command: Command<'a>,
+    rows: &[Subcommand],
 ) -> Result<Command<'a>, AllocError>
-    requires own { list_all fits (map rule_of own.items) ≡ true }
-    requires shared { list_all fits (map rule_of shared.items) ≡ true }
-    ensures { IfOk result (λ c. app_of c ≡
-        subcommand_app name.entry.now (map rule_of own.entry.items) (map rule_of shared.entry.items)) }
+    ensures { IfOk result (λ c. app_of c ≡ fold with_app (app_of command.entry) rows.now) }
 {
-    let with_own = Command::new(alloc, name).about(about).args(own)?;
-    let with_shared = with_own.args(shared)?;
-    with_shared.args(common(alloc)?)
+    let mut command = command;
+    for row in rows {
+        command = with_subcommand(alloc, command, row)?;
+    }
+    Ok(command)
 }
 
-/// The arguments that every subcommand has, in the order of `common_rules` (specs/Command.antt).
-fn common<'a>(alloc: Global) -> Result<Vec<Arg<'a>>, AllocError>
-    ensures { IfOk result (λ v. map rule_of v.items ≡ common_rules) }
+fn with_subcommand<'a>(
+    alloc: Global,
+    command: Command<'a>,
+    row: &Subcommand,
+) -> Result<Command<'a>, AllocError>
+    ensures { IfOk result (λ c. app_of c ≡ with_app (app_of command.entry) row.now) }
 {
-    let args = vec![in alloc;
-        odd(alloc),
-        even(alloc),
-        reverse(alloc),
-        positional(alloc, "infile", "INFILE").help("The document; - or nothing is standard input"),
-        positional(alloc, "outfile", "OUTFILE").help("The sheets; - or nothing is standard output"),
-        paper(alloc),
-        option(alloc, "sheet", "PAPER").help(
-            "The paper of the sheets [default: that of the pages]"
-        ),
-        option(alloc, "border", "WIDTH").help("Draw a border round each page, as 1pt or .5mm"),
-        flag(alloc, "unguarded").help("Leave the document's own operators as they are"),
-        flag(alloc, "print-spec").help(
-            "Print the specification and a line of pstops for it, and impose nothing"
-        ),
-        quiet(alloc),
-    ]?;
-    Ok(args)
+    let added = command_of(alloc, row)?;
+    command.subcommand(added)
 }
 
-fn paper<'a>(alloc: Global) -> Arg<'a>
-    ensures { rule_of result ≡ lettered letter_p (option_rule (codes "paper")) }
+fn command_of<'a>(alloc: Global, row: &Subcommand) -> Result<Command<'a>, AllocError>
+    ensures { IfOk result (λ c. app_of c ≡ app_in row.now) }
 {
-    option(alloc, "paper", "PAPER").short('p').help(
-        "The paper of the pages, as a4, a5-landscape or 210x297mm [default: the document's]",
-    )
+    let bare = Command::new(alloc, row.name).about(row.about);
+    let own = with_groups(alloc, bare, row.groups)?;
+    with_arguments(alloc, own, &COMMON)
 }
 
-fn quiet<'a>(alloc: Global) -> Arg<'a>
-    ensures { rule_of result ≡ lettered letter_q (flag_rule (codes "quiet")) }
+fn with_groups<'a>(
+    alloc: Global,
+    command: Command<'a>,
+    groups: &[&[Argument]],
+) -> Result<Command<'a>, AllocError>
+    ensures { IfOk result (λ c.
+        app_of c ≡ fold (λ app group. fold with_row app group.now) (app_of command.entry) groups.now) }
 {
-    flag(alloc, "quiet").short('q').help("Leave the report out")
+    let mut command = command;
+    for group in groups {
+        command = with_arguments(alloc, command, group)?;
+    }
+    Ok(command)
 }
 
-fn positional<'a>(alloc: Global, id: &'a str, name: &'a str) -> Arg<'a>
+fn with_arguments<'a>(
+    alloc: Global,
+    command: Command<'a>,
+    rows: &[Argument],
+) -> Result<Command<'a>, AllocError>
+    ensures { IfOk result (λ c. app_of c ≡ fold with_row (app_of command.entry) rows.now) }
+{
+    let mut command = command;
+    for row in rows {
+        command = with_argument(alloc, command, *row)?;
+    }
+    Ok(command)
+}
+
+fn with_argument<'a>(
+    alloc: Global,
+    command: Command<'a>,
+    row: Argument,
+) -> Result<Command<'a>, AllocError>
+    ensures { IfOk result (λ c. app_of c ≡ with_row (app_of command.entry) row) }
+{
+    command.arg(arg_of(alloc, row))
+}
+
+fn arg_of<'a>(alloc: Global, row: Argument) -> Arg<'a>
+    ensures { rule_of result ≡ rule_in row }
+{
+    match row {
+        Argument::Required(id, name, help) => positional(alloc, id, name, help).required(true),
+        Argument::Positional(id, name, help) => positional(alloc, id, name, help),
+        Argument::Valued(id, name, help) => positional(alloc, id, name, help).long(id),
+        Argument::LetteredValued(letter, id, name, help) => {
+            positional(alloc, id, name, help).long(id).short(letter)
+        }
+        Argument::Flag(id, help) => flag(alloc, id, help),
+        Argument::LetteredFlag(letter, id, help) => flag(alloc, id, help).short(letter),
+    }
+}
+
+fn positional<'a>(alloc: Global, id: &'a str, name: &'a str, help: &'a str) -> Arg<'a>
     ensures { rule_of result ≡ positional_rule id.entry.now }
 {
-    Arg::new(alloc, id).value_name(name).action(ArgAction::Set)
-}
-
-fn required<'a>(alloc: Global, id: &'a str, name: &'a str) -> Arg<'a>
-    ensures { rule_of result ≡ required_rule id.entry.now }
-{
     Arg::new(alloc, id)
         .value_name(name)
         .action(ArgAction::Set)
-        .required(true)
+        .help(help)
 }
 
-fn option<'a>(alloc: Global, id: &'a str, name: &'a str) -> Arg<'a>
-    ensures { rule_of result ≡ option_rule id.entry.now }
-{
-    Arg::new(alloc, id)
-        .value_name(name)
-        .action(ArgAction::Set)
-        .long(id)
-}
-
-fn flag<'a>(alloc: Global, id: &'a str) -> Arg<'a>
+fn flag<'a>(alloc: Global, id: &'a str, help: &'a str) -> Arg<'a>
     ensures { rule_of result ≡ flag_rule id.entry.now }
 {
-    Arg::new(alloc, id).long(id).action(ArgAction::SetTrue)
+    Arg::new(alloc, id)
+        .long(id)
+        .action(ArgAction::SetTrue)
+        .help(help)
 }
