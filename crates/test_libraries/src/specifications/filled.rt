@@ -2,9 +2,9 @@
 ghost use Rattle.std.specs.Prelude.{◌*◌, ◌≤◌, IfSome};
 ghost use Rattle.layouts.specs.Cells.{size};
 
-use crate::specifications::answer::Answer;
+use crate::answer::Answer;
 use crate::specifications::planned::page_lists;
-use crate::specifications::words::{number, paper, row, word};
+use crate::words::{number, paper, row, word};
 use layouts::{Arrangement, ArrangementError, Cells, Papers, Setting};
 use lengths::{Paper, a4};
 use row_sheets::{

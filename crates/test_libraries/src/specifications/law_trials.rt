@@ -1,9 +1,9 @@
 //! The laws of layouts on printed matrices, by arithmetic of the tests' own: all numbers of pages on many papers.
-use crate::specifications::answer::Answer;
+use crate::answer::Answer;
 use crate::specifications::placed::{
     Kept, Placed, are_apart, are_in_order, are_inside, are_like, columns_of, largest, pages_of,
 };
-use crate::specifications::words::word;
+use crate::words::word;
 use layouts::{Arrangement, Binding, Cells, Free, Papers, arrange, bind};
 use lengths::{Grains, paper_by_name};
 use pagespec::Spec;

@@ -1,9 +1,9 @@
 //! Numbers, lengths and papers.
-use crate::specifications::answer::Answer;
-use crate::specifications::words::{number, paper, word};
+use crate::answer::Answer;
+use crate::words::{number, paper, word};
 use lengths::{
-    Grains, Number, NumberError, Unit, paper_by_name, print_number, print_points, print_scale,
-    read_digits, read_number, to_grains, unit_by_name,
+    Grains, Number, NumberError, Unit, paper_by_name, print_number, print_scale, read_digits,
+    read_number, to_grains, unit_by_name,
 };
 
 pub fn run(out: &mut Answer, words: &[String]) -> Option<()> {
@@ -75,9 +75,7 @@ fn printed(out: &mut Answer, number: Number) {
 }
 
 fn points(out: &mut Answer, length: Grains) {
-    let before = out.bytes.len();
-    let added = print_points(length, &mut out.bytes);
-    out.note_appended(before, added.is_ok());
+    out.points(length);
     out.text("\n");
 }
 

@@ -1,7 +1,7 @@
 //! Layouts: specifications that are made for people.
-use crate::specifications::answer::Answer;
+use crate::answer::Answer;
 use crate::specifications::specifications::written;
-use crate::specifications::words::{count, length, number, number_in, paper, word};
+use crate::words::{count, length, number, number_in, paper, word};
 use layouts::{
     Arrangement, ArrangementError, Binding, Cells, Free, Papers, Run, Turned, arrange, bind,
 };

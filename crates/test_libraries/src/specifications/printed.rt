@@ -1,7 +1,7 @@
 //! Sheets as they are listed and drawn before they are imposed.
-use crate::specifications::answer::Answer;
+use crate::answer::Answer;
 use crate::specifications::filled::two_columns;
-use crate::specifications::words::{count, length, paper, row, word};
+use crate::words::{count, length, paper, row, word};
 use layouts::{ArrangementError, Setting};
 use lengths::{Grains, Number, Paper};
 use pagespec::{Item, Measure, Turn};

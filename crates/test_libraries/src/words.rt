@@ -1,8 +1,9 @@
 //! The words of a command.
-use crate::specifications::answer::{Answer, Form};
+use crate::answer::{Answer, Form};
 use lengths::{Grains, NoMemory, Paper, paper_by_name};
 use pagespec::{Item, Spec, read_spec};
 use std::alloc::Global;
+use test_cases::Document;
 
 /// The words after `line` or `taken`, which say what is shown of the answer.
 pub fn without_form<'w>(out: &mut Answer, words: &'w [String]) -> &'w [String] {
@@ -51,6 +52,26 @@ pub fn paper(words: &[String], at: usize) -> Option<Paper> {
     };
     let (width, height) = sides.split_once('x')?;
     Paper::new(length(width, unit)?, length(height, unit)?)
+}
+
+/// Papers by their names.
+pub fn papers_of(alloc: Global, names: &[String]) -> Option<Vec<Paper>> {
+    let mut papers = Vec::new(alloc);
+    for name in names {
+        papers.push(paper_by_name(name.as_str())?).ok()?;
+    }
+    Some(papers)
+}
+
+/// The text of the document of this name.
+pub fn text_of<'d>(documents: &'d [Document], words: &[String], at: usize) -> Option<&'d [u8]> {
+    let name = word(words, at)?;
+    for document in documents {
+        if document.name.as_str() == name {
+            return Some(document.bytes.as_slice());
+        }
+    }
+    None
 }
 
 /// A length of this many units, each of this many grains.
