@@ -120,11 +120,10 @@ impl Answer {
     /// An error, by its name or by its line.
     pub fn refusal<E: Debug + Display + Drop>(&mut self, error: E) {
         self.is_refused = true;
-        let added = if self.form == Form::Line {
-            write!(self.bytes, "{error}\n")
+        if self.form == Form::Line {
+            self.line(format_args!("{error}"));
         } else {
-            write!(self.bytes, "{error:?}\n")
-        };
-        self.note(added.is_ok());
+            self.line(format_args!("{error:?}"));
+        }
     }
 }

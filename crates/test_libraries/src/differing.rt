@@ -1,44 +1,18 @@
-//! A case file in which some cases differ: what is read from it, and how the differences are reported.
+//! Commands of the case file in which some cases differ: what is read from it, and what is said to be found.
 use crate::answer::Answer;
-use crate::files::printed;
-use crate::words::word;
 use std::alloc::Global;
-use test_cases::{Case, CaseFile, Found, FoundFile, Tally, load};
+use test_cases::{Case, CaseFile, Found, FoundFile};
 
-/// Its name.
-const DIFFERING: &str = "differing.cases";
-
-/// Prints what differs, and counts it separately.
-pub fn tell_differing(rt: &HostRuntime) -> anyhow::Result<()> {
-    let file = load(rt, DIFFERING)?;
-    let mut tally = Tally::new();
-    tally.tell_bad_lines(rt, DIFFERING, &file)?;
-    for case in file.cases.iter() {
-        match found(rt.alloc(), &file, case) {
-            Some(found) => tally.compare(rt, DIFFERING, case, &found)?,
-            None => tally.refuse(rt, DIFFERING, case, "not understood, or no memory")?,
-        }
-    }
-    tally.end(rt)
-}
-
-/// What the words `found STATUS OUTPUT ERROR` say, which a file's `NAME TEXT` may follow. For other words it is
-/// what was read of the case.
-fn found(alloc: Global, file: &CaseFile, case: &Case) -> Option<Found> {
-    let words = case.words.as_slice();
-    match word(words, 0) {
-        Some("found") => said(alloc, words),
-        _ => Some(printed(alloc, what_was_read(alloc, file, case)?)),
-    }
-}
-
-/// The results of a command, with the file that it made, if it made one.
-fn said(alloc: Global, words: &[String]) -> Option<Found> {
+/// What the words `found STATUS OUTPUT ERROR` say, which a file's `NAME TEXT` may follow.
+pub fn said(alloc: Global, words: &[String]) -> Option<Found> {
+    let [_, status, output, error, made @ ..] = words else {
+        return None;
+    };
     Some(Found {
-        status: word(words, 1)?.parse::<u8>().ok()?,
-        output: bytes_of(alloc, word(words, 2)?)?,
-        error: bytes_of(alloc, word(words, 3)?)?,
-        files: files_of(alloc, words.get(4..)?)?,
+        status: status.parse::<u8>().ok()?,
+        output: bytes_of(alloc, output.as_str())?,
+        error: bytes_of(alloc, error.as_str())?,
+        files: files_of(alloc, made)?,
     })
 }
 
@@ -65,13 +39,16 @@ fn file_of(alloc: Global, name: &str, text: &str) -> Option<FoundFile> {
 }
 
 /// The words of a case, its inputs, and its pieces.
-fn what_was_read(alloc: Global, file: &CaseFile, case: &Case) -> Option<Vec<u8>> {
+pub fn what_was_read(alloc: Global, file: &CaseFile, case: &Case) -> Option<Vec<u8>> {
     let mut out = Answer::new(alloc);
     out.line(format_args!("{:?}", case.words.as_slice()));
     for input in case.inputs.iter() {
-        out.show(format_args!("input {} ", input.name));
+        out.text("input ");
+        out.text(input.name.as_str());
+        out.text(" ");
         out.quoted_line(file.text_of(input));
     }
-    out.line(format_args!("pieces {}", case.setting("pieces").unwrap_or("none")));
+    out.text("pieces ");
+    out.line(case.setting("pieces").unwrap_or("none"));
     out.whole()
 }

@@ -1,7 +1,8 @@
 //! Runs the cases of files: each command once, and again with each of its growths refused.
 use crate::answer::Answer;
+use crate::differing::{said, what_was_read};
 use crate::refusals::{MOST_REFUSED, is_fair};
-use crate::words::without_form;
+use crate::words::{without_form, word};
 use crate::{documents, specifications};
 use std::alloc::Global;
 use test_cases::{Case, CaseFile, Document, Found, Tally, load};
@@ -25,22 +26,31 @@ fn run_cases(
     tally: &mut Tally,
 ) -> anyhow::Result<()> {
     for case in file.cases.iter() {
-        match answer_of(rt.alloc(), case, file.documents.as_slice()) {
-            Some(output) => tally.compare(rt, name, case, &printed(rt.alloc(), output))?,
+        match found(rt.alloc(), file, case) {
+            Some(found) => tally.compare(rt, name, case, &found)?,
             None => tally.refuse(rt, name, case, "not a command, or no memory")?,
         }
     }
     Ok(())
 }
 
+/// What a case gives, if it has a command.
+fn found(alloc: Global, file: &CaseFile, case: &Case) -> Option<Found> {
+    match word(case.words.as_slice(), 0)? {
+        "found" => said(alloc, case.words.as_slice()),
+        "call" => printed(alloc, what_was_read(alloc, file, case)),
+        _ => printed(alloc, answer_of(alloc, case, file.documents.as_slice())),
+    }
+}
+
 /// A result of printed text alone.
-pub fn printed(alloc: Global, output: Vec<u8>) -> Found {
-    Found {
+fn printed(alloc: Global, output: Option<Vec<u8>>) -> Option<Found> {
+    Some(Found {
         status: 0,
-        output,
+        output: output?,
         error: Vec::new(alloc),
         files: Vec::new(alloc),
-    }
+    })
 }
 
 /// The result of a command, if it is one, once no growth of it is refused. One in which a growth is refused has no result,

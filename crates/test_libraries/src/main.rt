@@ -10,7 +10,6 @@ mod refusals;
 mod specifications;
 mod words;
 
-use crate::differing::tell_differing;
 use crate::documents::call_laws;
 use crate::files::run_all;
 
@@ -37,7 +36,7 @@ const OF_SPECIFICATIONS: [&str; 7] = [
 
 fn main(rt: HostRuntime) -> anyhow::Result<()> {
     call_laws();
-    tell_differing(&rt)?;
+    run_all(&rt, &["differing.cases"])?;
     run_all(&rt, &OF_DOCUMENTS)?;
     run_all(&rt, &OF_SPECIFICATIONS)
 }

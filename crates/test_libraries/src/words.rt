@@ -43,9 +43,10 @@ pub fn count(words: &[String], at: usize) -> Option<u32> {
 /// A paper: its name, or its sides as `WxH`, in 10^-5 of a point, or in grains if a `g` follows.
 pub fn paper(words: &[String], at: usize) -> Option<Paper> {
     let text = word(words, at)?;
-    if let Some(paper) = paper_by_name(text) {
-        return Some(paper);
-    }
+    paper_by_name(text).or(paper_of_sides(text))
+}
+
+fn paper_of_sides(text: &str) -> Option<Paper> {
     let (sides, unit) = match text.strip_suffix('g') {
         Some(sides) => (sides, 1),
         None => (text, 1_270_000),
@@ -81,30 +82,35 @@ pub fn length(text: &str, unit: i128) -> Option<Grains> {
 
 /// A text, which may be written as `repeat N TEXT BETWEEN FRONT BACK`; the last three may be left out.
 pub fn long_text(alloc: Global, text: &str) -> Option<String> {
-    let mut parts = text.split(' ');
-    if parts.next() != Some("repeat") {
+    if part(text, 0) != "repeat" {
         return String::from_str(alloc, text).ok();
     }
-    let times = number_in(parts.next()?)?;
-    let one = parts.next()?;
-    let between = parts.next().unwrap_or("");
-    let front = parts.next().unwrap_or("");
-    let back = parts.next().unwrap_or("");
-    repeated(alloc, [front, one, between, back], times).ok()
+    let times = number_in(part(text, 1))?;
+    repeated(alloc, [4, 2, 3, 5].map(|at| part(text, at)), times).ok()
+}
+
+/// A part of a text between spaces; an empty one behind the last.
+fn part(text: &str, at: usize) -> &str {
+    text.split(' ').nth(at).unwrap_or("")
 }
 
 /// This many times a text with another between them, after the front and before the back.
 fn repeated(alloc: Global, parts: [&str; 4], times: i128) -> Result<String, NoMemory> {
+    let mut text = String::new(alloc);
+    push_repeated(&mut text, parts, times)?;
+    Ok(text)
+}
+
+fn push_repeated(text: &mut String, parts: [&str; 4], times: i128) -> Result<(), NoMemory> {
     let [front, one, between, back] = parts;
-    let mut text = String::from_str(alloc, front)?;
+    text.push_str(front)?;
     for time in 0..times {
         if time > 0 {
             text.push_str(between)?;
         }
         text.push_str(one)?;
     }
-    text.push_str(back)?;
-    Ok(text)
+    text.push_str(back)
 }
 
 /// A specification. If it is refused, the refusal is printed.

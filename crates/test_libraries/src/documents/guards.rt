@@ -1,15 +1,17 @@
 //! Documents with the guard inserted.
 use crate::answer::Answer;
+use crate::words::paper;
 use guard::{guarded, put_guard, put_guard_before};
 use lengths::Paper;
 use std::alloc::{AllocError, Global};
 
-/// The text with the guard inserted, and the other ways of inserting it that give another text.
-pub fn guard(out: &mut Answer, text: &[u8], paper: Option<&Paper>) {
-    match guarded(out.alloc, text, paper) {
+/// The text with the guard inserted, for a paper if one is named, and the other ways of inserting it that give another text.
+pub fn guard(out: &mut Answer, text: &[u8], words: &[String]) {
+    let sheet = paper(words, 2);
+    match guarded(out.alloc, text, sheet.as_ref()) {
         Ok(copy) => {
             out.lossy(copy.as_slice());
-            compare(out, copy.as_slice(), text, paper);
+            compare(out, copy.as_slice(), text, sheet.as_ref());
         }
         Err(_) => out.note(false),
     }

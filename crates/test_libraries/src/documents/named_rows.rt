@@ -1,4 +1,6 @@
 //! Rows that texts and choices name.
+ghost use Rattle.std.specs.Prelude.{◌≤◌};
+
 use crate::answer::Answer;
 use crate::words::{count, word};
 use rows::{Choice, Part, Signing, auto_sides, chosen_row, imposed_row, in_signatures, read_row};
@@ -33,27 +35,33 @@ pub fn chosen(out: &mut Answer, words: &[String]) -> Option<()> {
 
 /// The row of a choice, in signatures if any are wanted.
 pub fn imposed(out: &mut Answer, words: &[String]) -> Option<()> {
-    let pages = count(words, 1)?;
+    let (pages, signing) = (count(words, 1)?, word(words, 2)?);
     let choice = choice_of(words.get(3..)?);
-    if pages >= TOO_MANY {
+    if pages < TOO_MANY {
+        signed(out, pages, &choice, signing);
+    } else {
         out.text("too many pages\n");
-        return Some(());
     }
-    let row = match word(words, 2)? {
-        "unsigned" => imposed_row(out.alloc, pages, &choice, None),
-        "in_one" => imposed_row(out.alloc, pages, &choice, Some(Signing::InOne)),
-        "auto" => imposed_row(out.alloc, pages, &choice, Some(Signing::Auto)),
-        _ => {
-            let sides = count(words, 2)?;
-            if !are_sides(sides) {
-                out.text("no sides of leaves\n");
-                return Some(());
-            }
-            imposed_row(out.alloc, pages, &choice, Some(Signing::OfSides(sides)))
-        }
-    };
-    told(out, row);
     Some(())
+}
+
+fn signed(out: &mut Answer, pages: u32, choice: &Choice<'_>, signing: &str)
+    requires { pages ≤ 1_000_000 }
+{
+    let alloc = out.alloc;
+    let sides = signing.parse::<u32>().unwrap_or(0);
+    match signing {
+        "unsigned" => told(out, imposed_row(alloc, pages, choice, None)),
+        "in_one" => told(out, imposed_row(alloc, pages, choice, Some(Signing::InOne))),
+        "auto" => told(out, imposed_row(alloc, pages, choice, Some(Signing::Auto))),
+        _ if are_sides(sides) => {
+            told(
+                out,
+                imposed_row(alloc, pages, choice, Some(Signing::OfSides(sides))),
+            )
+        }
+        _ => out.text("no sides of leaves\n"),
+    }
 }
 
 /// A choice: the words `odd`, `even`, `backwards`, and ranges of pages.

@@ -8,13 +8,20 @@ use test_cases::Document;
 
 pub fn run(out: &mut Answer, words: &[String], documents: &[Document]) -> Option<()> {
     match word(words, 0)? {
-        "paper" => told(out, text_of(documents, words, 1)?),
-        "page_papers" => home_papers(out, text_of(documents, words, 1)?, paper(words, 2))?,
-        "papers_as_one" => counted(out, text_of(documents, words, 1)?)?,
-        "cut_by" => cutting(out, words)?,
-        "first_instead_of" => instead_of(out, words)?,
-        "trailer_box" => trailing_box(out, text_of(documents, words, 1)?),
-        "title" => value_of_title(out, word(words, 1)?),
+        "cut_by" => cutting(out, words),
+        "first_instead_of" => instead_of(out, words),
+        "title" => value_of_title(out, words),
+        _ => run_on(out, words, text_of(documents, words, 1)?),
+    }
+}
+
+/// Runs a command on a document.
+fn run_on(out: &mut Answer, words: &[String], text: &[u8]) -> Option<()> {
+    match word(words, 0)? {
+        "paper" => told(out, text),
+        "page_papers" => return home_papers(out, text, paper(words, 2)),
+        "papers_as_one" => return counted(out, text),
+        "trailer_box" => trailing_box(out, text),
         _ => return None,
     }
     Some(())

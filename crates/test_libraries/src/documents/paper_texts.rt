@@ -1,9 +1,9 @@
 //! Documents, and the papers of their pages.
 use crate::answer::Answer;
-use crate::words::{paper, papers_of};
+use crate::words::{paper, papers_of, word};
 use dsc::{Document, DscError, comment_value, trailer_box};
 use lengths::{Paper, a4, paper_by_name, print_points};
-use papers::{as_one, cut_by, document_paper, first_instead_of, own_papers};
+use papers::{Cut, as_one, cut_by, document_paper, first_instead_of, own_papers};
 use std::alloc::Global;
 
 /// A paper: its name if it is one of a few, otherwise its width and height in points.
@@ -74,9 +74,13 @@ fn counted_at(alloc: Global, text: &[u8], home: &Paper) -> Result<Vec<Paper>, Ds
 fn paper_lines(out: &mut Answer, papers: &[Paper]) {
     for (page, paper) in papers.iter().enumerate() {
         out.show(format_args!("page {} ", page.saturating_add(1)));
-        show_paper(out, paper);
-        out.text("\n");
+        paper_line(out, paper);
     }
+}
+
+fn paper_line(out: &mut Answer, paper: &Paper) {
+    show_paper(out, paper);
+    out.text("\n");
 }
 
 /// The pages among these that a paper cuts: the first and the last of them, their number, and the least paper that
@@ -84,16 +88,19 @@ fn paper_lines(out: &mut Answer, papers: &[Paper]) {
 pub fn cutting(out: &mut Answer, words: &[String]) -> Option<()> {
     let sheet = paper(words, 1)?;
     let own = papers_of(out.alloc, words.get(2..)?)?;
-    match cut_by(&sheet, own.as_slice()) {
+    cut_line(out, cut_by(&sheet, own.as_slice()));
+    Some(())
+}
+
+fn cut_line(out: &mut Answer, cut: Option<Cut>) {
+    match cut {
         Some(cut) => {
             let (first, last) = (cut.first.saturating_add(1), cut.last.saturating_add(1));
             out.show(format_args!("first {first}, last {last}, pages {}, paper ", cut.pages));
-            show_paper(out, &cut.paper);
-            out.text("\n");
+            paper_line(out, &cut.paper);
         }
         None => out.text("none\n"),
     }
-    Some(())
 }
 
 /// The first page's paper, if no page has this one.
@@ -101,10 +108,7 @@ pub fn instead_of(out: &mut Answer, words: &[String]) -> Option<()> {
     let sheet = paper(words, 1)?;
     let own = papers_of(out.alloc, words.get(2..)?)?;
     match first_instead_of(&sheet, own.as_slice()) {
-        Some(first) => {
-            show_paper(out, &first);
-            out.text("\n");
-        }
+        Some(first) => paper_line(out, &first),
         None => out.text("none\n"),
     }
     Some(())
@@ -116,8 +120,10 @@ pub fn trailing_box(out: &mut Answer, text: &[u8]) {
 }
 
 /// The value of a line that is a title.
-pub fn value_of_title(out: &mut Answer, line: &str) {
-    value(out, comment_value(line.as_bytes(), b"%%Title", b"%%Title:"));
+pub fn value_of_title(out: &mut Answer, words: &[String]) -> Option<()> {
+    let line = word(words, 1)?.as_bytes();
+    value(out, comment_value(line, b"%%Title", b"%%Title:"));
+    Some(())
 }
 
 fn value(out: &mut Answer, value: Option<&[u8]>) {

@@ -18,16 +18,21 @@ const FEW: u32 = 20;
 
 /// Each entry of a row on a sheet of its own.
 pub fn on_their_own(out: &mut Answer, words: &[String]) -> Option<()> {
-    let blank = paper(words, 1)?;
-    let (pages, names) = word(words, 2)?.split_once(' ')?;
-    let pages = pages.parse::<u32>().ok()?;
+    let (blank, row) = (paper(words, 1)?, word(words, 3)?);
+    let (pages, names) = pages_and_names(word(words, 2)?)?;
     let papers = papers_in_turn(out.alloc, pages, names)?;
-    let row = row_of(out.alloc, pages, word(words, 3)?)?;
+    let row = row_of(out.alloc, pages, row)?;
     told(
         out,
         select(out.alloc, row.as_slice(), papers.as_slice(), &blank),
     );
     Some(())
+}
+
+/// The number of pages, and the names of their papers: `5 a4 a3`.
+fn pages_and_names(text: &str) -> Option<(u32, &str)> {
+    let (pages, names) = text.split_once(' ')?;
+    Some((pages.parse::<u32>().ok()?, names))
 }
 
 /// The sheets of a specification on a row, of A3 for pages of A4; or why there are none.
@@ -48,21 +53,16 @@ pub fn by_specification(out: &mut Answer, words: &[String]) -> Option<()> {
 
 /// The papers of this many pages: these in turn.
 fn papers_in_turn(alloc: Global, pages: u32, names: &str) -> Option<Vec<Paper>> {
-    let turns = papers_named(alloc, names)?;
+    let turns = names.split_whitespace().count().max(1);
     let mut papers = Vec::new(alloc);
     for page in 0..pages as usize {
-        let paper = turns.as_slice().get(page % turns.len().max(1))?;
-        papers.push(*paper).ok()?;
+        papers.push(paper_at(names, page % turns)?).ok()?;
     }
     Some(papers)
 }
 
-fn papers_named(alloc: Global, names: &str) -> Option<Vec<Paper>> {
-    let mut papers = Vec::new(alloc);
-    for name in names.split_whitespace() {
-        papers.push(paper_by_name(name)?).ok()?;
-    }
-    Some(papers)
+fn paper_at(names: &str, at: usize) -> Option<Paper> {
+    paper_by_name(names.split_whitespace().nth(at)?)
 }
 
 /// The entries of a row, or `all` pages.

@@ -15,19 +15,15 @@ use sheet_plan::{MadeSheets, Plan};
 
 pub fn run(out: &mut Answer, words: &[String]) -> Option<()> {
     match word(words, 0)? {
-        "filled" => filled(out, words, &[])?,
-        "filled_with" => {
-            let papers = [a4(), paper(words, 1)?];
-            filled(out, behind_first(words), &papers)?;
-        }
-        "fitted" => fitted(out, &paper(words, 1)?)?,
-        "scale" => scale(out, &paper(words, 1)?)?,
-        "poster" => poster(out, words)?,
-        "check_poster" => checked(out, words)?,
-        "posters" => posters(out, words)?,
-        _ => return None,
+        "filled" => filled(out, words, &[]),
+        "filled_with" => filled(out, behind_first(words), &[a4(), paper(words, 1)?]),
+        "fitted" => fitted(out, words),
+        "scale" => scale(out, words),
+        "poster" => poster(out, words),
+        "check_poster" => checked(out, words),
+        "posters" => posters(out, words),
+        _ => None,
     }
-    Some(())
 }
 
 fn behind_first(words: &[String]) -> &[String] {
@@ -88,8 +84,8 @@ fn tell_sheets(out: &mut Answer, made: &MadeSheets) {
 }
 
 /// How a page is scaled and moved in the second cell, in 10^-9.
-fn fitted(out: &mut Answer, paper: &Paper) -> Option<()> {
-    match two_columns()?.item(paper, 1) {
+fn fitted(out: &mut Answer, words: &[String]) -> Option<()> {
+    match two_columns()?.item(&paper(words, 1)?, 1) {
         Ok(item) => {
             let (x, y) = (item.offset.0.number, item.offset.1.number);
             let scale = item.scale.billionths();
@@ -100,8 +96,8 @@ fn fitted(out: &mut Answer, paper: &Paper) -> Option<()> {
     Some(())
 }
 
-fn scale(out: &mut Answer, paper: &Paper) -> Option<()> {
-    match two_columns()?.scale(paper) {
+fn scale(out: &mut Answer, words: &[String]) -> Option<()> {
+    match two_columns()?.scale(&paper(words, 1)?) {
         Ok(scale) => out.line(scale.billionths()),
         Err(error) => out.refusal(error),
     }

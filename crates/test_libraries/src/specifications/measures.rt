@@ -11,13 +11,13 @@ pub fn run(out: &mut Answer, words: &[String]) -> Option<()> {
     match word(words, 0)? {
         "read_number" => number_at_start(out, text),
         "read_digits" => digits_at_start(out, text),
-        "to_grains" => in_grains(out, words)?,
-        "print_number" => printed(out, billionths(words)?),
-        "print_points" => points(out, Grains::new(number(words, 1)?)?),
+        "to_grains" => return in_grains(out, words),
+        "print_number" => return printed(out, words),
+        "print_points" => return points(out, words),
         "paper_by_name" => named(out, text),
         "numbers" => numbers(out),
         "is_number" => out.verdict(billionths(words).is_some()),
-        "is_length" => out.verdict(Grains::new(number(words, 1)?).is_some()),
+        "is_length" => out.verdict(grains(words).is_some()),
         "is_paper" => out.verdict(paper(words, 1).is_some()),
         _ => return None,
     }
@@ -27,6 +27,11 @@ pub fn run(out: &mut Answer, words: &[String]) -> Option<()> {
 /// A number, given in 10^-9.
 fn billionths(words: &[String]) -> Option<Number> {
     Number::new(i64::try_from(number(words, 1)?).ok()?)
+}
+
+/// A length, given in grains.
+fn grains(words: &[String]) -> Option<Grains> {
+    Grains::new(number(words, 1)?)
 }
 
 fn number_at_start(out: &mut Answer, text: &str) {
@@ -62,7 +67,8 @@ fn unit(words: &[String]) -> Option<Unit> {
 }
 
 /// A number after a text, in full and as a specification has it.
-fn printed(out: &mut Answer, number: Number) {
+fn printed(out: &mut Answer, words: &[String]) -> Option<()> {
+    let number = billionths(words)?;
     out.text("@");
     let before = out.bytes.len();
     let added = print_scale(number, &mut out.bytes);
@@ -72,11 +78,13 @@ fn printed(out: &mut Answer, number: Number) {
     let added = print_number(number, &mut out.bytes);
     out.note_appended(before, added.is_ok());
     out.text("\n");
+    Some(())
 }
 
-fn points(out: &mut Answer, length: Grains) {
-    out.points(length);
+fn points(out: &mut Answer, words: &[String]) -> Option<()> {
+    out.points(grains(words)?);
     out.text("\n");
+    Some(())
 }
 
 /// The sides of a paper, in points.

@@ -3,7 +3,7 @@ use crate::answer::Answer;
 use crate::specifications::specifications::written;
 use crate::words::{count, length, number, number_in, paper, word};
 use layouts::{
-    Arrangement, ArrangementError, Binding, Cells, Free, Papers, Run, Turned, arrange, bind,
+    Arrangement, ArrangementError, Binding, Cells, Free, Order, Papers, Run, Turned, arrange, bind,
 };
 use lengths::{Grains, Number, a4};
 use pagespec::Spec;
@@ -98,19 +98,30 @@ fn small(text: &str) -> Option<u32> {
 }
 
 fn ask(arrangement: &mut Arrangement, text: &str) -> Option<()> {
-    match text.split_once('=').unwrap_or((text, "")) {
-        ("columns", "") => arrangement.order.run = Run::Columns,
-        ("right_to_left", "") => arrangement.order.right_to_left = true,
-        ("left", "") => arrangement.order.turned = Turned::Left,
-        ("right", "") => arrangement.order.turned = Turned::Right,
-        ("scale", value) => arrangement.scale = Some(billionths(value)?),
-        (name, value) => keep(&mut arrangement.free, name, hundred_thousandths(value)?)?,
+    match text.split_once('=') {
+        None => put_in_order(&mut arrangement.order, text),
+        Some(("scale", value)) => {
+            arrangement.scale = Some(billionths(value)?);
+            Some(())
+        }
+        Some((name, value)) => keep(&mut arrangement.free, name, value),
+    }
+}
+
+fn put_in_order(order: &mut Order, text: &str) -> Option<()> {
+    match text {
+        "columns" => order.run = Run::Columns,
+        "right_to_left" => order.right_to_left = true,
+        "left" => order.turned = Turned::Left,
+        "right" => order.turned = Turned::Right,
+        _ => return None,
     }
     Some(())
 }
 
-/// Keeps a length free, at one edge or at all, in one direction or in both.
-fn keep(free: &mut Free, name: &str, length: Grains) -> Option<()> {
+/// Keeps a length free, in 10^-5 of a point, at one edge or at all, in one direction or in both.
+fn keep(free: &mut Free, name: &str, value: &str) -> Option<()> {
+    let length = length(value, 1_270_000)?;
     match name {
         "margin" => {
             free.left = length;
@@ -134,11 +145,6 @@ fn keep(free: &mut Free, name: &str, length: Grains) -> Option<()> {
     Some(())
 }
 
-/// This many 10^-5 of a point.
-fn hundred_thousandths(text: &str) -> Option<Grains> {
-    length(text, 1_270_000)
-}
-
 fn billionths(text: &str) -> Option<Number> {
     let number = i64::try_from(number_in(text)?).ok()?;
     Number::new(number)
@@ -147,10 +153,18 @@ fn billionths(text: &str) -> Option<Number> {
 fn binding(words: &[String]) -> Option<Binding> {
     let mut binding = Binding::plain(false);
     for word in words.iter().skip(1) {
-        match word.as_str().split_once('=').unwrap_or((word.as_str(), "")) {
-            ("right_to_left", "") => binding.right_to_left = true,
-            (name, value) => keep(&mut binding.free, name, hundred_thousandths(value)?)?,
-        }
+        ask_of_leaves(&mut binding, word.as_str())?;
     }
     Some(binding)
+}
+
+fn ask_of_leaves(binding: &mut Binding, text: &str) -> Option<()> {
+    match text.split_once('=') {
+        None if text == "right_to_left" => {
+            binding.right_to_left = true;
+            Some(())
+        }
+        None => None,
+        Some((name, value)) => keep(&mut binding.free, name, value),
+    }
 }

@@ -1,6 +1,6 @@
 //! Pages as their printed matrices place them on a sheet.
 use lengths::Paper;
-use pagespec::Spec;
+use pagespec::{Item, Spec};
 use placement::{NoMemory, matrix_of, matrix_text};
 use std::alloc::Global;
 
@@ -106,12 +106,16 @@ fn as_held(quarters: u32, point: (i64, i64)) -> (i64, i64) {
 
 /// The turn of a matrix, in quarters to the left, and its scale.
 fn turn_of(numbers: &[i64]) -> Option<(u32, i64)> {
-    match numbers {
-        [a, 0, 0, d, _, _] if a == d && *a > 0 => Some((0, *a)),
-        [0, b, c, 0, _, _] if *b > 0 && 0i64.saturating_sub(*b) == *c => Some((1, *b)),
-        [a, 0, 0, d, _, _] if a == d => Some((2, 0i64.saturating_sub(*a))),
-        [0, b, c, 0, _, _] if 0i64.saturating_sub(*b) == *c => Some((3, *c)),
-        _ => None,
+    let [a, b, c, d, _, _] = *numbers else {
+        return None;
+    };
+    let (less_a, less_b) = (0i64.saturating_sub(a), 0i64.saturating_sub(b));
+    if b == 0 && c == 0 && a == d {
+        Some(if a > 0 { (0, a) } else { (2, less_a) })
+    } else if a == 0 && d == 0 && less_b == c {
+        Some(if b > 0 { (1, b) } else { (3, c) })
+    } else {
+        None
     }
 }
 
@@ -129,14 +133,18 @@ pub fn pages_of(
         return Ok(pages);
     };
     for item in group.iter() {
-        let mut text = Vec::new(alloc);
-        matrix_text(&matrix_of(item, page), &mut text)?;
-        let row = numbers(alloc, text.as_slice())?;
-        if let Some(placed) = placed_by(row.as_slice(), sides) {
+        if let Some(placed) = placed_by(printed_numbers(alloc, item, page)?.as_slice(), sides) {
             pages.push(placed)?;
         }
     }
     Ok(pages)
+}
+
+/// The numbers of the text of an item's matrix.
+fn printed_numbers(alloc: Global, item: &Item, page: &Paper) -> Result<Vec<i64>, NoMemory> {
+    let mut text = Vec::new(alloc);
+    matrix_text(&matrix_of(item, page), &mut text)?;
+    numbers(alloc, text.as_slice())
 }
 
 /// Where a matrix with these numbers places a page with these sides, in points.

@@ -12,12 +12,11 @@ use std::alloc::{AllocError, Global};
 
 pub fn run(out: &mut Answer, words: &[String]) -> Option<()> {
     match word(words, 0)? {
-        "booklet_plan" => booklet_plan(out, words)?,
-        "grid_plan" => grid_plan(out, words)?,
-        "preview" => folded_sheet(out, &paper(words, 1)?)?,
-        _ => return None,
+        "booklet_plan" => booklet_plan(out, words),
+        "grid_plan" => grid_plan(out, words),
+        "preview" => folded_sheet(out, &paper(words, 1)?),
+        _ => None,
     }
-    Some(())
 }
 
 /// The plan of a booklet of a row.
