@@ -24,18 +24,10 @@ fn bytes_of(alloc: Global, text: &str) -> Option<Vec<u8>> {
 fn files_of(alloc: Global, words: &[String]) -> Option<Vec<FoundFile>> {
     let mut files = Vec::new(alloc);
     if let [name, text] = words {
-        files
-            .push(file_of(alloc, name.as_str(), text.as_str())?)
-            .ok()?;
+        let (name, bytes) = (name.clone().ok()?, bytes_of(alloc, text.as_str())?);
+        files.push(FoundFile { name, bytes }).ok()?;
     }
     Some(files)
-}
-
-fn file_of(alloc: Global, name: &str, text: &str) -> Option<FoundFile> {
-    Some(FoundFile {
-        name: String::from_str(alloc, name).ok()?,
-        bytes: bytes_of(alloc, text)?,
-    })
 }
 
 /// The words of a case, its inputs, and its pieces.

@@ -12,21 +12,16 @@ use test_tools::{has_refused, refuse};
 pub fn run_all(rt: &HostRuntime, names: &[&str]) -> anyhow::Result<()> {
     let mut tally = Tally::new();
     for name in names {
-        let file = load(rt, name)?;
-        tally.tell_bad_lines(rt, name, &file)?;
-        run_cases(rt, name, &file, &mut tally)?;
+        run_file(rt, name, &mut tally)?;
     }
     tally.end(rt)
 }
 
-fn run_cases(
-    rt: &HostRuntime,
-    name: &str,
-    file: &CaseFile,
-    tally: &mut Tally,
-) -> anyhow::Result<()> {
+fn run_file(rt: &HostRuntime, name: &str, tally: &mut Tally) -> anyhow::Result<()> {
+    let file = load(rt, name)?;
+    tally.tell_bad_lines(rt, name, &file)?;
     for case in file.cases.iter() {
-        match found(rt.alloc(), file, case) {
+        match found(rt.alloc(), &file, case) {
             Some(found) => tally.compare(rt, name, case, &found)?,
             None => tally.refuse(rt, name, case, "not a command, or no memory")?,
         }

@@ -1,6 +1,6 @@
 //! The words of a command.
 use crate::answer::{Answer, Form};
-use lengths::{Grains, NoMemory, Paper, paper_by_name};
+use lengths::{Grains, NoMemory, Number, Paper, paper_by_name};
 use pagespec::{Item, Spec, read_spec};
 use std::alloc::Global;
 use test_cases::Document;
@@ -35,18 +35,26 @@ pub fn number_in(text: &str) -> Option<i128> {
     }
 }
 
+/// A number, given in 10^-9.
+pub fn billionths(text: &str) -> Option<Number> {
+    Number::new(i64::try_from(number_in(text)?).ok()?)
+}
+
 /// A number of pages, or of something as small.
 pub fn count(words: &[String], at: usize) -> Option<u32> {
-    u32::try_from(number(words, at)?).ok()
+    count_in(word(words, at)?)
+}
+
+pub fn count_in(text: &str) -> Option<u32> {
+    u32::try_from(number_in(text)?).ok()
 }
 
 /// A paper: its name, or its sides as `WxH`, in 10^-5 of a point, or in grains if a `g` follows.
 pub fn paper(words: &[String], at: usize) -> Option<Paper> {
     let text = word(words, at)?;
-    paper_by_name(text).or(paper_of_sides(text))
-}
-
-fn paper_of_sides(text: &str) -> Option<Paper> {
+    if let Some(paper) = paper_by_name(text) {
+        return Some(paper);
+    }
     let (sides, unit) = match text.strip_suffix('g') {
         Some(sides) => (sides, 1),
         None => (text, 1_270_000),
@@ -86,7 +94,9 @@ pub fn long_text(alloc: Global, text: &str) -> Option<String> {
         return String::from_str(alloc, text).ok();
     }
     let times = number_in(part(text, 1))?;
-    repeated(alloc, [4, 2, 3, 5].map(|at| part(text, at)), times).ok()
+    let (one, between) = (part(text, 2), part(text, 3));
+    let (front, back) = (part(text, 4), part(text, 5));
+    repeated(alloc, [front, one, between, back], times).ok()
 }
 
 /// A part of a text between spaces; an empty one behind the last.
@@ -96,21 +106,16 @@ fn part(text: &str, at: usize) -> &str {
 
 /// This many times a text with another between them, after the front and before the back.
 fn repeated(alloc: Global, parts: [&str; 4], times: i128) -> Result<String, NoMemory> {
-    let mut text = String::new(alloc);
-    push_repeated(&mut text, parts, times)?;
-    Ok(text)
-}
-
-fn push_repeated(text: &mut String, parts: [&str; 4], times: i128) -> Result<(), NoMemory> {
     let [front, one, between, back] = parts;
-    text.push_str(front)?;
+    let mut text = String::from_str(alloc, front)?;
     for time in 0..times {
         if time > 0 {
             text.push_str(between)?;
         }
         text.push_str(one)?;
     }
-    text.push_str(back)
+    text.push_str(back)?;
+    Ok(text)
 }
 
 /// A specification. If it is refused, the refusal is printed.

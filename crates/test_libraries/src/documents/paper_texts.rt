@@ -2,7 +2,7 @@
 use crate::answer::Answer;
 use crate::words::{paper, papers_of, word};
 use dsc::{Document, DscError, comment_value, trailer_box};
-use lengths::{Paper, a4, paper_by_name, print_points};
+use lengths::{Paper, a4, paper_by_name};
 use papers::{Cut, as_one, cut_by, document_paper, first_instead_of, own_papers};
 use std::alloc::Global;
 
@@ -42,11 +42,18 @@ pub fn home_papers(out: &mut Answer, text: &[u8], asked: Option<Paper>) -> Optio
 /// The papers as which those of the pages count.
 pub fn counted(out: &mut Answer, text: &[u8]) -> Option<()> {
     let home = paper_by_name("letter")?;
-    match counted_at(out.alloc, text, &home) {
-        Ok(papers) => paper_lines(out, papers.as_slice()),
+    match papers_at(out.alloc, text, None, &home) {
+        Ok(own) => counted_lines(out, own.as_slice()),
         Err(error) => out.line(error),
     }
     Some(())
+}
+
+fn counted_lines(out: &mut Answer, own: &[Paper]) {
+    match as_one(out.alloc, own, own) {
+        Ok(papers) => paper_lines(out, papers.as_slice()),
+        Err(_) => out.note(false),
+    }
 }
 
 fn papers_at(
@@ -57,14 +64,6 @@ fn papers_at(
 ) -> Result<Vec<Paper>, DscError> {
     let document = Document::read(alloc, text)?;
     match own_papers(alloc, &document, asked, home) {
-        Ok(papers) => Ok(papers),
-        Err(_) => Err(DscError::NoMemory),
-    }
-}
-
-fn counted_at(alloc: Global, text: &[u8], home: &Paper) -> Result<Vec<Paper>, DscError> {
-    let own = papers_at(alloc, text, None, home)?;
-    match as_one(alloc, own.as_slice(), own.as_slice()) {
         Ok(papers) => Ok(papers),
         Err(_) => Err(DscError::NoMemory),
     }

@@ -4,7 +4,7 @@ ghost use Rattle.layouts.specs.Cells.{size};
 
 use crate::answer::Answer;
 use crate::specifications::planned::page_lists;
-use crate::words::{number, paper, row, word};
+use crate::words::{count, number, paper, row, word};
 use layouts::{Arrangement, ArrangementError, Cells, Papers, Setting};
 use lengths::{Paper, a4};
 use row_sheets::{
@@ -16,20 +16,13 @@ use sheet_plan::{MadeSheets, Plan};
 pub fn run(out: &mut Answer, words: &[String]) -> Option<()> {
     match word(words, 0)? {
         "filled" => filled(out, words, &[]),
-        "filled_with" => filled(out, behind_first(words), &[a4(), paper(words, 1)?]),
+        "filled_with" => filled(out, words.get(1..)?, &[a4(), paper(words, 1)?]),
         "fitted" => fitted(out, words),
         "scale" => scale(out, words),
         "poster" => poster(out, words),
         "check_poster" => checked(out, words),
         "posters" => posters(out, words),
         _ => None,
-    }
-}
-
-fn behind_first(words: &[String]) -> &[String] {
-    match words {
-        [_, rest @ ..] => rest,
-        [] => words,
     }
 }
 
@@ -53,18 +46,17 @@ pub fn two_columns() -> Option<Setting>
 
 /// The pages of sheets that are filled from a row in this way, with these papers.
 fn filled(out: &mut Answer, words: &[String], papers: &[Paper]) -> Option<()> {
-    let setting = two_columns()?;
     let (alloc, way) = (out.alloc, word(words, 1)?);
-    let row = row(alloc, behind_first(behind_first(words)))?;
+    let setting = two_columns()?;
+    let row = row(alloc, words.get(2..)?)?;
     let row = row.as_slice();
-    let made = match way {
-        "grid" => grid_sheets(alloc, &setting, papers, 2, row),
-        "cards" => card_sheets(alloc, &setting, papers, 2, row),
-        "stack" => stack_sheets(alloc, &setting, papers, 2, row),
-        "leaves" => leaf_sheets(alloc, &setting, papers, row),
+    match way {
+        "grid" => tell(out, grid_sheets(alloc, &setting, papers, 2, row)),
+        "cards" => tell(out, card_sheets(alloc, &setting, papers, 2, row)),
+        "stack" => tell(out, stack_sheets(alloc, &setting, papers, 2, row)),
+        "leaves" => tell(out, leaf_sheets(alloc, &setting, papers, row)),
         _ => return None,
-    };
-    tell(out, made);
+    }
     Some(())
 }
 
@@ -121,7 +113,7 @@ fn two_tiles() -> Poster
 fn told(words: &[String]) -> Option<Poster> {
     let mut poster = two_tiles();
     if word(words, 2).is_some() {
-        poster.columns = u32::try_from(number(words, 2)?).ok()?;
+        poster.columns = count(words, 2)?;
         poster.edge = u64::try_from(number(words, 3)?).ok()?;
         poster.overlap = u64::try_from(number(words, 4)?).ok()?;
     }
@@ -147,7 +139,7 @@ fn checked(out: &mut Answer, words: &[String]) -> Option<()> {
 /// The pages of a row, each on two such tiles; the second page has a paper of its own.
 fn posters(out: &mut Answer, words: &[String]) -> Option<()> {
     let papers = [a4(), paper(words, 1)?];
-    let row = row(out.alloc, behind_first(behind_first(words)))?;
+    let row = row(out.alloc, words.get(2..)?)?;
     match poster_row_sheets(out.alloc, &two_tiles(), &papers, row.as_slice()) {
         Ok(made) => offsets(out, &made),
         Err(error) => out.refusal(error),

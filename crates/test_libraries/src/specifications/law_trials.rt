@@ -7,7 +7,7 @@ use crate::words::word;
 use layouts::{Arrangement, Binding, Cells, Free, Papers, arrange, bind};
 use lengths::{Grains, paper_by_name};
 use pagespec::Spec;
-use std::alloc::{AllocError, Global};
+use std::alloc::Global;
 
 /// The papers, with their sides in points.
 const PAPERS: [(&str, i64, i64); 8] = [
@@ -107,7 +107,8 @@ fn pages_tried(
     for n in numbers {
         let fault = fault_of(out.alloc, *n, page, sheet, kept);
         if fault != "" {
-            out.line(format_args!("{n} of {} on {}: {fault}", page.0, sheet.0));
+            out.show(format_args!("{n} of "));
+            fault_line(out, page, sheet, fault);
             return None;
         }
         count = count.saturating_add(1);
@@ -119,7 +120,7 @@ fn booklets_tried(out: &mut Answer, page: &Named, sheet: &Named) -> Option<u32> 
     for long_edge in [false, true] {
         let fault = booklet_fault(out.alloc, page, sheet, long_edge);
         if fault != "" {
-            out.line(format_args!("{} on {}: {fault}", page.0, sheet.0));
+            fault_line(out, page, sheet, fault);
             return None;
         }
     }
@@ -201,6 +202,10 @@ fn fault_among(
         return "not large";
     }
     ""
+}
+
+fn fault_line(out: &mut Answer, page: &Named, sheet: &Named, fault: &str) {
+    out.line(format_args!("{} on {}: {fault}", page.0, sheet.0));
 }
 
 /// What is wrong with a booklet.

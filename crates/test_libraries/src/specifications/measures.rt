@@ -1,6 +1,6 @@
 //! Numbers, lengths and papers.
 use crate::answer::Answer;
-use crate::words::{number, paper, word};
+use crate::words::{billionths, length, paper, word};
 use lengths::{
     Grains, Number, NumberError, Unit, paper_by_name, print_number, print_scale, read_digits,
     read_number, to_grains, unit_by_name,
@@ -12,26 +12,16 @@ pub fn run(out: &mut Answer, words: &[String]) -> Option<()> {
         "read_number" => number_at_start(out, text),
         "read_digits" => digits_at_start(out, text),
         "to_grains" => return in_grains(out, words),
-        "print_number" => return printed(out, words),
-        "print_points" => return points(out, words),
+        "print_number" => printed(out, billionths(text)?),
+        "print_points" => points(out, length(text, 1)?),
         "paper_by_name" => named(out, text),
         "numbers" => numbers(out),
-        "is_number" => out.verdict(billionths(words).is_some()),
-        "is_length" => out.verdict(grains(words).is_some()),
+        "is_number" => out.verdict(billionths(text).is_some()),
+        "is_length" => out.verdict(length(text, 1).is_some()),
         "is_paper" => out.verdict(paper(words, 1).is_some()),
         _ => return None,
     }
     Some(())
-}
-
-/// A number, given in 10^-9.
-fn billionths(words: &[String]) -> Option<Number> {
-    Number::new(i64::try_from(number(words, 1)?).ok()?)
-}
-
-/// A length, given in grains.
-fn grains(words: &[String]) -> Option<Grains> {
-    Grains::new(number(words, 1)?)
 }
 
 fn number_at_start(out: &mut Answer, text: &str) {
@@ -49,7 +39,8 @@ fn digits_at_start(out: &mut Answer, text: &str) {
 }
 
 fn in_grains(out: &mut Answer, words: &[String]) -> Option<()> {
-    let length = to_grains(billionths(words)?, unit(words)?, &paper(words, 3)?);
+    let number = billionths(word(words, 1)?)?;
+    let length = to_grains(number, unit(words)?, &paper(words, 3)?);
     out.line(length.get());
     Some(())
 }
@@ -67,8 +58,7 @@ fn unit(words: &[String]) -> Option<Unit> {
 }
 
 /// A number after a text, in full and as a specification has it.
-fn printed(out: &mut Answer, words: &[String]) -> Option<()> {
-    let number = billionths(words)?;
+fn printed(out: &mut Answer, number: Number) {
     out.text("@");
     let before = out.bytes.len();
     let added = print_scale(number, &mut out.bytes);
@@ -78,13 +68,11 @@ fn printed(out: &mut Answer, words: &[String]) -> Option<()> {
     let added = print_number(number, &mut out.bytes);
     out.note_appended(before, added.is_ok());
     out.text("\n");
-    Some(())
 }
 
-fn points(out: &mut Answer, words: &[String]) -> Option<()> {
-    out.points(grains(words)?);
+fn points(out: &mut Answer, length: Grains) {
+    out.points(length);
     out.text("\n");
-    Some(())
 }
 
 /// The sides of a paper, in points.

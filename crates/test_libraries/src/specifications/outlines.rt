@@ -1,11 +1,11 @@
 //! Layouts: specifications that are made for people.
 use crate::answer::Answer;
 use crate::specifications::specifications::written;
-use crate::words::{count, length, number, number_in, paper, word};
+use crate::words::{billionths, count, count_in, length, paper, word};
 use layouts::{
     Arrangement, ArrangementError, Binding, Cells, Free, Order, Papers, Run, Turned, arrange, bind,
 };
-use lengths::{Grains, Number, a4};
+use lengths::a4;
 use pagespec::Spec;
 use std::fmt::{Debug, Display};
 
@@ -76,7 +76,7 @@ fn on_a4() -> Papers {
 /// Cells, and the options that follow them.
 fn arrangement(words: &[String]) -> Option<Arrangement> {
     let mut arrangement = Arrangement::plain(cells(word(words, 1)?)?);
-    for word in words.iter().skip(2) {
+    for word in words.get(2..)? {
         ask(&mut arrangement, word.as_str())?;
     }
     Some(arrangement)
@@ -85,16 +85,12 @@ fn arrangement(words: &[String]) -> Option<Arrangement> {
 /// This many cells or more, or `columns x rows`.
 fn cells(text: &str) -> Option<Cells> {
     match text.split_once('x') {
-        None => Some(Cells::AtLeast(small(text)?)),
+        None => Some(Cells::AtLeast(count_in(text)?)),
         Some((columns, rows)) => Some(Cells::Exactly {
-            columns: small(columns)?,
-            rows: small(rows)?,
+            columns: count_in(columns)?,
+            rows: count_in(rows)?,
         }),
     }
-}
-
-fn small(text: &str) -> Option<u32> {
-    u32::try_from(number_in(text)?).ok()
 }
 
 fn ask(arrangement: &mut Arrangement, text: &str) -> Option<()> {
@@ -145,14 +141,9 @@ fn keep(free: &mut Free, name: &str, value: &str) -> Option<()> {
     Some(())
 }
 
-fn billionths(text: &str) -> Option<Number> {
-    let number = i64::try_from(number_in(text)?).ok()?;
-    Number::new(number)
-}
-
 fn binding(words: &[String]) -> Option<Binding> {
     let mut binding = Binding::plain(false);
-    for word in words.iter().skip(1) {
+    for word in words.get(1..)? {
         ask_of_leaves(&mut binding, word.as_str())?;
     }
     Some(binding)

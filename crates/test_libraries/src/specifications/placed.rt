@@ -1,6 +1,6 @@
 //! Pages as their printed matrices place them on a sheet.
 use lengths::Paper;
-use pagespec::{Item, Spec};
+use pagespec::Spec;
 use placement::{NoMemory, matrix_of, matrix_text};
 use std::alloc::Global;
 
@@ -133,18 +133,14 @@ pub fn pages_of(
         return Ok(pages);
     };
     for item in group.iter() {
-        if let Some(placed) = placed_by(printed_numbers(alloc, item, page)?.as_slice(), sides) {
+        let mut text = Vec::new(alloc);
+        matrix_text(&matrix_of(item, page), &mut text)?;
+        let row = numbers(alloc, text.as_slice())?;
+        if let Some(placed) = placed_by(row.as_slice(), sides) {
             pages.push(placed)?;
         }
     }
     Ok(pages)
-}
-
-/// The numbers of the text of an item's matrix.
-fn printed_numbers(alloc: Global, item: &Item, page: &Paper) -> Result<Vec<i64>, NoMemory> {
-    let mut text = Vec::new(alloc);
-    matrix_text(&matrix_of(item, page), &mut text)?;
-    numbers(alloc, text.as_slice())
 }
 
 /// Where a matrix with these numbers places a page with these sides, in points.

@@ -3,7 +3,7 @@ ghost use Rattle.std.specs.Prelude.{◌<◌, length};
 
 use crate::answer::Answer;
 use crate::words::{count, specification, word};
-use pagespec::Item;
+use pagespec::{Item, Spec};
 use sheet_plan::{Plan, PlanError, are_sides};
 
 /// The number of entries of a list that are shown before the last one.
@@ -11,24 +11,23 @@ const SHOWN: u32 = 12;
 
 pub fn run(out: &mut Answer, words: &[String]) -> Option<()> {
     match word(words, 0)? {
-        "plan" => planned(out, words),
-        "are_sides" => {
-            out.verdict(are_sides(count(words, 1)?));
-            Some(())
+        "plan" => {
+            let pages = count(words, 2)?;
+            if let Some(spec) = specification(out, words, 1) {
+                planned(out, &spec, pages, count(words, 3))?;
+            }
         }
-        _ => None,
+        "are_sides" => out.verdict(are_sides(count(words, 1)?)),
+        _ => return None,
     }
+    Some(())
 }
 
 /// The plan of this many pages, in signatures of this many sides if they are given.
-fn planned(out: &mut Answer, words: &[String]) -> Option<()> {
-    let (pages, sides) = (count(words, 2)?, count(words, 3));
-    let Some(spec) = specification(out, words, 1) else {
-        return Some(());
-    };
+fn planned(out: &mut Answer, spec: &Spec, pages: u32, sides: Option<u32>) -> Option<()> {
     let plan = match sides {
-        None => Plan::new(out.alloc, &spec, pages),
-        Some(sides) if are_sides(sides) => { Plan::with_signatures(out.alloc, &spec, pages, sides) }
+        None => Plan::new(out.alloc, spec, pages),
+        Some(sides) if are_sides(sides) => { Plan::with_signatures(out.alloc, spec, pages, sides) }
         Some(_) => return None,
     };
     match plan {

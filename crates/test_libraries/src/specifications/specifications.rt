@@ -6,25 +6,21 @@ use std::alloc::Global;
 
 pub fn run(out: &mut Answer, words: &[String]) -> Option<()> {
     match word(words, 0)? {
-        "read_spec" => read(out, words),
-        "write_spec" => rewritten(out, words),
+        "read_spec" => {
+            if let Some(spec) = specification(out, words, 1) {
+                items(out, &spec);
+            }
+        }
+        "write_spec" => {
+            if let Some(spec) = specification(out, words, 1) {
+                written(out, &spec);
+            }
+        }
         "syntax" => syntax(out, word(words, 1)?),
         "no_memory_for_a_specification" => out.line(SpecError::NoMemory),
         _ => return None,
     }
     Some(())
-}
-
-fn read(out: &mut Answer, words: &[String]) {
-    if let Some(spec) = specification(out, words, 1) {
-        items(out, &spec);
-    }
-}
-
-fn rewritten(out: &mut Answer, words: &[String]) {
-    if let Some(spec) = specification(out, words, 1) {
-        written(out, &spec);
-    }
 }
 
 /// The modulo, and the items of each group.
@@ -93,20 +89,19 @@ fn goes_on(alloc: Global, prefix: &str) -> Result<bool, NoMemory> {
     for end in [
         "", "0", "0,0)", ",0)", "t,0)", "m,0)", "n,0)", "0)", ")", "t)", "m)", "n)",
     ] {
-        if completes(alloc, prefix, end)? {
+        let mut whole = String::from_str(alloc, prefix)?;
+        whole.push_str(end)?;
+        if !is_stuck(alloc, whole.as_str())? {
             return Ok(true);
         }
     }
     Ok(false)
 }
 
-/// Whether this end does.
-fn completes(alloc: Global, prefix: &str, end: &str) -> Result<bool, NoMemory> {
-    let mut whole = String::from_str(alloc, prefix)?;
-    whole.push_str(end)?;
-    match read_spec(alloc, whole.as_str()) {
-        Err(SpecError::Syntax(_)) => Ok(false),
+fn is_stuck(alloc: Global, text: &str) -> Result<bool, NoMemory> {
+    match read_spec(alloc, text) {
+        Err(SpecError::Syntax(_)) => Ok(true),
         Err(SpecError::NoMemory) => Err(NoMemory),
-        _ => Ok(true),
+        _ => Ok(false),
     }
 }
