@@ -46,17 +46,18 @@ pub fn two_columns() -> Option<Setting>
 
 /// The pages of sheets that are filled from a row in this way, with these papers.
 fn filled(out: &mut Answer, words: &[String], papers: &[Paper]) -> Option<()> {
-    let (alloc, way) = (out.alloc, word(words, 1)?);
     let setting = two_columns()?;
+    let (alloc, way) = (out.alloc, word(words, 1)?);
     let row = row(alloc, words.get(2..)?)?;
     let row = row.as_slice();
-    match way {
-        "grid" => tell(out, grid_sheets(alloc, &setting, papers, 2, row)),
-        "cards" => tell(out, card_sheets(alloc, &setting, papers, 2, row)),
-        "stack" => tell(out, stack_sheets(alloc, &setting, papers, 2, row)),
-        "leaves" => tell(out, leaf_sheets(alloc, &setting, papers, row)),
+    let made = match way {
+        "grid" => grid_sheets(alloc, &setting, papers, 2, row),
+        "cards" => card_sheets(alloc, &setting, papers, 2, row),
+        "stack" => stack_sheets(alloc, &setting, papers, 2, row),
+        "leaves" => leaf_sheets(alloc, &setting, papers, row),
         _ => return None,
-    }
+    };
+    tell(out, made);
     Some(())
 }
 

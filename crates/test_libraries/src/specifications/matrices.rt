@@ -1,25 +1,35 @@
 //! Matrices, and what comes before and after a page.
 use crate::answer::Answer;
 use crate::words::{item, number, paper, word};
-use lengths::Grains;
+use lengths::{Grains, Paper};
+use pagespec::Item;
 use placement::{Matrix, closing_text, matrix_of, matrix_text, opening_text};
 use std::alloc::Global;
 
 pub fn run(out: &mut Answer, words: &[String]) -> Option<()> {
     match word(words, 0)? {
-        "matrix" => matrix(out, &matrix_in(out.alloc, words)?),
-        "matrix_parts" => parts(out, &matrix_in(out.alloc, words)?),
-        "apply" => applied(out, &matrix_in(out.alloc, words)?, words)?,
-        "page_texts" => page_texts(out, words)?,
+        "matrix" => matrix(out, &placed(out.alloc, words)?, &paper(words, 2)?),
+        "matrix_parts" => parts(out, &placed(out.alloc, words)?, &paper(words, 2)?),
+        "apply" => applied(
+            out,
+            &placed(out.alloc, words)?,
+            &paper(words, 2)?,
+            (coordinate(words, 3)?, coordinate(words, 4)?),
+        ),
+        "page_texts" => page_texts(
+            out,
+            &placed(out.alloc, words)?,
+            &paper(words, 2)?,
+            border(words, 3),
+        ),
         _ => return None,
     }
     Some(())
 }
 
-/// The matrix of an item on a page of a paper.
-fn matrix_in(alloc: Global, words: &[String]) -> Option<Matrix> {
-    let item = item(alloc, word(words, 1)?)?;
-    Some(matrix_of(&item, &paper(words, 2)?))
+/// The item of a text.
+fn placed(alloc: Global, words: &[String]) -> Option<Item> {
+    item(alloc, word(words, 1)?)
 }
 
 fn coordinate(words: &[String], at: usize) -> Option<i32> {
@@ -31,37 +41,35 @@ fn border(words: &[String], at: usize) -> Option<Grains> {
     Grains::new(number(words, at)?)
 }
 
-fn matrix(out: &mut Answer, matrix: &Matrix) {
+fn matrix(out: &mut Answer, item: &Item, paper: &Paper) {
     let before = out.bytes.len();
-    let added = matrix_text(matrix, &mut out.bytes);
+    let added = matrix_text(&matrix_of(item, paper), &mut out.bytes);
     out.note_appended(before, added.is_ok());
     out.text("\n");
 }
 
 /// The numbers of a matrix, in 10^-9, and its lengths, in grains.
-fn parts(out: &mut Answer, matrix: &Matrix) {
-    for number in [matrix.a, matrix.b, matrix.c, matrix.d] {
+fn parts(out: &mut Answer, item: &Item, paper: &Paper) {
+    let Matrix { a, b, c, d, tx, ty } = matrix_of(item, paper);
+    for number in [a, b, c, d] {
         out.show(number.billionths());
         out.text(" ");
     }
-    out.line(format_args!("{} {}", matrix.tx.get(), matrix.ty.get()));
+    out.line(format_args!("{} {}", tx.get(), ty.get()));
 }
 
-fn applied(out: &mut Answer, matrix: &Matrix, words: &[String]) -> Option<()> {
-    let (x, y) = matrix.apply(coordinate(words, 3)?, coordinate(words, 4)?);
+fn applied(out: &mut Answer, item: &Item, paper: &Paper, point: (i32, i32)) {
+    let (x, y) = matrix_of(item, paper).apply(point.0, point.1);
     out.line(format_args!("{x} {y}"));
-    Some(())
 }
 
 /// What comes before a page, appended to a text, and what comes after the page.
-fn page_texts(out: &mut Answer, words: &[String]) -> Option<()> {
-    let (item, paper) = (item(out.alloc, word(words, 1)?)?, paper(words, 2)?);
+fn page_texts(out: &mut Answer, item: &Item, paper: &Paper, border: Option<Grains>) {
     out.text("% page\n");
     let before = out.bytes.len();
-    let added = opening_text(&item, &paper, border(words, 3), &mut out.bytes);
+    let added = opening_text(item, paper, border, &mut out.bytes);
     out.note_appended(before, added.is_ok());
     let before = out.bytes.len();
     let added = closing_text(&mut out.bytes);
     out.note_appended(before, added.is_ok());
-    Some(())
 }
