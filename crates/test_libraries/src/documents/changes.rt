@@ -1,46 +1,82 @@
 //! Documents that are cut off, or changed by one byte.
+use crate::answer::Answer;
 use crate::documents::cuts::counted;
 use std::alloc::{AllocError, Global};
 
 /// The number of pages in the first bytes of a text, for each number of bytes.
-pub fn every_prefix(alloc: Global, text: &[u8]) -> anyhow::Result<String> {
-    let mut answers = Vec::new(alloc);
-    answers.push(counted(alloc, b"")?)?;
-    let mut prefix = Vec::new(alloc);
-    for byte in text {
-        prefix.push(*byte)?;
-        answers.push(counted(alloc, prefix.as_slice())?)?;
+pub fn every_prefix(out: &mut Answer, text: &[u8]) {
+    let mut ranges = Ranges::new(out.alloc);
+    for len in 0..text.len() + 1 {
+        let (prefix, _) = text.split_at(len);
+        ranges.count(out, prefix);
     }
-    Ok(ranges(alloc, answers.as_slice())?)
+    ranges.end(out);
 }
 
 /// The number of pages of a text in which one byte is replaced by this one, for each place.
-pub fn every_change(alloc: Global, text: &[u8], byte: &str) -> anyhow::Result<String> {
-    let mut answers = Vec::new(alloc);
+pub fn every_change(out: &mut Answer, text: &[u8], byte: &str) {
+    let mut ranges = Ranges::new(out.alloc);
     for place in 0..text.len() {
         let (front, behind) = text.split_at(place);
-        let mut changed = Vec::from_slice(alloc, front)?;
-        changed.extend_from_slice(byte.as_bytes())?;
-        changed.extend_from_slice(behind.get(1..).unwrap_or(b""))?;
-        answers.push(counted(alloc, changed.as_slice())?)?;
+        match changed(out.alloc, front, byte, behind) {
+            Ok(changed) => ranges.count(out, changed.as_slice()),
+            Err(_) => out.note(false),
+        }
     }
-    Ok(ranges(alloc, answers.as_slice())?)
+    ranges.end(out);
+}
+
+/// A text in which the first byte of its second part is replaced.
+fn changed(alloc: Global, front: &[u8], byte: &str, behind: &[u8]) -> Result<Vec<u8>, AllocError> {
+    let mut changed = Vec::from_slice(alloc, front)?;
+    changed.extend_from_slice(byte.as_bytes())?;
+    changed.extend_from_slice(behind.get(1..).unwrap_or(b""))?;
+    Ok(changed)
 }
 
 /// Answers by their places, from 0: one line for neighbours with the same answer.
-fn ranges(alloc: Global, answers: &[String]) -> Result<String, AllocError> {
-    let mut lines = String::new(alloc);
-    let mut first = 0;
-    for (last, answer) in answers.iter().enumerate() {
-        let next = last.saturating_add(1);
-        let is_same = match answers.get(next) {
-            Some(other) => other.as_str() == answer.as_str(),
-            None => false,
-        };
-        if !is_same {
-            lines.push_str(format!(in alloc; "{first}..{last} {answer}")?.as_str())?;
-            first = next;
+#[derive(Drop)]
+struct Ranges {
+    /// The first place with the last answer.
+    first: usize,
+    /// The place after those that have an answer.
+    next: usize,
+    answer: Vec<u8>,
+}
+
+impl Ranges {
+    fn new(alloc: Global) -> Ranges {
+        Ranges {
+            first: 0,
+            next: 0,
+            answer: Vec::new(alloc),
         }
     }
-    Ok(lines)
+
+    /// Counts the pages of the text of the next place.
+    fn count(&mut self, out: &mut Answer, text: &[u8]) {
+        let mut answer = Answer::new(out.alloc);
+        counted(&mut answer, text);
+        match answer.whole() {
+            Some(answer) => self.take(out, answer),
+            None => out.note(false),
+        }
+    }
+
+    fn take(&mut self, out: &mut Answer, answer: Vec<u8>) {
+        if answer != self.answer {
+            self.end(out);
+            self.first = self.next;
+            self.answer = answer;
+        }
+        self.next = self.next.saturating_add(1);
+    }
+
+    /// The line of the last answer.
+    fn end(&self, out: &mut Answer) {
+        if let Some(last) = self.next.checked_sub(1) {
+            out.show(format_args!("{}..{last} ", self.first));
+            out.add_bytes(self.answer.as_slice());
+        }
+    }
 }

@@ -1,86 +1,111 @@
 //! Documents that are cut.
-use crate::documents::words::quoted;
+use crate::answer::Answer;
 use dsc::{Body, Document, DscError, prepare};
-use std::alloc::Global;
+use std::alloc::{AllocError, Global};
 
 /// The filtered preamble for this many sheets, each page with its body, the filtered trailer; or why the text is
 /// refused.
-pub fn cut(alloc: Global, sheets: u32, text: &[u8]) -> anyhow::Result<String> {
-    match Document::read(alloc, text) {
-        Ok(document) => parts(alloc, sheets, &document, text),
-        Err(refusal) => Ok(format!(in alloc; "{refusal}\n")?),
+pub fn cut(out: &mut Answer, sheets: u32, text: &[u8]) {
+    match Document::read(out.alloc, text) {
+        Ok(document) => parts(out, sheets, &document, text),
+        Err(refusal) => out.line(refusal),
     }
 }
 
-fn parts(
-    alloc: Global,
-    sheets: u32,
-    document: &Document<'_>,
-    text: &[u8],
-) -> anyhow::Result<String> {
-    let preamble = document.preamble_text(sheets)?;
-    let preamble = quoted(alloc, preamble.as_slice())?;
-    let mut lines = format!(in alloc; "preamble {preamble}\n")?;
+fn parts(out: &mut Answer, sheets: u32, document: &Document<'_>, text: &[u8]) {
+    filtered(out, "preamble ", document.preamble_text(sheets));
     for number in 0..document.pages() {
-        let body = document.body(alloc, number)?;
-        let page = page_lines(alloc, document.page(number), body.as_slice())?;
-        lines.push_str(page.as_str())?;
+        page_lines(out, document.page(number), document.body(out.alloc, number));
     }
-    let trailer = document.trailer_text()?;
-    let trailer = quoted(alloc, trailer.as_slice())?;
-    lines.push_str(format!(in alloc; "trailer {trailer}\n")?.as_str())?;
+    filtered(out, "trailer ", document.trailer_text());
     if document.text() != text {
-        lines.push_str("but the document has another text\n")?;
+        out.text("but the document has another text\n");
     }
-    Ok(lines)
+}
+
+fn filtered(out: &mut Answer, part: &str, text: Result<Vec<u8>, AllocError>) {
+    out.text(part);
+    match text {
+        Ok(text) => out.quoted_line(text.as_slice()),
+        Err(_) => out.note(false),
+    }
 }
 
 /// A page with its body, and, if it differs, the result of preparing it alone.
-fn page_lines(alloc: Global, page: &[u8], body: &[u8]) -> anyhow::Result<String> {
-    let prepared = bodies(alloc, page)?;
-    let page = quoted(alloc, page)?;
-    let body = quoted(alloc, body)?;
-    let mut lines = format!(in alloc; "page {page} body {body}\n")?;
-    if prepared.as_str() != format!(in alloc; "{body}\n")?.as_str() {
-        lines.push_str("but prepared ")?;
-        lines.push_str(prepared.as_str())?;
+fn page_lines(out: &mut Answer, page: &[u8], body: Result<Body<'_>, AllocError>) {
+    let body = body_line(out.alloc, body);
+    let mut alone = Answer::new(out.alloc);
+    bodies(&mut alone, page);
+    let is_same = body.bytes == alone.bytes;
+    out.text("page ");
+    out.quoted(page);
+    out.text(" body ");
+    out.add(body);
+    if !is_same {
+        out.text("but prepared ");
+        out.add(alone);
     }
-    Ok(lines)
+}
+
+fn body_line(alloc: Global, body: Result<Body<'_>, AllocError>) -> Answer {
+    let mut line = Answer::new(alloc);
+    match body {
+        Ok(body) => line.quoted_line(body.as_slice()),
+        Err(_) => line.note(false),
+    }
+    line
 }
 
 /// The body of a page, or why it has none. If the two calls that prepare it differ, both.
-pub fn bodies(alloc: Global, page: &[u8]) -> anyhow::Result<String> {
-    let copied = match prepare(alloc, page) {
-        Ok(body) => quoted(alloc, body.as_slice())?,
-        Err(refusal) => format!(in alloc; "{refusal}")?,
-    };
-    let held = match Body::prepare(alloc, page) {
-        Ok(body) => quoted(alloc, body.as_slice())?,
-        Err(refusal) => format!(in alloc; "{refusal}")?,
-    };
-    if copied.as_str() == held.as_str() {
-        Ok(format!(in alloc; "{copied}\n")?)
+pub fn bodies(out: &mut Answer, page: &[u8]) {
+    let copied = copied_line(out.alloc, page);
+    let held = held_line(out.alloc, page);
+    if copied.bytes == held.bytes {
+        out.add(copied);
     } else {
-        Ok(format!(in alloc; "copied {copied}\nheld {held}\n")?)
+        out.text("copied ");
+        out.add(copied);
+        out.text("held ");
+        out.add(held);
     }
 }
 
+fn copied_line(alloc: Global, page: &[u8]) -> Answer {
+    let mut line = Answer::new(alloc);
+    match prepare(alloc, page) {
+        Ok(body) => line.quoted_line(body.as_slice()),
+        Err(refusal) => line.line(refusal),
+    }
+    line
+}
+
+fn held_line(alloc: Global, page: &[u8]) -> Answer {
+    let mut line = Answer::new(alloc);
+    match Body::prepare(alloc, page) {
+        Ok(body) => line.quoted_line(body.as_slice()),
+        Err(refusal) => line.line(refusal),
+    }
+    line
+}
+
 /// The numbers of pages of a document and of pages after its trailer; or why the text is refused.
-pub fn counted(alloc: Global, text: &[u8]) -> anyhow::Result<String> {
-    let document = match Document::read(alloc, text) {
-        Ok(document) => document,
-        Err(refusal) => return Ok(format!(in alloc; "{refusal}\n")?),
-    };
+pub fn counted(out: &mut Answer, text: &[u8]) {
+    match Document::read(out.alloc, text) {
+        Ok(document) => numbers(out, &document),
+        Err(refusal) => out.line(refusal),
+    }
+}
+
+fn numbers(out: &mut Answer, document: &Document<'_>) {
     let pages = document.pages();
     match document.pages_behind_trailer() {
-        0 => Ok(format!(in alloc; "pages {pages}\n")?),
-        behind => Ok(format!(in alloc; "pages {pages}, behind the trailer {behind}\n")?),
+        0 => out.line(format_args!("pages {pages}")),
+        behind => out.line(format_args!("pages {pages}, behind the trailer {behind}")),
     }
 }
 
 /// The message of each refusal.
-pub fn refusals(alloc: Global) -> anyhow::Result<String> {
-    let mut lines = String::new(alloc);
+pub fn refusals(out: &mut Answer) {
     for refusal in [
         DscError::TooLong,
         DscError::NotPostScript,
@@ -90,7 +115,6 @@ pub fn refusals(alloc: Global) -> anyhow::Result<String> {
         DscError::NoPages,
         DscError::NoMemory,
     ] {
-        lines.push_str(format!(in alloc; "{refusal}\n")?.as_str())?;
+        out.line(refusal);
     }
-    Ok(lines)
 }

@@ -1,27 +1,29 @@
 //! Commands that cut documents, and put the guard into them.
+use crate::answer::Answer;
 use crate::documents::changes::{every_change, every_prefix};
 use crate::documents::cuts::{bodies, counted, cut, refusals};
 use crate::documents::guards::guard;
-use crate::documents::words::{number, paper, text_of};
-use std::alloc::Global;
+use crate::words::{count, text_of, word};
 use test_cases::Document;
 
-/// The answer, if it is one of these commands.
-pub fn answer_of_document(
-    alloc: Global,
-    words: &[&str],
-    documents: &[Document],
-) -> anyhow::Result<Option<String>> {
-    let text = match words {
-        ["cut", sheets, name] => cut(alloc, number(sheets)?, text_of(documents, name)?)?,
-        ["pages", name] => counted(alloc, text_of(documents, name)?)?,
-        ["prepare", name] => bodies(alloc, text_of(documents, name)?)?,
-        ["pages_of_prefixes", name] => every_prefix(alloc, text_of(documents, name)?)?,
-        ["pages_with_byte", name, byte] => { every_change(alloc, text_of(documents, name)?, byte)? }
-        ["refusals"] => refusals(alloc)?,
-        ["guard", name] => guard(alloc, text_of(documents, name)?, None)?,
-        ["guard", name, sheet] => { guard(alloc, text_of(documents, name)?, Some(&paper(sheet)?))? }
-        _ => return Ok(None),
-    };
-    Ok(Some(text))
+pub fn run(out: &mut Answer, words: &[String], documents: &[Document]) -> Option<()> {
+    match word(words, 0)? {
+        "refusals" => refusals(out),
+        "cut" => cut(out, count(words, 1)?, text_of(documents, words, 2)?),
+        _ => return run_on(out, words, text_of(documents, words, 1)?),
+    }
+    Some(())
+}
+
+/// Runs a command on a document.
+fn run_on(out: &mut Answer, words: &[String], text: &[u8]) -> Option<()> {
+    match word(words, 0)? {
+        "pages" => counted(out, text),
+        "prepare" => bodies(out, text),
+        "pages_of_prefixes" => every_prefix(out, text),
+        "pages_with_byte" => every_change(out, text, word(words, 2)?),
+        "guard" => guard(out, text, words),
+        _ => return None,
+    }
+    Some(())
 }

@@ -1,23 +1,48 @@
 //! Documents with the guard inserted.
+use crate::answer::Answer;
+use crate::words::paper;
 use guard::{guarded, put_guard, put_guard_before};
 use lengths::Paper;
 use std::alloc::{AllocError, Global};
 
-/// The text with the guard inserted, and the other ways of inserting it that give another text.
-pub fn guard(alloc: Global, text: &[u8], paper: Option<&Paper>) -> Result<String, AllocError> {
-    let copy = guarded(alloc, text, paper)?;
-    let mut lines = String::from_utf8_lossy(alloc, copy.as_slice())?;
-    let mut in_place = Vec::from_slice(alloc, text)?;
-    put_guard(&mut in_place, paper)?;
-    if in_place != copy {
-        lines.push_str("but not in its place\n")?;
+/// The text with the guard inserted, for a paper if one is named, and the other ways of inserting it that give another text.
+pub fn guard(out: &mut Answer, text: &[u8], words: &[String]) {
+    let sheet = paper(words, 2);
+    match guarded(out.alloc, text, sheet.as_ref()) {
+        Ok(copy) => {
+            out.lossy(copy.as_slice());
+            compare(out, copy.as_slice(), text, sheet.as_ref());
+        }
+        Err(_) => out.note(false),
+    }
+}
+
+fn compare(out: &mut Answer, copy: &[u8], text: &[u8], paper: Option<&Paper>) {
+    if !gives(out, copy, put_in_place(out.alloc, text, paper)) {
+        out.text("but not in its place\n");
     }
     for room in [2_560, 7, 0] {
-        if put_behind(alloc, room, text, paper)? != copy {
-            lines.push_str(format!(in alloc; "but not with room for {room} bytes\n")?.as_str())?;
+        if !gives(out, copy, put_behind(out.alloc, room, text, paper)) {
+            out.line(format_args!("but not with room for {room} bytes"));
         }
     }
-    Ok(lines)
+}
+
+/// Whether a text is this copy; so it is taken to be where memory ran out.
+fn gives(out: &mut Answer, copy: &[u8], text: Result<Vec<u8>, AllocError>) -> bool {
+    match text {
+        Ok(text) => text.as_slice() == copy,
+        Err(_) => {
+            out.note(false);
+            true
+        }
+    }
+}
+
+fn put_in_place(alloc: Global, text: &[u8], paper: Option<&Paper>) -> Result<Vec<u8>, AllocError> {
+    let mut bytes = Vec::from_slice(alloc, text)?;
+    put_guard(&mut bytes, paper)?;
+    Ok(bytes)
 }
 
 /// Inserts the guard into a text that follows this many bytes, and returns the result.

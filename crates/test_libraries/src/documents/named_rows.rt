@@ -1,11 +1,12 @@
 //! Rows that texts and choices name.
-use crate::documents::words::number;
-use anyhow::Context;
-use rows::{
-    Choice, Part, RowError, Signing, auto_sides, chosen_row, imposed_row, in_signatures, read_row,
-};
+ghost use Rattle.std.specs.Prelude.{◌≤◌};
+
+use crate::answer::Answer;
+use crate::words::{count, word};
+use rows::{Choice, Part, Signing, auto_sides, chosen_row, imposed_row, in_signatures, read_row};
 use sheet_plan::are_sides;
-use std::alloc::{AllocError, Global};
+use std::alloc::Global;
+use std::fmt::Display;
 
 /// More entries than a row may have.
 const TOO_MANY: u32 = 1_000_001;
@@ -14,48 +15,64 @@ const TOO_MANY: u32 = 1_000_001;
 const FEW: usize = 20;
 
 /// The row that a text names.
-pub fn named(alloc: Global, pages: u32, text: &str) -> Result<String, AllocError> {
-    told(alloc, read_row(alloc, pages, text.as_bytes()))
+pub fn named(out: &mut Answer, words: &[String]) -> Option<()> {
+    let (pages, text) = (count(words, 1)?, word(words, 2)?);
+    told(out, read_row(out.alloc, pages, text.as_bytes()));
+    Some(())
 }
 
 /// The row of a choice.
-pub fn chosen(alloc: Global, pages: u32, words: &[&str]) -> anyhow::Result<String> {
-    if pages >= TOO_MANY {
-        return Ok(String::from_str(alloc, "too many pages\n")?);
+pub fn chosen(out: &mut Answer, words: &[String]) -> Option<()> {
+    let pages = count(words, 1)?;
+    let choice = choice_of(words.get(2..)?);
+    if pages < TOO_MANY {
+        told(out, chosen_row(out.alloc, pages, &choice));
+    } else {
+        out.text("too many pages\n");
     }
-    Ok(told(alloc, chosen_row(alloc, pages, &choice_of(words)))?)
+    Some(())
 }
 
 /// The row of a choice, in signatures if any are wanted.
-pub fn imposed(alloc: Global, pages: u32, signing: &str, words: &[&str]) -> anyhow::Result<String> {
-    if pages >= TOO_MANY {
-        return Ok(String::from_str(alloc, "too many pages\n")?);
+pub fn imposed(out: &mut Answer, words: &[String]) -> Option<()> {
+    let (pages, signing) = (count(words, 1)?, word(words, 2)?);
+    let choice = choice_of(words.get(3..)?);
+    if pages < TOO_MANY {
+        signed(out, pages, &choice, signing);
+    } else {
+        out.text("too many pages\n");
     }
-    let choice = choice_of(words);
-    let row = match signing {
-        "unsigned" => imposed_row(alloc, pages, &choice, None),
-        "in_one" => imposed_row(alloc, pages, &choice, Some(Signing::InOne)),
-        "auto" => imposed_row(alloc, pages, &choice, Some(Signing::Auto)),
-        sides => {
-            let sides = number(sides)?;
-            if !are_sides(sides) {
-                return Ok(String::from_str(alloc, "no sides of leaves\n")?);
-            }
-            imposed_row(alloc, pages, &choice, Some(Signing::OfSides(sides)))
+    Some(())
+}
+
+fn signed(out: &mut Answer, pages: u32, choice: &Choice<'_>, signing: &str)
+    requires { pages ≤ 1_000_000 }
+{
+    let alloc = out.alloc;
+    let sides = signing.parse::<u32>().unwrap_or(0);
+    match signing {
+        "unsigned" => told(out, imposed_row(alloc, pages, choice, None)),
+        "in_one" => told(out, imposed_row(alloc, pages, choice, Some(Signing::InOne))),
+        "auto" => told(out, imposed_row(alloc, pages, choice, Some(Signing::Auto))),
+        _ if are_sides(sides) => {
+            told(
+                out,
+                imposed_row(alloc, pages, choice, Some(Signing::OfSides(sides))),
+            )
         }
-    };
-    Ok(told(alloc, row)?)
+        _ => out.text("no sides of leaves\n"),
+    }
 }
 
 /// A choice: the words `odd`, `even`, `backwards`, and ranges of pages.
-fn choice_of<'w>(words: &[&'w str]) -> Choice<'w> {
+fn choice_of(words: &[String]) -> Choice<'_> {
     let mut choice = Choice {
         ranges: None,
         part: Part::All,
         backwards: false,
     };
     for word in words {
-        match *word {
+        match word.as_str() {
             "odd" => choice.part = Part::Odd,
             "even" => choice.part = Part::Even,
             "backwards" => choice.backwards = true,
@@ -66,73 +83,80 @@ fn choice_of<'w>(words: &[&'w str]) -> Choice<'w> {
 }
 
 /// The number of sides of signatures that are easy to fold.
-pub fn sides_for(alloc: Global, entries: u32) -> Result<String, AllocError> {
-    if entries == 0 || entries >= TOO_MANY {
-        return String::from_str(alloc, "no row has so many entries\n");
+pub fn sides_for(out: &mut Answer, words: &[String]) -> Option<()> {
+    let entries = count(words, 1)?;
+    if 0 < entries && entries < TOO_MANY {
+        out.line(auto_sides(entries as usize));
+    } else {
+        out.text("no row has so many entries\n");
     }
-    format!(in alloc; "{}\n", auto_sides(entries as usize))
+    Some(())
 }
 
 /// A row in signatures of this many sides.
-pub fn sewn(alloc: Global, sides: u32, row: &str) -> anyhow::Result<String> {
-    if !are_sides(sides) {
-        return Ok(String::from_str(alloc, "no sides of leaves\n")?);
+pub fn sewn(out: &mut Answer, words: &[String]) -> Option<()> {
+    let sides = count(words, 1)?;
+    let row = entries(out.alloc, word(words, 2)?)?;
+    if are_sides(sides) {
+        told(out, in_signatures(out.alloc, row.as_slice(), sides));
+    } else {
+        out.text("no sides of leaves\n");
     }
-    let row = entries(alloc, row)?;
-    let sewn = in_signatures(alloc, row.as_slice(), sides)?;
-    Ok(row_text(alloc, sewn.as_slice())?)
+    Some(())
 }
 
 /// The entries of a row: pages by their numbers from 1, `-` for a blank, `1*9` for a page nine times.
-pub fn entries(alloc: Global, text: &str) -> anyhow::Result<Vec<Option<u32>>> {
+pub fn entries(alloc: Global, text: &str) -> Option<Vec<Option<u32>>> {
     let mut row = Vec::new(alloc);
     for word in text.split_whitespace() {
-        if word == "-" {
-            row.push(None)?;
-            continue;
-        }
-        let (page, times) = word.split_once('*').unwrap_or((word, "1"));
-        let page = number(page)?
-            .checked_sub(1)
-            .context("pages are counted from 1")?;
-        for _ in 0..number(times)? {
-            row.push(Some(page))?;
+        let (entry, times) = entry_of(word)?;
+        for _ in 0..times {
+            row.push(entry).ok()?;
         }
     }
-    Ok(row)
+    Some(row)
+}
+
+/// An entry, and how many times it is there.
+fn entry_of(word: &str) -> Option<(Option<u32>, u32)> {
+    if word == "-" {
+        return Some((None, 1));
+    }
+    let (page, times) = word.split_once('*').unwrap_or((word, "1"));
+    let page = page.parse::<u32>().ok()?.checked_sub(1)?;
+    Some((Some(page), times.parse::<u32>().ok()?))
 }
 
 /// A row, or why there is none.
-fn told(alloc: Global, answer: Result<Vec<Option<u32>>, RowError>) -> Result<String, AllocError> {
+fn told<E: Display + Drop>(out: &mut Answer, answer: Result<Vec<Option<u32>>, E>) {
     match answer {
-        Ok(row) => row_text(alloc, row.as_slice()),
-        Err(error) => format!(in alloc; "{error}\n"),
+        Ok(row) => row_line(out, row.as_slice()),
+        Err(error) => out.line(error),
     }
 }
 
 /// A row in the order of reading; for a long one three entries at each end, and the number of entries.
-fn row_text(alloc: Global, row: &[Option<u32>]) -> Result<String, AllocError> {
+fn row_line(out: &mut Answer, row: &[Option<u32>]) {
     if row.len() <= FEW {
-        return format!(in alloc; "{}\n", entries_text(alloc, row)?);
+        show_entries(out, row);
+        return out.text("\n");
     }
     let (first, _) = row.split_at(3);
     let (_, last) = row.split_at(row.len() - 3);
-    let (first, last) = (entries_text(alloc, first)?, entries_text(alloc, last)?);
-    format!(in alloc; "{first} .. {last}, entries {}\n", row.len())
+    show_entries(out, first);
+    out.text(" .. ");
+    show_entries(out, last);
+    out.line(format_args!(", entries {}", row.len()));
 }
 
-fn entries_text(alloc: Global, row: &[Option<u32>]) -> Result<String, AllocError> {
-    let mut text = String::new(alloc);
+fn show_entries(out: &mut Answer, row: &[Option<u32>]) {
     for (at, entry) in row.iter().enumerate() {
         if at > 0 {
-            text.push_str(" ")?;
+            out.text(" ");
         }
         match entry {
-            Some(page) => {
-                text.push_str(format!(in alloc; "{}", page.saturating_add(1))?.as_str())?;
-            }
-            None => text.push_str("-")?,
+            Some(page) => out.show(page.saturating_add(1)),
+            None => out.text("-"),
         }
     }
-    Ok(text)
 }

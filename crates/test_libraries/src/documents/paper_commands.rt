@@ -1,33 +1,28 @@
 //! Commands that find papers.
+use crate::answer::Answer;
 use crate::documents::paper_texts::{
     counted, cutting, home_papers, instead_of, told, trailing_box, value_of_title,
 };
-use crate::documents::words::{paper, papers, text_of};
-use std::alloc::Global;
+use crate::words::{paper, text_of, word};
 use test_cases::Document;
 
-/// The answer, if it is one of these commands.
-pub fn answer_of_papers(
-    alloc: Global,
-    words: &[&str],
-    documents: &[Document],
-) -> anyhow::Result<Option<String>> {
-    let text = match words {
-        ["paper", name] => told(alloc, text_of(documents, name)?)?,
-        ["page_papers", name] => home_papers(alloc, text_of(documents, name)?, None)?,
-        ["page_papers", name, asked] => {
-            home_papers(alloc, text_of(documents, name)?, Some(paper(asked)?))?
-        }
-        ["papers_as_one", name] => counted(alloc, text_of(documents, name)?)?,
-        ["cut_by", sheet, own @ ..] => {
-            cutting(alloc, &paper(sheet)?, papers(alloc, own)?.as_slice())?
-        }
-        ["first_instead_of", sheet, own @ ..] => {
-            instead_of(alloc, &paper(sheet)?, papers(alloc, own)?.as_slice())?
-        }
-        ["trailer_box", name] => trailing_box(alloc, text_of(documents, name)?)?,
-        ["title", line] => value_of_title(alloc, line)?,
-        _ => return Ok(None),
-    };
-    Ok(Some(text))
+pub fn run(out: &mut Answer, words: &[String], documents: &[Document]) -> Option<()> {
+    match word(words, 0)? {
+        "cut_by" => cutting(out, words),
+        "first_instead_of" => instead_of(out, words),
+        "title" => value_of_title(out, words),
+        _ => run_on(out, words, text_of(documents, words, 1)?),
+    }
+}
+
+/// Runs a command on a document.
+fn run_on(out: &mut Answer, words: &[String], text: &[u8]) -> Option<()> {
+    match word(words, 0)? {
+        "paper" => told(out, text),
+        "page_papers" => return home_papers(out, text, paper(words, 2)),
+        "papers_as_one" => return counted(out, text),
+        "trailer_box" => trailing_box(out, text),
+        _ => return None,
+    }
+    Some(())
 }

@@ -1,98 +1,133 @@
 //! Documents, and the papers of their pages.
-use crate::documents::words::{paper, quoted};
-use dsc::{Document, comment_value, trailer_box};
-use lengths::{Paper, a4, paper_by_name, print_points};
-use papers::{as_one, cut_by, document_paper, first_instead_of, own_papers};
-use std::alloc::{AllocError, Global};
+use crate::answer::Answer;
+use crate::words::{paper, papers_of, word};
+use dsc::{Document, DscError, comment_value, trailer_box};
+use lengths::{Paper, a4, paper_by_name};
+use papers::{Cut, as_one, cut_by, document_paper, first_instead_of, own_papers};
+use std::alloc::Global;
 
 /// A paper: its name if it is one of a few, otherwise its width and height in points.
-pub fn paper_text(alloc: Global, paper: &Paper) -> Result<String, AllocError> {
+pub fn show_paper(out: &mut Answer, paper: &Paper) {
     for name in ["a3", "a4", "a5", "letter"] {
         if paper_by_name(name) == Some(*paper) {
-            return String::from_str(alloc, name);
+            return out.text(name);
         }
     }
-    let mut points = Vec::new(alloc);
-    print_points(paper.width(), &mut points)?;
-    points.push(b' ')?;
-    print_points(paper.height(), &mut points)?;
-    String::from_utf8_lossy(alloc, points.as_slice())
+    out.points(paper.width());
+    out.text(" ");
+    out.points(paper.height());
 }
 
 /// The paper of a document where a4 is usual, and the comment that has it.
-pub fn told(alloc: Global, text: &[u8]) -> Result<String, AllocError> {
+pub fn told(out: &mut Answer, text: &[u8]) {
     match document_paper(text, &a4()) {
         Some((paper, comment)) => {
-            format!(in alloc; "{} by {comment:?}\n", paper_text(alloc, &paper)?)
+            show_paper(out, &paper);
+            out.line(format_args!(" by {comment:?}"));
         }
-        None => String::from_str(alloc, "none\n"),
+        None => out.text("none\n"),
     }
 }
 
 /// The paper of each page, for a home of letter.
-pub fn home_papers(alloc: Global, text: &[u8], asked: Option<Paper>) -> anyhow::Result<String> {
-    let document = Document::read(alloc, text)?;
-    let papers = own_papers(alloc, &document, asked, &paper("letter")?)?;
-    Ok(paper_lines(alloc, papers.as_slice())?)
+pub fn home_papers(out: &mut Answer, text: &[u8], asked: Option<Paper>) -> Option<()> {
+    let home = paper_by_name("letter")?;
+    match papers_at(out.alloc, text, asked, &home) {
+        Ok(papers) => paper_lines(out, papers.as_slice()),
+        Err(error) => out.line(error),
+    }
+    Some(())
 }
 
 /// The papers as which those of the pages count.
-pub fn counted(alloc: Global, text: &[u8]) -> anyhow::Result<String> {
+pub fn counted(out: &mut Answer, text: &[u8]) -> Option<()> {
+    let home = paper_by_name("letter")?;
+    match papers_at(out.alloc, text, None, &home) {
+        Ok(own) => counted_lines(out, own.as_slice()),
+        Err(error) => out.line(error),
+    }
+    Some(())
+}
+
+fn counted_lines(out: &mut Answer, own: &[Paper]) {
+    match as_one(out.alloc, own, own) {
+        Ok(papers) => paper_lines(out, papers.as_slice()),
+        Err(_) => out.note(false),
+    }
+}
+
+fn papers_at(
+    alloc: Global,
+    text: &[u8],
+    asked: Option<Paper>,
+    home: &Paper,
+) -> Result<Vec<Paper>, DscError> {
     let document = Document::read(alloc, text)?;
-    let own = own_papers(alloc, &document, None, &paper("letter")?)?;
-    let papers = as_one(alloc, own.as_slice(), own.as_slice())?;
-    Ok(paper_lines(alloc, papers.as_slice())?)
+    match own_papers(alloc, &document, asked, home) {
+        Ok(papers) => Ok(papers),
+        Err(_) => Err(DscError::NoMemory),
+    }
 }
 
 /// A line for each page.
-fn paper_lines(alloc: Global, papers: &[Paper]) -> Result<String, AllocError> {
-    let mut lines = String::new(alloc);
+fn paper_lines(out: &mut Answer, papers: &[Paper]) {
     for (page, paper) in papers.iter().enumerate() {
-        let number = page.saturating_add(1);
-        let text = paper_text(alloc, paper)?;
-        lines.push_str(format!(in alloc; "page {number} {text}\n")?.as_str())?;
+        out.show(format_args!("page {} ", page.saturating_add(1)));
+        paper_line(out, paper);
     }
-    Ok(lines)
+}
+
+fn paper_line(out: &mut Answer, paper: &Paper) {
+    show_paper(out, paper);
+    out.text("\n");
 }
 
 /// The pages among these that a paper cuts: the first and the last of them, their number, and the least paper that
 /// covers theirs.
-pub fn cutting(alloc: Global, paper: &Paper, own: &[Paper]) -> Result<String, AllocError> {
-    let Some(cut) = cut_by(paper, own) else {
-        return String::from_str(alloc, "none\n");
-    };
-    let (first, last) = (cut.first.saturating_add(1), cut.last.saturating_add(1));
-    let text = paper_text(alloc, &cut.paper)?;
-    format!(in alloc;
-        "first {first}, last {last}, pages {}, paper {text}\n",
-        cut.pages
-    )
+pub fn cutting(out: &mut Answer, words: &[String]) -> Option<()> {
+    let sheet = paper(words, 1)?;
+    let own = papers_of(out.alloc, words.get(2..)?)?;
+    cut_line(out, cut_by(&sheet, own.as_slice()));
+    Some(())
 }
 
-/// The first page's paper, if no page has this one.
-pub fn instead_of(alloc: Global, paper: &Paper, own: &[Paper]) -> Result<String, AllocError> {
-    match first_instead_of(paper, own) {
-        Some(first) => format!(in alloc; "{}\n", paper_text(alloc, &first)?),
-        None => String::from_str(alloc, "none\n"),
+fn cut_line(out: &mut Answer, cut: Option<Cut>) {
+    match cut {
+        Some(cut) => {
+            let (first, last) = (cut.first.saturating_add(1), cut.last.saturating_add(1));
+            out.show(format_args!("first {first}, last {last}, pages {}, paper ", cut.pages));
+            paper_line(out, &cut.paper);
+        }
+        None => out.text("none\n"),
     }
 }
 
+/// The first page's paper, if no page has this one.
+pub fn instead_of(out: &mut Answer, words: &[String]) -> Option<()> {
+    let sheet = paper(words, 1)?;
+    let own = papers_of(out.alloc, words.get(2..)?)?;
+    match first_instead_of(&sheet, own.as_slice()) {
+        Some(first) => paper_line(out, &first),
+        None => out.text("none\n"),
+    }
+    Some(())
+}
+
 /// The box in the trailer.
-pub fn trailing_box(alloc: Global, text: &[u8]) -> Result<String, AllocError> {
-    value_text(alloc, trailer_box(text))
+pub fn trailing_box(out: &mut Answer, text: &[u8]) {
+    value(out, trailer_box(text));
 }
 
 /// The value of a line that is a title.
-pub fn value_of_title(alloc: Global, line: &str) -> Result<String, AllocError> {
-    value_text(
-        alloc,
-        comment_value(line.as_bytes(), b"%%Title", b"%%Title:"),
-    )
+pub fn value_of_title(out: &mut Answer, words: &[String]) -> Option<()> {
+    let line = word(words, 1)?.as_bytes();
+    value(out, comment_value(line, b"%%Title", b"%%Title:"));
+    Some(())
 }
 
-fn value_text(alloc: Global, value: Option<&[u8]>) -> Result<String, AllocError> {
+fn value(out: &mut Answer, value: Option<&[u8]>) {
     match value {
-        Some(value) => format!(in alloc; "{}\n", quoted(alloc, value)?),
-        None => String::from_str(alloc, "none\n"),
+        Some(value) => out.quoted_line(value),
+        None => out.text("none\n"),
     }
 }

@@ -1,22 +1,18 @@
 //! Commands that make rows, and sheets from rows.
+use crate::answer::Answer;
 use crate::documents::named_rows::{chosen, imposed, named, sewn, sides_for};
 use crate::documents::sheets::{by_specification, on_their_own};
-use crate::documents::words::number;
-use std::alloc::Global;
+use crate::words::word;
 
-/// The answer, if it is one of these commands.
-pub fn answer_of_rows(alloc: Global, words: &[&str]) -> anyhow::Result<Option<String>> {
-    let text = match words {
-        ["read_row", pages, text] => named(alloc, number(pages)?, text)?,
-        ["chosen_row", pages, choice @ ..] => chosen(alloc, number(pages)?, choice)?,
-        ["imposed_row", pages, signing, choice @ ..] => {
-            imposed(alloc, number(pages)?, signing, choice)?
-        }
-        ["auto_sides", entries] => sides_for(alloc, number(entries)?)?,
-        ["in_signatures", sides, row] => sewn(alloc, number(sides)?, row)?,
-        ["select", blank, papers, row] => on_their_own(alloc, blank, papers, row)?,
-        ["spec_sheets", spec, row] => by_specification(alloc, spec, row)?,
-        _ => return Ok(None),
-    };
-    Ok(Some(text))
+pub fn run(out: &mut Answer, words: &[String]) -> Option<()> {
+    match word(words, 0)? {
+        "read_row" => named(out, words),
+        "chosen_row" => chosen(out, words),
+        "imposed_row" => imposed(out, words),
+        "auto_sides" => sides_for(out, words),
+        "in_signatures" => sewn(out, words),
+        "select" => on_their_own(out, words),
+        "spec_sheets" => by_specification(out, words),
+        _ => None,
+    }
 }

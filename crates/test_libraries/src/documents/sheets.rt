@@ -1,127 +1,134 @@
 //! Sheets that are made from rows.
+ghost use Rattle.std.specs.Prelude.{◌<◌, length};
+
+use crate::answer::Answer;
 use crate::documents::named_rows::entries;
-use crate::documents::paper_texts::paper_text;
-use crate::documents::words::{number, paper};
-use lengths::Paper;
-use pagespec::{Turn, read_spec};
+use crate::documents::paper_texts::show_paper;
+use crate::words::{paper, specification, word};
+use lengths::{Paper, a4, paper_by_name};
+use pagespec::Turn;
 use row_sheets::{SpecOnRow, select, spec_sheets};
 use rows::all_pages;
-use sheet_plan::MadeSheets;
-use std::alloc::{AllocError, Global};
+use sheet_plan::{MadeSheets, PlacedSlot};
+use std::alloc::Global;
+use std::fmt::Display;
 
 /// The most sheets that are written out.
-const FEW: usize = 20;
+const FEW: u32 = 20;
 
 /// Each entry of a row on a sheet of its own.
-pub fn on_their_own(alloc: Global, blank: &str, papers: &str, row: &str) -> anyhow::Result<String> {
-    let (pages, papers) = papers_of(alloc, papers)?;
-    let row = row_of(alloc, pages, row)?;
-    let made = select(alloc, row.as_slice(), papers.as_slice(), &paper(blank)?)?;
-    Ok(sheets_text(alloc, &made)?)
+pub fn on_their_own(out: &mut Answer, words: &[String]) -> Option<()> {
+    let (blank, row) = (paper(words, 1)?, word(words, 3)?);
+    let (pages, names) = pages_and_names(word(words, 2)?)?;
+    let papers = papers_in_turn(out.alloc, pages, names)?;
+    let row = row_of(out.alloc, pages, row)?;
+    told(
+        out,
+        select(out.alloc, row.as_slice(), papers.as_slice(), &blank),
+    );
+    Some(())
+}
+
+/// The number of pages, and the names of their papers: `5 a4 a3`.
+fn pages_and_names(text: &str) -> Option<(u32, &str)> {
+    let (pages, names) = text.split_once(' ')?;
+    Some((pages.parse::<u32>().ok()?, names))
 }
 
 /// The sheets of a specification on a row, of A3 for pages of A4; or why there are none.
-pub fn by_specification(alloc: Global, spec: &str, row: &str) -> anyhow::Result<String> {
-    let spec = read_spec(alloc, spec)?;
-    let row = entries(alloc, row)?;
+pub fn by_specification(out: &mut Answer, words: &[String]) -> Option<()> {
+    let Some(spec) = specification(out, words, 1) else {
+        return Some(());
+    };
+    let row = entries(out.alloc, word(words, 2)?)?;
     let on = SpecOnRow {
         spec: &spec,
         row: row.as_slice(),
-        sheet: paper("a3")?,
-        page: paper("a4")?,
+        sheet: paper_by_name("a3")?,
+        page: a4(),
     };
-    match spec_sheets(alloc, &on) {
-        Ok(made) => Ok(sheets_text(alloc, &made)?),
-        Err(refusal) => Ok(format!(in alloc; "{refusal}\n")?),
-    }
+    told(out, spec_sheets(out.alloc, &on));
+    Some(())
 }
 
-/// This many pages, and their papers in turn: `5 a4 a3`.
-fn papers_of(alloc: Global, text: &str) -> anyhow::Result<(u32, Vec<Paper>)> {
-    let (pages, names) = text.split_once(' ').unwrap_or((text, ""));
-    let pages = number(pages)?;
-    let mut turns = Vec::new(alloc);
-    for name in names.split_whitespace() {
-        turns.push(paper(name)?)?;
-    }
+/// The papers of this many pages: these in turn.
+fn papers_in_turn(alloc: Global, pages: u32, names: &str) -> Option<Vec<Paper>> {
+    let turns = names.split_whitespace().count().max(1);
     let mut papers = Vec::new(alloc);
     for page in 0..pages as usize {
-        if let Some(paper) = turns.as_slice().get(page % turns.len().max(1)) {
-            papers.push(*paper)?;
-        }
+        papers.push(paper_at(names, page % turns)?).ok()?;
     }
-    Ok((pages, papers))
+    Some(papers)
+}
+
+fn paper_at(names: &str, at: usize) -> Option<Paper> {
+    paper_by_name(names.split_whitespace().nth(at)?)
 }
 
 /// The entries of a row, or `all` pages.
-fn row_of(alloc: Global, pages: u32, row: &str) -> anyhow::Result<Vec<Option<u32>>> {
+fn row_of(alloc: Global, pages: u32, row: &str) -> Option<Vec<Option<u32>>> {
     match row {
-        "all" => Ok(all_pages(alloc, pages)?),
+        "all" => all_pages(alloc, pages).ok(),
         text => entries(alloc, text),
     }
 }
 
+/// Sheets, or why there are none.
+fn told<E: Display + Drop>(out: &mut Answer, made: Result<MadeSheets, E>) {
+    match made {
+        Ok(made) => sheet_lines(out, &made),
+        Err(refusal) => out.line(refusal),
+    }
+}
+
 /// A line for each sheet; for many sheets two lines at each end, and the number of sheets.
-fn sheets_text(alloc: Global, made: &MadeSheets) -> Result<String, AllocError> {
-    let sheets = made.len();
-    let mut lines = String::new(alloc);
+fn sheet_lines(out: &mut Answer, made: &MadeSheets) {
+    let Ok(sheets) = u32::try_from(made.len()) else {
+        return out.text("too many\n");
+    };
     for sheet in 0..sheets {
         if sheets <= FEW || sheet < 2 || sheets - sheet <= 2 {
-            lines.push_str(sheet_text(alloc, made, sheet)?.as_str())?;
+            sheet_line(out, made, sheet);
         } else if sheet == 2 {
-            lines.push_str("..\n")?;
+            out.text("..\n");
         }
     }
     if sheets > FEW {
-        lines.push_str(format!(in alloc; "sheets {sheets}\n")?.as_str())?;
+        out.line(format_args!("sheets {sheets}"));
     }
-    Ok(lines)
 }
 
 /// A sheet as `a3: 1 a4 left, -`.
-fn sheet_text(alloc: Global, made: &MadeSheets, sheet: usize) -> Result<String, AllocError> {
-    let mut text = String::new(alloc);
-    let Ok(sheet) = u32::try_from(sheet) else {
-        return Ok(text);
-    };
-    if (sheet as usize) < made.len() {
-        text.push_str(paper_text(alloc, made.paper(sheet))?.as_str())?;
-        text.push_str(":")?;
-        for slot in 0..made.slots(sheet) {
-            text.push_str(if slot == 0 { " " } else { ", " })?;
-            text.push_str(slot_text(alloc, made, sheet, slot)?.as_str())?;
-        }
-        text.push_str("\n")?;
+fn sheet_line(out: &mut Answer, made: &MadeSheets, sheet: u32)
+    requires { sheet < length made.now }
+{
+    show_paper(out, made.paper(sheet));
+    out.text(":");
+    for slot in 0..made.slots(sheet) {
+        out.text(if slot == 0 { " " } else { ", " });
+        show_slot(out, made.placed(sheet, slot));
     }
-    Ok(text)
+    out.text("\n");
 }
 
 /// The content of a slot, as `1 a4 left`: the page's number from 1, its paper, and its turn.
-fn slot_text(
-    alloc: Global,
-    made: &MadeSheets,
-    sheet: u32,
-    slot: u32,
-) -> Result<String, AllocError> {
-    if sheet as usize >= made.len() || slot >= made.slots(sheet) {
-        return String::from_str(alloc, "none");
-    }
-    match made.placed(sheet, slot) {
+fn show_slot(out: &mut Answer, slot: Option<PlacedSlot<'_>>) {
+    match slot {
         Some(placed) => {
-            let number = placed.page.saturating_add(1);
-            let paper = paper_text(alloc, placed.paper)?;
-            format!(in alloc; "{number} {paper} {}", turn_text(placed.item.turn))
+            out.show(format_args!("{} ", placed.page.saturating_add(1)));
+            show_paper(out, placed.paper);
+            out.text(turn_text(placed.item.turn));
         }
-        None => String::from_str(alloc, "-"),
+        None => out.text("-"),
     }
 }
 
-/// A turn in words.
+/// A turn in words, after a space.
 fn turn_text(turn: Turn) -> &'static str {
     match turn {
-        Turn::None => "upright",
-        Turn::Left => "left",
-        Turn::Half => "half",
-        Turn::Right => "right",
+        Turn::None => " upright",
+        Turn::Left => " left",
+        Turn::Half => " half",
+        Turn::Right => " right",
     }
 }

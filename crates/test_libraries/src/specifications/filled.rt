@@ -2,9 +2,9 @@
 ghost use Rattle.std.specs.Prelude.{◌*◌, ◌≤◌, IfSome};
 ghost use Rattle.layouts.specs.Cells.{size};
 
-use crate::specifications::answer::Answer;
+use crate::answer::Answer;
 use crate::specifications::planned::page_lists;
-use crate::specifications::words::{number, paper, row, word};
+use crate::words::{count, number, paper, row, word};
 use layouts::{Arrangement, ArrangementError, Cells, Papers, Setting};
 use lengths::{Paper, a4};
 use row_sheets::{
@@ -15,25 +15,14 @@ use sheet_plan::{MadeSheets, Plan};
 
 pub fn run(out: &mut Answer, words: &[String]) -> Option<()> {
     match word(words, 0)? {
-        "filled" => filled(out, words, &[])?,
-        "filled_with" => {
-            let papers = [a4(), paper(words, 1)?];
-            filled(out, behind_first(words), &papers)?;
-        }
-        "fitted" => fitted(out, &paper(words, 1)?)?,
-        "scale" => scale(out, &paper(words, 1)?)?,
-        "poster" => poster(out, words)?,
-        "check_poster" => checked(out, words)?,
-        "posters" => posters(out, words)?,
-        _ => return None,
-    }
-    Some(())
-}
-
-fn behind_first(words: &[String]) -> &[String] {
-    match words {
-        [_, rest @ ..] => rest,
-        [] => words,
+        "filled" => filled(out, words, &[]),
+        "filled_with" => filled(out, words.get(1..)?, &[a4(), paper(words, 1)?]),
+        "fitted" => fitted(out, words),
+        "scale" => scale(out, words),
+        "poster" => poster(out, words),
+        "check_poster" => checked(out, words),
+        "posters" => posters(out, words),
+        _ => None,
     }
 }
 
@@ -59,7 +48,7 @@ pub fn two_columns() -> Option<Setting>
 fn filled(out: &mut Answer, words: &[String], papers: &[Paper]) -> Option<()> {
     let setting = two_columns()?;
     let (alloc, way) = (out.alloc, word(words, 1)?);
-    let row = row(alloc, behind_first(behind_first(words)))?;
+    let row = row(alloc, words.get(2..)?)?;
     let row = row.as_slice();
     let made = match way {
         "grid" => grid_sheets(alloc, &setting, papers, 2, row),
@@ -88,8 +77,8 @@ fn tell_sheets(out: &mut Answer, made: &MadeSheets) {
 }
 
 /// How a page is scaled and moved in the second cell, in 10^-9.
-fn fitted(out: &mut Answer, paper: &Paper) -> Option<()> {
-    match two_columns()?.item(paper, 1) {
+fn fitted(out: &mut Answer, words: &[String]) -> Option<()> {
+    match two_columns()?.item(&paper(words, 1)?, 1) {
         Ok(item) => {
             let (x, y) = (item.offset.0.number, item.offset.1.number);
             let scale = item.scale.billionths();
@@ -100,8 +89,8 @@ fn fitted(out: &mut Answer, paper: &Paper) -> Option<()> {
     Some(())
 }
 
-fn scale(out: &mut Answer, paper: &Paper) -> Option<()> {
-    match two_columns()?.scale(paper) {
+fn scale(out: &mut Answer, words: &[String]) -> Option<()> {
+    match two_columns()?.scale(&paper(words, 1)?) {
         Ok(scale) => out.line(scale.billionths()),
         Err(error) => out.refusal(error),
     }
@@ -125,7 +114,7 @@ fn two_tiles() -> Poster
 fn told(words: &[String]) -> Option<Poster> {
     let mut poster = two_tiles();
     if word(words, 2).is_some() {
-        poster.columns = u32::try_from(number(words, 2)?).ok()?;
+        poster.columns = count(words, 2)?;
         poster.edge = u64::try_from(number(words, 3)?).ok()?;
         poster.overlap = u64::try_from(number(words, 4)?).ok()?;
     }
@@ -151,7 +140,7 @@ fn checked(out: &mut Answer, words: &[String]) -> Option<()> {
 /// The pages of a row, each on two such tiles; the second page has a paper of its own.
 fn posters(out: &mut Answer, words: &[String]) -> Option<()> {
     let papers = [a4(), paper(words, 1)?];
-    let row = row(out.alloc, behind_first(behind_first(words)))?;
+    let row = row(out.alloc, words.get(2..)?)?;
     match poster_row_sheets(out.alloc, &two_tiles(), &papers, row.as_slice()) {
         Ok(made) => offsets(out, &made),
         Err(error) => out.refusal(error),

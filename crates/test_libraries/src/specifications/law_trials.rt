@@ -1,13 +1,13 @@
 //! The laws of layouts on printed matrices, by arithmetic of the tests' own: all numbers of pages on many papers.
-use crate::specifications::answer::Answer;
+use crate::answer::Answer;
 use crate::specifications::placed::{
     Kept, Placed, are_apart, are_in_order, are_inside, are_like, columns_of, largest, pages_of,
 };
-use crate::specifications::words::word;
+use crate::words::word;
 use layouts::{Arrangement, Binding, Cells, Free, Papers, arrange, bind};
 use lengths::{Grains, paper_by_name};
 use pagespec::Spec;
-use std::alloc::{AllocError, Global};
+use std::alloc::Global;
 
 /// The papers, with their sides in points.
 const PAPERS: [(&str, i64, i64); 8] = [
@@ -37,20 +37,20 @@ const MILLIMETRES: Kept = Kept {
 
 pub fn run(out: &mut Answer, words: &[String]) -> Option<()> {
     match word(words, 0)? {
-        "1_to_64_pages" => {
-            let numbers = up_to_64(out.alloc)?;
-            layouts_tried(out, numbers.as_slice(), true, NOTHING);
-        }
-        "many_pages" => layouts_tried(out, &MANY, true, NOTHING),
-        "other_papers" => layouts_tried(out, &SOME, false, NOTHING),
-        "booklets" => booklets_tried(out),
-        "margins_and_gaps" => {
-            let numbers = up_to_64(out.alloc)?;
-            layouts_tried(out, numbers.as_slice(), true, MILLIMETRES);
-        }
+        "1_to_64_pages" => return up_to_64_tried(out, NOTHING),
+        "many_pages" => tried(out, &Trial::Pages(&MANY, NOTHING), true),
+        "other_papers" => tried(out, &Trial::Pages(&SOME, NOTHING), false),
+        "booklets" => tried(out, &Trial::Booklets, false),
+        "margins_and_gaps" => return up_to_64_tried(out, MILLIMETRES),
         "laws" => laws_called(out),
         _ => return None,
     }
+    Some(())
+}
+
+fn up_to_64_tried(out: &mut Answer, kept: Kept) -> Option<()> {
+    let numbers = up_to_64(out.alloc)?;
+    tried(out, &Trial::Pages(numbers.as_slice(), kept), true);
     Some(())
 }
 
@@ -65,25 +65,66 @@ fn up_to_64(alloc: Global) -> Option<Vec<u32>> {
 /// A paper by its name, and its sides in points.
 type Named = (&'static str, i64, i64);
 
+/// What is laid out on sheets: these numbers of pages, or booklets.
+#[derive(Clone, Copy)]
+enum Trial<'n> {
+    Pages(&'n [u32], Kept),
+    Booklets,
+}
+
 /// Prints how many layouts have no fault, or the first that has one.
-fn layouts_tried(out: &mut Answer, numbers: &[u32], on_own_paper: bool, kept: Kept) {
+fn tried(out: &mut Answer, trial: &Trial<'_>, on_own_paper: bool) {
     let mut count = 0u32;
-    for page in PAPERS {
-        for sheet in PAPERS {
-            if on_own_paper && page.0 != sheet.0 {
-                continue;
-            }
-            for n in numbers {
-                let fault = fault_of(out.alloc, *n, page, sheet, kept);
-                if fault != "" {
-                    out.line(format_args!("{n} of {} on {}: {fault}", page.0, sheet.0));
-                    return;
+    for page in &PAPERS {
+        for sheet in &PAPERS {
+            if !on_own_paper || page.0 == sheet.0 {
+                match tried_on(out, trial, page, sheet) {
+                    Some(tried) => count = count.saturating_add(tried),
+                    None => return,
                 }
-                count = count.saturating_add(1);
             }
         }
     }
     out.line(format_args!("{count} layouts, no fault"));
+}
+
+/// How many layouts on this paper have no fault; None if one has one, which is printed.
+fn tried_on(out: &mut Answer, trial: &Trial<'_>, page: &Named, sheet: &Named) -> Option<u32> {
+    match trial {
+        Trial::Pages(numbers, kept) => pages_tried(out, numbers, *kept, page, sheet),
+        Trial::Booklets => booklets_tried(out, page, sheet),
+    }
+}
+
+fn pages_tried(
+    out: &mut Answer,
+    numbers: &[u32],
+    kept: Kept,
+    page: &Named,
+    sheet: &Named,
+) -> Option<u32> {
+    let mut count = 0u32;
+    for n in numbers {
+        let fault = fault_of(out.alloc, *n, page, sheet, kept);
+        if fault != "" {
+            out.show(format_args!("{n} of "));
+            fault_line(out, page, sheet, fault);
+            return None;
+        }
+        count = count.saturating_add(1);
+    }
+    Some(count)
+}
+
+fn booklets_tried(out: &mut Answer, page: &Named, sheet: &Named) -> Option<u32> {
+    for long_edge in [false, true] {
+        let fault = booklet_fault(out.alloc, page, sheet, long_edge);
+        if fault != "" {
+            fault_line(out, page, sheet, fault);
+            return None;
+        }
+    }
+    Some(2)
 }
 
 /// The specification of n pages of one paper on a sheet of the other.
@@ -113,7 +154,7 @@ fn papers_named(page: &str, sheet: &str) -> Option<Papers> {
 }
 
 /// What is wrong with n pages of one paper on a sheet of the other.
-fn fault_of(alloc: Global, n: u32, page: Named, sheet: Named, kept: Kept) -> &'static str {
+fn fault_of(alloc: Global, n: u32, page: &Named, sheet: &Named, kept: Kept) -> &'static str {
     let Some(papers) = papers_named(page.0, sheet.0) else {
         return "no paper";
     };
@@ -163,26 +204,12 @@ fn fault_among(
     ""
 }
 
-/// Prints how many booklets have no fault, or the first that has one.
-fn booklets_tried(out: &mut Answer) {
-    let mut count = 0u32;
-    for page in PAPERS {
-        for sheet in PAPERS {
-            for long_edge in [false, true] {
-                let fault = booklet_fault(out.alloc, page, sheet, long_edge);
-                if fault != "" {
-                    out.line(format_args!("{} on {}: {fault}", page.0, sheet.0));
-                    return;
-                }
-                count = count.saturating_add(1);
-            }
-        }
-    }
-    out.line(format_args!("{count} layouts, no fault"));
+fn fault_line(out: &mut Answer, page: &Named, sheet: &Named, fault: &str) {
+    out.line(format_args!("{} on {}: {fault}", page.0, sheet.0));
 }
 
 /// What is wrong with a booklet.
-fn booklet_fault(alloc: Global, page: Named, sheet: Named, long_edge: bool) -> &'static str {
+fn booklet_fault(alloc: Global, page: &Named, sheet: &Named, long_edge: bool) -> &'static str {
     let Some(papers) = papers_named(page.0, sheet.0) else {
         return "no paper";
     };
@@ -190,20 +217,16 @@ fn booklet_fault(alloc: Global, page: Named, sheet: Named, long_edge: bool) -> &
         return "refused, or out of memory";
     };
     let sides = (page.1, page.2);
-    let (front, back) = (
-        pages_of(alloc, &spec, 0, &papers.page, sides),
-        pages_of(alloc, &spec, 1, &papers.page, sides),
-    );
-    match (front, back) {
-        (Ok(front), Ok(back)) => {
-            let backs = if long_edge { 2 } else { 0 };
-            if back.len() != backs {
-                return "not two pages";
-            }
-            fault_of_leaf(front.as_slice(), back.as_slice(), (sheet.1, sheet.2))
-        }
-        _ => "out of memory",
+    let Ok(front) = pages_of(alloc, &spec, 0, &papers.page, sides) else {
+        return "out of memory";
+    };
+    let Ok(back) = pages_of(alloc, &spec, 1, &papers.page, sides) else {
+        return "out of memory";
+    };
+    if back.len() != if long_edge { 2 } else { 0 } {
+        return "not two pages";
     }
+    fault_of_leaf(front.as_slice(), back.as_slice(), (sheet.1, sheet.2))
 }
 
 /// What is wrong with the sides of a leaf.

@@ -1,6 +1,6 @@
 //! Matrices, and what comes before and after a page.
-use crate::specifications::answer::Answer;
-use crate::specifications::words::{item, number, paper, word};
+use crate::answer::Answer;
+use crate::words::{item, number, paper, word};
 use lengths::{Grains, Paper};
 use pagespec::Item;
 use placement::{Matrix, closing_text, matrix_of, matrix_text, opening_text};

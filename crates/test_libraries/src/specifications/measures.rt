@@ -1,9 +1,9 @@
 //! Numbers, lengths and papers.
-use crate::specifications::answer::Answer;
-use crate::specifications::words::{number, paper, word};
+use crate::answer::Answer;
+use crate::words::{billionths, length, paper, word};
 use lengths::{
-    Grains, Number, NumberError, Unit, paper_by_name, print_number, print_points, print_scale,
-    read_digits, read_number, to_grains, unit_by_name,
+    Grains, Number, NumberError, Unit, paper_by_name, print_number, print_scale, read_digits,
+    read_number, to_grains, unit_by_name,
 };
 
 pub fn run(out: &mut Answer, words: &[String]) -> Option<()> {
@@ -11,22 +11,17 @@ pub fn run(out: &mut Answer, words: &[String]) -> Option<()> {
     match word(words, 0)? {
         "read_number" => number_at_start(out, text),
         "read_digits" => digits_at_start(out, text),
-        "to_grains" => in_grains(out, words)?,
-        "print_number" => printed(out, billionths(words)?),
-        "print_points" => points(out, Grains::new(number(words, 1)?)?),
+        "to_grains" => return in_grains(out, words),
+        "print_number" => printed(out, billionths(text)?),
+        "print_points" => points(out, length(text, 1)?),
         "paper_by_name" => named(out, text),
         "numbers" => numbers(out),
-        "is_number" => out.verdict(billionths(words).is_some()),
-        "is_length" => out.verdict(Grains::new(number(words, 1)?).is_some()),
+        "is_number" => out.verdict(billionths(text).is_some()),
+        "is_length" => out.verdict(length(text, 1).is_some()),
         "is_paper" => out.verdict(paper(words, 1).is_some()),
         _ => return None,
     }
     Some(())
-}
-
-/// A number, given in 10^-9.
-fn billionths(words: &[String]) -> Option<Number> {
-    Number::new(i64::try_from(number(words, 1)?).ok()?)
 }
 
 fn number_at_start(out: &mut Answer, text: &str) {
@@ -44,7 +39,8 @@ fn digits_at_start(out: &mut Answer, text: &str) {
 }
 
 fn in_grains(out: &mut Answer, words: &[String]) -> Option<()> {
-    let length = to_grains(billionths(words)?, unit(words)?, &paper(words, 3)?);
+    let number = billionths(word(words, 1)?)?;
+    let length = to_grains(number, unit(words)?, &paper(words, 3)?);
     out.line(length.get());
     Some(())
 }
@@ -75,9 +71,7 @@ fn printed(out: &mut Answer, number: Number) {
 }
 
 fn points(out: &mut Answer, length: Grains) {
-    let before = out.bytes.len();
-    let added = print_points(length, &mut out.bytes);
-    out.note_appended(before, added.is_ok());
+    out.points(length);
     out.text("\n");
 }
 

@@ -1,11 +1,11 @@
 //! Layouts: specifications that are made for people.
-use crate::specifications::answer::Answer;
+use crate::answer::Answer;
 use crate::specifications::specifications::written;
-use crate::specifications::words::{count, length, number, number_in, paper, word};
+use crate::words::{billionths, count, count_in, length, paper, word};
 use layouts::{
-    Arrangement, ArrangementError, Binding, Cells, Free, Papers, Run, Turned, arrange, bind,
+    Arrangement, ArrangementError, Binding, Cells, Free, Order, Papers, Run, Turned, arrange, bind,
 };
-use lengths::{Grains, Number, a4};
+use lengths::a4;
 use pagespec::Spec;
 use std::fmt::{Debug, Display};
 
@@ -76,7 +76,7 @@ fn on_a4() -> Papers {
 /// Cells, and the options that follow them.
 fn arrangement(words: &[String]) -> Option<Arrangement> {
     let mut arrangement = Arrangement::plain(cells(word(words, 1)?)?);
-    for word in words.iter().skip(2) {
+    for word in words.get(2..)? {
         ask(&mut arrangement, word.as_str())?;
     }
     Some(arrangement)
@@ -85,32 +85,39 @@ fn arrangement(words: &[String]) -> Option<Arrangement> {
 /// This many cells or more, or `columns x rows`.
 fn cells(text: &str) -> Option<Cells> {
     match text.split_once('x') {
-        None => Some(Cells::AtLeast(small(text)?)),
+        None => Some(Cells::AtLeast(count_in(text)?)),
         Some((columns, rows)) => Some(Cells::Exactly {
-            columns: small(columns)?,
-            rows: small(rows)?,
+            columns: count_in(columns)?,
+            rows: count_in(rows)?,
         }),
     }
 }
 
-fn small(text: &str) -> Option<u32> {
-    u32::try_from(number_in(text)?).ok()
+fn ask(arrangement: &mut Arrangement, text: &str) -> Option<()> {
+    match text.split_once('=') {
+        None => put_in_order(&mut arrangement.order, text),
+        Some(("scale", value)) => {
+            arrangement.scale = Some(billionths(value)?);
+            Some(())
+        }
+        Some((name, value)) => keep(&mut arrangement.free, name, value),
+    }
 }
 
-fn ask(arrangement: &mut Arrangement, text: &str) -> Option<()> {
-    match text.split_once('=').unwrap_or((text, "")) {
-        ("columns", "") => arrangement.order.run = Run::Columns,
-        ("right_to_left", "") => arrangement.order.right_to_left = true,
-        ("left", "") => arrangement.order.turned = Turned::Left,
-        ("right", "") => arrangement.order.turned = Turned::Right,
-        ("scale", value) => arrangement.scale = Some(billionths(value)?),
-        (name, value) => keep(&mut arrangement.free, name, hundred_thousandths(value)?)?,
+fn put_in_order(order: &mut Order, text: &str) -> Option<()> {
+    match text {
+        "columns" => order.run = Run::Columns,
+        "right_to_left" => order.right_to_left = true,
+        "left" => order.turned = Turned::Left,
+        "right" => order.turned = Turned::Right,
+        _ => return None,
     }
     Some(())
 }
 
-/// Keeps a length free, at one edge or at all, in one direction or in both.
-fn keep(free: &mut Free, name: &str, length: Grains) -> Option<()> {
+/// Keeps a length free, in 10^-5 of a point, at one edge or at all, in one direction or in both.
+fn keep(free: &mut Free, name: &str, value: &str) -> Option<()> {
+    let length = length(value, 1_270_000)?;
     match name {
         "margin" => {
             free.left = length;
@@ -134,23 +141,21 @@ fn keep(free: &mut Free, name: &str, length: Grains) -> Option<()> {
     Some(())
 }
 
-/// This many 10^-5 of a point.
-fn hundred_thousandths(text: &str) -> Option<Grains> {
-    length(text, 1_270_000)
-}
-
-fn billionths(text: &str) -> Option<Number> {
-    let number = i64::try_from(number_in(text)?).ok()?;
-    Number::new(number)
-}
-
 fn binding(words: &[String]) -> Option<Binding> {
     let mut binding = Binding::plain(false);
-    for word in words.iter().skip(1) {
-        match word.as_str().split_once('=').unwrap_or((word.as_str(), "")) {
-            ("right_to_left", "") => binding.right_to_left = true,
-            (name, value) => keep(&mut binding.free, name, hundred_thousandths(value)?)?,
-        }
+    for word in words.get(1..)? {
+        ask_of_leaves(&mut binding, word.as_str())?;
     }
     Some(binding)
+}
+
+fn ask_of_leaves(binding: &mut Binding, text: &str) -> Option<()> {
+    match text.split_once('=') {
+        None if text == "right_to_left" => {
+            binding.right_to_left = true;
+            Some(())
+        }
+        None => None,
+        Some((name, value)) => keep(&mut binding.free, name, value),
+    }
 }

@@ -106,12 +106,16 @@ fn as_held(quarters: u32, point: (i64, i64)) -> (i64, i64) {
 
 /// The turn of a matrix, in quarters to the left, and its scale.
 fn turn_of(numbers: &[i64]) -> Option<(u32, i64)> {
-    match numbers {
-        [a, 0, 0, d, _, _] if a == d && *a > 0 => Some((0, *a)),
-        [0, b, c, 0, _, _] if *b > 0 && 0i64.saturating_sub(*b) == *c => Some((1, *b)),
-        [a, 0, 0, d, _, _] if a == d => Some((2, 0i64.saturating_sub(*a))),
-        [0, b, c, 0, _, _] if 0i64.saturating_sub(*b) == *c => Some((3, *c)),
-        _ => None,
+    let [a, b, c, d, _, _] = *numbers else {
+        return None;
+    };
+    let (less_a, less_b) = (0i64.saturating_sub(a), 0i64.saturating_sub(b));
+    if b == 0 && c == 0 && a == d {
+        Some(if a > 0 { (0, a) } else { (2, less_a) })
+    } else if a == 0 && d == 0 && less_b == c {
+        Some(if b > 0 { (1, b) } else { (3, c) })
+    } else {
+        None
     }
 }
 

@@ -1,8 +1,8 @@
 //! Plans: which page is in which slot of which sheet.
 ghost use Rattle.std.specs.Prelude.{◌<◌, length};
 
-use crate::specifications::answer::Answer;
-use crate::specifications::words::{count, specification, word};
+use crate::answer::Answer;
+use crate::words::{count, specification, word};
 use pagespec::{Item, Spec};
 use sheet_plan::{Plan, PlanError, are_sides};
 

@@ -1,9 +1,9 @@
 //! Sheets as they are listed and drawn before they are imposed.
-use crate::specifications::answer::Answer;
+use crate::answer::Answer;
 use crate::specifications::filled::two_columns;
-use crate::specifications::words::{count, length, paper, row, word};
+use crate::words::{count, length, paper, row, word};
 use layouts::{ArrangementError, Setting};
-use lengths::{Grains, Number, Paper};
+use lengths::{Grains, Number, Paper, a4};
 use pagespec::{Item, Measure, Turn};
 use preview::{Edge, Guide, GuideKind, Places, Reading, Sides, plan_text, preview_text};
 use row_sheets::grid_sheets;
@@ -12,42 +12,31 @@ use std::alloc::{AllocError, Global};
 
 pub fn run(out: &mut Answer, words: &[String]) -> Option<()> {
     match word(words, 0)? {
-        "booklet_plan" => booklet_plan(out, words)?,
-        "grid_plan" => grid_plan(out, words)?,
-        "preview" => folded_sheet(out, &paper(words, 1)?)?,
-        _ => return None,
+        "booklet_plan" => booklet_plan(out, words),
+        "grid_plan" => grid_plan(out, words),
+        "preview" => folded_sheet(out, &paper(words, 1)?),
+        _ => None,
     }
-    Some(())
 }
 
 /// The plan of a booklet of a row.
 fn booklet_plan(out: &mut Answer, words: &[String]) -> Option<()> {
-    let setting = two_columns()?;
-    let row = row_behind(out.alloc, words, 2)?;
+    let (setting, most) = (two_columns()?, count(words, 1)?);
+    let row = row(out.alloc, words.get(2..)?)?;
     let made = grid_sheets(out.alloc, &setting, &[], 2, row.as_slice());
-    let flip = Edge::Short;
-    tell(
-        out,
-        made,
-        &reading(Sides::Both { flip }, &setting),
-        count(words, 1)?,
-    );
+    let sides = Sides::Both { flip: Edge::Short };
+    tell(out, made, &reading(sides, &setting), most);
     Some(())
 }
 
 /// The plan of a row in cells; the second page has a paper of its own.
 fn grid_plan(out: &mut Answer, words: &[String]) -> Option<()> {
-    let setting = two_columns()?;
-    let row = row_behind(out.alloc, words, 3)?;
-    let papers = [lengths::a4(), paper(words, 2)?, lengths::a4()];
+    let (setting, most) = (two_columns()?, count(words, 1)?);
+    let papers = [a4(), paper(words, 2)?, a4()];
+    let row = row(out.alloc, words.get(3..)?)?;
     let made = grid_sheets(out.alloc, &setting, &papers, 2, row.as_slice());
-    tell(out, made, &reading(Sides::One, &setting), count(words, 1)?);
+    tell(out, made, &reading(Sides::One, &setting), most);
     Some(())
-}
-
-/// The row that follows this many words.
-fn row_behind(alloc: Global, words: &[String], first: usize) -> Option<Vec<Option<u32>>> {
-    row(alloc, words.get(first..)?)
 }
 
 fn reading(sides: Sides, setting: &Setting) -> Reading {
@@ -73,20 +62,16 @@ fn tell(
 
 fn add(out: &mut Answer, text: Result<Vec<u8>, AllocError>) {
     match text {
-        Ok(text) => {
-            let added = out.bytes.extend_from_slice(text.as_slice());
-            out.note(added.is_ok());
-        }
+        Ok(text) => out.add_bytes(text.as_slice()),
         Err(_) => out.note(false),
     }
 }
 
 /// The picture of a sheet of this paper with a page and a blank, folded half way up.
 fn folded_sheet(out: &mut Answer, paper: &Paper) -> Option<()> {
-    let alloc = out.alloc;
+    let (alloc, fold) = (out.alloc, fold()?);
     match one_sheet(alloc, 2, paper) {
         Ok(sheets) => {
-            let fold = fold()?;
             let sides = Sides::Both { flip: Edge::Short };
             add(out, preview_text(alloc, &sheets, sides, &[fold], 40));
         }

@@ -1,6 +1,6 @@
 //! Specifications: what is read, refused and written.
-use crate::specifications::answer::Answer;
-use crate::specifications::words::{specification, word};
+use crate::answer::Answer;
+use crate::words::{specification, word};
 use pagespec::{Item, Measure, NoMemory, Spec, SpecError, read_spec, write_spec};
 use std::alloc::Global;
 

@@ -1,4 +1,5 @@
 //! The results of commands, as text.
+use lengths::{Grains, print_points};
 use std::alloc::Global;
 use std::fmt::{Debug, Display};
 use std::io::Write;
@@ -46,6 +47,46 @@ impl Answer {
         }
     }
 
+    /// Another answer after this one.
+    pub fn add(&mut self, other: Answer) {
+        self.note(other.is_whole);
+        self.add_bytes(other.bytes.as_slice());
+    }
+
+    pub fn add_bytes(&mut self, bytes: &[u8]) {
+        let added = self.bytes.extend_from_slice(bytes);
+        self.note(added.is_ok());
+    }
+
+    /// Bytes in quotes, with escapes.
+    pub fn quoted(&mut self, bytes: &[u8]) {
+        match String::from_utf8_lossy(self.alloc, bytes) {
+            Ok(text) => self.show(format_args!("{text:?}")),
+            Err(_) => self.note(false),
+        }
+    }
+
+    /// The same on a line of its own.
+    pub fn quoted_line(&mut self, bytes: &[u8]) {
+        self.quoted(bytes);
+        self.text("\n");
+    }
+
+    /// Bytes as text, whatever they are.
+    pub fn lossy(&mut self, bytes: &[u8]) {
+        match String::from_utf8_lossy(self.alloc, bytes) {
+            Ok(text) => self.text(text.as_str()),
+            Err(_) => self.note(false),
+        }
+    }
+
+    /// A length in points.
+    pub fn points(&mut self, length: Grains) {
+        let before = self.bytes.len();
+        let added = print_points(length, &mut self.bytes);
+        self.note_appended(before, added.is_ok());
+    }
+
     /// Whether something could be added.
     pub fn note(&mut self, is_added: bool) {
         self.is_whole = self.is_whole && is_added;
@@ -58,8 +99,7 @@ impl Answer {
     }
 
     pub fn text(&mut self, text: &str) {
-        let added = self.bytes.extend_from_slice(text.as_bytes());
-        self.note(added.is_ok());
+        self.add_bytes(text.as_bytes());
     }
 
     pub fn show<D: Display + Drop>(&mut self, value: D) {
@@ -80,11 +120,10 @@ impl Answer {
     /// An error, by its name or by its line.
     pub fn refusal<E: Debug + Display + Drop>(&mut self, error: E) {
         self.is_refused = true;
-        let added = if self.form == Form::Line {
-            write!(self.bytes, "{error}\n")
+        if self.form == Form::Line {
+            self.line(format_args!("{error}"));
         } else {
-            write!(self.bytes, "{error:?}\n")
-        };
-        self.note(added.is_ok());
+            self.line(format_args!("{error:?}"));
+        }
     }
 }

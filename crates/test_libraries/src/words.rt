@@ -1,8 +1,9 @@
 //! The words of a command.
-use crate::specifications::answer::{Answer, Form};
-use lengths::{Grains, NoMemory, Paper, paper_by_name};
+use crate::answer::{Answer, Form};
+use lengths::{Grains, NoMemory, Number, Paper, paper_by_name};
 use pagespec::{Item, Spec, read_spec};
 use std::alloc::Global;
+use test_cases::Document;
 
 /// The words after `line` or `taken`, which say what is shown of the answer.
 pub fn without_form<'w>(out: &mut Answer, words: &'w [String]) -> &'w [String] {
@@ -34,9 +35,18 @@ pub fn number_in(text: &str) -> Option<i128> {
     }
 }
 
+/// A number, given in 10^-9.
+pub fn billionths(text: &str) -> Option<Number> {
+    Number::new(i64::try_from(number_in(text)?).ok()?)
+}
+
 /// A number of pages, or of something as small.
 pub fn count(words: &[String], at: usize) -> Option<u32> {
-    u32::try_from(number(words, at)?).ok()
+    count_in(word(words, at)?)
+}
+
+pub fn count_in(text: &str) -> Option<u32> {
+    u32::try_from(number_in(text)?).ok()
 }
 
 /// A paper: its name, or its sides as `WxH`, in 10^-5 of a point, or in grains if a `g` follows.
@@ -53,6 +63,26 @@ pub fn paper(words: &[String], at: usize) -> Option<Paper> {
     Paper::new(length(width, unit)?, length(height, unit)?)
 }
 
+/// Papers by their names.
+pub fn papers_of(alloc: Global, names: &[String]) -> Option<Vec<Paper>> {
+    let mut papers = Vec::new(alloc);
+    for name in names {
+        papers.push(paper_by_name(name.as_str())?).ok()?;
+    }
+    Some(papers)
+}
+
+/// The text of the document of this name.
+pub fn text_of<'d>(documents: &'d [Document], words: &[String], at: usize) -> Option<&'d [u8]> {
+    let name = word(words, at)?;
+    for document in documents {
+        if document.name.as_str() == name {
+            return Some(document.bytes.as_slice());
+        }
+    }
+    None
+}
+
 /// A length of this many units, each of this many grains.
 pub fn length(text: &str, unit: i128) -> Option<Grains> {
     Grains::new(number_in(text)?.checked_mul(unit)?)
@@ -60,16 +90,18 @@ pub fn length(text: &str, unit: i128) -> Option<Grains> {
 
 /// A text, which may be written as `repeat N TEXT BETWEEN FRONT BACK`; the last three may be left out.
 pub fn long_text(alloc: Global, text: &str) -> Option<String> {
-    let mut parts = text.split(' ');
-    if parts.next() != Some("repeat") {
+    if part(text, 0) != "repeat" {
         return String::from_str(alloc, text).ok();
     }
-    let times = number_in(parts.next()?)?;
-    let one = parts.next()?;
-    let between = parts.next().unwrap_or("");
-    let front = parts.next().unwrap_or("");
-    let back = parts.next().unwrap_or("");
+    let times = number_in(part(text, 1))?;
+    let (one, between) = (part(text, 2), part(text, 3));
+    let (front, back) = (part(text, 4), part(text, 5));
     repeated(alloc, [front, one, between, back], times).ok()
+}
+
+/// A part of a text between spaces; an empty one behind the last.
+fn part(text: &str, at: usize) -> &str {
+    text.split(' ').nth(at).unwrap_or("")
 }
 
 /// This many times a text with another between them, after the front and before the back.
