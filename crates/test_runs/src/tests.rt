@@ -1,5 +1,7 @@
 //! What the trials share: options, large documents, a run with its report, and a gathering.
-ghost use Rattle.std.specs.Prelude.{◌<◌};
+ghost use Rattle.std.specs.Prelude.{◌≡◌, ◌<◌, IfOk};
+ghost use Rattle.rules.specs.Sheets.{layout};
+ghost use Rattle.gather_table.specs.Shared.{opening_seat};
 ghost use Rattle.planned_runs.specs.Workers.{AreWorkers};
 ghost use Rattle.sheet_writer.specs.Sinks.{IsCountable};
 
@@ -133,7 +135,19 @@ fn gather_pairs<R: Threads + Wait + Sync>(
     let document = Document::read(alloc, document.as_bytes())?;
     let plan = Plan::new(alloc, &spec, document.pages())?;
     let job = Job::new(&plan, &document, a4(), None);
-    Ok(gather_job(rt, alloc, &job, workers, refused, sink)?)
+    gather_job(rt, alloc, &job, workers, refused, sink)
+}
+
+/// A table of the job with its whole seat, and an empty shelf.
+fn table_and_shelf<'j, 'd>(
+    alloc: Global,
+    job: &Job<'j, 'd>,
+) -> Result<(GatherTable<'j>, Seat, Shelf<'d>), AllocError>
+    ensures plan { IfOk result (λ made. made.0.layout ≡ layout job.now.plan) }
+    ensures seat { IfOk result (λ made. made.1 ≡ opening_seat made.0) }
+{
+    let (table, seat) = GatherTable::new(alloc, job.plan())?;
+    Ok((table, seat, Shelf::new(alloc)?))
 }
 
 /// Makes what a gathering needs, and gathers the job.
@@ -144,13 +158,12 @@ fn gather_job<R: Threads + Wait + Sync>(
     workers: Workers,
     refused: Option<u32>,
     sink: &mut MemorySink,
-) -> Result<Gathering, AllocError>
+) -> Result<Gathering, Fail>
     requires workers { AreWorkers workers }
     requires countable { sink.old.failures < 10 }
 {
-    let (table, seat) = GatherTable::new(alloc, job.plan())?;
-    let shelf = Shelf::new(alloc)?;
     let (ready, pass) = Ready::new(alloc, job.sheets().max(1))?;
+    let (table, seat, shelf) = table_and_shelf(alloc, job)?;
     if let Some(number) = refused {
         refuse(alloc, number);
     }

@@ -4,12 +4,18 @@ use crate::tests::checks::assert_that;
 use gather_table::GatherTable;
 use pagespec::read_spec;
 use sheet_plan::Plan;
-use std::alloc::Global;
+use std::alloc::{AllocError, Global};
 use std::test::Fail;
 use test_tools::same_items;
 
-// Whether the table of a document of so many pages has these words, once a page has come at index 5 for this slot of
-// the first sheet.
+/// The words of the plan's table, once a page has come at index 5 for this slot of the first sheet.
+fn words_of(alloc: Global, plan: &Plan<'_>, slot: u16) -> Result<Vec<u64>, AllocError> {
+    let (table, mut seat) = GatherTable::new(alloc, plan)?;
+    bring_one(&table, plan, &mut seat, 0, slot, 5);
+    table.end(alloc, seat)
+}
+
+/// Whether the table of a document of so many pages has these words, once a page has come for this slot.
 fn words_are(
     alloc: Global,
     text: &str,
@@ -19,10 +25,7 @@ fn words_are(
 ) -> Result<bool, Fail> {
     let spec = read_spec(alloc, text)?;
     let plan = Plan::new(alloc, &spec, pages)?;
-    let (table, mut seat) = GatherTable::new(alloc, &plan)?;
-    bring_one(&table, &plan, &mut seat, 0, slot, 5);
-    let left = table.end(alloc, seat)?;
-    Ok(left.as_slice() == words)
+    Ok(words_of(alloc, &plan, slot)?.as_slice() == words)
 }
 
 /// The word of a page is its index and one more, and 0 if it hasn't come; the bit of its slot is set in the lane.

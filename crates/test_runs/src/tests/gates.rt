@@ -112,17 +112,19 @@ fn meet<R: Threads + Wait + Sync>(
 
 #[test]
 fn as_many_preparers_run_as_were_asked_for(rt: HostRuntime) -> Result<(), Fail> {
-    assert_that(&rt, meet(&rt, rt.alloc(), Steps::Pages, 4, (4, 4), 16)?);
-    assert_that(&rt, meet(&rt, rt.alloc(), Steps::Pages, 16, (16, 16), 16)?);
-    assert_that(&rt, meet(&rt, rt.alloc(), Steps::Pages, 2, (2, 1), 2)?);
+    for (height, counts, pages) in [(4, (4, 4), 16), (16, (16, 16), 16), (2, (2, 1), 2)] {
+        let is_met = meet(&rt, rt.alloc(), Steps::Pages, height, counts, pages)?;
+        assert_that(&rt, is_met);
+    }
     Ok(())
 }
 
 #[test]
 fn as_many_imposers_run_as_were_asked_for(rt: HostRuntime) -> Result<(), Fail> {
-    assert_that(&rt, meet(&rt, rt.alloc(), Steps::Sheets, 4, (4, 4), 16)?);
-    assert_that(&rt, meet(&rt, rt.alloc(), Steps::Sheets, 16, (16, 16), 16)?);
-    assert_that(&rt, meet(&rt, rt.alloc(), Steps::Sheets, 2, (1, 2), 2)?);
+    for (height, counts, pages) in [(4, (4, 4), 16), (16, (16, 16), 16), (2, (1, 2), 2)] {
+        let is_met = meet(&rt, rt.alloc(), Steps::Sheets, height, counts, pages)?;
+        assert_that(&rt, is_met);
+    }
     Ok(())
 }
 

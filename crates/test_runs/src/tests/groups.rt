@@ -42,23 +42,22 @@ fn document_of_pages(alloc: Global, bodies: &[&str; 4]) -> Result<String, AllocE
     document_with(alloc, 4, &text)
 }
 
-/// The text of a sheet with a page that isn't copied if it is long.
+/// Writes the text of a sheet with a page that isn't copied if it is long.
 fn put_together<'r>(
+    text: &mut Rope<'r>,
     alloc: Global,
     job: &Job<'r, '_>,
     sheet: u32,
     body: &'r [u8],
-) -> Result<Rope<'r>, AllocError>
+) -> Result<(), AllocError>
     requires { sheet < length job.now.plan.sheets }
 {
     if job.plan().slots(sheet) == 0 {
         return Err(AllocError);
     }
-    let mut text = Rope::new(alloc);
-    begin_sheet(&mut text, job, sheet)?;
-    append_placed(&mut text, &mut Openings::new(alloc), job, sheet, 0, body)?;
-    end_sheet(&mut text, job, sheet)?;
-    Ok(text)
+    begin_sheet(text, job, sheet)?;
+    append_placed(text, &mut Openings::new(alloc), job, sheet, 0, body)?;
+    end_sheet(text, job, sheet)
 }
 
 /// The same, if it is what the sheet's text is otherwise.
@@ -71,10 +70,10 @@ fn text_with<'r>(
     requires { sheet < length job.now.plan.sheets }
     ensures { IfOk result (λ text. text ≡ text_of job.now sheet) }
 {
-    let text = put_together(alloc, job, sheet, body)?;
     let wanted = sheet_text(alloc, job, sheet)?;
-    let bytes = text.to_vec(alloc)?;
-    if bytes.as_slice() == wanted.as_slice() {
+    let mut text = Rope::new(alloc);
+    put_together(&mut text, alloc, job, sheet, body)?;
+    if text.to_vec(alloc)?.as_slice() == wanted.as_slice() {
         Ok(text)
     } else {
         Err(AllocError)
@@ -118,6 +117,20 @@ fn put_sheets<'r>(
     }
     early.put(finished);
     Ok(())
+}
+
+/// Of the four sheets these have come, together.
+fn early_with<'r>(
+    alloc: Global,
+    job: &Job<'r, '_>,
+    bodies: &[&'r str; 4],
+    sheets: &[u32],
+) -> Result<Early<'r>, AllocError>
+    ensures { IfOk result (λ early. AreEarly job.now early.groups.items) }
+{
+    let mut early = Early::new(alloc, 4)?;
+    put_sheets(alloc, job, bodies, &mut early, sheets)?;
+    Ok(early)
 }
 
 /// Nothing was written.
@@ -188,8 +201,7 @@ struct CallsOfAll<'b> {
 
 impl<'b, R: Abort> Task<R, Vec<usize>> for CallsOfAll<'b> {
     fn go(&self, rt: &R, alloc: Global, job: &Job<'_, '_>) -> Result<Vec<usize>, Fail> {
-        let mut early = Early::new(alloc, 4)?;
-        put_sheets(alloc, job, &self.bodies, &mut early, &[0, 1, 2, 3])?;
+        let mut early = early_with(alloc, job, &self.bodies, &[0, 1, 2, 3])?;
         let mut calls = Calls {
             lengths: Vec::new(alloc),
         };
@@ -247,26 +259,26 @@ fn neighbours_are_written_by_one_call(rt: HostRuntime) -> Result<(), Fail> {
 }
 
 /// Of two groups, one of each other sheet, the first is given back when its last sheet is written, and not before: which
-/// sheet is the next one and how many groups were given back, after each group, and how many bytes were written.
+/// sheet is the next one and how many groups were given back, after each group.
 fn write_two_groups(
     alloc: Global,
     job: &Job<'_, '_>,
     bodies: &[&str; 4],
     given_back: &mut GivenBack,
-) -> Result<([(u32, usize); 2], usize), AllocError> {
-    let mut early = Early::new(alloc, 4)?;
-    let mut sink = MemorySink::new(alloc, 10_000, 10_000, 100)?;
-    put_sheets(alloc, job, bodies, &mut early, &[0, 2])?;
-    let progress = write_early(job, &mut sink, START, &mut early, given_back);
+    sink: &mut MemorySink,
+) -> Result<[(u32, usize); 2], AllocError>
+    requires countable { sink.old.failures < 10 }
+{
+    let mut early = early_with(alloc, job, bodies, &[0, 2])?;
+    let progress = write_early(job, sink, START, &mut early, given_back);
     // What follows asks for this, and no helper's answer says it.
     if progress.halted.is_some() {
         return Err(AllocError);
     }
     let first = (progress.next, given_back.groups.len());
     put_sheets(alloc, job, bodies, &mut early, &[1, 3])?;
-    let progress = write_early(job, &mut sink, progress, &mut early, given_back);
-    let second = (progress.next, given_back.groups.len());
-    Ok(([first, second], sink.bytes().len()))
+    let progress = write_early(job, sink, progress, &mut early, given_back);
+    Ok([first, (progress.next, given_back.groups.len())])
 }
 
 /// The groups are given back one after the other, with all bytes that were written.
@@ -277,11 +289,12 @@ struct TwoGroups<'b> {
 
 impl<'b, R: Abort> Task<R, ()> for TwoGroups<'b> {
     fn go(&self, rt: &R, alloc: Global, job: &Job<'_, '_>) -> Result<(), Fail> {
+        let mut sink = MemorySink::new(alloc, 10_000, 10_000, 100)?;
         let mut given_back = GivenBack::new(alloc);
-        let (counts, written) = write_two_groups(alloc, job, &self.bodies, &mut given_back)?;
+        let counts = write_two_groups(alloc, job, &self.bodies, &mut given_back, &mut sink)?;
         assert_that(rt, counts == [(1, 0), (4, 2)]);
         assert_that(rt, given_back.has_groups(&[0, 2], &[1, 3]));
-        assert_that(rt, given_back.bytes == written);
+        assert_that(rt, given_back.bytes == sink.bytes().len());
         Ok(())
     }
 }
@@ -304,9 +317,8 @@ fn write_rest_of<R: Abort>(
 ) -> Result<u32, Fail>
     requires countable { sink.old.failures < 10 }
 {
-    let mut early = Early::new(alloc, 4)?;
-    put_sheets(alloc, job, bodies, &mut early, came)?;
     let trailer = job.document().trailer_text()?;
+    let early = early_with(alloc, job, bodies, came)?;
     let rest = write_rest(alloc, job, sink, START, &early, trailer.as_slice());
     assert_that(rt, rest.progress.halted.is_none());
     Ok(rest.swept)
@@ -315,8 +327,8 @@ fn write_rest_of<R: Abort>(
 /// All sheets, and the trailer.
 fn sheets_and_trailer(alloc: Global, bodies: &[&str; 4]) -> Result<String, AllocError> {
     let mut text = String::new(alloc);
-    for (page, body) in (0u32..4).zip(bodies.iter()) {
-        text.push_str(&sheet_of(alloc, page, body)?)?;
+    for page in 0..4u32 {
+        text.push_str(&sheet_of(alloc, page, bodies[page as usize])?)?;
     }
     text.push_str("%%Trailer\n%%EOF\n")?;
     Ok(text)

@@ -26,13 +26,19 @@ fn a_document_of_a_million_pages(rt: HostRuntime) -> Result<(), Fail> {
     Ok(())
 }
 
+/// Both tables and a queue are made for a plan.
+fn make_all(alloc: Global, plan: &Plan<'_>) -> Result<(), Fail> {
+    let _made = Ready::new(alloc, plan.sheets().max(1))?;
+    let _plain = PlainTable::new(alloc, plan)?;
+    let _made = GatherTable::new(alloc, plan)?;
+    Ok(())
+}
+
 /// The sheets of a plan for which both tables and a queue are made.
 fn count_sheets(alloc: Global, items: &str, pages: u32) -> Result<u32, Fail> {
     let spec = read_spec(alloc, items)?;
     let plan = Plan::new(alloc, &spec, pages)?;
-    let _plain = PlainTable::new(alloc, &plan)?;
-    let (_table, _seat) = GatherTable::new(alloc, &plan)?;
-    let (_ready, _pass) = Ready::new(alloc, plan.sheets().max(1))?;
+    make_all(alloc, &plan)?;
     Ok(plan.sheets())
 }
 

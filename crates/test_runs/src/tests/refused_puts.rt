@@ -2,13 +2,12 @@
 //! the others are imposed without waiting for it.
 ghost use Rattle.std.specs.Prelude.{◌<◌};
 
-use super::wait_for;
 use super::windows::six_pages;
+use super::{table_and_shelf, wait_for};
 use crate::tests::checks::assert_that;
 use dsc::Document;
-use gather_table::GatherTable;
-use handover::{Ready, Shelf};
-use imposer::{Gate, Job, MemorySink, Report, Step, Workers, gather};
+use handover::Ready;
+use imposer::{Gate, Job, MemorySink, Report, RunError, Step, Workers, gather};
 use lengths::a4;
 use pagespec::read_spec;
 use sheet_plan::Plan;
@@ -54,15 +53,37 @@ impl Gate for FirstSheetByTheSecond {
     }
 }
 
-/// Gathers the job with room for so many puts. None if a wait runs out.
-fn gather_with<R: Threads + Wait + Sync>(
+/// Gathers the job by two workers of each kind at this gate, with room for so many puts.
+fn gather_at<R: Threads + Wait + Sync>(
+    rt: &R,
+    alloc: Global,
+    job: &Job<'_, '_>,
+    room: u32,
+    gate: &FirstSheetByTheSecond,
+    sink: &mut MemorySink,
+) -> Result<Report, RunError>
+    requires countable { sink.old.failures < 10 }
+{
+    let (ready, pass) = Ready::by_right(alloc, room.max(job.sheets()).max(1))?;
+    let (table, seat, shelf) = table_and_shelf(alloc, job)?;
+    let workers = Workers {
+        preparers: 2,
+        imposers: 2,
+    };
+    gather(
+        rt, alloc, job, &table, seat, &shelf, &ready, pass, workers, gate, sink,
+    )
+    .outcome
+}
+
+/// How many sheets were made at the end, if all were made and no wait ran out.
+fn swept_with<R: Threads + Wait + Sync>(
     rt: &R,
     alloc: Global,
     job: &Job<'_, '_>,
     room: u32,
     sink: &mut MemorySink,
-) -> Result<Option<Report>, Fail>
-    requires room { 0 < room }
+) -> Result<Option<u32>, Fail>
     requires countable { sink.old.failures < 10 }
 {
     let gate = FirstSheetByTheSecond {
@@ -71,72 +92,50 @@ fn gather_with<R: Threads + Wait + Sync>(
         run_out: AtomicUsize::new(0),
     };
     let report = gather_at(rt, alloc, job, room, &gate, sink)?;
-    if gate.run_out.load(SeqCst) == 0 {
-        Ok(Some(report))
+    if report.sheets == SHEETS && gate.run_out.load(SeqCst) == 0 {
+        Ok(Some(report.swept))
     } else {
         Ok(None)
     }
 }
 
-/// Gathers the job by two workers of each kind at this gate.
-fn gather_at<R: Threads + Wait + Sync>(
+/// The same of this document, two pages a sheet.
+fn gather_pages<R: Threads + Wait + Sync>(
     rt: &R,
     alloc: Global,
-    job: &Job<'_, '_>,
+    text: &str,
     room: u32,
-    gate: &FirstSheetByTheSecond,
     sink: &mut MemorySink,
-) -> Result<Report, Fail>
-    requires room { 0 < room }
+) -> Result<Option<u32>, Fail>
     requires countable { sink.old.failures < 10 }
 {
-    let (table, seat) = GatherTable::new(alloc, job.plan())?;
-    let shelf = Shelf::new(alloc)?;
-    let (ready, pass) = Ready::by_right(alloc, room.max(job.sheets()))?;
-    let workers = Workers {
-        preparers: 2,
-        imposers: 2,
-    };
-    let gathered = gather(
-        rt, alloc, job, &table, seat, &shelf, &ready, pass, workers, gate, sink,
-    );
-    Ok(gathered.outcome?)
-}
-
-/// The same of six pages: what was written, and what was reported.
-fn gather_six<R: Threads + Wait + Sync>(
-    rt: &R,
-    alloc: Global,
-    room: u32,
-) -> Result<(MemorySink, Option<Report>), Fail>
-    requires room { 0 < room }
-{
-    let text = six_pages(alloc)?;
     let spec = read_spec(alloc, TWO_UP)?;
     let document = Document::read(alloc, text.as_bytes())?;
     let plan = Plan::new(alloc, &spec, document.pages())?;
     let job = Job::new(&plan, &document, a4(), None);
-    let mut sink = MemorySink::new(alloc, 4_000_000, 1_000_000, 1_000)?;
-    let report = gather_with(rt, alloc, &job, room, &mut sink)?;
-    Ok((sink, report))
+    swept_with(rt, alloc, &job, room, sink)
 }
 
-/// How many sheets were made at the end, if all were made.
-fn swept_of(report: &Option<Report>) -> Option<u32> {
-    match report {
-        Some(report) if report.sheets == SHEETS => Some(report.swept),
-        _ => None,
-    }
+/// The same of six pages, with what was written.
+fn gather_six<R: Threads + Wait + Sync>(
+    rt: &R,
+    alloc: Global,
+    room: u32,
+) -> Result<(MemorySink, Option<u32>), Fail> {
+    let text = six_pages(alloc)?;
+    let mut sink = MemorySink::new(alloc, 4_000_000, 1_000_000, 1_000)?;
+    let swept = gather_pages(rt, alloc, &text, room, &mut sink)?;
+    Ok((sink, swept))
 }
 
 // The first preparer may make a put for each of its pages. There is as much room as there are sheets, so the second one
 // has none; or twice as much.
 #[test]
 fn a_sheet_that_is_handed_back_is_not_waited_for(rt: HostRuntime) -> Result<(), Fail> {
-    let (whole, report) = gather_six(&rt, rt.alloc(), 2 * SHEETS)?;
-    assert_that(&rt, swept_of(&report) == Some(0));
-    let (sink, report) = gather_six(&rt, rt.alloc(), SHEETS)?;
-    assert_that(&rt, swept_of(&report).unwrap_or(0) > 0);
+    let (whole, swept) = gather_six(&rt, rt.alloc(), 2 * SHEETS)?;
+    assert_that(&rt, swept == Some(0));
+    let (sink, swept) = gather_six(&rt, rt.alloc(), SHEETS)?;
+    assert_that(&rt, swept.unwrap_or(0) > 0);
     assert_that(&rt, sink.bytes() == whole.bytes());
     Ok(())
 }

@@ -72,21 +72,20 @@ fn has_pieces(text: Pieces<'_, '_>, wanted: &[&[u8]]) -> bool {
     pieces.take_next().is_none()
 }
 
-/// A text of bytes of its own, and of slices, of which two are long.
-fn text_in_pieces<'r>(alloc: Global, long: &'r [u8]) -> Result<Rope<'r>, AllocError> {
-    let mut text = Rope::new(alloc);
+/// Adds bytes, and slices, of which two are long.
+fn add_pieces<'r>(text: &mut Rope<'r>, long: &'r [u8]) -> Result<(), AllocError> {
     text.append(b"ab")?;
     text.append_borrowed(b"cd")?;
     text.append_borrowed(long)?;
     text.append_borrowed(long)?;
-    text.append(b"ef")?;
-    Ok(text)
+    text.append(b"ef")
 }
 
 #[test]
 fn a_text_in_pieces_copies_short_slices_alone(rt: HostRuntime) -> Result<(), Fail> {
     let long = [b'x'; 4_096];
-    let mut text = text_in_pieces(rt.alloc(), &long)?;
+    let mut text = Rope::new(rt.alloc());
+    add_pieces(&mut text, &long)?;
     assert_that(&rt, text.pieces().len() == Some(8_198));
     assert_that(
         &rt,
