@@ -16,10 +16,8 @@ pub fn take_document(
     let form = (words.next(), words.next());
     let is_read = push_text(alloc, &mut bytes, form, lines, documents.as_slice())?;
     if is_read {
-        documents.push(Document {
-            name: String::from_str(alloc, name)?,
-            bytes,
-        })?;
+        let name = String::from_str(alloc, name)?;
+        documents.push(Document { name, bytes })?;
     }
     Ok(is_read)
 }
@@ -88,13 +86,13 @@ fn push_document(
     documents: &[Document],
     name: &str,
 ) -> Result<bool, AllocError> {
-    let document = documents
-        .iter()
-        .rfind(|document| document.name.as_str() == name);
-    if let Some(document) = document {
+    if let Some(index) = index_of(documents, name)
+        && let Some(document) = documents.get(index)
+    {
         bytes.extend_from_slice(document.bytes.as_slice())?;
+        return Ok(true);
     }
-    Ok(document.is_some())
+    Ok(false)
 }
 
 /// Adds lines this many times. `{}` is the number of the repetition, from 1, and `{0}` the same from 0.

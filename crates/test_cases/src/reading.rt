@@ -75,39 +75,28 @@ fn take_part(
 ) -> Result<bool, AllocError> {
     let (key, rest) = block.head.split_once(' ').unwrap_or((block.head, ""));
     let body = block.body.as_slice();
-    match key {
-        "output" => take_text(alloc, &mut case.output, rest, body),
-        "error" => take_text(alloc, &mut case.error, rest, body),
-        "file" => take_file(alloc, &mut case.files, rest, body),
-        _ => {
-            let is_setting = take_setting(alloc, case, key, rest, documents)?;
-            if is_setting {
-                push_wanted(alloc, &mut case.output, body, false)?;
-            }
-            Ok(is_setting)
-        }
+    let is_taken = match key {
+        "output" => return take_text(alloc, &mut case.output, rest, body),
+        "error" => return take_text(alloc, &mut case.error, rest, body),
+        "file" => return take_file(alloc, &mut case.files, rest, body),
+        "input" => take_input(alloc, &mut case.inputs, rest, documents)?,
+        "with" => take_setting(alloc, &mut case.settings, rest)?,
+        "status" => take_status(&mut case.status, rest),
+        _ => false,
+    };
+    if is_taken {
+        push_wanted(alloc, &mut case.output, body, false)?;
     }
+    Ok(is_taken)
 }
 
-/// Takes an input, a setting or the status of a case. Returns whether it is one of them.
-fn take_setting(
-    alloc: Global,
-    case: &mut Case,
-    key: &str,
-    rest: &str,
-    documents: &[Document],
-) -> Result<bool, AllocError> {
-    match key {
-        "input" => take_input(alloc, &mut case.inputs, rest, documents),
-        "with" => take_with(alloc, &mut case.settings, rest),
-        "status" => match rest.parse::<u8>() {
-            Ok(status) => {
-                case.status = status;
-                Ok(true)
-            }
-            Err(_) => Ok(false),
-        },
-        _ => Ok(false),
+fn take_status(status: &mut u8, rest: &str) -> bool {
+    match rest.parse::<u8>() {
+        Ok(wanted) => {
+            *status = wanted;
+            true
+        }
+        Err(_) => false,
     }
 }
 
@@ -125,15 +114,17 @@ fn take_input(
             None => return Ok(false),
         },
     };
-    inputs.push(Input {
-        name: String::from_str(alloc, name)?,
-        document,
-    })?;
+    let name = String::from_str(alloc, name)?;
+    inputs.push(Input { name, document })?;
     Ok(true)
 }
 
 /// Takes a setting: `KEY VALUE`.
-fn take_with(alloc: Global, settings: &mut Vec<Setting>, rest: &str) -> Result<bool, AllocError> {
+fn take_setting(
+    alloc: Global,
+    settings: &mut Vec<Setting>,
+    rest: &str,
+) -> Result<bool, AllocError> {
     let (key, value) = rest.split_once(' ').unwrap_or((rest, ""));
     settings.push(Setting {
         key: String::from_str(alloc, key)?,
@@ -169,10 +160,8 @@ fn take_file(
         "" | "escaped" => Some(wanted_of(alloc, body, form == "escaped")?),
         _ => return Ok(false),
     };
-    files.push(WantedFile {
-        name: String::from_str(alloc, name)?,
-        text,
-    })?;
+    let name = String::from_str(alloc, name)?;
+    files.push(WantedFile { name, text })?;
     Ok(true)
 }
 
