@@ -56,11 +56,11 @@ fn take_command(
         line: block.line,
         command: String::from_str(alloc, command)?,
         words: words_of(alloc, command)?,
-        inputs: Vec::new(alloc),
-        settings: Vec::new(alloc),
-        status: 0,
         output: wanted_of(alloc, block.body.as_slice(), false)?,
         error: wanted_of(alloc, &[], false)?,
+        status: 0,
+        inputs: Vec::new(alloc),
+        settings: Vec::new(alloc),
         files: Vec::new(alloc),
     })?;
     Ok(true)
@@ -213,12 +213,10 @@ fn push_plain(alloc: Global, wanted: &mut WantedText, line: &str) -> Result<(), 
 fn digest_words(line: &str) -> Option<(usize, usize, &str)> {
     let (bytes, rest) = line.strip_prefix("= ")?.split_once(' ')?;
     let (lines, sum) = rest.split_once(' ')?;
-    if sum.contains(' ') {
-        return None;
+    match (bytes.parse::<usize>(), lines.parse::<usize>()) {
+        (Ok(bytes), Ok(lines)) if !sum.contains(' ') => Some((bytes, lines, sum)),
+        _ => None,
     }
-    let bytes = bytes.parse::<usize>().ok()?;
-    let lines = lines.parse::<usize>().ok()?;
-    Some((bytes, lines, sum))
 }
 
 /// Adds the lines of a text with escapes.

@@ -1,6 +1,6 @@
 //! Counts of cases, and the report of those that differ.
 use crate::case_file::{Case, CaseFile};
-use crate::compared::{Difference, differences};
+use crate::compared::differences;
 use crate::reading::read_case_file;
 use std::fs::File;
 use std::io::Read;
@@ -74,7 +74,9 @@ impl Tally {
             println!(rt; "{name}:{}: $ {}", case.line, case.command)?;
         }
         for difference in differences.iter() {
-            tell(rt, difference)?;
+            let (part, line) = (&difference.part, difference.line);
+            let (wanted, found) = (&difference.wanted, &difference.found);
+            println!(rt; "  {part} {line} wanted: {wanted}\n  {part} {line} found:  {found}")?;
         }
         Ok(())
     }
@@ -104,12 +106,4 @@ impl Tally {
             self.differ = self.differ.saturating_add(1);
         }
     }
-}
-
-/// Prints what was wanted in a part, and what was found.
-fn tell(rt: &HostRuntime, difference: &Difference) -> anyhow::Result<()> {
-    let (part, line) = (&difference.part, difference.line);
-    println!(rt; "  {part} {line} wanted: {}", difference.wanted)?;
-    println!(rt; "  {part} {line} found:  {}", difference.found)?;
-    Ok(())
 }
