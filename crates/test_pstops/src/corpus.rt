@@ -2,7 +2,7 @@
 //! number of pages and of sheets, the number of bytes that are written, and their digest. A separate program made
 //! its `stdout`.
 use imposer::MemorySink;
-use pstops_cli::{ReadSource, Request, read_command, read_input, run_request};
+use pstops_cli::{ReadSource, read_command, read_input, run_request};
 use sha2::{Digest, Sha256};
 use std::fs::File;
 use std::sync::Wait;
@@ -43,44 +43,29 @@ const ROOM: usize = 1_000_000;
 pub fn impose_all<R: Threads + Wait + Sync>(rt: &HostRuntime, threads: &R) -> anyhow::Result<()> {
     for name in DOCUMENTS {
         let mut source = ReadSource::new(File::open(rt, name)?);
-        match read_input(rt.alloc(), &mut source) {
-            Ok(input) => impose_input(rt, threads, name, input.as_slice())?,
-            Err(_) => println!(rt; "{name}: cannot be read")?,
+        let Ok(input) = read_input(rt.alloc(), &mut source) else {
+            println!(rt; "{name}: cannot be read")?;
+            continue;
+        };
+        for spec in SPECIFICATIONS {
+            let words = vec![in rt.alloc(); String::from_str(rt.alloc(), spec)?]?;
+            let Ok(request) = read_command(rt.alloc(), words.as_slice()) else {
+                println!(rt; "{spec}: not taken")?;
+                continue;
+            };
+            let mut sink = MemorySink::new(rt.alloc(), ROOM, ROOM, 1_000)?;
+            let (status, line) = run_request(
+                threads,
+                rt.alloc(),
+                &request,
+                input.as_slice(),
+                &mut sink,
+            );
+            let line = String::from_utf8_lossy(rt.alloc(), line.as_slice())?;
+            print!(rt; "{name} {spec}: status {status}, {line}")?;
+            let digest = hex::encode(rt.alloc(), Sha256::digest(sink.bytes()))?;
+            println!(rt; "    SHA-256 {digest}")?;
         }
     }
-    Ok(())
-}
-
-/// Imposes one of them, by each specification.
-fn impose_input<R: Threads + Wait + Sync>(
-    rt: &HostRuntime,
-    threads: &R,
-    name: &str,
-    input: &[u8],
-) -> anyhow::Result<()> {
-    for spec in SPECIFICATIONS {
-        let words = vec![in rt.alloc(); String::from_str(rt.alloc(), spec)?]?;
-        match read_command(rt.alloc(), words.as_slice()) {
-            Ok(request) => tell_run(rt, threads, name, &request, input)?,
-            Err(_) => println!(rt; "{spec}: not taken")?,
-        }
-    }
-    Ok(())
-}
-
-/// Runs a request, and prints what comes of it.
-fn tell_run<R: Threads + Wait + Sync>(
-    rt: &HostRuntime,
-    threads: &R,
-    name: &str,
-    request: &Request,
-    input: &[u8],
-) -> anyhow::Result<()> {
-    let mut sink = MemorySink::new(rt.alloc(), ROOM, ROOM, 1_000)?;
-    let (status, line) = run_request(threads, rt.alloc(), request, input, &mut sink);
-    let line = String::from_utf8_lossy(rt.alloc(), line.as_slice())?;
-    print!(rt; "{name} {}: status {status}, {line}", request.spec)?;
-    let digest = hex::encode(rt.alloc(), Sha256::digest(sink.bytes()))?;
-    println!(rt; "    SHA-256 {digest}")?;
     Ok(())
 }

@@ -26,27 +26,16 @@ fn main(rt: HostRuntime) -> anyhow::Result<()> {
     corpus::impose_all(&rt, &rt)?;
     let mut tally = Tally::new();
     for name in FILES {
-        run_file(&rt, &rt, name, &mut tally)?;
-    }
-    tally.end(&rt)
-}
-
-/// Runs each case of the file.
-fn run_file<R: Threads + Wait + Sync>(
-    rt: &HostRuntime,
-    threads: &R,
-    name: &str,
-    tally: &mut Tally,
-) -> anyhow::Result<()> {
-    let file = load(rt, name)?;
-    tally.tell_bad_lines(rt, name, &file)?;
-    for case in file.cases.iter() {
-        match found(threads, rt.alloc(), &file, case)? {
-            Some(found) => tally.compare(rt, name, case, &found)?,
-            None => tally.refuse(rt, name, case, "no such call, or no such setting")?,
+        let file = load(&rt, name)?;
+        tally.tell_bad_lines(&rt, name, &file)?;
+        for case in file.cases.iter() {
+            match found(&rt, rt.alloc(), &file, case)? {
+                Some(found) => tally.compare(&rt, name, case, &found)?,
+                None => tally.refuse(&rt, name, case, "no such call, or no such setting")?,
+            }
         }
     }
-    Ok(())
+    tally.end(&rt)
 }
 
 /// The result of a case, by the call that its first word names.

@@ -1,5 +1,5 @@
 //! Runs of the program over a world in memory, as a case describes it.
-use pstops_cli::{ExitReport, pstops};
+use pstops_cli::pstops;
 use std::alloc::{AllocError, Global};
 use std::sync::Wait;
 use std::thread::Threads;
@@ -27,11 +27,6 @@ pub(crate) fn ran<R: Threads + Wait + Sync>(
         takes,
     };
     let ended = pstops(rt, alloc, words, world);
-    Ok(Some(found_at_the_end(alloc, &ended)?))
-}
-
-/// What is found where the program has ended.
-fn found_at_the_end(alloc: Global, ended: &ExitReport<Folder<'_>>) -> Result<Found, AllocError> {
     let mut found = Found {
         status: ended.status,
         output: Vec::new(alloc),
@@ -41,7 +36,7 @@ fn found_at_the_end(alloc: Global, ended: &ExitReport<Folder<'_>>) -> Result<Fou
     if let Some(output) = &ended.output {
         take_output(alloc, &mut found, output)?;
     }
-    Ok(found)
+    Ok(Some(found))
 }
 
 /// The files that can be read.
