@@ -17,15 +17,14 @@ pub fn blocks(alloc: Global, text: &str) -> Result<Vec<Block<'_>>, AllocError> {
     for (index, line) in text.split('\n').enumerate() {
         if line.is_empty() {
             empty_lines = empty_lines.saturating_add(1);
-        } else if let Some(rest) = line.strip_prefix("  ") {
-            add_line(alloc, &mut blocks, index, rest, empty_lines)?;
-            empty_lines = 0;
-        } else {
-            empty_lines = 0;
-            if !line.starts_with('#') {
-                blocks.push(block_of(alloc, index, line))?;
-            }
+            continue;
         }
+        if let Some(rest) = line.strip_prefix("  ") {
+            add_line(alloc, &mut blocks, index, rest, empty_lines)?;
+        } else if !line.starts_with('#') {
+            blocks.push(block_of(alloc, index, line))?;
+        }
+        empty_lines = 0;
     }
     Ok(blocks)
 }

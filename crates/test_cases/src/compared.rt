@@ -15,12 +15,12 @@ pub struct Difference {
     pub found: String,
 }
 
-/// A line that differs, with its number.
-#[derive(Drop)]
-struct Line {
+/// A line that differs, with its number. Each side is a line with its end, or has words in its place.
+#[derive(Clone, Copy)]
+struct Line<'a> {
     number: usize,
-    wanted: String,
-    found: String,
+    wanted: &'a [u8],
+    found: &'a [u8],
 }
 
 /// What differs, a part at a time.
@@ -29,108 +29,109 @@ pub fn differences(
     case: &Case,
     found: &Found,
 ) -> Result<Vec<Difference>, AllocError> {
-    let mut differences = Vec::new(alloc);
-    if case.status != found.status {
-        let line = Line {
-            number: 1,
-            wanted: format!(in alloc; "{}", case.status)?,
-            found: format!(in alloc; "{}", found.status)?,
-        };
-        add(alloc, &mut differences, "status", Some(line))?;
-    }
-    let line = differing_line(alloc, &case.output, found.output.as_slice())?;
-    add(alloc, &mut differences, "output", line)?;
-    let line = differing_line(alloc, &case.error, found.error.as_slice())?;
-    add(alloc, &mut differences, "error", line)?;
+    let mut compared = Compared {
+        alloc,
+        differences: Vec::new(alloc),
+    };
+    compared.status(case.status, found.status)?;
+    compared.text("output", &case.output, found.output.as_slice())?;
+    compared.text("error", &case.error, found.error.as_slice())?;
     for file in case.files.iter() {
-        let line = differing_file(alloc, file, found.files.as_slice())?;
-        add(alloc, &mut differences, file.name.as_str(), line)?;
+        compared.file(file, found.files.as_slice())?;
     }
     for file in found.files.iter() {
-        let line = unwanted_file(alloc, file, case.files.as_slice())?;
-        add(alloc, &mut differences, file.name.as_str(), line)?;
+        compared.unwanted(file, case.files.as_slice())?;
     }
-    Ok(differences)
+    Ok(compared.differences)
 }
 
-/// Adds a line that differs in this part, if there is one.
-fn add(
+/// What differs in the parts that were compared.
+#[derive(Drop)]
+struct Compared {
     alloc: Global,
-    differences: &mut Vec<Difference>,
-    part: &str,
-    line: Option<Line>,
-) -> Result<(), AllocError> {
-    if let Some(line) = line {
-        differences.push(Difference {
-            part: String::from_str(alloc, part)?,
-            line: line.number,
-            wanted: line.wanted,
-            found: line.found,
-        })?;
-    }
-    Ok(())
+    differences: Vec<Difference>,
 }
 
-/// How a file differs from the expected one.
-fn differing_file(
-    alloc: Global,
-    wanted: &WantedFile,
-    files: &[FoundFile],
-) -> Result<Option<Line>, AllocError> {
-    let file = files
-        .iter()
-        .find(|file| file.name.as_str() == wanted.name.as_str());
-    match (&wanted.text, file) {
-        (Some(text), Some(file)) => differing_line(alloc, text, file.bytes.as_slice()),
-        (None, None) => Ok(None),
-        (Some(_), None) => Ok(Some(words(alloc, "a file", "none")?)),
-        (None, Some(_)) => Ok(Some(words(alloc, "no file", "one")?)),
+impl Compared {
+    fn status(&mut self, wanted: u8, found: u8) -> Result<(), AllocError> {
+        if wanted == found {
+            return Ok(());
+        }
+        let wanted = format!(in self.alloc; "{wanted}\n")?;
+        let found = format!(in self.alloc; "{found}\n")?;
+        self.add("status", 1, wanted.as_bytes(), found.as_bytes())
     }
-}
 
-/// A file that the case doesn't name.
-fn unwanted_file(
-    alloc: Global,
-    found: &FoundFile,
-    wanted: &[WantedFile],
-) -> Result<Option<Line>, AllocError> {
-    let named = wanted
-        .iter()
-        .find(|file| file.name.as_str() == found.name.as_str());
-    match named {
-        Some(_) => Ok(None),
-        None => Ok(Some(words(alloc, "no such file named", "one")?)),
-    }
-}
-
-fn words(alloc: Global, wanted: &str, found: &str) -> Result<Line, AllocError> {
-    Ok(Line {
-        number: 0,
-        wanted: String::from_str(alloc, wanted)?,
-        found: String::from_str(alloc, found)?,
-    })
-}
-
-/// The first line of a text that differs.
-fn differing_line(
-    alloc: Global,
-    wanted: &WantedText,
-    found: &[u8],
-) -> Result<Option<Line>, AllocError> {
-    let mut lines = Vec::new(alloc);
-    for line in found.split_inclusive(|byte| *byte == b'\n') {
-        lines.push(line)?;
-    }
-    if let Some(digest) = &wanted.digest {
-        let line = differing_digest(alloc, digest, found)?;
-        if line.is_some() || !wanted.tells_lines() {
-            return Ok(line);
+    /// Compares a file with what was made.
+    fn file(&mut self, wanted: &WantedFile, files: &[FoundFile]) -> Result<(), AllocError> {
+        let name = wanted.name.as_str();
+        let file = files.iter().find(|file| file.name.as_str() == name);
+        match (&wanted.text, file) {
+            (Some(text), Some(file)) => self.text(name, text, file.bytes.as_slice()),
+            (None, None) => Ok(()),
+            (Some(_), None) => self.add(name, 0, b"a file\n", b"none\n"),
+            (None, Some(_)) => self.add(name, 0, b"no file\n", b"one\n"),
         }
     }
-    match wanted.parts.as_slice() {
-        [] => Ok(None),
-        [all] => whole_differs(alloc, all.as_slice(), lines.as_slice()),
-        [first, others @ ..] => parts_differ(alloc, first.as_slice(), others, lines.as_slice()),
+
+    /// Tells of a file that the case doesn't name.
+    fn unwanted(&mut self, found: &FoundFile, wanted: &[WantedFile]) -> Result<(), AllocError> {
+        let name = found.name.as_str();
+        if wanted.iter().any(|file| file.name.as_str() == name) {
+            return Ok(());
+        }
+        self.add(name, 0, b"no such file named\n", b"one\n")
+    }
+
+    fn text(&mut self, part: &str, wanted: &WantedText, found: &[u8]) -> Result<(), AllocError> {
+        if let Some(digest) = &wanted.digest
+            && (self.digest(part, digest, found)? || !wanted.tells_lines())
+        {
+            return Ok(());
+        }
+        self.lines(part, wanted.parts.as_slice(), found)
+    }
+
+    /// Compares a text with a digest. Returns whether it differs.
+    fn digest(&mut self, part: &str, wanted: &Digest, found: &[u8]) -> Result<bool, AllocError> {
+        let wanted = shown_digest(self.alloc, wanted.bytes, wanted.lines, wanted.sum.as_str())?;
+        let found = digest_of(self.alloc, found)?;
+        let differs = wanted.as_bytes() != found.as_bytes();
+        if differs {
+            self.add(part, 0, wanted.as_bytes(), found.as_bytes())?;
+        }
+        Ok(differs)
+    }
+
+    fn lines(
+        &mut self,
+        part: &str,
+        wanted: &[Vec<Vec<u8>>],
+        found: &[u8],
+    ) -> Result<(), AllocError> {
+        let found = found
+            .split_inclusive(|byte| *byte == b'\n')
+            .collect::<Vec<&[u8]>>(self.alloc)?;
+        match differing_line(wanted, found.as_slice()) {
+            Some(line) => self.add(part, line.number, line.wanted, line.found),
+            None => Ok(()),
+        }
+    }
+
+    fn add(
+        &mut self,
+        part: &str,
+        line: usize,
+        wanted: &[u8],
+        found: &[u8],
+    ) -> Result<(), AllocError> {
+        self.differences.push(Difference {
+            part: String::from_str(self.alloc, part)?,
+            line,
+            wanted: shown(self.alloc, wanted)?,
+            found: shown(self.alloc, found)?,
+        })?;
+        Ok(())
     }
 }
 
@@ -144,129 +145,106 @@ impl WantedText {
     }
 }
 
-/// How a text differs from a digest.
-fn differing_digest(
-    alloc: Global,
-    wanted: &Digest,
-    found: &[u8],
-) -> Result<Option<Line>, AllocError> {
-    let mut ends: usize = 0;
-    for byte in found {
-        if *byte == b'\n' {
-            ends = ends.saturating_add(1);
+/// A line for display: without its end.
+fn shown(alloc: Global, line: &[u8]) -> Result<String, AllocError> {
+    match line.strip_suffix(b"\n") {
+        Some(line) => String::from_utf8_lossy(alloc, line),
+        None => {
+            let text = String::from_utf8_lossy(alloc, line)?;
+            format!(in alloc; "{text} (without a line end)")
         }
     }
-    let sum = hex::encode(alloc, Sha256::digest(found))?;
-    let (sum, _) = sum.as_str().split_at_checked(16).unwrap_or(("", ""));
-    if wanted.bytes == found.len() && wanted.lines == ends && wanted.sum.as_str() == sum {
-        return Ok(None);
-    }
-    let (bytes, lines) = (wanted.bytes, wanted.lines);
-    Ok(Some(Line {
-        number: 0,
-        wanted: format!(in alloc; "= {bytes} {lines} {}", wanted.sum)?,
-        found: format!(in alloc; "= {} {ends} {sum}", found.len())?,
-    }))
 }
 
-/// How a text differs from exactly the expected lines.
-fn whole_differs(
+/// The digest of a text, for display.
+fn digest_of(alloc: Global, text: &[u8]) -> Result<String, AllocError> {
+    let lines = text.iter().filter(|byte| **byte == b'\n').count();
+    let sum = hex::encode(alloc, Sha256::digest(text))?;
+    let (sum, _) = sum.as_str().split_at_checked(16).unwrap_or(("", ""));
+    shown_digest(alloc, text.len(), lines, sum)
+}
+
+fn shown_digest(
     alloc: Global,
-    wanted: &[Vec<u8>],
-    found: &[&[u8]],
-) -> Result<Option<Line>, AllocError> {
-    let count = wanted.len().max(found.len());
-    for index in 0..count {
+    bytes: usize,
+    lines: usize,
+    sum: &str,
+) -> Result<String, AllocError> {
+    format!(in alloc; "= {bytes} {lines} {sum}\n")
+}
+
+/// The first line that differs from parts between which there may be any lines.
+fn differing_line<'a>(wanted: &'a [Vec<Vec<u8>>], found: &[&'a [u8]]) -> Option<Line<'a>> {
+    match wanted {
+        [] => None,
+        [all] => whole_differs(all.as_slice(), found),
+        [first, between @ .., last] => {
+            parts_differ(first.as_slice(), between, last.as_slice(), found)
+        }
+    }
+}
+
+/// How lines differ from exactly the expected ones.
+fn whole_differs<'a>(wanted: &'a [Vec<u8>], found: &[&'a [u8]]) -> Option<Line<'a>> {
+    for index in 0..wanted.len().max(found.len()) {
         let line = wanted.get(index).map(|line| line.as_slice());
         let other = found.get(index).copied();
         if line != other {
-            return Ok(Some(line_at(alloc, index, line, other)?));
-        }
-    }
-    Ok(None)
-}
-
-/// A line that differs, at this index.
-fn line_at(
-    alloc: Global,
-    index: usize,
-    wanted: Option<&[u8]>,
-    found: Option<&[u8]>,
-) -> Result<Line, AllocError> {
-    Ok(Line {
-        number: index.saturating_add(1),
-        wanted: shown(alloc, wanted)?,
-        found: shown(alloc, found)?,
-    })
-}
-
-/// A line for display: without its end, or in words if there is none.
-fn shown(alloc: Global, line: Option<&[u8]>) -> Result<String, AllocError> {
-    match line {
-        None => String::from_str(alloc, "(no further line)"),
-        Some(line) => match line.strip_suffix(b"\n") {
-            Some(line) => String::from_utf8_lossy(alloc, line),
-            None => {
-                let text = String::from_utf8_lossy(alloc, line)?;
-                format!(in alloc; "{text} (without a line end)")
-            }
-        },
-    }
-}
-
-/// How lines differ from parts between which there may be any lines.
-fn parts_differ(
-    alloc: Global,
-    first: &[Vec<u8>],
-    others: &[Vec<Vec<u8>>],
-    found: &[&[u8]],
-) -> Result<Option<Line>, AllocError> {
-    let (front, mut rest) = found.split_at(first.len().min(found.len()));
-    let line = whole_differs(alloc, first, front)?;
-    if line.is_some() {
-        return Ok(line);
-    }
-    let Some((last, between)) = others.split_last() else {
-        return Ok(None);
-    };
-    for part in between.iter() {
-        match behind(part.as_slice(), rest) {
-            Some(further) => rest = further,
-            None => return Ok(Some(missing(alloc, part.as_slice())?)),
-        }
-    }
-    let (_, back) = rest.split_at(rest.len().saturating_sub(last.len()));
-    whole_differs(alloc, last.as_slice(), back)
-}
-
-/// What follows the first occurrence of these lines.
-fn behind<'a, 'b>(wanted: &[Vec<u8>], found: &'b [&'a [u8]]) -> Option<&'b [&'a [u8]]> {
-    let count = wanted.len();
-    for start in 0..found.len() {
-        let (_, rest) = found.split_at(start);
-        if count <= rest.len() {
-            let (here, further) = rest.split_at(count);
-            if are_same(wanted, here) {
-                return Some(further);
-            }
+            return Some(Line {
+                number: index.saturating_add(1),
+                wanted: line.unwrap_or(b"(no further line)\n"),
+                found: other.unwrap_or(b"(no further line)\n"),
+            });
         }
     }
     None
 }
 
-fn are_same(wanted: &[Vec<u8>], found: &[&[u8]]) -> bool {
-    wanted
-        .iter()
-        .zip(found.iter())
-        .all(|(line, other)| line.as_slice() == *other)
+/// How lines differ from a part at the front, parts that follow somewhere, and one at the end.
+fn parts_differ<'a>(
+    first: &'a [Vec<u8>],
+    between: &'a [Vec<Vec<u8>>],
+    last: &'a [Vec<u8>],
+    found: &[&'a [u8]],
+) -> Option<Line<'a>> {
+    let (front, mut rest) = front_of(found, first.len());
+    let line = whole_differs(first, front);
+    if line.is_some() {
+        return line;
+    }
+    for part in between.iter() {
+        match behind(part.as_slice(), rest) {
+            Some(further) => rest = further,
+            None => return Some(missing(part.as_slice())),
+        }
+    }
+    let (_, back) = rest.split_at(rest.len().saturating_sub(last.len()));
+    whole_differs(last, back)
 }
 
-/// Lines that occur nowhere.
-fn missing(alloc: Global, part: &[Vec<u8>]) -> Result<Line, AllocError> {
+/// The first of some lines, which occur nowhere.
+fn missing(part: &[Vec<u8>]) -> Line<'_> {
     let wanted = part.first().map(|line| line.as_slice());
-    Ok(Line {
+    Line {
         number: 0,
-        wanted: shown(alloc, wanted)?,
-        found: String::from_str(alloc, "(nowhere, with the lines below it)")?,
-    })
+        wanted: wanted.unwrap_or(b"(no further line)\n"),
+        found: b"(nowhere, with the lines below it)\n",
+    }
+}
+
+/// What follows the first occurrence of these lines.
+fn behind<'a, 'b>(wanted: &[Vec<u8>], found: &'b [&'a [u8]]) -> Option<&'b [&'a [u8]]> {
+    for start in 0..found.len() {
+        let (_, rest) = found.split_at(start);
+        let (here, further) = front_of(rest, wanted.len());
+        if whole_differs(wanted, here).is_none() {
+            return Some(further);
+        }
+    }
+    None
+}
+
+/// The first lines, at most this many, and the others.
+fn front_of<'a, 'b>(lines: &'b [&'a [u8]], count: usize) -> (&'b [&'a [u8]], &'b [&'a [u8]]) {
+    lines.split_at(count.min(lines.len()))
 }

@@ -1,47 +1,51 @@
 //! The texts of documents.
-use crate::blocks::Block;
 use crate::case_file::Document;
 use crate::words::push_unescaped;
 use std::alloc::{AllocError, Global};
 
-/// The document of a block, if its head is `document NAME`, which `escaped` or `repeated N` may follow.
-pub fn document_of(
+/// Takes a document: `NAME`, which `escaped` or `repeated N` may follow. Returns whether it can be read.
+pub fn take_document(
     alloc: Global,
-    block: &Block<'_>,
-    documents: &[Document],
-) -> Result<Option<Document>, AllocError> {
-    let mut words = block.head.split(' ');
-    let (Some("document"), Some(name)) = (words.next(), words.next()) else {
-        return Ok(None);
-    };
+    documents: &mut Vec<Document>,
+    head: &str,
+    lines: &[&str],
+) -> Result<bool, AllocError> {
+    let mut words = head.split(' ');
+    let name = words.next().unwrap_or("");
     let mut bytes = Vec::new(alloc);
-    let is_read = match (words.next(), words.next()) {
-        (None, _) => push_lines(&mut bytes, block.body.as_slice(), documents, false)?,
-        (Some("escaped"), None) => {
-            push_lines(&mut bytes, block.body.as_slice(), documents, true)?
-        }
-        (Some("repeated"), Some(times)) => match times.parse::<u32>() {
-            Ok(times) => push_repeated(alloc, &mut bytes, block.body.as_slice(), times)?,
-            Err(_) => false,
-        },
-        _ => false,
-    };
-    if !is_read {
-        return Ok(None);
+    let form = (words.next(), words.next());
+    let is_read = push_text(alloc, &mut bytes, form, lines, documents.as_slice())?;
+    if is_read {
+        let name = String::from_str(alloc, name)?;
+        documents.push(Document { name, bytes })?;
     }
-    let name = String::from_str(alloc, name)?;
-    Ok(Some(Document { name, bytes }))
+    Ok(is_read)
 }
 
 /// The index of the document of that name: the last one counts.
 pub fn index_of(documents: &[Document], name: &str) -> Option<usize> {
-    let mut found = None;
-    for (index, document) in documents.iter().enumerate() {
-        if document.name.as_str() == name {
-            found = Some(index);
-        }
+    documents
+        .iter()
+        .rposition(|document| document.name.as_str() == name)
+}
+
+/// Adds lines in the form that these words tell.
+fn push_text(
+    alloc: Global,
+    bytes: &mut Vec<u8>,
+    form: (Option<&str>, Option<&str>),
+    lines: &[&str],
+    documents: &[Document],
+) -> Result<bool, AllocError> {
+    match form {
+        (None, _) => push_lines(bytes, lines, documents, false),
+        (Some("escaped"), None) => push_lines(bytes, lines, documents, true),
+        (Some("repeated"), Some(times)) => match times.parse::<u32>() {
+            Ok(times) => push_repeated(alloc, bytes, lines, times),
+            Err(_) => Ok(false),
+        },
+        _ => Ok(false),
     }
-    found
 }
 
 /// Adds lines with their ends, or with escapes and no ends of their own.
@@ -82,16 +86,13 @@ fn push_document(
     documents: &[Document],
     name: &str,
 ) -> Result<bool, AllocError> {
-    let Some(index) = index_of(documents, name) else {
-        return Ok(false);
-    };
-    match documents.get(index) {
-        Some(document) => {
-            bytes.extend_from_slice(document.bytes.as_slice())?;
-            Ok(true)
-        }
-        None => Ok(false),
+    if let Some(index) = index_of(documents, name)
+        && let Some(document) = documents.get(index)
+    {
+        bytes.extend_from_slice(document.bytes.as_slice())?;
+        return Ok(true);
     }
+    Ok(false)
 }
 
 /// Adds lines this many times. `{}` is the number of the repetition, from 1, and `{0}` the same from 0.
@@ -102,8 +103,8 @@ fn push_repeated(
     times: u32,
 ) -> Result<bool, AllocError> {
     for time in 0..times {
-        let from_0 = format!(in alloc; "{time}")?;
-        let from_1 = format!(in alloc; "{}", time.saturating_add(1))?;
+        let from_0 = time.to_string(alloc)?;
+        let from_1 = time.saturating_add(1).to_string(alloc)?;
         for line in lines.iter() {
             let numbered = line.replace(alloc, "{0}", from_0.as_str())?;
             let numbered = numbered.as_str().replace(alloc, "{}", from_1.as_str())?;

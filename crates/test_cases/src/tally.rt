@@ -74,14 +74,9 @@ impl Tally {
             println!(rt; "{name}:{}: $ {}", case.line, case.command)?;
         }
         for difference in differences.iter() {
-            println!(rt;
-                "  {} {} wanted: {}",
-                difference.part, difference.line, difference.wanted
-            )?;
-            println!(rt;
-                "  {} {} found:  {}",
-                difference.part, difference.line, difference.found
-            )?;
+            let (part, line) = (&difference.part, difference.line);
+            let (wanted, found) = (&difference.wanted, &difference.found);
+            println!(rt; "  {part} {line} wanted: {wanted}\n  {part} {line} found:  {found}")?;
         }
         Ok(())
     }

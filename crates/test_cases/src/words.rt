@@ -89,25 +89,15 @@ pub fn push_unescaped(bytes: &mut Vec<u8>, text: &str) -> Result<(), AllocError>
 
 /// Adds the byte of an escape, and the text after it.
 fn push_escape(bytes: &mut Vec<u8>, part: &str) -> Result<(), AllocError> {
-    if let Some(rest) = part.strip_prefix('n') {
-        bytes.push(b'\n')?;
-        return bytes.extend_from_slice(rest.as_bytes());
-    }
-    if let Some(rest) = part.strip_prefix('r') {
-        bytes.push(b'\r')?;
-        return bytes.extend_from_slice(rest.as_bytes());
-    }
-    if let Some(rest) = part.strip_prefix('t') {
-        bytes.push(b'\t')?;
-        return bytes.extend_from_slice(rest.as_bytes());
-    }
-    match part.as_bytes() {
-        [b'x', high, low, rest @ ..] => {
-            bytes.push(digit(*high) * 16 + digit(*low))?;
-            bytes.extend_from_slice(rest)
-        }
-        other => bytes.extend_from_slice(other),
-    }
+    let (byte, rest) = match part.as_bytes() {
+        [b'n', rest @ ..] => (b'\n', rest),
+        [b'r', rest @ ..] => (b'\r', rest),
+        [b't', rest @ ..] => (b'\t', rest),
+        [b'x', high, low, rest @ ..] => (digit(*high) * 16 + digit(*low), rest),
+        other => return bytes.extend_from_slice(other),
+    };
+    bytes.push(byte)?;
+    bytes.extend_from_slice(rest)
 }
 
 /// The value of a hexadecimal digit; 0 for anything else.
