@@ -70,15 +70,33 @@ key_starts (b ∷ bs) (c ∷ cs) h = ap (λ k. starts_with nat_eq k (b ∷ bs)) 
     rest_in : (b : ℕ) (t : Bool) → (in_key b && t) ≡ true → t ≡ true
     rest_in b t h = by_test (in_key b) (λ is. (rw is at h)) (λ isnt. let h = (rw isnt at h) in cc)
 
+pub another : (a b : ℕ) → (a ≡ b → ⊥) → Some a ≡ Some b → ⊥
+another a b h e = h (same_Some a b e)
+
 or_false : (t : Bool) → (t || false) ≡ t
 or_false true = refl
 or_false false = refl
 
-pub another : (a b : ℕ) → (a ≡ b → ⊥) → Some a ≡ Some b → ⊥
-another a b h e = h (same_Some a b e)
-
 pub no_letter : (k : ℕ) → Some k ≡ None → ⊥
 no_letter k e = false≢true (sym (ap is_some e))
+
+begins_none : (content : List ℕ) (depth : ℕ) → starts_with nat_eq content (codes "%%Page:") ≡ false → false ≡ begins_page (at_depth depth (comment_line content))
+begins_none content depth h = sym (ap (λ v. ((depth == 0) && true) && v) (comment_is content (codes "%%Page") false refl h) ∙ and_false ((depth == 0) && true))
+
+-- a line with this key begins neither a page nor the trailer
+pub begins_neither : (content name : List ℕ) (depth : ℕ) → starts_with nat_eq content (codes "%%Page:") ≡ false → bytes_eq (key content) name ≡ true
+    → (bytes_eq name (codes "%%Trailer") || bytes_eq name (codes "%%EOF")) ≡ false
+    → (false ≡ begins_page (at_depth depth (comment_line content))) × (false ≡ begins_trailer (at_depth depth (comment_line content)))
+begins_neither content name depth h is other = (
+  begins_none content depth h,
+  sym (ap (λ k. ((depth == 0) && true) && (bytes_eq k (codes "%%Trailer") || (bytes_eq k (codes "%%EOF") || false))) ((bytes_eq-Decides (key content) name).0 is)
+  ∙ ap (λ v. ((depth == 0) && true) && (bytes_eq name (codes "%%Trailer") || v)) (or_false (bytes_eq name (codes "%%EOF")))
+  ∙ ap (λ v. ((depth == 0) && true) && v) other ∙ and_false ((depth == 0) && true)),
+)
+
+-- the line that begins an embedded document
+pub deepens : (content : List ℕ) (depth : ℕ) → bytes_eq (key content) (codes "%%BeginDocument") ≡ true → depth + 1 ≡ depth_after depth (comment_line content)
+deepens content depth is = sym (ap (λ v. if v || false then depth + 1 else (if bytes_eq (key content) (codes "%%EndDocument") || false then depth - 1 else depth)) is)
 
 -- a line with another letter means nothing
 pub means_nothing : (content : List ℕ) (depth : ℕ) → (letter_of content ≡ Some 80 → ⊥) → (letter_of content ≡ Some 66 → ⊥) → (letter_of content ≡ Some 69 → ⊥) → (letter_of content ≡ Some 84 → ⊥)
@@ -89,7 +107,7 @@ means_nothing content depth p b e t =
     let ends : bytes_eq (key content) (codes "%%EndDocument") ≡ false = other_key content (codes "ndDocument") 69 e in
     let trails : bytes_eq (key content) (codes "%%Trailer") ≡ false = other_key content (codes "railer") 84 t in
     let eof : bytes_eq (key content) (codes "%%EOF") ≡ false = other_key content (codes "OF") 69 e in (
-      sym (ap (λ v. ((depth == 0) && true) && v) (comment_is content (codes "%%Page") false refl page) ∙ and_false ((depth == 0) && true)),
+      begins_none content depth page,
       sym (ap (λ v. ((depth == 0) && true) && (v || (bytes_eq (key content) (codes "%%EOF") || false))) trails
       ∙ ap (λ v. ((depth == 0) && true) && (v || false)) eof ∙ and_false ((depth == 0) && true)),
       sym (ap (λ v. if v || false then depth + 1 else (if bytes_eq (key content) (codes "%%EndDocument") || false then depth - 1 else depth)) begins
