@@ -2,7 +2,7 @@
 use Rattle.std.specs.Prelude.{Result, Ok, Err, codes, not}
 use Rattle.std.specs.List.{list_all, prefix_len}
 use Rattle.std.specs.Char.{is_ascii_digit}
-use Rattle.std.proofs.Common.{Bool, true, false, ◌&&◌, if◌then◌else◌, ◌≡◌, ℕ, ◌+◌, List, [], ◌∷◌, length, take, drop, refl, ap, sym, ◌∙◌}
+use Rattle.std.proofs.Common.{Bool, true, false, if◌then◌else◌, ◌≡◌, ℕ, ◌+◌, List, [], ◌∷◌, length, take, drop, refl, ap, sym, ◌∙◌}
 use Rattle.rules.specs.Numbers.{number_of}
 use Rattle.rules.specs.Units.{BlockFault, BadCount, is_end, is_comment, content_of, line_len, fields, begins_block, data_len, block, first_unit}
 use Rattle.dsc.specs.Fields.{fields_in, counted, data_in}

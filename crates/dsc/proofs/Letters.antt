@@ -90,8 +90,8 @@ pub begins_neither : (content name : List ℕ) (depth : ℕ) → starts_with nat
 begins_neither content name depth h is other = (
   begins_none content depth h,
   sym (ap (λ k. ((depth == 0) && true) && (bytes_eq k (codes "%%Trailer") || (bytes_eq k (codes "%%EOF") || false))) ((bytes_eq-Decides (key content) name).0 is)
-  ∙ ap (λ v. ((depth == 0) && true) && (bytes_eq name (codes "%%Trailer") || v)) (or_false (bytes_eq name (codes "%%EOF")))
-  ∙ ap (λ v. ((depth == 0) && true) && v) other ∙ and_false ((depth == 0) && true)),
+      ∙ ap (λ v. ((depth == 0) && true) && (bytes_eq name (codes "%%Trailer") || v)) (or_false (bytes_eq name (codes "%%EOF")))
+      ∙ ap (λ v. ((depth == 0) && true) && v) other ∙ and_false ((depth == 0) && true)),
 )
 
 -- the line that begins an embedded document
@@ -109,9 +109,9 @@ means_nothing content depth p b e t =
     let eof : bytes_eq (key content) (codes "%%EOF") ≡ false = other_key content (codes "OF") 69 e in (
       begins_none content depth page,
       sym (ap (λ v. ((depth == 0) && true) && (v || (bytes_eq (key content) (codes "%%EOF") || false))) trails
-      ∙ ap (λ v. ((depth == 0) && true) && (v || false)) eof ∙ and_false ((depth == 0) && true)),
+          ∙ ap (λ v. ((depth == 0) && true) && (v || false)) eof ∙ and_false ((depth == 0) && true)),
       sym (ap (λ v. if v || false then depth + 1 else (if bytes_eq (key content) (codes "%%EndDocument") || false then depth - 1 else depth)) begins
-      ∙ ap (λ v. if v || false then depth - 1 else depth) ends),
+          ∙ ap (λ v. if v || false then depth - 1 else depth) ends),
     )
 
 -- a line with another letter is not dropped from a page

@@ -1,4 +1,4 @@
-use Rattle.std.proofs.Common.{rules, arith, ◌<◌, ◌++◌, ◌∙◌, [], take, drop, length, ap, sym, if◌then◌else◌, length-drop}
+use Rattle.std.proofs.Common.{arith, ◌<◌, ◌++◌, ◌∙◌, [], take, drop, length, ap, sym, if◌then◌else◌, length-drop}
 use Rattle.dsc.specs.Filters.{is_dropped}
 use Rattle.dsc.specs.Views.{unit_of, at_depth}
 use Rattle.dsc.proofs.Filtering.{filter_more}
