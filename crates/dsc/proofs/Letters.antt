@@ -1,18 +1,20 @@
 -- What the letter of a comment says about its key.
-use Rattle.std.specs.Prelude.{Some, None, codes, not}
+use Rattle.std.specs.Prelude.{Some, None, is_some, codes, not}
 use Rattle.std.specs.List.{starts_with, prefix_len, list_all}
 use Rattle.std.specs.Str.{bytes_eq}
-use Rattle.std.proofs.Common.{Bool, true, false, cond, nat_eq, ◌||◌, ◌&&◌, ◌==◌, if◌then◌else◌, ◌≡◌, ℕ, zero, suc, List, [], ◌∷◌, length, take, refl, ap, arith, sym, ◌∙◌}
+use Rattle.std.proofs.Common.{Bool, true, false, cond, nat_eq, ◌||◌, ◌&&◌, ◌==◌, if◌then◌else◌, ◌≡◌, ℕ, zero, suc, ◌+◌, ◌-◌, List, [], ◌∷◌, length, take, refl, ap, arith, sym, ◌∙◌}
 use Rattle.std.proofs.lemmas.Bool.{false≢true, eqb-true}
 use Rattle.std.proofs.lemmas.List.{length-take}
 use Rattle.std.proofs.lemmas.Option.{same_Some}
 use Rattle.std.proofs.lemmas.List.Sums.{take_while-cons}
 use Rattle.std.proofs.lemmas.Slice.Eq.{bytes_eq-Decides}
 use Rattle.rules.specs.Units.{is_blank, key}
+use Rattle.rules.specs.Parts.{begins_page, begins_trailer, depth_after}
 use Rattle.rules.specs.Filters.{drops_in_page}
 use Rattle.dsc.specs.Letters.{letter_of}
-use Rattle.dsc.proofs.Cases.{by_test}
-use Rattle.dsc.proofs.Headings.{in_key}
+use Rattle.dsc.specs.Views.{at_depth, comment_line}
+use Rattle.dsc.proofs.Cases.{by_test, and_false}
+use Rattle.dsc.proofs.Headings.{in_key, comment_is}
 
 -- what begins with these bytes has this letter
 letter_front : (n : ℕ) (content name : List ℕ) (c : ℕ) → 37 ∷ 37 ∷ c ∷ name ≡ take n content → letter_of content ≡ Some c
@@ -68,12 +70,57 @@ key_starts (b ∷ bs) (c ∷ cs) h = ap (λ k. starts_with nat_eq k (b ∷ bs)) 
     rest_in : (b : ℕ) (t : Bool) → (in_key b && t) ≡ true → t ≡ true
     rest_in b t h = by_test (in_key b) (λ is. (rw is at h)) (λ isnt. let h = (rw isnt at h) in cc)
 
+pub another : (a b : ℕ) → (a ≡ b → ⊥) → Some a ≡ Some b → ⊥
+another a b h e = h (same_Some a b e)
+
 or_false : (t : Bool) → (t || false) ≡ t
 or_false true = refl
 or_false false = refl
 
-pub another : (a b : ℕ) → (a ≡ b → ⊥) → Some a ≡ Some b → ⊥
-another a b h e = h (same_Some a b e)
+pub no_letter : (k : ℕ) → Some k ≡ None → ⊥
+no_letter k e = false≢true (sym (ap is_some e))
+
+begins_none : (content : List ℕ) (depth : ℕ) → starts_with nat_eq content (codes "%%Page:") ≡ false → false ≡ begins_page (at_depth depth (comment_line content))
+begins_none content depth h = sym (ap (λ v. ((depth == 0) && true) && v) (comment_is content (codes "%%Page") false refl h) ∙ and_false ((depth == 0) && true))
+
+-- a line with this key begins neither a page nor the trailer
+pub begins_neither : (content name : List ℕ) (depth : ℕ) → starts_with nat_eq content (codes "%%Page:") ≡ false → bytes_eq (key content) name ≡ true
+    → (bytes_eq name (codes "%%Trailer") || bytes_eq name (codes "%%EOF")) ≡ false
+    → (false ≡ begins_page (at_depth depth (comment_line content))) × (false ≡ begins_trailer (at_depth depth (comment_line content)))
+begins_neither content name depth h is other = (
+  begins_none content depth h,
+  sym (ap (λ k. ((depth == 0) && true) && (bytes_eq k (codes "%%Trailer") || (bytes_eq k (codes "%%EOF") || false))) ((bytes_eq-Decides (key content) name).0 is)
+      ∙ ap (λ v. ((depth == 0) && true) && (bytes_eq name (codes "%%Trailer") || v)) (or_false (bytes_eq name (codes "%%EOF")))
+      ∙ ap (λ v. ((depth == 0) && true) && v) other ∙ and_false ((depth == 0) && true)),
+)
+
+-- the line that begins an embedded document
+pub deepens : (content : List ℕ) (depth : ℕ) → bytes_eq (key content) (codes "%%BeginDocument") ≡ true → depth + 1 ≡ depth_after depth (comment_line content)
+deepens content depth is = sym (ap (λ v. if v || false then depth + 1 else (if bytes_eq (key content) (codes "%%EndDocument") || false then depth - 1 else depth)) is)
+
+-- a line with another letter means nothing
+pub means_nothing : (content : List ℕ) (depth : ℕ) → (letter_of content ≡ Some 80 → ⊥) → (letter_of content ≡ Some 66 → ⊥) → (letter_of content ≡ Some 69 → ⊥) → (letter_of content ≡ Some 84 → ⊥)
+    → (false ≡ begins_page (at_depth depth (comment_line content))) × (false ≡ begins_trailer (at_depth depth (comment_line content))) × (depth ≡ depth_after depth (comment_line content))
+means_nothing content depth p b e t =
+    let page : starts_with nat_eq content (codes "%%Page:") ≡ false = other_start content (codes "age:") 80 p in
+    let begins : bytes_eq (key content) (codes "%%BeginDocument") ≡ false = other_key content (codes "eginDocument") 66 b in
+    let ends : bytes_eq (key content) (codes "%%EndDocument") ≡ false = other_key content (codes "ndDocument") 69 e in
+    let trails : bytes_eq (key content) (codes "%%Trailer") ≡ false = other_key content (codes "railer") 84 t in
+    let eof : bytes_eq (key content) (codes "%%EOF") ≡ false = other_key content (codes "OF") 69 e in (
+      begins_none content depth page,
+      sym (ap (λ v. ((depth == 0) && true) && (v || (bytes_eq (key content) (codes "%%EOF") || false))) trails
+          ∙ ap (λ v. ((depth == 0) && true) && (v || false)) eof ∙ and_false ((depth == 0) && true)),
+      sym (ap (λ v. if v || false then depth + 1 else (if bytes_eq (key content) (codes "%%EndDocument") || false then depth - 1 else depth)) begins
+          ∙ ap (λ v. if v || false then depth - 1 else depth) ends),
+    )
+
+-- a line with another letter is not dropped from a page
+pub drops_nothing : (content : List ℕ) → (letter_of content ≡ Some 80 → ⊥) → (letter_of content ≡ Some 66 → ⊥) → (letter_of content ≡ Some 69 → ⊥) → false ≡ drops_in_page content
+drops_nothing content p b e =
+    sym
+    (ap (λ t. t || (bytes_eq (key content) (codes "%%BeginPageSetup") || (bytes_eq (key content) (codes "%%EndPageSetup") || false))) (key_starts (codes "%%Page") content refl ∙ other_start content (codes "age") 80 p)
+    ∙ ap (λ t. t || (bytes_eq (key content) (codes "%%EndPageSetup") || false)) (other_key content (codes "eginPageSetup") 66 b)
+    ∙ ap (λ t. t || false) (other_key content (codes "ndPageSetup") 69 e))
 
 -- what is dropped from a page, by the letter
 pub page_letter : (content : List ℕ) → letter_of content ≡ Some 80 → starts_with nat_eq content (codes "%%Page") ≡ drops_in_page content

@@ -6,6 +6,7 @@ pub mod PlainLines
 pub mod Fronts
 pub mod Rows
 pub mod PlainUnits
+pub mod FirstUnits
 pub mod Walking
 pub mod CommentFields
 pub mod FieldRows

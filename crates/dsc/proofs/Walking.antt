@@ -1,6 +1,6 @@
 -- One step of a walk over the units of a text, whatever they are used for.
 use Rattle.std.specs.Prelude.{Result, Ok}
-use Rattle.std.proofs.Common.{inl, inr, append_assoc, append-nil, ◌≡◌, ℕ, zero, suc, ◌+◌, ◌-◌, ◌<◌, ◌≤◌, List, [], ◌∷◌, ◌++◌, length, take, drop, refl, ap, arith, length-drop, length-take, sym, ◌∙◌}
+use Rattle.std.proofs.Common.{inl, inr, append_assoc, append-nil, ◌≡◌, ℕ, zero, suc, ◌+◌, ◌-◌, ◌<◌, ◌≤◌, List, [], ◌∷◌, ◌++◌, length, take, drop, refl, ap, arith, length-drop, length-take, sym, subst, ◌∙◌}
 use Rattle.std.proofs.lemmas.List.{drop-drop}
 use Rattle.std.proofs.Math.Seq.{take-add}
 use Rattle.rules.specs.Units.{TextUnit, FaultyBlock, first_unit, content_of, line_len}
@@ -97,6 +97,10 @@ module _ {S A : Type 0} {makes : S → List NestedUnit → A} {next : S → Nest
 -- a walk that loses no byte
 pub still_placed : (p q : Place) (u : TextUnit) (len : ℕ) → q ≡ behind u p → length u.bytes ≤ length p.rest → p.at + length p.rest ≡ len → q.at + length q.rest ≡ len
 still_placed p q u len b fits e = ap (λ r. r.at + length r.rest) b ∙ (let l = length-drop (length u.bytes) p.rest in omega (arith, l, fits, e))
+
+-- each step leaves less
+pub less_left : (p q : Place) (u : TextUnit) → q ≡ behind u p → 0 < length p.rest → 0 < length u.bytes → length q.rest < length p.rest
+less_left p q u b some fill = subst (λ r. length r.rest < length p.rest) (sym b) (let l = length-drop (length u.bytes) p.rest in omega (arith, l, some, fill))
 
 -- the unit of a step is at the start of what is left
 pub piece_front : (u : TextUnit) (rest : List ℕ) → IsPiece u rest → u.bytes ≡ take (length u.bytes) rest

@@ -232,7 +232,9 @@ impl<'s, 'r, 't, 'd, T: SheetTexts, G: Gate> RunInput<'s, 'r, 't, 'd, T, G> {
         requires texts { HaveTexts T.text batch }
         ensures { IsSeatAt (sends_on self.now.channel.now.sender) ticket.new }
     {
+        // Dropped by calls, so that what becomes of the parts is proved once, and not here.
         if batch.sheets.is_empty() {
+            drop(batch);
             return;
         }
         let sent = self
@@ -242,6 +244,7 @@ impl<'s, 'r, 't, 'd, T: SheetTexts, G: Gate> RunInput<'s, 'r, 't, 'd, T, G> {
         if sent.is_err() {
             self.shared.window.lift();
         }
+        drop(sent);
     }
 }
 

@@ -31,5 +31,7 @@ pub struct Nobody;
 impl Listener for Nobody {
     ghost heard = { λ _. None };
 
-    fn ended(&mut self, _ended: GatheredPlan<'_, '_>) {}
+    fn ended(&mut self, ended: GatheredPlan<'_, '_>) {
+        drop(ended);
+    }
 }

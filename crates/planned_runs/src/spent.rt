@@ -12,6 +12,6 @@ pub(crate) struct Written<'w, 'r, R> {
 
 impl<'w, 'r, R: Wait> Spent<'r> for Written<'w, 'r, R> {
     fn give_back(&mut self, sheets: FinishedSheets<'r>) {
-        let _ = self.queue.push(self.rt, sheets);
+        drop(self.queue.push(self.rt, sheets));
     }
 }

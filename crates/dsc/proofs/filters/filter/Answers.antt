@@ -1,8 +1,12 @@
-use Rattle.std.proofs.Common.{rules, arith, ◌<◌, ◌++◌, ◌∙◌, [], take, drop, length, ap, sym, if◌then◌else◌, length-drop}
+use Rattle.std.proofs.Common.{arith, ◌<◌, ◌++◌, ◌∙◌, [], take, drop, length, ap, sym, if◌then◌else◌, length-drop}
 use Rattle.dsc.specs.Filters.{is_dropped}
 use Rattle.dsc.specs.Views.{unit_of, at_depth}
 use Rattle.dsc.proofs.Filtering.{filter_more}
+use Rattle.dsc.proofs.Walking.{less_left}
 use Rattle.dsc.proofs.filters.filter.Goals as goal
+
+pub step-requires : goal.step-requires
+step-requires c = c.is_done.ensures.going c.loop-drops-test.true
 
 pub go_on-requires : goal.go_on-requires
 go_on-requires c =
@@ -20,7 +24,7 @@ loop-drops-preserved c =
     let u = unit_of c.in-Ok.step.unit in
     let i = c.loop-drops.invariant in
     let step = c.in-Ok.ensures in
-    let some : 0 < length p.rest = search rules in
+    let some : 0 < length p.rest = c.is_done.ensures.going c.loop-drops-test.true in
     record {
       within = c.in-Ok-go_on.ensures.within;
       behind = c.in-Ok-go_on.ensures.rest ∙ ap (drop (length u.bytes)) i.behind ∙ sym (ap (λ q. q.rest) step.place);
@@ -30,3 +34,7 @@ loop-drops-preserved c =
           (c.in-Ok-go_on.ensures.kept ∙ ap (λ t. ((k.copied.items ++ k.held.now) ++ take k.run_len k.run.now) ++ (if c.drops_unit-was.result then [] else take (length u.bytes) t)) i.behind)
           i.so_far;
     }
+
+pub loop-drops-smaller : goal.loop-drops-smaller
+loop-drops-smaller c =
+    less_left c.loop-drops.walk c.step.new.self (unit_of c.in-Ok.step.unit) c.in-Ok.ensures.place (c.is_done.ensures.going c.loop-drops-test.true) c.in-Ok.ensures.piece.some

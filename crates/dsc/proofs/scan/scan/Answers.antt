@@ -5,14 +5,17 @@ use Rattle.dsc.specs.declared.filters.Drops.TheVariants.{PageSetup}
 use Rattle.dsc.proofs.Scans.{scan_more, fewer}
 use Rattle.dsc.proofs.BodyMarks.{sought_more}
 use Rattle.dsc.proofs.PageBodies.{all_found}
-use Rattle.dsc.proofs.Walking.{still_placed}
+use Rattle.dsc.proofs.Walking.{less_left, still_placed}
 use Rattle.dsc.proofs.scan.scan.Goals as goal
+
+pub step-requires : goal.step-requires
+step-requires c = c.is_done.ensures.going c.loop-walk-test.true
 
 pub loop-walk-preserved : goal.loop-walk-preserved
 loop-walk-preserved c =
     let p = c.loop-walk.walk in
     let step = c.in-Ok.ensures in
-    let some : 0 < length p.rest = search rules in
+    let some : 0 < length p.rest = c.is_done.ensures.going c.loop-walk-test.true in
     record {
       placed = still_placed p c.step.new.self (unit_of c.in-Ok.step.unit) _ step.place step.piece.within c.loop-walk.invariant.placed;
       so_far =
@@ -28,3 +31,7 @@ pub returns-in-Ok-into_starts-clause-bodies : goal.returns-in-Ok-into_starts-cla
 returns-in-Ok-into_starts-clause-bodies c = λ few.
     let none : length c.loop-walk.walk.rest ≡ 0 = search rules in
     all_found c.args.text.now c.loop-walk.walk.rest _ c.loop-walk.bodies _ _ none (c.loop-walk.invariant.bodies few) c.in-Ok-into_starts.ensures
+
+pub loop-walk-smaller : goal.loop-walk-smaller
+loop-walk-smaller c =
+    less_left c.loop-walk.walk c.step.new.self (unit_of c.in-Ok.step.unit) c.in-Ok.ensures.place (c.is_done.ensures.going c.loop-walk-test.true) c.in-Ok.ensures.piece.some
