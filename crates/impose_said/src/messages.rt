@@ -2,7 +2,7 @@
 
 use crate::fault::{IdleOption, ImposeFault, Packing};
 use crate::mistakes::looks_like_file;
-use crate::shown::shown_word;
+use crate::shown::{joined, shown_word};
 use command_words::{caret_below, group_place, item_place, large_place, name_of, range_place};
 use dsc::DscError;
 use impose_words::{
@@ -40,11 +40,7 @@ pub fn fault_text(
             )?;
             shown(alloc, message, ranges_of(request), *place)
         }
-        ImposeFault::Read(cause) => {
-            let name = input_name(alloc, request)?;
-            let name = name.as_str();
-            with_cause(alloc, format!(in alloc; "cannot read {name}")?, cause)
-        }
+        ImposeFault::Read(cause) => with_cause(alloc, unopened_text(alloc, request)?, cause),
         ImposeFault::Run(error) => run_text(alloc, error, request),
         ImposeFault::NoInput
         | ImposeFault::Pdf
@@ -54,16 +50,9 @@ pub fn fault_text(
             alloc, fault, request,
         ),
         ImposeFault::Idle(option) => String::from_str(alloc, idle_message(*option)),
-        ImposeFault::OverInput => {
-            let name = input_name(alloc, request)?;
-            let name = name.as_str();
-            format!(in alloc;
-                "--preview would write over {name}, which is read: name another file, as sheets.svg, or - for standard output"
-            )
-        }
+        ImposeFault::OverInput => over_input_text(alloc, request),
         ImposeFault::Write { written, cause } => {
-            let text = written_text(alloc, *written, request)?;
-            with_cause(alloc, text, cause)
+            with_cause(alloc, written_text(alloc, *written, request)?, cause)
         }
     }
 }
@@ -89,38 +78,70 @@ fn idle_message(option: IdleOption) -> &'static str {
     }
 }
 
+/// An input that can't be opened or read.
+fn unopened_text(alloc: Global, request: Option<&ImposeRequest>) -> Result<String, AllocError> {
+    let name = input_name(alloc, request)?;
+    let name = name.as_str();
+    format!(in alloc; "cannot read {name}")
+}
+
+fn over_input_text(alloc: Global, request: Option<&ImposeRequest>) -> Result<String, AllocError> {
+    let name = input_name(alloc, request)?;
+    let name = name.as_str();
+    format!(in alloc;
+        "--preview would write over {name}, which is read: name another file, as sheets.svg, or - for standard output"
+    )
+}
+
 /// What is said of an input that isn't read as a document.
 fn unread_text(
     alloc: Global,
     fault: &ImposeFault,
     request: Option<&ImposeRequest>,
 ) -> Result<String, AllocError> {
-    let name = input_name(alloc, request)?;
-    let name = name.as_str();
-    match fault {
-        ImposeFault::NoInput => format!(in alloc;
-            "{name} is empty; name a file with a PostScript document, or pipe one in"
-        ),
-        ImposeFault::Pdf => format!(in alloc;
-            "{name} is a PDF, not PostScript; use: impose-pdf .. in.pdf out.pdf, or pdftops in.pdf - | impose .. -"
-        ),
-        ImposeFault::Compressed(packing) => {
-            let unpacked = unpacked_by(*packing);
-            format!(in alloc; "{name} is compressed, not PostScript; use: {unpacked} | impose .. -")
+    let message = match fault {
+        ImposeFault::NoInput => "is empty; name a file with a PostScript document, or pipe one in",
+        ImposeFault::Pdf => {
+            "is a PDF, not PostScript; use: impose-pdf .. in.pdf out.pdf, or pdftops in.pdf - | impose .. -"
         }
-        ImposeFault::DosEps => format!(in alloc;
-            "{name} is an EPS with a preview before it, as DOS had them; use: ps2ps in.eps - | impose .. -"
-        ),
-        ImposeFault::Utf16 => format!(in alloc;
-            "{name} is a text of two bytes a letter (UTF-16), not PostScript; use: iconv -f UTF-16 -t ISO-8859-1 in.ps | \
+        ImposeFault::Compressed(packing) => return packed_text(alloc, *packing, request),
+        ImposeFault::DosEps => {
+            "is an EPS with a preview before it, as DOS had them; use: ps2ps in.eps - | impose .. -"
+        }
+        ImposeFault::Utf16 => {
+            "is a text of two bytes a letter (UTF-16), not PostScript; use: iconv -f UTF-16 -t ISO-8859-1 in.ps | \
             impose .. -"
-        ),
-        ImposeFault::JobLanguage => format!(in alloc;
-            "{name} begins with a printer's job language, not with %!; cut that off: \
+        }
+        ImposeFault::JobLanguage => {
+            "begins with a printer's job language, not with %!; cut that off: \
             sed -n '/^%!/,$p' in.ps | impose .. -"
-        ),
-        _ => format!(in alloc; "{name} is longer than 1,073,741,824 bytes; split it first"),
-    }
+        }
+        _ => "is longer than 1,073,741,824 bytes; split it first",
+    };
+    input_text(alloc, request, message)
+}
+
+/// The name of the input, and what is said of it.
+fn input_text(
+    alloc: Global,
+    request: Option<&ImposeRequest>,
+    message: &str,
+) -> Result<String, AllocError> {
+    let name = input_name(alloc, request)?;
+    joined(alloc, &[name.as_str(), " ", message])
+}
+
+/// What is said of an input that is compressed.
+fn packed_text(
+    alloc: Global,
+    packing: Packing,
+    request: Option<&ImposeRequest>,
+) -> Result<String, AllocError> {
+    let unpacked = unpacked_by(packing);
+    let message = format!(in alloc;
+        "is compressed, not PostScript; use: {unpacked} | impose .. -"
+    )?;
+    input_text(alloc, request, message.as_str())
 }
 
 /// What unpacks a file.
@@ -231,46 +252,51 @@ pub fn command_text(alloc: Global, fault: &RequestFault) -> Result<String, Alloc
 /// What is said of a text that is no value of the option or argument.
 fn value_text(alloc: Global, option: Opt, text: &str) -> Result<String, AllocError> {
     match option {
-        Opt::Paper | Opt::Sheet => paper_text(alloc, option.id(), text),
-        Opt::Border => length_text(alloc, option.id(), text, "1pt, .5mm or .02in"),
+        Opt::Paper | Opt::Sheet => paper_text(alloc, option, text),
+        Opt::Border => length_text(alloc, option, text, "give it as 1pt, .5mm or .02in"),
         Opt::Trim | Opt::Creep | Opt::Overlap => {
-            length_text(alloc, option.id(), text, "5mm, .2in or 14pt")
+            length_text(alloc, option, text, "give it as 5mm, .2in or 14pt")
         }
         Opt::Margin => length_text(
             alloc,
-            option.id(),
+            option,
             text,
-            "5mm, SIDES,ENDS, TOP,RIGHT,BOTTOM,LEFT, or left=2cm,top=1cm",
+            "give it as 5mm, SIDES,ENDS, TOP,RIGHT,BOTTOM,LEFT, or left=2cm,top=1cm",
         ),
-        Opt::Gap => length_text(alloc, option.id(), text, "5mm, or 5mm,1cm"),
-        Opt::Numbers => length_text(alloc, option.id(), text, "10pt or 4mm, up to 72pt"),
+        Opt::Gap => length_text(alloc, option, text, "give it as 5mm, or 5mm,1cm"),
+        Opt::Numbers => length_text(alloc, option, text, "give it as 10pt or 4mm, up to 72pt"),
         Opt::Count(command) => cells_text(alloc, command, text),
         Opt::Signature => signature_text(alloc, text),
-        Opt::Order | Opt::Turned | Opt::Scale | Opt::BookletMarks | Opt::CutMarks => {
-            word_text(alloc, option, text)
-        }
-        Opt::Turn | Opt::NumbersFrom => word_text(alloc, option, text),
+        Opt::CutMarks => cut_marks_text(alloc, text),
         Opt::Outfile => outfile_text(alloc, text),
-        Opt::Preview => picture_text(alloc, text),
+        _ => word_text(alloc, option, text),
     }
 }
 
-/// What is said of a text that is no length for the option, which takes one as these examples.
-fn length_text(
-    alloc: Global,
-    option: &str,
-    text: &str,
-    examples: &str,
-) -> Result<String, AllocError> {
-    let shown = shown_word(alloc, text)?;
-    let shown = shown.as_str();
+/// What is said of a text that is no length for the option, which takes one as the advice says.
+fn length_text(alloc: Global, option: Opt, text: &str, advice: &str) -> Result<String, AllocError> {
     if lacks_unit(text) && !text.starts_with("-") {
-        format!(in alloc;
-            "length '{shown}' after --{option} has no unit: write {shown}cm, {shown}mm, {shown}in or {shown}pt"
-        )
+        length_unit_text(alloc, option, text)
     } else {
-        format!(in alloc; "bad length '{shown}' after --{option}: give it as {examples}")
+        refused_text(alloc, "bad length", text, option, advice)
     }
+}
+
+/// What is said of a length without a unit.
+fn length_unit_text(alloc: Global, option: Opt, text: &str) -> Result<String, AllocError> {
+    let text = shown_word(alloc, text)?;
+    let text = text.as_str();
+    let units = joined(
+        alloc,
+        &[text, "cm, ", text, "mm, ", text, "in or ", text, "pt"],
+    )?;
+    let units = units.as_str();
+    let option = option.id();
+    let lack = " has no unit: write ";
+    joined(
+        alloc,
+        &["length '", text, "' after --", option, lack, units],
+    )
 }
 
 /// What is said of an option in the place of a file.
@@ -283,13 +309,17 @@ fn outfile_text(alloc: Global, text: &str) -> Result<String, AllocError> {
     )
 }
 
-/// What is said of a file that isn't named as a picture.
-fn picture_text(alloc: Global, text: &str) -> Result<String, AllocError> {
+/// What is said of marks for sheets that aren't a booklet's.
+fn cut_marks_text(alloc: Global, text: &str) -> Result<String, AllocError> {
     let text = shown_word(alloc, text)?;
     let text = text.as_str();
-    format!(in alloc;
-        "bad file '{text}' after --preview: it is an SVG, so name it as sheets.svg, or - for standard output"
-    )
+    if text.contains("fold") {
+        format!(in alloc;
+            "only a booklet is folded, so --marks {text} asks too much here: give --marks cut"
+        )
+    } else {
+        format!(in alloc; "unknown marks '{text}' after --marks: give cut")
+    }
 }
 
 /// What is said of a text that names no signature.
@@ -302,97 +332,125 @@ fn signature_text(alloc: Global, text: &str) -> Result<String, AllocError> {
                 "a signature of {sides} sides can't be folded: take a multiple of four, as {below} or {above}, or auto"
             )
         }
-        _ => {
-            let shown = shown_word(alloc, text)?;
-            let shown = shown.as_str();
-            format!(in alloc;
-                "bad signature '{shown}' after --signature: give a multiple of four, as 16, up to 1000000, or auto"
-            )
-        }
+        _ => word_text(alloc, Opt::Signature, text),
     }
 }
 
 /// What is said of a text after a command that names no cells.
 fn cells_text(alloc: Global, command: GridCommand, text: &str) -> Result<String, AllocError> {
-    let (command, example) = match command {
-        GridCommand::NUp => ("nup", "impose nup 2 in.ps out.ps"),
-        GridCommand::Cards => ("cards", "impose cards 8 in.ps out.ps"),
-        GridCommand::Stack => ("stack", "impose stack 2 in.ps out.ps"),
-        GridCommand::Notes => return noted_text(alloc, text),
-        GridCommand::Poster => return tiles_text(alloc, text),
-    };
     let shown = shown_word(alloc, text)?;
     let shown = shown.as_str();
     if looks_like_file(text) {
-        format!(in alloc;
-            "the number of pages is missing before '{shown}': it comes after {command}, as in: {example}"
-        )
-    } else if text.contains("x") {
-        format!(in alloc;
-            "bad grid '{shown}' after {command}: give columns and rows as 2x4, at most 1024 cells in all"
-        )
+        let (missing, place) = missing_cells(command);
+        joined(alloc, &[missing, " missing before '", shown, "': ", place])
     } else {
-        format!(in alloc;
-            "bad number of pages '{shown}' after {command}: give one from 1 to 1024, or columns and rows as 2x4"
+        let (what, advice) = bad_cells(command, text.contains("x"));
+        let command = command_name(command);
+        joined(
+            alloc,
+            &[what, " '", shown, "' after ", command, ": give ", advice],
         )
     }
 }
 
-/// What is said of a text after `notes` that names no number of pages.
-fn noted_text(alloc: Global, text: &str) -> Result<String, AllocError> {
-    let shown = shown_word(alloc, text)?;
-    let shown = shown.as_str();
-    if looks_like_file(text) {
-        format!(in alloc;
-            "the number of pages is missing before '{shown}': it comes after notes, as in: impose notes 3 in.ps out.ps"
-        )
-    } else {
-        format!(in alloc; "bad number of pages '{shown}' after notes: give one from 1 to 512, as 3")
+/// What is missing after a command, and where it is to be.
+fn missing_cells(command: GridCommand) -> (&'static str, &'static str) {
+    let number = "the number of pages is";
+    match command {
+        GridCommand::NUp => (
+            number,
+            "it comes after nup, as in: impose nup 2 in.ps out.ps",
+        ),
+        GridCommand::Cards => (
+            number,
+            "it comes after cards, as in: impose cards 8 in.ps out.ps",
+        ),
+        GridCommand::Stack => (
+            number,
+            "it comes after stack, as in: impose stack 2 in.ps out.ps",
+        ),
+        GridCommand::Notes => (
+            number,
+            "it comes after notes, as in: impose notes 3 in.ps out.ps",
+        ),
+        GridCommand::Poster => (
+            "columns and rows of sheets are",
+            "they come after poster, as in: impose poster 2x2 in.ps out.ps",
+        ),
     }
 }
 
-/// What is said of a text after `poster` that names no columns and rows.
-fn tiles_text(alloc: Global, text: &str) -> Result<String, AllocError> {
-    let shown = shown_word(alloc, text)?;
-    let shown = shown.as_str();
-    if looks_like_file(text) {
-        format!(in alloc;
-            "columns and rows of sheets are missing before '{shown}': they come after poster, as in: \
-            impose poster 2x2 in.ps out.ps"
-        )
-    } else {
-        format!(in alloc;
-            "bad grid '{shown}' after poster: give columns and rows of sheets as 2x3, at most 1024 in all"
-        )
+/// What a text after a command is to be, and what is such a text.
+fn bad_cells(command: GridCommand, is_grid: bool) -> (&'static str, &'static str) {
+    match command {
+        GridCommand::Notes => ("bad number of pages", "one from 1 to 512, as 3"),
+        GridCommand::Poster => (
+            "bad grid",
+            "columns and rows of sheets as 2x3, at most 1024 in all",
+        ),
+        _ if is_grid => (
+            "bad grid",
+            "columns and rows as 2x4, at most 1024 cells in all",
+        ),
+        _ => (
+            "bad number of pages",
+            "one from 1 to 1024, or columns and rows as 2x4",
+        ),
     }
 }
 
-/// What is said of a text that is none of the option's words, and no number.
+fn command_name(command: GridCommand) -> &'static str {
+    match command {
+        GridCommand::NUp => "nup",
+        GridCommand::Cards => "cards",
+        GridCommand::Stack => "stack",
+        GridCommand::Notes => "notes",
+        GridCommand::Poster => "poster",
+    }
+}
+
+/// What is said of a text that is no such value as the option takes.
 fn word_text(alloc: Global, option: Opt, text: &str) -> Result<String, AllocError> {
-    let text = shown_word(alloc, text)?;
-    let text = text.as_str();
-    match option {
-        Opt::Order => format!(in alloc;
-            "unknown order '{text}' after --order: give right-down, down-right, left-down or down-left"
+    let (what, advice) = match option {
+        Opt::Signature => (
+            "bad signature",
+            "give a multiple of four, as 16, up to 1000000, or auto",
         ),
-        Opt::Turn => format!(in alloc;
-            "unknown turn '{text}' after --turn: give left, right or half"
+        Opt::Order => (
+            "unknown order",
+            "give right-down, down-right, left-down or down-left",
         ),
-        Opt::Turned => format!(in alloc;
-            "unknown side '{text}' after --turned: give left or right"
+        Opt::Turn => ("unknown turn", "give left, right or half"),
+        Opt::Turned => ("unknown side", "give left or right"),
+        Opt::Scale => ("bad scale", "give a number as 0.7"),
+        Opt::NumbersFrom => (
+            "bad number",
+            "give a whole one, and the size too, as --numbers 10pt --numbers-from 3",
         ),
-        Opt::Scale => format!(in alloc; "bad scale '{text}' after --scale: give a number as 0.7"),
-        Opt::NumbersFrom => format!(in alloc;
-            "bad number '{text}' after --numbers-from: give a whole one, and the size too, as --numbers 10pt --numbers-from 3"
+        Opt::Preview => (
+            "bad file",
+            "it is an SVG, so name it as sheets.svg, or - for standard output",
         ),
-        Opt::BookletMarks => format!(in alloc;
-            "unknown marks '{text}' after --marks: give fold, cut or fold,cut"
-        ),
-        _ if text.contains("fold") => format!(in alloc;
-            "only a booklet is folded, so --marks {text} asks too much here: give --marks cut"
-        ),
-        _ => format!(in alloc; "unknown marks '{text}' after --marks: give cut"),
-    }
+        _ => ("unknown marks", "give fold, cut or fold,cut"),
+    };
+    refused_text(alloc, what, text, option, advice)
+}
+
+/// That a text after an option is none of its values, and what to do.
+fn refused_text(
+    alloc: Global,
+    what: &str,
+    text: &str,
+    option: Opt,
+    advice: &str,
+) -> Result<String, AllocError> {
+    let shown = shown_word(alloc, text)?;
+    let shown = shown.as_str();
+    let option = option.id();
+    joined(
+        alloc,
+        &[what, " '", shown, "' after --", option, ": ", advice],
+    )
 }
 
 fn product_option(option: ProductOption) -> &'static str {
@@ -404,24 +462,41 @@ fn product_option(option: ProductOption) -> &'static str {
 }
 
 /// What is said of a text that means no paper.
-fn paper_text(alloc: Global, option: &str, text: &str) -> Result<String, AllocError> {
-    let shown = shown_word(alloc, text)?;
-    let shown = shown.as_str();
+fn paper_text(alloc: Global, option: Opt, text: &str) -> Result<String, AllocError> {
     match read_paper(text.as_bytes()) {
-        Err(PaperError::NoUnit) if may_have_unit(alloc, text)? => format!(in alloc;
-            "size '{shown}' after --{option} has no unit at its end: write {shown}mm, {shown}in or {shown}pt"
+        Err(PaperError::NoUnit) if may_have_unit(alloc, text)? => size_unit_text(
+            alloc, option, text,
         ),
-        Err(PaperError::NoUnit) | Err(PaperError::NoSuchSize) => format!(in alloc;
-            "size '{shown}' after --{option}: a side is zero, negative or too long"
-        ),
-        _ => {
-            let names = name_list();
-            format!(in alloc;
-                "unknown paper '{shown}' after --{option}: name one of {names}, or a size as 210x297mm; \
-                a name with -landscape after it is the paper on its side"
+        Err(PaperError::NoUnit) | Err(PaperError::NoSuchSize) => {
+            refused_text(
+                alloc,
+                "size",
+                text,
+                option,
+                "a side is zero, negative or too long",
             )
         }
+        _ => unknown_paper_text(alloc, option, text),
     }
+}
+
+/// What is said of a size without a unit.
+fn size_unit_text(alloc: Global, option: Opt, text: &str) -> Result<String, AllocError> {
+    let text = shown_word(alloc, text)?;
+    let text = text.as_str();
+    let units = joined(alloc, &[text, "mm, ", text, "in or ", text, "pt"])?;
+    let units = units.as_str();
+    let option = option.id();
+    let lack = " has no unit at its end: write ";
+    joined(alloc, &["size '", text, "' after --", option, lack, units])
+}
+
+fn unknown_paper_text(alloc: Global, option: Opt, text: &str) -> Result<String, AllocError> {
+    let names = name_list();
+    let advice = format!(in alloc;
+        "name one of {names}, or a size as 210x297mm; a name with -landscape after it is the paper on its side"
+    )?;
+    refused_text(alloc, "unknown paper", text, option, advice.as_str())
 }
 
 /// Whether a size without a unit is one with it.
@@ -433,7 +508,7 @@ fn may_have_unit(alloc: Global, text: &str) -> Result<bool, AllocError> {
 /// A text with a caret below the place in it that is at fault.
 fn shown(alloc: Global, message: String, text: &str, place: usize) -> Result<String, AllocError> {
     let caret = caret_below(alloc, text, place)?;
-    format!(in alloc; "{message}{caret}")
+    joined(alloc, &[message.as_str(), caret.as_str()])
 }
 
 fn ranges_of(request: Option<&ImposeRequest>) -> &str {
@@ -464,18 +539,27 @@ fn row_text(
     error: &RowError,
     request: Option<&ImposeRequest>,
 ) -> Result<String, AllocError> {
-    let message = match error {
+    let message = ranges_text(alloc, error, request)?;
+    match ranges_place(error, ranges_of(request)) {
+        Some(place) => shown(alloc, message, ranges_of(request), place),
+        None => Ok(message),
+    }
+}
+
+/// The same without the place.
+fn ranges_text(
+    alloc: Global,
+    error: &RowError,
+    request: Option<&ImposeRequest>,
+) -> Result<String, AllocError> {
+    match error {
         RowError::NotARange(_) if is_selection(request) && looks_like_file(ranges_of(request)) =>
             String::from_str(
                 alloc,
                 "page ranges: they come before the file, and 1- are all pages: impose select 1- in.ps out.ps",
-            )?,
-        RowError::NotARange(at) => no_range_text(alloc, range_place(ranges_of(request), *at))?,
-        error => String::from_str(alloc, row_message(error))?,
-    };
-    match ranges_place(error, ranges_of(request)) {
-        Some(place) => shown(alloc, message, ranges_of(request), place),
-        None => Ok(message),
+            ),
+        RowError::NotARange(at) => no_range_text(alloc, range_place(ranges_of(request), *at)),
+        error => String::from_str(alloc, row_message(error)),
     }
 }
 
@@ -625,10 +709,7 @@ fn run_text(
 ) -> Result<String, AllocError> {
     match error {
         RunError::Options => String::from_str(alloc, "bad options"),
-        RunError::Document(error) => {
-            let name = input_name(alloc, request)?;
-            document_text(alloc, error, name.as_str())
-        }
+        RunError::Document(error) => document_text(alloc, error, request),
         RunError::Plan(error) => plan_text(alloc, error),
         RunError::Spec(SpecError::NoMemory) | RunError::NoMemory { written: 0 } => {
             String::from_str(alloc, "out of memory")
@@ -661,21 +742,25 @@ fn spec_of(request: Option<&ImposeRequest>) -> &str {
 }
 
 fn spec_text(alloc: Global, error: &SpecError, spec: &str) -> Result<String, AllocError> {
-    let message = match error {
-        SpecError::Syntax(_) if looks_like_file(spec) => String::from_str(
-            alloc,
-            "it comes before the file: impose spec 0,0 in.ps out.ps",
-        )?,
-        SpecError::Syntax(at) if *at < spec.len() => format!(in alloc;
-            "syntax error at byte {at}; what is at the caret can't follow"
-        )?,
-        error => String::from_str(alloc, spec_message(error))?,
-    };
-    let message = format!(in alloc; "specification: {message}")?;
+    let message = unplaced_text(alloc, error, spec)?;
     match spec_place(error, spec) {
         Some(place) => shown(alloc, message, spec, place),
         None => Ok(message),
     }
+}
+
+/// The same without the place.
+fn unplaced_text(alloc: Global, error: &SpecError, spec: &str) -> Result<String, AllocError> {
+    let message = match error {
+        SpecError::Syntax(_) if looks_like_file(spec) => {
+            "it comes before the file: impose spec 0,0 in.ps out.ps"
+        }
+        SpecError::Syntax(at) if *at < spec.len() => return format!(in alloc;
+            "specification: syntax error at byte {at}; what is at the caret can't follow"
+        ),
+        error => spec_message(error),
+    };
+    format!(in alloc; "specification: {message}")
 }
 
 fn spec_message(error: &SpecError) -> &'static str {
@@ -714,38 +799,53 @@ fn spec_place(error: &SpecError, spec: &str) -> Option<usize> {
 }
 
 /// What is said of a document that is refused. That it is too long the run says only of one that its guard makes so.
-fn document_text(alloc: Global, error: &DscError, name: &str) -> Result<String, AllocError> {
-    match error {
-        DscError::TooLong => format!(in alloc;
-            "{name} is longer than 1,073,741,824 bytes with its guard; split it first, or leave the guard out \
-            by --unguarded"
-        ),
-        DscError::NotPostScript => format!(in alloc;
-            "{name} is not PostScript: it doesn't begin with %!; cut off what is before that, or if it is plain text \
+fn document_text(
+    alloc: Global,
+    error: &DscError,
+    request: Option<&ImposeRequest>,
+) -> Result<String, AllocError> {
+    let message = match error {
+        DscError::TooLong => {
+            "is longer than 1,073,741,824 bytes with its guard; split it first, or leave the guard out by --unguarded"
+        }
+        DscError::NotPostScript => {
+            "is not PostScript: it doesn't begin with %!; cut off what is before that, or if it is plain text \
             use: enscript -p - in.txt | impose .. -"
-        ),
-        DscError::BadCount(at) => {
-            format!(in alloc;
-                "{name}: the %%BeginData: or %%BeginBinary: at byte {at} has no count, or a bad one; \
-                write the document anew"
-            )
         }
-        DscError::ShortData(at) => {
-            format!(in alloc;
-                "{name}: the data after the %%BeginData: or %%BeginBinary: at byte {at} is cut short; \
-                is the document complete?"
-            )
-        }
-        DscError::TooManyPages => format!(in alloc;
-            "{name} has more than 1,000,000 pages; split it first"
+        DscError::BadCount(at) => return data_text(
+            alloc,
+            request,
+            "",
+            *at,
+            "has no count, or a bad one; write the document anew",
         ),
+        DscError::ShortData(at) => return data_text(
+            alloc,
+            request,
+            "data after the ",
+            *at,
+            "is cut short; is the document complete?",
+        ),
+        DscError::TooManyPages => "has more than 1,000,000 pages; split it first",
         DscError::NoPages => {
-            format!(in alloc;
-                "{name} has no %%Page: comments; for plain PostScript run it through ps2ps first"
-            )
+            "has no %%Page: comments; for plain PostScript run it through ps2ps first"
         }
-        DscError::NoMemory => String::from_str(alloc, "out of memory"),
-    }
+        DscError::NoMemory => return String::from_str(alloc, "out of memory"),
+    };
+    input_text(alloc, request, message)
+}
+
+/// What is said of data that a comment announces at this byte.
+fn data_text(
+    alloc: Global,
+    request: Option<&ImposeRequest>,
+    what: &str,
+    at: usize,
+    message: &str,
+) -> Result<String, AllocError> {
+    let name = input_name(alloc, request)?;
+    let name = name.as_str();
+    format!(in alloc; "{name}: the {what}%%BeginData: or %%BeginBinary: at byte {at} {message}")
 }
 
 fn plan_text(alloc: Global, error: &PlanError) -> Result<String, AllocError> {

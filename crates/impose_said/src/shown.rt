@@ -8,14 +8,19 @@ const MOST_SHOWN: usize = 100;
 /// two dots are in place of what is cut off.
 pub(crate) fn shown_word(alloc: Global, word: &str) -> Result<String, AllocError> {
     let mut shown = String::new(alloc);
+    push_front(&mut shown, word)?;
+    Ok(shown)
+}
+
+/// Appends as much of a word as is shown.
+fn push_front(shown: &mut String, word: &str) -> Result<(), AllocError> {
     for (count, letter) in word.chars().enumerate() {
         if count >= MOST_SHOWN {
-            shown.push_str("..")?;
-            return Ok(shown);
+            return shown.push_str("..");
         }
-        push_shown(&mut shown, letter)?;
+        push_shown(shown, letter)?;
     }
-    Ok(shown)
+    Ok(())
 }
 
 /// Appends a character; a control character as it is written in a program.
@@ -33,4 +38,19 @@ pub(crate) fn push_shown(shown: &mut String, letter: char) -> Result<(), AllocEr
 /// Whether a word is shown as it is.
 pub(crate) fn is_shown_whole(word: &str) -> bool {
     word.len() <= MOST_SHOWN && !word.chars().any(char::is_control)
+}
+
+/// These texts, one behind another.
+pub(crate) fn joined(alloc: Global, texts: &[&str]) -> Result<String, AllocError> {
+    let mut joined = String::new(alloc);
+    push_all(&mut joined, texts)?;
+    Ok(joined)
+}
+
+/// Appends these texts.
+pub(crate) fn push_all(out: &mut String, texts: &[&str]) -> Result<(), AllocError> {
+    for text in texts {
+        out.push_str(*text)?;
+    }
+    Ok(())
 }
