@@ -274,7 +274,12 @@ fn value_text(alloc: Global, option: Opt, text: &str) -> Result<String, AllocErr
 }
 
 /// What is said of a text that is no length for the option, which takes one as the advice says.
-fn length_text(alloc: Global, option: Opt, text: &str, advice: &str) -> Result<String, AllocError> {
+fn length_text(
+    alloc: Global,
+    option: Opt,
+    text: &str,
+    advice: &'static str,
+) -> Result<String, AllocError> {
     if lacks_unit(text) && !text.starts_with("-") {
         length_unit_text(alloc, option, text)
     } else {
@@ -439,10 +444,10 @@ fn word_text(alloc: Global, option: Opt, text: &str) -> Result<String, AllocErro
 /// That a text after an option is none of its values, and what to do.
 fn refused_text(
     alloc: Global,
-    what: &str,
+    what: &'static str,
     text: &str,
     option: Opt,
-    advice: &str,
+    advice: &'static str,
 ) -> Result<String, AllocError> {
     let shown = shown_word(alloc, text)?;
     let shown = shown.as_str();
@@ -492,11 +497,14 @@ fn size_unit_text(alloc: Global, option: Opt, text: &str) -> Result<String, Allo
 }
 
 fn unknown_paper_text(alloc: Global, option: Opt, text: &str) -> Result<String, AllocError> {
+    let shown = shown_word(alloc, text)?;
+    let shown = shown.as_str();
+    let option = option.id();
     let names = name_list();
-    let advice = format!(in alloc;
-        "name one of {names}, or a size as 210x297mm; a name with -landscape after it is the paper on its side"
-    )?;
-    refused_text(alloc, "unknown paper", text, option, advice.as_str())
+    format!(in alloc;
+        "unknown paper '{shown}' after --{option}: name one of {names}, or a size as 210x297mm; \
+        a name with -landscape after it is the paper on its side"
+    )
 }
 
 /// Whether a size without a unit is one with it.
