@@ -40,7 +40,11 @@ pub fn fault_text(
             )?;
             shown(alloc, message, ranges_of(request), *place)
         }
-        ImposeFault::Read(cause) => with_cause(alloc, unopened_text(alloc, request)?, cause),
+        ImposeFault::Read(cause) => {
+            let name = input_name(alloc, request)?;
+            let name = name.as_str();
+            with_cause(alloc, format!(in alloc; "cannot read {name}")?, cause)
+        }
         ImposeFault::Run(error) => run_text(alloc, error, request),
         ImposeFault::NoInput
         | ImposeFault::Pdf
@@ -50,9 +54,16 @@ pub fn fault_text(
             alloc, fault, request,
         ),
         ImposeFault::Idle(option) => String::from_str(alloc, idle_message(*option)),
-        ImposeFault::OverInput => over_input_text(alloc, request),
+        ImposeFault::OverInput => {
+            let name = input_name(alloc, request)?;
+            let name = name.as_str();
+            format!(in alloc;
+                "--preview would write over {name}, which is read: name another file, as sheets.svg, or - for standard output"
+            )
+        }
         ImposeFault::Write { written, cause } => {
-            with_cause(alloc, written_text(alloc, *written, request)?, cause)
+            let text = written_text(alloc, *written, request)?;
+            with_cause(alloc, text, cause)
         }
     }
 }
@@ -78,70 +89,38 @@ fn idle_message(option: IdleOption) -> &'static str {
     }
 }
 
-/// An input that can't be opened or read.
-fn unopened_text(alloc: Global, request: Option<&ImposeRequest>) -> Result<String, AllocError> {
-    let name = input_name(alloc, request)?;
-    let name = name.as_str();
-    format!(in alloc; "cannot read {name}")
-}
-
-fn over_input_text(alloc: Global, request: Option<&ImposeRequest>) -> Result<String, AllocError> {
-    let name = input_name(alloc, request)?;
-    let name = name.as_str();
-    format!(in alloc;
-        "--preview would write over {name}, which is read: name another file, as sheets.svg, or - for standard output"
-    )
-}
-
 /// What is said of an input that isn't read as a document.
 fn unread_text(
     alloc: Global,
     fault: &ImposeFault,
     request: Option<&ImposeRequest>,
 ) -> Result<String, AllocError> {
-    let message = match fault {
-        ImposeFault::NoInput => "is empty; name a file with a PostScript document, or pipe one in",
-        ImposeFault::Pdf => {
-            "is a PDF, not PostScript; use: impose-pdf .. in.pdf out.pdf, or pdftops in.pdf - | impose .. -"
-        }
-        ImposeFault::Compressed(packing) => return packed_text(alloc, *packing, request),
-        ImposeFault::DosEps => {
-            "is an EPS with a preview before it, as DOS had them; use: ps2ps in.eps - | impose .. -"
-        }
-        ImposeFault::Utf16 => {
-            "is a text of two bytes a letter (UTF-16), not PostScript; use: iconv -f UTF-16 -t ISO-8859-1 in.ps | \
-            impose .. -"
-        }
-        ImposeFault::JobLanguage => {
-            "begins with a printer's job language, not with %!; cut that off: \
-            sed -n '/^%!/,$p' in.ps | impose .. -"
-        }
-        _ => "is longer than 1,073,741,824 bytes; split it first",
-    };
-    input_text(alloc, request, message)
-}
-
-/// The name of the input, and what is said of it.
-fn input_text(
-    alloc: Global,
-    request: Option<&ImposeRequest>,
-    message: &str,
-) -> Result<String, AllocError> {
     let name = input_name(alloc, request)?;
-    joined(alloc, &[name.as_str(), " ", message])
-}
-
-/// What is said of an input that is compressed.
-fn packed_text(
-    alloc: Global,
-    packing: Packing,
-    request: Option<&ImposeRequest>,
-) -> Result<String, AllocError> {
-    let unpacked = unpacked_by(packing);
-    let message = format!(in alloc;
-        "is compressed, not PostScript; use: {unpacked} | impose .. -"
-    )?;
-    input_text(alloc, request, message.as_str())
+    let name = name.as_str();
+    match fault {
+        ImposeFault::NoInput => format!(in alloc;
+            "{name} is empty; name a file with a PostScript document, or pipe one in"
+        ),
+        ImposeFault::Pdf => format!(in alloc;
+            "{name} is a PDF, not PostScript; use: impose-pdf .. in.pdf out.pdf, or pdftops in.pdf - | impose .. -"
+        ),
+        ImposeFault::Compressed(packing) => {
+            let unpacked = unpacked_by(*packing);
+            format!(in alloc; "{name} is compressed, not PostScript; use: {unpacked} | impose .. -")
+        }
+        ImposeFault::DosEps => format!(in alloc;
+            "{name} is an EPS with a preview before it, as DOS had them; use: ps2ps in.eps - | impose .. -"
+        ),
+        ImposeFault::Utf16 => format!(in alloc;
+            "{name} is a text of two bytes a letter (UTF-16), not PostScript; use: iconv -f UTF-16 -t ISO-8859-1 in.ps | \
+            impose .. -"
+        ),
+        ImposeFault::JobLanguage => format!(in alloc;
+            "{name} begins with a printer's job language, not with %!; cut that off: \
+            sed -n '/^%!/,$p' in.ps | impose .. -"
+        ),
+        _ => format!(in alloc; "{name} is longer than 1,073,741,824 bytes; split it first"),
+    }
 }
 
 /// What unpacks a file.
@@ -547,27 +526,18 @@ fn row_text(
     error: &RowError,
     request: Option<&ImposeRequest>,
 ) -> Result<String, AllocError> {
-    let message = ranges_text(alloc, error, request)?;
-    match ranges_place(error, ranges_of(request)) {
-        Some(place) => shown(alloc, message, ranges_of(request), place),
-        None => Ok(message),
-    }
-}
-
-/// The same without the place.
-fn ranges_text(
-    alloc: Global,
-    error: &RowError,
-    request: Option<&ImposeRequest>,
-) -> Result<String, AllocError> {
-    match error {
+    let message = match error {
         RowError::NotARange(_) if is_selection(request) && looks_like_file(ranges_of(request)) =>
             String::from_str(
                 alloc,
                 "page ranges: they come before the file, and 1- are all pages: impose select 1- in.ps out.ps",
-            ),
-        RowError::NotARange(at) => no_range_text(alloc, range_place(ranges_of(request), *at)),
-        error => String::from_str(alloc, row_message(error)),
+            )?,
+        RowError::NotARange(at) => no_range_text(alloc, range_place(ranges_of(request), *at))?,
+        error => String::from_str(alloc, row_message(error))?,
+    };
+    match ranges_place(error, ranges_of(request)) {
+        Some(place) => shown(alloc, message, ranges_of(request), place),
+        None => Ok(message),
     }
 }
 
@@ -717,7 +687,10 @@ fn run_text(
 ) -> Result<String, AllocError> {
     match error {
         RunError::Options => String::from_str(alloc, "bad options"),
-        RunError::Document(error) => document_text(alloc, error, request),
+        RunError::Document(error) => {
+            let name = input_name(alloc, request)?;
+            document_text(alloc, error, name.as_str())
+        }
         RunError::Plan(error) => plan_text(alloc, error),
         RunError::Spec(SpecError::NoMemory) | RunError::NoMemory { written: 0 } => {
             String::from_str(alloc, "out of memory")
@@ -807,53 +780,38 @@ fn spec_place(error: &SpecError, spec: &str) -> Option<usize> {
 }
 
 /// What is said of a document that is refused. That it is too long the run says only of one that its guard makes so.
-fn document_text(
-    alloc: Global,
-    error: &DscError,
-    request: Option<&ImposeRequest>,
-) -> Result<String, AllocError> {
-    let message = match error {
-        DscError::TooLong => {
-            "is longer than 1,073,741,824 bytes with its guard; split it first, or leave the guard out by --unguarded"
-        }
-        DscError::NotPostScript => {
-            "is not PostScript: it doesn't begin with %!; cut off what is before that, or if it is plain text \
+fn document_text(alloc: Global, error: &DscError, name: &str) -> Result<String, AllocError> {
+    match error {
+        DscError::TooLong => format!(in alloc;
+            "{name} is longer than 1,073,741,824 bytes with its guard; split it first, or leave the guard out \
+            by --unguarded"
+        ),
+        DscError::NotPostScript => format!(in alloc;
+            "{name} is not PostScript: it doesn't begin with %!; cut off what is before that, or if it is plain text \
             use: enscript -p - in.txt | impose .. -"
+        ),
+        DscError::BadCount(at) => {
+            format!(in alloc;
+                "{name}: the %%BeginData: or %%BeginBinary: at byte {at} has no count, or a bad one; \
+                write the document anew"
+            )
         }
-        DscError::BadCount(at) => return data_text(
-            alloc,
-            request,
-            "",
-            *at,
-            "has no count, or a bad one; write the document anew",
+        DscError::ShortData(at) => {
+            format!(in alloc;
+                "{name}: the data after the %%BeginData: or %%BeginBinary: at byte {at} is cut short; \
+                is the document complete?"
+            )
+        }
+        DscError::TooManyPages => format!(in alloc;
+            "{name} has more than 1,000,000 pages; split it first"
         ),
-        DscError::ShortData(at) => return data_text(
-            alloc,
-            request,
-            "data after the ",
-            *at,
-            "is cut short; is the document complete?",
-        ),
-        DscError::TooManyPages => "has more than 1,000,000 pages; split it first",
         DscError::NoPages => {
-            "has no %%Page: comments; for plain PostScript run it through ps2ps first"
+            format!(in alloc;
+                "{name} has no %%Page: comments; for plain PostScript run it through ps2ps first"
+            )
         }
-        DscError::NoMemory => return String::from_str(alloc, "out of memory"),
-    };
-    input_text(alloc, request, message)
-}
-
-/// What is said of data that a comment announces at this byte.
-fn data_text(
-    alloc: Global,
-    request: Option<&ImposeRequest>,
-    what: &str,
-    at: usize,
-    message: &str,
-) -> Result<String, AllocError> {
-    let name = input_name(alloc, request)?;
-    let name = name.as_str();
-    format!(in alloc; "{name}: the {what}%%BeginData: or %%BeginBinary: at byte {at} {message}")
+        DscError::NoMemory => String::from_str(alloc, "out of memory"),
+    }
 }
 
 fn plan_text(alloc: Global, error: &PlanError) -> Result<String, AllocError> {

@@ -8,19 +8,14 @@ const MOST_SHOWN: usize = 100;
 /// two dots are in place of what is cut off.
 pub(crate) fn shown_word(alloc: Global, word: &str) -> Result<String, AllocError> {
     let mut shown = String::new(alloc);
-    push_front(&mut shown, word)?;
-    Ok(shown)
-}
-
-/// Appends as much of a word as is shown.
-fn push_front(shown: &mut String, word: &str) -> Result<(), AllocError> {
     for (count, letter) in word.chars().enumerate() {
         if count >= MOST_SHOWN {
-            return shown.push_str("..");
+            shown.push_str("..")?;
+            return Ok(shown);
         }
-        push_shown(shown, letter)?;
+        push_shown(&mut shown, letter)?;
     }
-    Ok(())
+    Ok(shown)
 }
 
 /// Appends a character; a control character as it is written in a program.
