@@ -30,7 +30,10 @@ fn with_shown(alloc: Global, text: String, word: &str) -> Result<String, AllocEr
 fn value_in(word: &str) -> &str {
     match word.split_once("=") {
         Some((_, value)) => value,
-        None => word.strip_prefix("-p").unwrap_or(word),
+        None => match word.strip_prefix("-p") {
+            Some(value) => value,
+            None => word,
+        },
     }
 }
 
@@ -42,27 +45,20 @@ fn with_tip(alloc: Global, text: &str, tip: Option<&str>) -> Result<String, Allo
     let mut is_behind_blank = false;
     let astray = leads_astray(text, tip.is_some());
     for line in text.lines() {
-        if is_left_out(line, astray) || line.is_empty() && is_behind_blank {
+        if line.starts_with("  tip: to pass ") || line.is_empty() && is_behind_blank {
             continue;
         }
-        if is_behind_tips(line) {
-            push_tip(&mut out, left.take())?;
+        if astray && (is_likeness(line) || line.starts_with("Usage:")) {
+            continue;
+        }
+        if line.starts_with("Usage:") || line.starts_with("For more information") {
+            push_tip(&mut out, left)?;
+            left = None;
         }
         push_line(&mut out, line)?;
         is_behind_blank = line.is_empty();
     }
     Ok(out)
-}
-
-/// Whether a line of clap's text is one that doesn't help.
-fn is_left_out(line: &str, astray: bool) -> bool {
-    line.starts_with("  tip: to pass ")
-        || astray && (is_likeness(line) || line.starts_with("Usage:"))
-}
-
-/// Whether a line is the usage or the last line.
-fn is_behind_tips(line: &str) -> bool {
-    line.starts_with("Usage:") || line.starts_with("For more information")
 }
 
 /// Whether a line is clap's tip to take a word that is like the one that is there.
@@ -93,7 +89,12 @@ fn quoted_in(text: &str) -> &str {
 
 /// The first letter of an option or a command.
 fn first_letter(word: &str) -> Option<char> {
-    word.strip_prefix("--").unwrap_or(word).chars().next()
+    let word = match word.strip_prefix("--") {
+        Some(word) => word,
+        None => word,
+    };
+    let mut letters = word.chars();
+    letters.next()
 }
 
 fn push_tip(out: &mut String, tip: Option<&str>) -> Result<(), AllocError> {
