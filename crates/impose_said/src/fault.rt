@@ -9,7 +9,7 @@ use std::alloc::AllocError;
 use std::io;
 
 /// By what a file is compressed, as its first bytes show.
-#[derive(Clone, Copy, Debug, PartialEq, Eq)]
+#[derive(Clone, Copy)]
 pub enum Packing {
     Gzip,
     Bzip2,
@@ -18,7 +18,7 @@ pub enum Packing {
 }
 
 /// An option that would do nothing.
-#[derive(Clone, Copy, Debug, PartialEq, Eq)]
+#[derive(Clone, Copy)]
 pub enum IdleOption {
     /// The paper of the sheets, where each page is left on its own.
     Sheet,
@@ -27,7 +27,7 @@ pub enum IdleOption {
 }
 
 /// Why nothing, or not all, was imposed.
-#[derive(Debug, Drop)]
+#[derive(Drop)]
 pub enum ImposeFault {
     /// The command line is refused.
     Command(RequestFault),

@@ -4,7 +4,7 @@ use lengths::Paper;
 use papers::{Comment, Cut, Reach};
 
 /// Where the paper of the pages was found.
-#[derive(Clone, Copy, Debug, PartialEq, Eq)]
+#[derive(Clone, Copy)]
 pub enum PaperOrigin {
     /// It was named on the command line.
     Named,

@@ -2,7 +2,7 @@
 
 use crate::fault::{IdleOption, ImposeFault, Packing};
 use crate::mistakes::looks_like_file;
-use crate::shown::shown_word;
+use crate::shown::{joined, shown_word};
 use command_words::{caret_below, group_place, item_place, large_place, name_of, range_place};
 use dsc::DscError;
 use impose_words::{
@@ -231,46 +231,56 @@ pub fn command_text(alloc: Global, fault: &RequestFault) -> Result<String, Alloc
 /// What is said of a text that is no value of the option or argument.
 fn value_text(alloc: Global, option: Opt, text: &str) -> Result<String, AllocError> {
     match option {
-        Opt::Paper | Opt::Sheet => paper_text(alloc, option.id(), text),
-        Opt::Border => length_text(alloc, option.id(), text, "1pt, .5mm or .02in"),
+        Opt::Paper | Opt::Sheet => paper_text(alloc, option, text),
+        Opt::Border => length_text(alloc, option, text, "give it as 1pt, .5mm or .02in"),
         Opt::Trim | Opt::Creep | Opt::Overlap => {
-            length_text(alloc, option.id(), text, "5mm, .2in or 14pt")
+            length_text(alloc, option, text, "give it as 5mm, .2in or 14pt")
         }
         Opt::Margin => length_text(
             alloc,
-            option.id(),
+            option,
             text,
-            "5mm, SIDES,ENDS, TOP,RIGHT,BOTTOM,LEFT, or left=2cm,top=1cm",
+            "give it as 5mm, SIDES,ENDS, TOP,RIGHT,BOTTOM,LEFT, or left=2cm,top=1cm",
         ),
-        Opt::Gap => length_text(alloc, option.id(), text, "5mm, or 5mm,1cm"),
-        Opt::Numbers => length_text(alloc, option.id(), text, "10pt or 4mm, up to 72pt"),
+        Opt::Gap => length_text(alloc, option, text, "give it as 5mm, or 5mm,1cm"),
+        Opt::Numbers => length_text(alloc, option, text, "give it as 10pt or 4mm, up to 72pt"),
         Opt::Count(command) => cells_text(alloc, command, text),
         Opt::Signature => signature_text(alloc, text),
-        Opt::Order | Opt::Turned | Opt::Scale | Opt::BookletMarks | Opt::CutMarks => {
-            word_text(alloc, option, text)
-        }
-        Opt::Turn | Opt::NumbersFrom => word_text(alloc, option, text),
+        Opt::CutMarks => cut_marks_text(alloc, text),
         Opt::Outfile => outfile_text(alloc, text),
-        Opt::Preview => picture_text(alloc, text),
+        _ => word_text(alloc, option, text),
     }
 }
 
-/// What is said of a text that is no length for the option, which takes one as these examples.
+/// What is said of a text that is no length for the option, which takes one as the advice says.
 fn length_text(
     alloc: Global,
-    option: &str,
+    option: Opt,
     text: &str,
-    examples: &str,
+    advice: &'static str,
 ) -> Result<String, AllocError> {
-    let shown = shown_word(alloc, text)?;
-    let shown = shown.as_str();
     if lacks_unit(text) && !text.starts_with("-") {
-        format!(in alloc;
-            "length '{shown}' after --{option} has no unit: write {shown}cm, {shown}mm, {shown}in or {shown}pt"
-        )
+        length_unit_text(alloc, option, text)
     } else {
-        format!(in alloc; "bad length '{shown}' after --{option}: give it as {examples}")
+        refused_text(alloc, "bad length", text, option, advice)
     }
+}
+
+/// What is said of a length without a unit.
+fn length_unit_text(alloc: Global, option: Opt, text: &str) -> Result<String, AllocError> {
+    let text = shown_word(alloc, text)?;
+    let text = text.as_str();
+    let units = joined(
+        alloc,
+        &[text, "cm, ", text, "mm, ", text, "in or ", text, "pt"],
+    )?;
+    let units = units.as_str();
+    let option = option.id();
+    let lack = " has no unit: write ";
+    joined(
+        alloc,
+        &["length '", text, "' after --", option, lack, units],
+    )
 }
 
 /// What is said of an option in the place of a file.
@@ -283,13 +293,17 @@ fn outfile_text(alloc: Global, text: &str) -> Result<String, AllocError> {
     )
 }
 
-/// What is said of a file that isn't named as a picture.
-fn picture_text(alloc: Global, text: &str) -> Result<String, AllocError> {
+/// What is said of marks for sheets that aren't a booklet's.
+fn cut_marks_text(alloc: Global, text: &str) -> Result<String, AllocError> {
     let text = shown_word(alloc, text)?;
     let text = text.as_str();
-    format!(in alloc;
-        "bad file '{text}' after --preview: it is an SVG, so name it as sheets.svg, or - for standard output"
-    )
+    if text.contains("fold") {
+        format!(in alloc;
+            "only a booklet is folded, so --marks {text} asks too much here: give --marks cut"
+        )
+    } else {
+        format!(in alloc; "unknown marks '{text}' after --marks: give cut")
+    }
 }
 
 /// What is said of a text that names no signature.
@@ -302,97 +316,125 @@ fn signature_text(alloc: Global, text: &str) -> Result<String, AllocError> {
                 "a signature of {sides} sides can't be folded: take a multiple of four, as {below} or {above}, or auto"
             )
         }
-        _ => {
-            let shown = shown_word(alloc, text)?;
-            let shown = shown.as_str();
-            format!(in alloc;
-                "bad signature '{shown}' after --signature: give a multiple of four, as 16, up to 1000000, or auto"
-            )
-        }
+        _ => word_text(alloc, Opt::Signature, text),
     }
 }
 
 /// What is said of a text after a command that names no cells.
 fn cells_text(alloc: Global, command: GridCommand, text: &str) -> Result<String, AllocError> {
-    let (command, example) = match command {
-        GridCommand::NUp => ("nup", "impose nup 2 in.ps out.ps"),
-        GridCommand::Cards => ("cards", "impose cards 8 in.ps out.ps"),
-        GridCommand::Stack => ("stack", "impose stack 2 in.ps out.ps"),
-        GridCommand::Notes => return noted_text(alloc, text),
-        GridCommand::Poster => return tiles_text(alloc, text),
-    };
     let shown = shown_word(alloc, text)?;
     let shown = shown.as_str();
     if looks_like_file(text) {
-        format!(in alloc;
-            "the number of pages is missing before '{shown}': it comes after {command}, as in: {example}"
-        )
-    } else if text.contains("x") {
-        format!(in alloc;
-            "bad grid '{shown}' after {command}: give columns and rows as 2x4, at most 1024 cells in all"
-        )
+        let (missing, place) = missing_cells(command);
+        joined(alloc, &[missing, " missing before '", shown, "': ", place])
     } else {
-        format!(in alloc;
-            "bad number of pages '{shown}' after {command}: give one from 1 to 1024, or columns and rows as 2x4"
+        let (what, advice) = bad_cells(command, text.contains("x"));
+        let command = command_name(command);
+        joined(
+            alloc,
+            &[what, " '", shown, "' after ", command, ": give ", advice],
         )
     }
 }
 
-/// What is said of a text after `notes` that names no number of pages.
-fn noted_text(alloc: Global, text: &str) -> Result<String, AllocError> {
-    let shown = shown_word(alloc, text)?;
-    let shown = shown.as_str();
-    if looks_like_file(text) {
-        format!(in alloc;
-            "the number of pages is missing before '{shown}': it comes after notes, as in: impose notes 3 in.ps out.ps"
-        )
-    } else {
-        format!(in alloc; "bad number of pages '{shown}' after notes: give one from 1 to 512, as 3")
+/// What is missing after a command, and where it is to be.
+fn missing_cells(command: GridCommand) -> (&'static str, &'static str) {
+    let number = "the number of pages is";
+    match command {
+        GridCommand::NUp => (
+            number,
+            "it comes after nup, as in: impose nup 2 in.ps out.ps",
+        ),
+        GridCommand::Cards => (
+            number,
+            "it comes after cards, as in: impose cards 8 in.ps out.ps",
+        ),
+        GridCommand::Stack => (
+            number,
+            "it comes after stack, as in: impose stack 2 in.ps out.ps",
+        ),
+        GridCommand::Notes => (
+            number,
+            "it comes after notes, as in: impose notes 3 in.ps out.ps",
+        ),
+        GridCommand::Poster => (
+            "columns and rows of sheets are",
+            "they come after poster, as in: impose poster 2x2 in.ps out.ps",
+        ),
     }
 }
 
-/// What is said of a text after `poster` that names no columns and rows.
-fn tiles_text(alloc: Global, text: &str) -> Result<String, AllocError> {
-    let shown = shown_word(alloc, text)?;
-    let shown = shown.as_str();
-    if looks_like_file(text) {
-        format!(in alloc;
-            "columns and rows of sheets are missing before '{shown}': they come after poster, as in: \
-            impose poster 2x2 in.ps out.ps"
-        )
-    } else {
-        format!(in alloc;
-            "bad grid '{shown}' after poster: give columns and rows of sheets as 2x3, at most 1024 in all"
-        )
+/// What a text after a command is to be, and what is such a text.
+fn bad_cells(command: GridCommand, is_grid: bool) -> (&'static str, &'static str) {
+    match command {
+        GridCommand::Notes => ("bad number of pages", "one from 1 to 512, as 3"),
+        GridCommand::Poster => (
+            "bad grid",
+            "columns and rows of sheets as 2x3, at most 1024 in all",
+        ),
+        _ if is_grid => (
+            "bad grid",
+            "columns and rows as 2x4, at most 1024 cells in all",
+        ),
+        _ => (
+            "bad number of pages",
+            "one from 1 to 1024, or columns and rows as 2x4",
+        ),
     }
 }
 
-/// What is said of a text that is none of the option's words, and no number.
+fn command_name(command: GridCommand) -> &'static str {
+    match command {
+        GridCommand::NUp => "nup",
+        GridCommand::Cards => "cards",
+        GridCommand::Stack => "stack",
+        GridCommand::Notes => "notes",
+        GridCommand::Poster => "poster",
+    }
+}
+
+/// What is said of a text that is no such value as the option takes.
 fn word_text(alloc: Global, option: Opt, text: &str) -> Result<String, AllocError> {
-    let text = shown_word(alloc, text)?;
-    let text = text.as_str();
-    match option {
-        Opt::Order => format!(in alloc;
-            "unknown order '{text}' after --order: give right-down, down-right, left-down or down-left"
+    let (what, advice) = match option {
+        Opt::Signature => (
+            "bad signature",
+            "give a multiple of four, as 16, up to 1000000, or auto",
         ),
-        Opt::Turn => format!(in alloc;
-            "unknown turn '{text}' after --turn: give left, right or half"
+        Opt::Order => (
+            "unknown order",
+            "give right-down, down-right, left-down or down-left",
         ),
-        Opt::Turned => format!(in alloc;
-            "unknown side '{text}' after --turned: give left or right"
+        Opt::Turn => ("unknown turn", "give left, right or half"),
+        Opt::Turned => ("unknown side", "give left or right"),
+        Opt::Scale => ("bad scale", "give a number as 0.7"),
+        Opt::NumbersFrom => (
+            "bad number",
+            "give a whole one, and the size too, as --numbers 10pt --numbers-from 3",
         ),
-        Opt::Scale => format!(in alloc; "bad scale '{text}' after --scale: give a number as 0.7"),
-        Opt::NumbersFrom => format!(in alloc;
-            "bad number '{text}' after --numbers-from: give a whole one, and the size too, as --numbers 10pt --numbers-from 3"
+        Opt::Preview => (
+            "bad file",
+            "it is an SVG, so name it as sheets.svg, or - for standard output",
         ),
-        Opt::BookletMarks => format!(in alloc;
-            "unknown marks '{text}' after --marks: give fold, cut or fold,cut"
-        ),
-        _ if text.contains("fold") => format!(in alloc;
-            "only a booklet is folded, so --marks {text} asks too much here: give --marks cut"
-        ),
-        _ => format!(in alloc; "unknown marks '{text}' after --marks: give cut"),
-    }
+        _ => ("unknown marks", "give fold, cut or fold,cut"),
+    };
+    refused_text(alloc, what, text, option, advice)
+}
+
+/// That a text after an option is none of its values, and what to do.
+fn refused_text(
+    alloc: Global,
+    what: &'static str,
+    text: &str,
+    option: Opt,
+    advice: &'static str,
+) -> Result<String, AllocError> {
+    let shown = shown_word(alloc, text)?;
+    let shown = shown.as_str();
+    let option = option.id();
+    joined(
+        alloc,
+        &[what, " '", shown, "' after --", option, ": ", advice],
+    )
 }
 
 fn product_option(option: ProductOption) -> &'static str {
@@ -404,24 +446,44 @@ fn product_option(option: ProductOption) -> &'static str {
 }
 
 /// What is said of a text that means no paper.
-fn paper_text(alloc: Global, option: &str, text: &str) -> Result<String, AllocError> {
-    let shown = shown_word(alloc, text)?;
-    let shown = shown.as_str();
+fn paper_text(alloc: Global, option: Opt, text: &str) -> Result<String, AllocError> {
     match read_paper(text.as_bytes()) {
-        Err(PaperError::NoUnit) if may_have_unit(alloc, text)? => format!(in alloc;
-            "size '{shown}' after --{option} has no unit at its end: write {shown}mm, {shown}in or {shown}pt"
+        Err(PaperError::NoUnit) if may_have_unit(alloc, text)? => size_unit_text(
+            alloc, option, text,
         ),
-        Err(PaperError::NoUnit) | Err(PaperError::NoSuchSize) => format!(in alloc;
-            "size '{shown}' after --{option}: a side is zero, negative or too long"
-        ),
-        _ => {
-            let names = name_list();
-            format!(in alloc;
-                "unknown paper '{shown}' after --{option}: name one of {names}, or a size as 210x297mm; \
-                a name with -landscape after it is the paper on its side"
+        Err(PaperError::NoUnit) | Err(PaperError::NoSuchSize) => {
+            refused_text(
+                alloc,
+                "size",
+                text,
+                option,
+                "a side is zero, negative or too long",
             )
         }
+        _ => unknown_paper_text(alloc, option, text),
     }
+}
+
+/// What is said of a size without a unit.
+fn size_unit_text(alloc: Global, option: Opt, text: &str) -> Result<String, AllocError> {
+    let text = shown_word(alloc, text)?;
+    let text = text.as_str();
+    let units = joined(alloc, &[text, "mm, ", text, "in or ", text, "pt"])?;
+    let units = units.as_str();
+    let option = option.id();
+    let lack = " has no unit at its end: write ";
+    joined(alloc, &["size '", text, "' after --", option, lack, units])
+}
+
+fn unknown_paper_text(alloc: Global, option: Opt, text: &str) -> Result<String, AllocError> {
+    let shown = shown_word(alloc, text)?;
+    let shown = shown.as_str();
+    let option = option.id();
+    let names = name_list();
+    format!(in alloc;
+        "unknown paper '{shown}' after --{option}: name one of {names}, or a size as 210x297mm; \
+        a name with -landscape after it is the paper on its side"
+    )
 }
 
 /// Whether a size without a unit is one with it.
@@ -433,7 +495,7 @@ fn may_have_unit(alloc: Global, text: &str) -> Result<bool, AllocError> {
 /// A text with a caret below the place in it that is at fault.
 fn shown(alloc: Global, message: String, text: &str, place: usize) -> Result<String, AllocError> {
     let caret = caret_below(alloc, text, place)?;
-    format!(in alloc; "{message}{caret}")
+    joined(alloc, &[message.as_str(), caret.as_str()])
 }
 
 fn ranges_of(request: Option<&ImposeRequest>) -> &str {
@@ -661,21 +723,25 @@ fn spec_of(request: Option<&ImposeRequest>) -> &str {
 }
 
 fn spec_text(alloc: Global, error: &SpecError, spec: &str) -> Result<String, AllocError> {
-    let message = match error {
-        SpecError::Syntax(_) if looks_like_file(spec) => String::from_str(
-            alloc,
-            "it comes before the file: impose spec 0,0 in.ps out.ps",
-        )?,
-        SpecError::Syntax(at) if *at < spec.len() => format!(in alloc;
-            "syntax error at byte {at}; what is at the caret can't follow"
-        )?,
-        error => String::from_str(alloc, spec_message(error))?,
-    };
-    let message = format!(in alloc; "specification: {message}")?;
+    let message = unplaced_text(alloc, error, spec)?;
     match spec_place(error, spec) {
         Some(place) => shown(alloc, message, spec, place),
         None => Ok(message),
     }
+}
+
+/// The same without the place.
+fn unplaced_text(alloc: Global, error: &SpecError, spec: &str) -> Result<String, AllocError> {
+    let message = match error {
+        SpecError::Syntax(_) if looks_like_file(spec) => {
+            "it comes before the file: impose spec 0,0 in.ps out.ps"
+        }
+        SpecError::Syntax(at) if *at < spec.len() => return format!(in alloc;
+            "specification: syntax error at byte {at}; what is at the caret can't follow"
+        ),
+        error => spec_message(error),
+    };
+    format!(in alloc; "specification: {message}")
 }
 
 fn spec_message(error: &SpecError) -> &'static str {

@@ -1,5 +1,5 @@
 //! What is said of words that the command doesn't take.
-use crate::shown::{is_shown_whole, push_shown, shown_word};
+use crate::shown::{is_shown_whole, push_all, push_shown, shown_word};
 use clap::Error;
 use clap::error::ErrorKind;
 use std::alloc::{AllocError, Global};
@@ -99,11 +99,7 @@ fn first_letter(word: &str) -> Option<char> {
 
 fn push_tip(out: &mut String, tip: Option<&str>) -> Result<(), AllocError> {
     match tip {
-        Some(tip) => {
-            out.push_str("  tip: ")?;
-            out.push_str(tip)?;
-            out.push_str("\n\n")
-        }
+        Some(tip) => push_all(out, &["  tip: ", tip, "\n\n"]),
         None => Ok(()),
     }
 }
@@ -126,21 +122,16 @@ fn tip(kind: ErrorKind, words: &[String]) -> Option<&'static str> {
     }
     match kind {
         ErrorKind::UnknownArgument => tip_on_unknown(command, behind),
-        ErrorKind::MissingRequiredArgument => tip_on_argument(command),
+        ErrorKind::MissingRequiredArgument => Some(tip_on_argument(command)),
         _ => None,
     }
 }
 
 fn is_command(word: &str) -> bool {
-    word == "nup"
-        || word == "booklet"
-        || word == "zine"
-        || word == "cards"
-        || word == "stack"
-        || word == "notes"
-        || word == "poster"
-        || word == "select"
-        || word == "spec"
+    matches!(
+        word,
+        "nup" | "booklet" | "zine" | "cards" | "stack" | "notes" | "poster" | "select" | "spec"
+    )
 }
 
 /// The first word is no command.
@@ -158,36 +149,33 @@ fn tip_on_command(word: &str) -> Option<&'static str> {
 
 /// What other programs have a command for.
 fn tip_on_wish(word: &str) -> Option<&'static str> {
-    if word == "rotate" || word == "turn" {
-        Some(TIP_ON_TURNS)
-    } else if word == "split" || word == "cut" {
-        Some(
+    match word {
+        "rotate" | "turn" => Some(TIP_ON_TURNS),
+        "split" | "cut" => Some(
             "some of the pages are taken by: impose select 1-3 in.ps out.ps; each page is put over several sheets by: \
             impose poster 2x1 in.ps out.ps",
-        )
-    } else if word == "scale" || word == "resize" {
-        Some("pages are scaled to another paper by: impose nup 1 --sheet a5 in.ps out.ps")
-    } else {
-        None
+        ),
+        "scale" | "resize" => {
+            Some("pages are scaled to another paper by: impose nup 1 --sheet a5 in.ps out.ps")
+        }
+        _ => None,
     }
 }
 
 /// The argument that the command begins with is missing.
-fn tip_on_argument(command: &str) -> Option<&'static str> {
-    if command == "nup" {
-        Some("the number of pages comes after nup, as in: impose nup 2 in.ps out.ps")
-    } else if command == "cards" {
-        Some("the number of pages comes after cards, as in: impose cards 8 in.ps out.ps")
-    } else if command == "stack" {
-        Some("the number of pages comes after stack, as in: impose stack 2 in.ps out.ps")
-    } else if command == "notes" {
-        Some("the number of pages comes after notes, as in: impose notes 3 in.ps out.ps")
-    } else if command == "poster" {
-        Some("columns and rows of sheets come after poster, as in: impose poster 2x2 in.ps out.ps")
-    } else if command == "select" {
-        Some("the pages come after select, and 1- are all: impose select 1- --odd in.ps out.ps")
-    } else {
-        Some("the specification comes after spec, as in: impose spec 0,0 in.ps out.ps")
+fn tip_on_argument(command: &str) -> &'static str {
+    match command {
+        "nup" => "the number of pages comes after nup, as in: impose nup 2 in.ps out.ps",
+        "cards" => "the number of pages comes after cards, as in: impose cards 8 in.ps out.ps",
+        "stack" => "the number of pages comes after stack, as in: impose stack 2 in.ps out.ps",
+        "notes" => "the number of pages comes after notes, as in: impose notes 3 in.ps out.ps",
+        "poster" => {
+            "columns and rows of sheets come after poster, as in: impose poster 2x2 in.ps out.ps"
+        }
+        "select" => {
+            "the pages come after select, and 1- are all: impose select 1- --odd in.ps out.ps"
+        }
+        _ => "the specification comes after spec, as in: impose spec 0,0 in.ps out.ps",
     }
 }
 
@@ -196,27 +184,8 @@ fn tip_on_unknown(command: &str, behind: &[String]) -> Option<&'static str> {
     let mut before = "";
     for word in behind {
         let word = word.as_str();
-        if word.starts_with("-o") || word.starts_with("--out") {
-            return Some(
-                "the sheets go to the second file, without an option: impose nup 2 in.ps out.ps",
-            );
-        }
-        if command == "spec" && (word == "--plan" || word.starts_with("--preview")) {
-            return Some(
-                "plans and pictures are made for nup, booklet, zine, cards, stack, notes, poster and select; without one: impose spec 0,0 \
-                in.ps out.ps",
-            );
-        }
-        if let Some(tip) = tip_on_option(command, word) {
+        if let Some(tip) = tip_on_word(command, before, word) {
             return Some(tip);
-        }
-        if begins_with_minus_and_number(word) {
-            return Some(tip_on_negative(command, before));
-        }
-        if word.starts_with("-") && looks_like_file(word) {
-            return Some(
-                "a file whose name begins with a minus is written with its folder: ./-in.ps",
-            );
         }
         before = word;
     }
@@ -227,31 +196,45 @@ fn tip_on_unknown(command: &str, behind: &[String]) -> Option<&'static str> {
     }
 }
 
+/// The same of this word, which comes after that one.
+fn tip_on_word(command: &str, before: &str, word: &str) -> Option<&'static str> {
+    if word.starts_with("-o") || word.starts_with("--out") {
+        Some("the sheets go to the second file, without an option: impose nup 2 in.ps out.ps")
+    } else if command == "spec" && (word == "--plan" || word.starts_with("--preview")) {
+        Some(
+            "plans and pictures are made for nup, booklet, zine, cards, stack, notes, poster and select; without one: impose spec 0,0 \
+            in.ps out.ps",
+        )
+    } else if begins_with_minus_and_number(word) {
+        Some(tip_on_negative(command, before))
+    } else if word.starts_with("-") && looks_like_file(word) {
+        Some("a file whose name begins with a minus is written with its folder: ./-in.ps")
+    } else {
+        tip_on_option(command, word)
+    }
+}
+
 /// What other programs have an option for, or other commands.
 fn tip_on_option(command: &str, word: &str) -> Option<&'static str> {
-    if word == "--short-edge" {
-        Some(
+    match word {
+        "--short-edge" => Some(
             "without an option a booklet is for printers that flip on the short edge: leave it out",
-        )
-    } else if word == "--copies" || word == "--repeat" {
-        Some(
+        ),
+        "--copies" | "--repeat" => Some(
             "each page is on a sheet several times by: impose cards 2 in.ps out.ps; and the document several times after \
             itself by --pages 1-,1-",
-        )
-    } else if word == "--blank" {
-        Some("a blank page is named among the others, as in: --pages 1,blank,2-")
-    } else if word == "--verbose" || word == "-v" {
-        Some("there is no longer report; --plan prints which page is where")
-    } else if word == "--dry-run" || word == "-n" {
-        Some("--plan prints which page is where on each sheet, and imposes nothing")
-    } else if word == "--landscape" {
-        Some("a sheet on its side is named so, as in: --sheet a4-landscape")
-    } else if word == "--rotate" {
-        Some(TIP_ON_TURNS)
-    } else if word == "--version" {
-        Some("the version is printed without a command: impose --version")
-    } else {
-        tip_on_order(command, word)
+        ),
+        "--blank" => { Some("a blank page is named among the others, as in: --pages 1,blank,2-") }
+        "--verbose" | "-v" => {
+            Some("there is no longer report; --plan prints which page is where")
+        }
+        "--dry-run" | "-n" => {
+            Some("--plan prints which page is where on each sheet, and imposes nothing")
+        }
+        "--landscape" => Some("a sheet on its side is named so, as in: --sheet a4-landscape"),
+        "--rotate" => Some(TIP_ON_TURNS),
+        "--version" => Some("the version is printed without a command: impose --version"),
+        _ => tip_on_order(command, word),
     }
 }
 
@@ -260,28 +243,23 @@ const TIP_ON_TURNS: &str =
 
 /// What only some of the commands have.
 fn tip_on_order(command: &str, word: &str) -> Option<&'static str> {
-    if word == "--order" && command == "booklet" {
-        Some(
+    match word {
+        "--order" if command == "booklet" => Some(
             "the order of a booklet is that in which one reads it; one that is bound at the right takes --rtl",
-        )
-    } else if word == "--order" {
-        Some(
+        ),
+        "--order" => Some(
             "nup, cards and stack have an order, as in: impose nup 4 --order down-right in.ps out.ps",
-        )
-    } else if word == "--marks" {
-        Some(
+        ),
+        "--marks" => Some(
             "nup, cards, stack and booklet have marks, as in: impose cards 8 --marks cut in.ps out.ps",
-        )
-    } else if word == "--turn" {
-        Some(
+        ),
+        "--turn" => Some(
             "a specification turns pages itself, as to the left by: impose spec 'L(1h,0)' --sheet a4-landscape in.ps out.ps",
-        )
-    } else if word == "--numbers" && (command == "poster" || command == "spec") {
-        Some(
+        ),
+        "--numbers" if matches!(command, "poster" | "spec") => Some(
             "pages of posters and of specifications have no numbers; the others have, as in: impose nup 2 --numbers 10pt",
-        )
-    } else {
-        None
+        ),
+        _ => None,
     }
 }
 
@@ -294,41 +272,33 @@ fn begins_with_minus_and_number(word: &str) -> bool {
 
 /// A value with a minus comes after this word.
 fn tip_on_negative(command: &str, before: &str) -> &'static str {
-    if takes_length(before) {
-        "a length is not below 0, as in: --gap 5mm"
-    } else if before == "-p" || before == "--paper" || before == "--sheet" {
-        "the sides of a paper are above 0, as in: --paper 210x297mm"
-    } else if before == "--scale" {
-        "a scale is above 0, as in: --scale 0.7"
-    } else if before == "--pages" {
-        TIP_ON_RANGES
-    } else if before == "--numbers-from" {
-        "the first number has no sign, as in: --numbers 10pt --numbers-from 3"
-    } else if command == "nup" {
-        "the number of pages has no sign, as in: impose nup 2 in.ps out.ps"
-    } else if command == "cards" {
-        "the number of pages has no sign, as in: impose cards 8 in.ps out.ps"
-    } else if command == "stack" {
-        "the number of pages has no sign, as in: impose stack 2 in.ps out.ps"
-    } else if command == "notes" {
-        "the number of pages has no sign, as in: impose notes 3 in.ps out.ps"
-    } else if command == "poster" {
-        "the columns and rows of sheets have no sign, as in: impose poster 2x2 in.ps out.ps"
-    } else if command == "spec" {
-        "a specification that begins with a minus is written with its modulo: 1:-0"
-    } else {
-        TIP_ON_RANGES
+    match before {
+        "--margin" | "--gap" | "--trim" | "--creep" | "--border" | "--overlap" | "--numbers" => {
+            "a length is not below 0, as in: --gap 5mm"
+        }
+        "-p" | "--paper" | "--sheet" => {
+            "the sides of a paper are above 0, as in: --paper 210x297mm"
+        }
+        "--scale" => "a scale is above 0, as in: --scale 0.7",
+        "--pages" => TIP_ON_RANGES,
+        "--numbers-from" => "the first number has no sign, as in: --numbers 10pt --numbers-from 3",
+        _ => tip_on_sign(command),
     }
 }
 
-fn takes_length(option: &str) -> bool {
-    option == "--margin"
-        || option == "--gap"
-        || option == "--trim"
-        || option == "--creep"
-        || option == "--border"
-        || option == "--overlap"
-        || option == "--numbers"
+/// What comes first after this command has a minus.
+fn tip_on_sign(command: &str) -> &'static str {
+    match command {
+        "nup" => "the number of pages has no sign, as in: impose nup 2 in.ps out.ps",
+        "cards" => "the number of pages has no sign, as in: impose cards 8 in.ps out.ps",
+        "stack" => "the number of pages has no sign, as in: impose stack 2 in.ps out.ps",
+        "notes" => "the number of pages has no sign, as in: impose notes 3 in.ps out.ps",
+        "poster" => {
+            "the columns and rows of sheets have no sign, as in: impose poster 2x2 in.ps out.ps"
+        }
+        "spec" => "a specification that begins with a minus is written with its modulo: 1:-0",
+        _ => TIP_ON_RANGES,
+    }
 }
 
 const TIP_ON_RANGES: &str =

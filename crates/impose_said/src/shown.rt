@@ -34,3 +34,18 @@ pub(crate) fn push_shown(shown: &mut String, letter: char) -> Result<(), AllocEr
 pub(crate) fn is_shown_whole(word: &str) -> bool {
     word.len() <= MOST_SHOWN && !word.chars().any(char::is_control)
 }
+
+/// These texts, one behind another.
+pub(crate) fn joined(alloc: Global, texts: &[&str]) -> Result<String, AllocError> {
+    let mut joined = String::new(alloc);
+    push_all(&mut joined, texts)?;
+    Ok(joined)
+}
+
+/// Appends these texts.
+pub(crate) fn push_all(out: &mut String, texts: &[&str]) -> Result<(), AllocError> {
+    for text in texts {
+        out.push_str(*text)?;
+    }
+    Ok(())
+}
