@@ -86,19 +86,16 @@ fn two_sheets(alloc: Global, first: Paper, second: Paper) -> Result<MadeSheets, 
     Ok(sheets)
 }
 
-/// One line.
-fn one_line(alloc: Global, line: &[u8]) -> Result<Lines, Fail> {
-    let mut lines = Lines::new(alloc);
-    lines.push(line)?;
-    Ok(lines)
-}
-
 /// The dress of sheets that report their papers, and end with the same line.
-fn dress<'n>(alloc: Global, numbers: &'n Option<Numbers>) -> Result<Dress<'n>, Fail> {
+fn lines<'n>(alloc: Global, numbers: &'n Option<Numbers>) -> Result<Dress<'n>, Fail> {
+    let mut header = Lines::new(alloc);
+    header.push(b"%%DocumentMedia: x")?;
+    let mut finish = Lines::new(alloc);
+    finish.push(b"% end")?;
     Ok(Dress {
-        header: one_line(alloc, b"%%DocumentMedia: x")?,
+        header,
         tells_papers: true,
-        finish: one_line(alloc, b"% end")?,
+        finish,
         numbers,
     })
 }
@@ -129,7 +126,7 @@ fn run_two<R: Threads + Wait + Sync>(rt: &R, alloc: Global) -> Result<(MemorySin
     let a5 = paper_by_name("a5").ok_or(AllocError)?;
     let sheets = two_sheets(alloc, a4, a5)?;
     let numbers = None;
-    let dress = dress(alloc, &numbers)?;
+    let dress = lines(alloc, &numbers)?;
     let mut sink = MemorySink::new(alloc, 3_000, 1_000, 100)?;
     let report = run_dressed(rt, alloc, &sheets, &dress, &mut sink)?;
     Ok((sink, report))
