@@ -11,7 +11,7 @@ use gather_table::GatherTable;
 use handover::{Overflow, Prepared, PutError, Ready, Receipt, Shelf};
 use imposer::{DeliverError, Delivered, Job};
 use run_steps::Answers;
-use std::alloc::Global;
+use std::alloc::{AllocError, Global};
 use std::io::Write;
 use std::process::Abort;
 use std::sync::Wait;
@@ -133,6 +133,17 @@ fn put<'d, R: Wait>(
         body: body.as_slice(),
     };
     let prepared = Prepared::of_page(alloc, document, page)?;
+    put_known(rt, shelf, prepared, known, answer)
+}
+
+/// Puts a page that is known on the shelf: its index.
+fn put_known<'d, R: Wait>(
+    rt: &R,
+    shelf: &Shelf<'d>,
+    prepared: Prepared<'d>,
+    known: Known<'_>,
+    answer: &mut Vec<u8>,
+) -> anyhow::Result<()> {
     match shelf.put(rt, prepared) {
         Ok(receipt) => show(index_on(shelf, &receipt, known), answer),
         Err(PutError::NoMemory(prepared)) => show_unshelved(&prepared, answer),
@@ -272,11 +283,15 @@ const BLANK: &str = "\
 
 #[test]
 fn a_page_completes_its_sheets_once(rt: HostRuntime) -> Result<(), Fail> {
-    let alloc = rt.alloc();
-    assert_story(&rt, alloc, (ONE_PAGE, "0+0"), 1, TWICE)?;
-    assert_story(&rt, alloc, (ONE_PAGE, "0+0"), 1, AGAIN)?;
-    assert_story(&rt, alloc, (ONE_PAGE, "0,0"), 1, HANDED_BACK)?;
-    assert_story(&rt, alloc, (ONE_PAGE, "2:1"), 1, BLANK)
+    for (items, story) in [
+        ("0+0", TWICE),
+        ("0+0", AGAIN),
+        ("0,0", HANDED_BACK),
+        ("2:1", BLANK),
+    ] {
+        assert_story(&rt, rt.alloc(), (ONE_PAGE, items), 1, story)?;
+    }
+    Ok(())
 }
 
 /// Another page is at the index of the sheet's own.
@@ -334,19 +349,36 @@ const WIDE: &str = "\
     impose 0 = Imposed\n\
 ";
 
+/// A page in each of 64 slots.
+fn in_64_slots(alloc: Global) -> Result<String, AllocError> {
+    let fresh = "Fresh, ".repeat(alloc, 63)?;
+    format!(in alloc;
+        "look 0 = Some(18446744073709551615)\ndeliver 0 = Stored [{fresh}Completing] [] []\n"
+    )
+}
+
+/// A page in each of 65 slots.
+fn in_65_slots(alloc: Global) -> Result<String, AllocError> {
+    let fresh = "Fresh, ".repeat(alloc, 63)?;
+    let repeated = "Repeated, ".repeat(alloc, 64)?;
+    format!(in alloc;
+        "look 0 = Some(3)\ndeliver 0 = Stored [{fresh}{WIDE}deliver 0 = Held(0) [{repeated}Repeated] [] []\ntake = None\n"
+    )
+}
+
+/// Tells the story of a page in each of so many slots.
+fn assert_in_slots<R: Wait + Abort>(
+    rt: &R,
+    alloc: Global,
+    slots: u32,
+    story: &str,
+) -> Result<(), Fail> {
+    let items = same_items(alloc, "0", slots)?;
+    assert_story(rt, alloc, (ONE_PAGE, items.as_str()), 1, story)
+}
+
 #[test]
 fn the_last_closing_completes_a_sheet(rt: HostRuntime) -> Result<(), Fail> {
-    let alloc = rt.alloc();
-    let items = same_items(alloc, "0", 64)?;
-    let fresh = "Fresh, ".repeat(alloc, 63)?;
-    let whole = format!(in alloc;
-        "look 0 = Some(18446744073709551615)\ndeliver 0 = Stored [{fresh}Completing] [] []\n"
-    )?;
-    assert_story(&rt, alloc, (ONE_PAGE, items.as_str()), 1, &whole)?;
-    let items = same_items(alloc, "0", 65)?;
-    let repeated = "Repeated, ".repeat(alloc, 64)?;
-    let wide = format!(in alloc;
-        "look 0 = Some(3)\ndeliver 0 = Stored [{fresh}{WIDE}deliver 0 = Held(0) [{repeated}Repeated] [] []\ntake = None\n"
-    )?;
-    assert_story(&rt, alloc, (ONE_PAGE, items.as_str()), 1, &wide)
+    assert_in_slots(&rt, rt.alloc(), 64, &in_64_slots(rt.alloc())?)?;
+    assert_in_slots(&rt, rt.alloc(), 65, &in_65_slots(rt.alloc())?)
 }

@@ -3,7 +3,7 @@ use super::stories::{number, parts_of};
 use crate::tests::checks::{assert_that, assert_told};
 use crate::tests::workers;
 use dsc::DscError;
-use imposer::{ImposeError, MemorySink, NoMemory, Open, Report, RunError, run};
+use imposer::{ImposeError, MemorySink, NoMemory, Open, Options, Report, RunError, run};
 use lengths::Grains;
 use pagespec::SpecError;
 use sheet_plan::PlanError;
@@ -25,15 +25,21 @@ fn input_of(alloc: Global, word: &str) -> Result<String, NoMemory> {
     }
 }
 
-/// The output of one page as it is, or of two pages a sheet. Others are compared elsewhere.
-fn wanted_of(alloc: Global, items: &str, report: &Report) -> Result<Option<String>, NoMemory> {
-    if items == TWO_UP {
-        Ok(Some(two_up_output(alloc, report.sheets)?))
+/// Whether the output of one page as it is, or of two pages a sheet, is as wanted. Others are compared elsewhere.
+fn is_wanted(
+    alloc: Global,
+    items: &str,
+    report: &Report,
+    written: &[u8],
+) -> Result<Option<bool>, NoMemory> {
+    let wanted = if items == TWO_UP {
+        two_up_output(alloc, report.sheets)?
     } else if items == "0" && report.bytes == 273 {
-        Ok(Some(one_up_output(alloc, "")?))
+        one_up_output(alloc, "")?
     } else {
-        Ok(None)
-    }
+        return Ok(None);
+    };
+    Ok(Some(wanted.as_bytes() == written))
 }
 
 /// What is reported of a run that has written these bytes.
@@ -52,46 +58,66 @@ fn show_report(
         bytes,
     } = *report;
     write!(answer, "{pages} {sheets} {born} {swept} {bytes}, ")?;
-    match wanted_of(alloc, items, report)? {
-        Some(wanted) => {
-            let is_wanted = wanted.as_bytes() == written;
-            let verdict = if is_wanted { "as wanted" } else { "otherwise" };
-            Ok(write!(answer, "{verdict}")?)
-        }
-        None => Ok(write!(answer, "{} written", written.len())?),
+    match is_wanted(alloc, items, report, written)? {
+        Some(true) => answer.extend_from_slice(b"as wanted")?,
+        Some(false) => answer.extend_from_slice(b"otherwise")?,
+        None => write!(answer, "{} written", written.len())?,
     }
+    Ok(())
 }
 
-/// Makes the run of a line: the input, how many preparers and imposers, the sides of a signature, the width of a border in
-/// grains, and the specification. A dash means none.
-fn run_line<R: Threads + Wait + Sync>(
-    rt: &R,
-    alloc: Global,
-    line: &str,
-    answer: &mut Vec<u8>,
-) -> Result<(), Fail> {
-    let mut words = line.split(' ');
-    let input = input_of(alloc, words.next().unwrap_or(""))?;
+/// How many preparers and imposers, the sides of a signature, and the width of a border in grains. A dash means none.
+fn options_of(settings: &str) -> Options {
+    let mut words = settings.split(' ');
     let preparers = number(words.next());
     let mut options = workers(preparers, number(words.next()));
     options.sides = words.next().unwrap_or("").parse::<u32>().ok();
     if let Ok(width) = words.next().unwrap_or("").parse::<i128>() {
         options.border = Grains::new(width);
     }
-    let items = words.next().unwrap_or("");
-    let mut sink = MemorySink::new(alloc, 100_000, 100_000, 1_000)?;
-    match run(
+    options
+}
+
+/// Makes the run of a line: the input, the options, and the specification.
+fn run_line<R: Threads + Wait + Sync>(
+    rt: &R,
+    alloc: Global,
+    line: &str,
+    answer: &mut Vec<u8>,
+) -> Result<(), Fail> {
+    let (word, rest) = line.split_once(' ').unwrap_or((line, ""));
+    let (settings, items) = rest.rsplit_once(' ').unwrap_or((rest, ""));
+    let input = input_of(alloc, word)?;
+    run_input(
         rt,
         alloc,
-        input.as_bytes(),
-        items,
-        &options,
-        &Open,
-        &mut sink,
-    ) {
+        (input.as_bytes(), items),
+        &options_of(settings),
+        answer,
+    )
+}
+
+/// Runs over this input by this specification.
+fn run_input<R: Threads + Wait + Sync>(
+    rt: &R,
+    alloc: Global,
+    (input, items): (&[u8], &str),
+    options: &Options,
+    answer: &mut Vec<u8>,
+) -> Result<(), Fail> {
+    let mut sink = MemorySink::new(alloc, 100_000, 100_000, 1_000)?;
+    match run(rt, alloc, input, items, options, &Open, &mut sink) {
         Ok(report) => show_report(alloc, items, &report, sink.bytes(), answer),
         Err(error) => Ok(write!(answer, "{error:?}, {} written", sink.bytes().len())?),
     }
+}
+
+/// Whether the run of a line is answered as it says.
+fn is_told<R: Threads + Wait + Sync>(rt: &R, alloc: Global, line: &str) -> Result<bool, Fail> {
+    let (words, wanted) = parts_of(line);
+    let mut answer = Vec::new(alloc);
+    run_line(rt, alloc, words, &mut answer)?;
+    Ok(answer.as_slice() == wanted.as_bytes())
 }
 
 /// The first line of a story of runs that is answered otherwise than it says.
@@ -101,10 +127,7 @@ fn first_wrong_run<'s, R: Threads + Wait + Sync>(
     story: &'s str,
 ) -> Result<Option<&'s str>, Fail> {
     for line in story.lines() {
-        let (words, wanted) = parts_of(line);
-        let mut answer = Vec::new(alloc);
-        run_line(rt, alloc, words, &mut answer)?;
-        if answer.as_slice() != wanted.as_bytes() {
+        if !is_told(rt, alloc, line)? {
             return Ok(Some(line));
         }
     }
@@ -175,32 +198,27 @@ fn assert_message<R: Abort, E: Display + Drop>(
 
 #[test]
 fn messages(rt: HostRuntime) -> Result<(), Fail> {
-    let alloc = rt.alloc();
-    assert_message(&rt, alloc, RunError::Options, "bad options")?;
-    let error = RunError::Spec(SpecError::TooManyGroups);
-    assert_message(&rt, alloc, error, "specification: too many groups")?;
-    let error = RunError::Document(DscError::NoPages);
-    assert_message(&rt, alloc, error, "input: no pages")?;
-    let error = RunError::Plan(PlanError::TooManySheets);
-    assert_message(&rt, alloc, error, "plan: too many sheets")?;
-    assert_message(
-        &rt,
-        alloc,
-        RunError::NoMemory { written: 7 },
-        "out of memory",
-    )?;
-    assert_message(
-        &rt,
-        alloc,
-        RunError::Write { written: 7 },
-        "cannot write output",
-    )?;
-    assert_message(&rt, alloc, ImposeError::NoMemory, "out of memory")?;
-    assert_message(
-        &rt,
-        alloc,
-        ImposeError::NotShown,
-        "a page is not on the shelf",
-    )?;
+    for (error, message) in [
+        (RunError::Options, "bad options"),
+        (
+            RunError::Spec(SpecError::TooManyGroups),
+            "specification: too many groups",
+        ),
+        (RunError::Document(DscError::NoPages), "input: no pages"),
+        (
+            RunError::Plan(PlanError::TooManySheets),
+            "plan: too many sheets",
+        ),
+        (RunError::NoMemory { written: 7 }, "out of memory"),
+        (RunError::Write { written: 7 }, "cannot write output"),
+    ] {
+        assert_message(&rt, rt.alloc(), error, message)?;
+    }
+    for (error, message) in [
+        (ImposeError::NoMemory, "out of memory"),
+        (ImposeError::NotShown, "a page is not on the shelf"),
+    ] {
+        assert_message(&rt, rt.alloc(), error, message)?;
+    }
     Ok(())
 }

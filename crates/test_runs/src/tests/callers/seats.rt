@@ -4,6 +4,7 @@ ghost use Rattle.rules.specs.Sheets.{layout};
 ghost use Rattle.gather_table.specs.Shared.{IsSeatOf};
 
 use super::tables::bring_one;
+use crate::tests::WHOLE;
 use crate::tests::checks::assert_that;
 use gather_table::{GatherTable, Published, Reply, Seat};
 use pagespec::read_spec;
@@ -139,18 +140,25 @@ fn are_answers(found: (Answers, Answers), first: Answers, last: Answers) -> bool
 // slots of a sheet, where both sheets are in one word.
 #[test]
 fn two_threads_complete_each_sheet_once(rt: HostRuntime) -> Result<(), Fail> {
-    let (share, one, two) = bring_by_two(&rt, rt.alloc(), "2:0+1", 2, [(0, 0); 2], [(0, 1); 2])?;
-    assert_that(&rt, share == 4_294_967_296);
     let fresh = (Some(Reply::Fresh), Some(Reply::Repeated));
     let completing = (Some(Reply::Completing), Some(Reply::Repeated));
-    assert_that(&rt, are_answers((one, two), fresh, completing));
-    let (_share, one, two) = bring_by_two(&rt, rt.alloc(), "0", 1, [(0, 0); 2], [(0, 0); 2])?;
     let repeated = (Some(Reply::Repeated), Some(Reply::Repeated));
-    assert_that(&rt, are_answers((one, two), completing, repeated));
-    let here = [(0, 0), (0, 1)];
-    let there = [(1, 0), (1, 1)];
-    let (_share, one, two) = bring_by_two(&rt, rt.alloc(), "2:0+1", 4, here, there)?;
     let completed = (Some(Reply::Fresh), Some(Reply::Completing));
-    assert_that(&rt, (one, two) == (completed, completed));
+    for (text, pages, here, there, first, last) in [
+        ("2:0+1", 2, [(0, 0); 2], [(0, 1); 2], fresh, completing),
+        ("0", 1, [(0, 0); 2], [(0, 0); 2], completing, repeated),
+        (
+            "2:0+1",
+            4,
+            [(0, 0), (0, 1)],
+            [(1, 0), (1, 1)],
+            completed,
+            completed,
+        ),
+    ] {
+        let (share, one, two) = bring_by_two(&rt, rt.alloc(), text, pages, here, there)?;
+        assert_that(&rt, share == WHOLE);
+        assert_that(&rt, are_answers((one, two), first, last));
+    }
     Ok(())
 }

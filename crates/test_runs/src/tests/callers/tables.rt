@@ -1,8 +1,8 @@
 //! Both tables: which pages have come, and which slots miss theirs.
-ghost use Rattle.std.specs.Prelude.{◌≡◌, ◌<◌, IfSome, true};
+ghost use Rattle.std.specs.Prelude.{◌≡◌, ◌<◌, IfSome, Some, length, slice_get, true};
 ghost use Rattle.rules.specs.Sheets.{layout};
 ghost use Rattle.gather_table.specs.Shared.{IsSeatOf};
-ghost use Rattle.gather_table.specs.Table.{HasGroup};
+ghost use Rattle.gather_table.specs.Table.{HasGroup, slots};
 
 use super::stories::{Called, first_wrong, number, show};
 use crate::tests::checks::assert_told;
@@ -10,8 +10,6 @@ use gather_table::{Closing, GatherTable, NoMemory, PlainTable, Published, Reply,
 use pagespec::read_spec;
 use sheet_plan::Plan;
 use std::alloc::Global;
-use std::io::Write;
-use std::process::Abort;
 use std::test::Fail;
 use test_tools::same_items;
 
@@ -29,6 +27,11 @@ trait Calls {
     fn close_group(&mut self, sheet: u32, group: u8) -> Option<Closing>;
 
     fn look_group(&mut self, sheet: u32, group: u8) -> Option<u64>;
+
+    // The word and the first bit in which a sheet has its lane. Only the shared table has lanes.
+    fn lane_of(&self, _sheet: u32) -> Option<(u32, u8)> {
+        None
+    }
 }
 
 // Whether the sheet is wide and has this group.
@@ -40,6 +43,23 @@ fn has_group(plan: &Plan, sheet: u32, group: u8) -> bool
     }
     let slots = plan.slots(sheet);
     slots > 64 && 64 * u16::from(group) < slots
+}
+
+// The page of a slot, if the slot is there and isn't blank.
+fn page_in(plan: &Plan, sheet: u32, slot: u16) -> Option<u32>
+    ensures sheet { IfSome result (λ _. sheet < length (layout plan.now).sheets) }
+    ensures slot { IfSome result (λ page. slice_get (slots (layout plan.now) sheet) slot ≡ Some (Some page)) }
+    ensures page { IfSome result (λ page. page < (layout plan.now).pages) }
+{
+    if sheet >= plan.sheets() || slot >= plan.slots(sheet) {
+        return None;
+    }
+    let page = plan.page_of(sheet, slot)?;
+    if page < plan.pages() {
+        Some(page)
+    } else {
+        None
+    }
 }
 
 // The table for one thread, with its plan.
@@ -59,13 +79,8 @@ impl<'p> Calls for OneThread<'p> {
     }
 
     fn mark(&mut self, sheet: u32, slot: u16) -> Option<Reply> {
-        if sheet >= self.plan.sheets() || slot >= self.plan.slots(sheet) {
-            return None;
-        }
-        let page = self.plan.page_of(sheet, slot)?;
-        if page >= self.plan.pages() || self.table.page_at(page).is_none() {
-            return None;
-        }
+        let page = page_in(self.plan, sheet, slot)?;
+        self.table.page_at(page)?;
         Some(self.table.mark(sheet, slot))
     }
 
@@ -110,13 +125,7 @@ pub(crate) fn mark_checked(
     requires seat { IsSeatOf table.now seat.old }
     ensures { IsSeatOf table.now seat.new }
 {
-    if sheet >= plan.sheets() || slot >= plan.slots(sheet) {
-        return None;
-    }
-    let page = plan.page_of(sheet, slot)?;
-    if page >= plan.pages() {
-        return None;
-    }
+    let page = page_in(plan, sheet, slot)?;
     table.page_at(seat, page)?;
     Some(table.mark(seat, sheet, slot))
 }
@@ -137,21 +146,6 @@ fn close_checked(
         return None;
     }
     Some(table.close_group(seat, sheet, group))
-}
-
-// The page of a slot, if the slot is there and isn't blank.
-fn page_in(plan: &Plan, sheet: u32, slot: u16) -> Option<u32>
-    ensures { IfSome result (λ page. page < (layout plan.now).pages) }
-{
-    if sheet >= plan.sheets() || slot >= plan.slots(sheet) {
-        return None;
-    }
-    let page = plan.page_of(sheet, slot)?;
-    if page < plan.pages() {
-        Some(page)
-    } else {
-        None
-    }
 }
 
 // Publishes the page of a slot, if it has one, and marks the slot.
@@ -218,20 +212,26 @@ impl<'t, 's> Calls for Seated<'t, 's> {
         }
         Some(self.table.look_group(&mut self.seat, sheet, group))
     }
+
+    fn lane_of(&self, sheet: u32) -> Option<(u32, u8)> {
+        if sheet >= self.plan.sheets() || self.plan.slots(sheet) > 64 {
+            return None;
+        }
+        Some(self.table.lane_of(sheet))
+    }
 }
 
-// Marks these slots of the first sheet: the first answer that isn't Fresh.
-fn marks<C: Calls>(table: &mut C, from: u32, to: u32, answer: &mut Vec<u8>) -> anyhow::Result<()> {
+// Marks these slots of the first sheet: the first that isn't answered Fresh.
+fn not_fresh<C: Calls>(table: &mut C, from: u32, to: u32) -> Option<u32> {
     for slot in from..to {
-        let reply = table.mark(0, slot.min(65_535) as u16);
-        if reply != Some(Reply::Fresh) {
-            return Ok(write!(answer, "{slot}: {reply:?}")?);
+        if table.mark(0, slot.min(65_535) as u16) != Some(Reply::Fresh) {
+            return Some(slot);
         }
     }
-    Ok(write!(answer, "all Fresh")?)
+    None
 }
 
-// Makes a call of a table. Sheets are the first one.
+// Makes a call of a table. Sheets are the first one, but for lanes.
 fn call<C: Calls>(table: &mut C, words: &str, answer: &mut Vec<u8>) -> anyhow::Result<()> {
     let mut words = words.split(' ');
     let name = words.next().unwrap_or("");
@@ -241,11 +241,12 @@ fn call<C: Calls>(table: &mut C, words: &str, answer: &mut Vec<u8>) -> anyhow::R
     match name {
         "publish" => show(table.publish(first, second), answer),
         "mark" => show(table.mark(0, first.min(65_535) as u16), answer),
-        "marks" => marks(table, first, second, answer),
+        "not_fresh" => show(not_fresh(table, first, second), answer),
         "look" => show(table.look(0), answer),
         "group" => show(table.look_group(0, group), answer),
         "page" => show(table.page_at(first), answer),
         "close" => show(table.close_group(0, group), answer),
+        "lane" => show(table.lane_of(first), answer),
         _ => show("no call", answer),
     }
 }
@@ -271,7 +272,12 @@ fn in_both<'s>(
 ) -> Result<Option<&'s str>, Fail> {
     let spec = read_spec(alloc, text)?;
     let plan = Plan::new(alloc, &spec, pages)?;
-    Ok(told_plainly(alloc, &plan, story)?.or(told_seated(alloc, &plan, story)?))
+    told_to_both(alloc, &plan, story)
+}
+
+fn told_to_both<'s>(alloc: Global, plan: &Plan, story: &'s str) -> Result<Option<&'s str>, Fail> {
+    let wrong = told_plainly(alloc, plan, story)?;
+    Ok(wrong.or(told_seated(alloc, plan, story)?))
 }
 
 fn told_plainly<'s>(alloc: Global, plan: &Plan, story: &'s str) -> Result<Option<&'s str>, Fail> {
@@ -323,7 +329,7 @@ const PAGE_TO_64_SLOTS: &str = "\
     group 0 = None\n\
     look = Some(18446744073709551615)\n\
     publish 0 0 = Some(Stored)\n\
-    marks 0 63 = all Fresh\n\
+    not_fresh 0 63 = None\n\
     look = Some(9223372036854775808)\n\
     mark 63 = Some(Completing)\n\
     look = Some(0)\n\
@@ -335,7 +341,7 @@ const PAGE_TO_64_SLOTS: &str = "\
 const PAGE_TO_65_SLOTS: &str = "\
     look = Some(3)\n\
     publish 0 0 = Some(Stored)\n\
-    marks 0 63 = all Fresh\n\
+    not_fresh 0 63 = None\n\
     mark 63 = Some(Fills(0))\n\
     group 0 = Some(0)\n\
     look = Some(3)\n\
@@ -354,7 +360,7 @@ const PAGE_TO_128_SLOTS: &str = "\
     look = Some(3)\n\
     publish 0 0 = Some(Stored)\n\
     group 1 = Some(18446744073709551615)\n\
-    marks 64 127 = all Fresh\n\
+    not_fresh 64 127 = None\n\
     group 1 = Some(9223372036854775808)\n\
     close 1 = None\n\
     mark 127 = Some(Fills(1))\n\
@@ -364,7 +370,7 @@ const PAGE_TO_128_SLOTS: &str = "\
     look = Some(1)\n\
     close 1 = Some(Again)\n\
     group 0 = Some(18446744073709551615)\n\
-    marks 0 63 = all Fresh\n\
+    not_fresh 0 63 = None\n\
     group 0 = Some(9223372036854775808)\n\
     close 0 = None\n\
     mark 63 = Some(Fills(0))\n\
@@ -383,21 +389,21 @@ const PAGE_TO_129_SLOTS: &str = "\
     look = Some(7)\n\
     publish 0 0 = Some(Stored)\n\
     group 0 = Some(18446744073709551615)\n\
-    marks 0 63 = all Fresh\n\
+    not_fresh 0 63 = None\n\
     group 0 = Some(9223372036854775808)\n\
     close 0 = None\n\
     mark 63 = Some(Fills(0))\n\
     group 0 = Some(0)\n\
     mark 63 = Some(Repeated)\n\
     group 2 = Some(1)\n\
-    marks 128 128 = all Fresh\n\
+    not_fresh 128 128 = None\n\
     group 2 = Some(1)\n\
     close 2 = None\n\
     mark 128 = Some(Fills(2))\n\
     group 2 = Some(0)\n\
     mark 128 = Some(Repeated)\n\
     group 1 = Some(18446744073709551615)\n\
-    marks 64 127 = all Fresh\n\
+    not_fresh 64 127 = None\n\
     group 1 = Some(9223372036854775808)\n\
     close 1 = None\n\
     mark 127 = Some(Fills(1))\n\
@@ -428,11 +434,15 @@ const SIXTY_FOUR_GROUPS: &str = "\
 // are filled by marks and closed, and the last closing completes it.
 #[test]
 fn a_page_in_every_slot(rt: HostRuntime) -> Result<(), Fail> {
-    assert_told(&rt, in_slots(rt.alloc(), 64, PAGE_TO_64_SLOTS)?);
-    assert_told(&rt, in_slots(rt.alloc(), 65, PAGE_TO_65_SLOTS)?);
-    assert_told(&rt, in_slots(rt.alloc(), 128, PAGE_TO_128_SLOTS)?);
-    assert_told(&rt, in_slots(rt.alloc(), 129, PAGE_TO_129_SLOTS)?);
-    assert_told(&rt, in_slots(rt.alloc(), 4_096, SIXTY_FOUR_GROUPS)?);
+    for (slots, story) in [
+        (64, PAGE_TO_64_SLOTS),
+        (65, PAGE_TO_65_SLOTS),
+        (128, PAGE_TO_128_SLOTS),
+        (129, PAGE_TO_129_SLOTS),
+        (4_096, SIXTY_FOUR_GROUPS),
+    ] {
+        assert_told(&rt, in_slots(rt.alloc(), slots, story)?);
+    }
     Ok(())
 }
 
@@ -441,27 +451,16 @@ const PAGE_COMES: &str = "\
     publish 0 0 = Some(Stored)\n\
 ";
 
-// A group of 64 slots is filled and closed. `left` is what a look at the sheet shows then.
+// Fills a group of 64 slots and closes it. `left` is what a look at the sheet shows then.
 fn fills_group(alloc: Global, group: u32, left: u64) -> Result<String, NoMemory> {
     let first = group.saturating_mul(64);
     let last = first.saturating_add(63);
-    let mut story = marks_of(alloc, group, first, last)?;
-    story.push_str(&closing_of(alloc, group, last, left)?)?;
-    Ok(story)
-}
-
-fn marks_of(alloc: Global, group: u32, first: u32, last: u32) -> Result<String, NoMemory> {
     format!(in alloc;
         "group {group} = Some(18446744073709551615)\n\
-        marks {first} {last} = all Fresh\n\
+        not_fresh {first} {last} = None\n\
         group {group} = Some(9223372036854775808)\n\
-        close {group} = None\n"
-    )
-}
-
-fn closing_of(alloc: Global, group: u32, last: u32, left: u64) -> Result<String, NoMemory> {
-    format!(in alloc;
-        "mark {last} = Some(Fills({group}))\n\
+        close {group} = None\n\
+        mark {last} = Some(Fills({group}))\n\
         mark {last} = Some(Repeated)\n\
         close {group} = Some(Closed)\n\
         look = Some({left})\n\
@@ -472,7 +471,7 @@ fn closing_of(alloc: Global, group: u32, last: u32, left: u64) -> Result<String,
 const LAST_GROUP_OF_63_SLOTS: &str = "\
     look = Some(9223372036854775808)\n\
     group 63 = Some(9223372036854775807)\n\
-    marks 4032 4094 = all Fresh\n\
+    not_fresh 4032 4094 = None\n\
     group 63 = Some(4611686018427387904)\n\
     close 63 = None\n\
     mark 4094 = Some(Fills(63))\n\
@@ -513,91 +512,73 @@ const PAGE_AFTER_A_BLANK_GROUP: &str = "\
 
 #[test]
 fn two_pages_and_blank_slots(rt: HostRuntime) -> Result<(), Fail> {
-    assert_told(&rt, in_both(rt.alloc(), "2:0+1", 2, TWO_PAGES)?);
-    assert_told(&rt, in_both(rt.alloc(), "2:1+0", 1, PAGE_BESIDE_A_BLANK)?);
-    let text = format!(in rt.alloc(); "2:{}+0", same_items(rt.alloc(), "1", 64)?)?;
-    assert_told(
-        &rt,
-        in_both(rt.alloc(), &text, 1, PAGE_AFTER_A_BLANK_GROUP)?,
-    );
+    let blanks = same_items(rt.alloc(), "1", 64)?;
+    let behind = format!(in rt.alloc(); "2:{blanks}+0")?;
+    for (text, pages, story) in [
+        ("2:0+1", 2, TWO_PAGES),
+        ("2:1+0", 1, PAGE_BESIDE_A_BLANK),
+        (behind.as_str(), 1, PAGE_AFTER_A_BLANK_GROUP),
+    ] {
+        assert_told(&rt, in_both(rt.alloc(), text, pages, story)?);
+    }
     Ok(())
 }
 
-// The shared table of a specification.
-#[derive(Drop)]
-struct Lanes<'t> {
-    text: &'t str,
-}
-
-// The word and the first bit in which a sheet of so many pages has its lane, if it has one.
-fn lane_at(alloc: Global, text: &str, pages: u32, sheet: u32) -> anyhow::Result<Option<(u32, u8)>> {
+// Tells a story to the shared table of a document of so many pages.
+fn in_shared<'s>(
+    alloc: Global,
+    text: &str,
+    pages: u32,
+    story: &'s str,
+) -> Result<Option<&'s str>, Fail> {
     let spec = read_spec(alloc, text)?;
     let plan = Plan::new(alloc, &spec, pages)?;
-    let (table, _seat) = GatherTable::new(alloc, &plan)?;
-    if sheet >= plan.sheets() || plan.slots(sheet) > 64 {
-        return Ok(None);
-    }
-    Ok(Some(table.lane_of(sheet)))
+    told_seated(alloc, &plan, story)
 }
 
-impl<'t> Called for Lanes<'t> {
-    fn call(&mut self, alloc: Global, words: &str, answer: &mut Vec<u8>) -> anyhow::Result<()> {
-        let (pages, sheet) = words.split_once(' ').unwrap_or((words, ""));
-        let lane = lane_at(alloc, self.text, number(Some(pages)), number(Some(sheet)))?;
-        show(lane, answer)
-    }
-}
-
-// The first line of a story of lanes that is answered otherwise than it says.
-fn in_lanes<'s>(alloc: Global, text: &str, story: &'s str) -> Result<Option<&'s str>, Fail> {
-    first_wrong(alloc, &mut Lanes { text }, story)
-}
-
-// No line of the story is answered otherwise than it says.
-fn follow<R: Abort>(rt: &R, alloc: Global, text: &str, story: &str) -> Result<(), Fail> {
-    assert_told(rt, in_lanes(alloc, text, story)?);
-    Ok(())
-}
-
-// So many pages, and a sheet: sheets of two slots take turns.
+// Sheets of two slots take turns.
 const PAIRS: &str = "\
-    100 0 = Some((0, 0))\n\
-    100 31 = Some((0, 62))\n\
-    100 32 = Some((1, 0))\n\
+    lane 0 = Some((0, 0))\n\
+    lane 31 = Some((0, 62))\n\
+    lane 32 = Some((1, 0))\n\
 ";
 
 // Sheets of two slots and of one by turns.
 const MIXED: &str = "\
-    100 40 = Some((0, 60))\n\
-    100 41 = Some((0, 62))\n\
-    100 42 = Some((1, 0))\n\
-    100 43 = Some((1, 2))\n\
+    lane 40 = Some((0, 60))\n\
+    lane 41 = Some((0, 62))\n\
+    lane 42 = Some((1, 0))\n\
+    lane 43 = Some((1, 2))\n\
 ";
 
 // Sheets of 64 slots.
 const WHOLE_WORDS: &str = "\
-    2 0 = Some((0, 0))\n\
-    2 1 = Some((1, 0))\n\
+    lane 0 = Some((0, 0))\n\
+    lane 1 = Some((1, 0))\n\
 ";
 
 // A sheet of 2 slots, one of 65, and one of 2, over and over: 16 times 4 bits are a word.
 const AMONG_WIDE_SHEETS: &str = "\
-    100 0 = Some((0, 0))\n\
-    100 1 = None\n\
-    100 2 = Some((0, 2))\n\
-    100 3 = Some((0, 4))\n\
-    100 47 = Some((0, 62))\n\
-    100 48 = Some((1, 0))\n\
-    100 50 = Some((1, 2))\n\
+    lane 0 = Some((0, 0))\n\
+    lane 1 = None\n\
+    lane 2 = Some((0, 2))\n\
+    lane 3 = Some((0, 4))\n\
+    lane 47 = Some((0, 62))\n\
+    lane 48 = Some((1, 0))\n\
+    lane 50 = Some((1, 2))\n\
 ";
 
 #[test]
 fn lanes_follow_one_another(rt: HostRuntime) -> Result<(), Fail> {
-    let alloc = rt.alloc();
-    follow(&rt, alloc, "2:0+1", PAIRS)?;
-    follow(&rt, alloc, "3:0+1,2", MIXED)?;
-    let whole = same_items(alloc, "0", 64)?;
-    follow(&rt, alloc, &whole, WHOLE_WORDS)?;
-    let wide = format!(in alloc; "2:0+1,{whole}+0,0+1")?;
-    follow(&rt, alloc, &wide, AMONG_WIDE_SHEETS)
+    let whole = same_items(rt.alloc(), "0", 64)?;
+    let wide = format!(in rt.alloc(); "2:0+1,{whole}+0,0+1")?;
+    for (text, pages, story) in [
+        ("2:0+1", 100, PAIRS),
+        ("3:0+1,2", 100, MIXED),
+        (whole.as_str(), 2, WHOLE_WORDS),
+        (wide.as_str(), 100, AMONG_WIDE_SHEETS),
+    ] {
+        assert_told(&rt, in_shared(rt.alloc(), text, pages, story)?);
+    }
+    Ok(())
 }

@@ -29,17 +29,30 @@ fn told(alloc: Global, sides: (&str, &str)) -> Result<String, AllocError> {
     )
 }
 
+/// A page that is placed as it is, on this paper.
+fn page_on(alloc: Global, sides: (&str, &str), page: u32) -> Result<String, AllocError> {
+    placed_on(alloc, sides, UNMOVED, &page_body(alloc, page)?)
+}
+
+/// A sheet of this paper, with a line at its end.
+fn dressed_sheet(
+    alloc: Global,
+    number: u32,
+    sides: (&str, &str),
+    (first, second): (&str, &str),
+) -> Result<String, AllocError> {
+    let start = told(alloc, sides)?;
+    let pages = format!(in alloc; "{start}{first}{second}% end\n")?;
+    sheet(alloc, number, &pages)
+}
+
 /// On the first sheet the second page on A4 and the first on A5; on the other one that alone; and a line in the header and at
 /// the end of each sheet.
 fn dressed_output(alloc: Global) -> Result<String, AllocError> {
-    let first = placed_on(alloc, A4_SIDES, UNMOVED, &page_body(alloc, 1)?)?;
-    let second = placed_on(alloc, A5_SIDES, UNMOVED, &page_body(alloc, 0)?)?;
-    let start = told(alloc, A4_SIDES)?;
-    let pages = format!(in alloc; "{start}{first}{second}% end\n")?;
-    let first = sheet(alloc, 1, &pages)?;
-    let start = told(alloc, A5_SIDES)?;
-    let pages = format!(in alloc; "{start}{second}% end\n")?;
-    let second = sheet(alloc, 2, &pages)?;
+    let large = page_on(alloc, A4_SIDES, 1)?;
+    let small = page_on(alloc, A5_SIDES, 0)?;
+    let first = dressed_sheet(alloc, 1, A4_SIDES, (&large, &small))?;
+    let second = dressed_sheet(alloc, 2, A5_SIDES, (&small, ""))?;
     format!(in alloc;
         "%!PS-Adobe-3.0\n%%Pages: 2\n%%DocumentMedia: x\n%%EndComments\n{first}{second}%%Trailer\n%%EOF\n"
     )

@@ -31,7 +31,7 @@ fn is_gathered<R: Threads + Wait + Sync>(
         swept: 0,
         bytes: sheets.len() as u64,
     };
-    Ok(is_written && is_back && gathering.outcome? == report)
+    Ok(is_written && is_back && gathering.outcome == Ok(report))
 }
 
 #[test]

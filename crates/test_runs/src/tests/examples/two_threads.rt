@@ -125,6 +125,22 @@ fn counts_of(words: &[AtomicUsize; 2]) -> (usize, usize) {
     (words[0].load(SeqCst), words[1].load(SeqCst))
 }
 
+/// Runs two pages on two sheets.
+fn run_counted<R: Threads + Wait + Sync>(
+    rt: &R,
+    alloc: Global,
+    gate: &Counted,
+) -> Result<(), Fail> {
+    let trial = Trial {
+        document: TWO_PAGES,
+        items: "0",
+        counts: (2, 2),
+    };
+    let mut sink = MemorySink::new(alloc, 1_000, 1_000, 100)?;
+    run_into(rt, alloc, &trial, gate, &mut sink)?;
+    Ok(())
+}
+
 // How often somebody looks depends on the threads. Each of two sheets is found by a look, and each of two imposers ends
 // when one finds nothing.
 #[test]
@@ -134,13 +150,7 @@ fn a_gate_is_called_before_each_step_and_look_and_after_it(rt: HostRuntime) -> R
         looks_at_queue: [AtomicUsize::new(0), AtomicUsize::new(0)],
         looks_at_channel: [AtomicUsize::new(0), AtomicUsize::new(0)],
     };
-    let trial = Trial {
-        document: TWO_PAGES,
-        items: "0",
-        counts: (2, 2),
-    };
-    let mut sink = MemorySink::new(rt.alloc(), 1_000, 1_000, 100)?;
-    run_into(&rt, rt.alloc(), &trial, &gate, &mut sink)?;
+    run_counted(&rt, rt.alloc(), &gate)?;
     assert_that(&rt, counts_of(&gate.steps) == (0x101_0101, 0x101_0101));
     let (before, after) = counts_of(&gate.looks_at_queue);
     assert_that(&rt, before == after && before >= 4);

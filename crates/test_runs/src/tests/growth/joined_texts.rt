@@ -44,36 +44,38 @@ impl<'r> InTexts<'r> {
     /// Adds such a text to the texts: how many they are then.
     fn push(&mut self, parts: &str, answer: &mut Vec<u8>) -> anyhow::Result<()> {
         self.write(parts)?;
-        let (count, room) = (self.texts.len(), self.text.capacity());
-        let len = self.text.pieces().len();
+        let before = (self.texts.len(), size_of(&self.text));
         let is_added = self.texts.push(&mut self.text).is_ok();
-        let has_room = self.text.capacity() == room;
-        let left = self.text.pieces().len();
-        show_added(
-            is_added,
-            [count, self.texts.len()],
-            [len, left],
-            has_room,
-            answer,
-        )
+        let after = (self.texts.len(), size_of(&self.text));
+        show_added(is_added, before, after, answer)
     }
 
     /// Adds a sheet with such a text to the finished ones: how many they are then.
     fn finish(&mut self, sheet: u32, parts: &str, answer: &mut Vec<u8>) -> anyhow::Result<()> {
         self.write(parts)?;
-        let (count, room) = (self.finished.sheets.len(), self.text.capacity());
-        let len = self.text.pieces().len();
+        let before = (self.finished.sheets.len(), size_of(&self.text));
         let is_added = self.finished.push(sheet, &mut self.text).is_ok();
-        let has_room = self.text.capacity() == room
-            && self.finished.texts.len() == self.finished.sheets.len();
-        let left = self.text.pieces().len();
-        show_added(
-            is_added,
-            [count, self.finished.sheets.len()],
-            [len, left],
-            has_room,
-            answer,
-        )
+        let after = (self.finished.sheets.len(), size_of(&self.text));
+        if self.finished.texts.len() != after.0 {
+            return show("not as many texts as sheets", answer);
+        }
+        show_added(is_added, before, after, answer)
+    }
+
+    /// The finished sheets come: how many they are.
+    fn come(&mut self, alloc: Global) -> usize {
+        let finished = mem::replace(&mut self.finished, FinishedSheets::new(alloc));
+        let count = finished.sheets.len();
+        self.early.put(finished);
+        count
+    }
+
+    /// Takes the sheets that came with this one: how many they are.
+    fn take(&mut self, sheet: u32) -> usize {
+        match self.early.take_written(sheet) {
+            Some(written) => written.sheets.len(),
+            None => 0,
+        }
     }
 
     /// From one of the texts on, how many are joined, of so many at most, and their pieces.
@@ -124,18 +126,25 @@ impl<'r> InTexts<'r> {
     }
 }
 
+/// The room that a text has, and how long it is.
+type Size = (usize, Option<usize>);
+
+fn size_of(text: &Rope<'_>) -> Size {
+    (text.capacity(), text.pieces().len())
+}
+
 /// Shows how many they are, if one more was added and the text has left its memory. If memory was refused, they are as
 /// many as before, and the text is as long.
 fn show_added(
     is_added: bool,
-    [before, after]: [usize; 2],
-    [had, has]: [Option<usize>; 2],
-    has_room: bool,
+    before: (usize, Size),
+    after: (usize, Size),
     answer: &mut Vec<u8>,
 ) -> anyhow::Result<()> {
-    if is_added && has == Some(0) && has_room {
-        show(after, answer)
-    } else if !is_added && after == before && has == had && has_room {
+    let (_, (room, _)) = before;
+    if is_added && after.1 == (room, Some(0)) {
+        show(after.0, answer)
+    } else if !is_added && after == before {
         Ok(write!(answer, "NoMemory")?)
     } else {
         show("something else has changed", answer)
@@ -155,18 +164,10 @@ impl<'r> Called for InTexts<'r> {
                 show(self.texts.len(), answer)
             }
             "finish" => self.finish(first, parts, answer),
-            "come" => {
-                let finished = mem::replace(&mut self.finished, FinishedSheets::new(alloc));
-                show(finished.sheets.len(), answer)?;
-                self.early.put(finished);
-                Ok(())
-            }
+            "come" => show(self.come(alloc), answer),
             "found" => self.found(answer),
             "text" => self.text_of(first, answer),
-            "take" => match self.early.take_written(first) {
-                Some(written) => show(written.sheets.len(), answer),
-                None => show(0usize, answer),
-            },
+            "take" => show(self.take(first), answer),
             _ => show((self.early.places.len(), self.early.groups.len()), answer),
         }
     }
@@ -294,18 +295,20 @@ const TOGETHER: &str = "\
 ";
 
 /// Adds a sheet in memory that another one had, with the first growth refused: whether none was asked for.
-fn is_added_anew(alloc: Global) -> Result<bool, AllocError> {
-    let mut finished = FinishedSheets::new(alloc);
-    let mut text = Rope::new(alloc);
+fn is_added_anew<'r>(
+    alloc: Global,
+    finished: &mut FinishedSheets<'r>,
+    text: &mut Rope<'r>,
+) -> Result<bool, AllocError> {
     text.append(b"text")?;
-    finished.push(0, &mut text)?;
+    finished.push(0, text)?;
     finished.clear();
     let is_empty = finished.sheets.is_empty() && finished.texts.len() == 0;
     text.append(b"text")?;
     refuse(alloc, 1);
-    let answer = finished.push(1, &mut text);
+    let is_added = finished.push(1, text).is_ok();
     let is_refused = has_refused(alloc);
-    Ok(is_empty && answer.is_ok() && !is_refused && finished.sheets.as_slice() == [1].as_slice())
+    Ok(is_empty && is_added && !is_refused && finished.sheets.as_slice() == [1].as_slice())
 }
 
 #[test]
@@ -313,10 +316,11 @@ fn texts_and_sheets_come_out_as_they_were(rt: HostRuntime) -> Result<(), Fail> {
     let long = [b'x'; 4_096];
     let longer = [b'y'; 5_000];
     let slices = (long.as_slice(), longer.as_slice());
-    assert_story(&rt, rt.alloc(), slices, 1, TEXTS)?;
-    assert_story(&rt, rt.alloc(), slices, 1, NEIGHBOURS)?;
-    assert_story(&rt, rt.alloc(), slices, 2, ONE_PLACE)?;
-    assert_story(&rt, rt.alloc(), slices, 4, TOGETHER)?;
-    assert_that(&rt, is_added_anew(rt.alloc())?);
+    for (places, story) in [(1, TEXTS), (1, NEIGHBOURS), (2, ONE_PLACE), (4, TOGETHER)] {
+        assert_story(&rt, rt.alloc(), slices, places, story)?;
+    }
+    let mut finished = FinishedSheets::new(rt.alloc());
+    let mut text = Rope::new(rt.alloc());
+    assert_that(&rt, is_added_anew(rt.alloc(), &mut finished, &mut text)?);
     Ok(())
 }

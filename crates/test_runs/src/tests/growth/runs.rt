@@ -125,6 +125,23 @@ fn refuse_each<R: Threads + Wait + Abort + Sync, G: Gate + Sync>(
     Ok(())
 }
 
+/// The same of a run over so many pages.
+fn refuse_pages<R: Threads + Wait + Abort + Sync>(
+    rt: &R,
+    alloc: Global,
+    pages: u32,
+    items: &str,
+    counts: (u32, u32),
+) -> Result<(), AllocError> {
+    let document = document_of(alloc, pages)?;
+    let trial = Trial {
+        document: &document,
+        items,
+        counts,
+    };
+    refuse_each(rt, alloc, &trial, &Open, false)
+}
+
 #[test]
 fn runs_by_few(rt: HostRuntime) -> Result<(), Fail> {
     for (pages, items, counts) in [
@@ -132,27 +149,14 @@ fn runs_by_few(rt: HostRuntime) -> Result<(), Fail> {
         (5, BOOKLET, (1, 1)),
         (8, TWO_UP, (2, 3)),
     ] {
-        let document = document_of(rt.alloc(), pages)?;
-        let trial = Trial {
-            document: &document,
-            items,
-            counts,
-        };
-        refuse_each(&rt, rt.alloc(), &trial, &Open, false)?;
+        refuse_pages(&rt, rt.alloc(), pages, items, counts)?;
     }
     Ok(())
 }
 
 #[test]
 fn runs_by_many(rt: HostRuntime) -> Result<(), Fail> {
-    let document = document_of(rt.alloc(), 8)?;
-    let trial = Trial {
-        document: &document,
-        items: TWO_UP,
-        counts: (16, 16),
-    };
-    refuse_each(&rt, rt.alloc(), &trial, &Open, false)?;
-    Ok(())
+    Ok(refuse_pages(&rt, rt.alloc(), 8, TWO_UP, (16, 16))?)
 }
 
 // Eight sheets of twelve lie in the window, of those with pages of 90,000 bytes.

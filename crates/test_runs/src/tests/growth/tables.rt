@@ -14,35 +14,32 @@ use std::sync::Wait;
 use std::test::Fail;
 use test_tools::{BOOKLET, Refused, has_refused, refuse, refuse_each, same_items};
 
+/// Whether a growth was refused of what was made: then it is an error, and only then.
+fn is_refused<R: Abort, T: Drop, E: Drop>(rt: &R, alloc: Global, made: Result<T, E>) -> bool {
+    let is_refused = has_refused(alloc);
+    assert_that(rt, made.is_err() == is_refused);
+    is_refused
+}
+
 /// Both tables of a plan; of a sheet of 65 slots too.
 fn make_tables<R: Abort>(rt: &R, alloc: Global, number: u32, items: &str) -> Result<bool, Fail> {
     let spec = read_spec(alloc, items)?;
     let plan = Plan::new(alloc, &spec, 5)?;
     refuse(alloc, number);
-    let plain = PlainTable::new(alloc, &plan);
-    let is_plain_refused = has_refused(alloc);
-    assert_that(rt, plain.is_err() == is_plain_refused);
+    let is_plain_refused = is_refused(rt, alloc, PlainTable::new(alloc, &plan));
     refuse(alloc, number);
-    let table = GatherTable::new(alloc, &plan);
-    let is_refused = has_refused(alloc);
-    assert_that(rt, table.is_err() == is_refused);
-    Ok(is_refused || is_plain_refused)
+    let is_shared_refused = is_refused(rt, alloc, GatherTable::new(alloc, &plan));
+    Ok(is_shared_refused || is_plain_refused)
 }
 
 /// A queue, a shelf, and places for sheets.
 fn make_others<R: Abort>(rt: &R, alloc: Global, number: u32) -> bool {
     refuse(alloc, number);
-    let queue = Ready::new(alloc, 10);
-    let is_queue_refused = has_refused(alloc);
-    assert_that(rt, queue.is_err() == is_queue_refused);
+    let is_queue_refused = is_refused(rt, alloc, Ready::new(alloc, 10));
     refuse(alloc, number);
-    let shelf = Shelf::new(alloc);
-    let is_shelf_refused = has_refused(alloc);
-    assert_that(rt, shelf.is_err() == is_shelf_refused);
+    let is_shelf_refused = is_refused(rt, alloc, Shelf::new(alloc));
     refuse(alloc, number);
-    let early = Early::new(alloc, 10);
-    let are_places_refused = has_refused(alloc);
-    assert_that(rt, early.is_err() == are_places_refused);
+    let are_places_refused = is_refused(rt, alloc, Early::new(alloc, 10));
     is_shelf_refused || is_queue_refused || are_places_refused
 }
 
@@ -132,14 +129,25 @@ fn put_again<R: Abort + Wait>(
 fn put_after_others<R: Abort + Wait>(rt: &R, alloc: Global, number: u32) -> Result<bool, Fail> {
     let shelf = Shelf::new(alloc)?;
     let indices = put_pages(rt, alloc, &shelf, 28)?;
+    let is_refused = put_next(rt, alloc, number, &shelf)?;
+    put_pages(rt, alloc, &shelf, 3)?;
+    assert_that(rt, put_again(rt, alloc, number, &shelf)? == is_refused);
+    assert_that(rt, are_shown(&shelf, indices.as_slice()));
+    Ok(is_refused)
+}
+
+/// Puts a page for which a shelf asks for more room: whether that was refused.
+fn put_next<R: Abort + Wait>(
+    rt: &R,
+    alloc: Global,
+    number: u32,
+    shelf: &Shelf<'_>,
+) -> Result<bool, Fail> {
     let prepared = Prepared::new(alloc, 28, b"%%Page: 1 1\n")?;
     refuse(alloc, number);
     let answer = shelf.put(rt, prepared);
     let is_refused = has_refused(alloc);
     assert_that(rt, answer.is_ok());
-    put_pages(rt, alloc, &shelf, 3)?;
-    assert_that(rt, put_again(rt, alloc, number, &shelf)? == is_refused);
-    assert_that(rt, are_shown(&shelf, indices.as_slice()));
     Ok(is_refused)
 }
 
