@@ -26,7 +26,7 @@ Examples:
   impose booklet --pages 3-14 in.ps out.ps
   impose-pdf booklet in.pdf out.pdf   a booklet of a PDF";
 
-/// An argument of a subcommand: its name, which an option has behind `--`; what help calls its value, if it has one; and what
+/// An argument of a subcommand: its name, which an option has after `--`; what help calls its value, if it has one; and what
 /// help says of it.
 #[derive(Clone, Copy)]
 enum Argument {

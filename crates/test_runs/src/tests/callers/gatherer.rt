@@ -194,16 +194,6 @@ impl<'s, 'j, 't, 'd> Gatherer<'s, 'j, 't, 'd> {
     }
 }
 
-/// Two others of the same.
-pub(crate) fn two_others<'s, 'j, 't, 'd>(
-    gatherer: &mut Gatherer<'s, 'j, 't, 'd>,
-) -> Result<(Gatherer<'s, 'j, 't, 'd>, Gatherer<'s, 'j, 't, 'd>), AllocError> {
-    let (Some(one), Some(other)) = (gatherer.another(), gatherer.another()) else {
-        return Err(AllocError);
-    };
-    Ok((one, other))
-}
-
 /// What comes of a sheet.
 #[derive(Clone, Copy, Debug, PartialEq, Eq)]
 pub(crate) enum Outcome {
