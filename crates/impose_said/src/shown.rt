@@ -35,7 +35,7 @@ pub(crate) fn is_shown_whole(word: &str) -> bool {
     word.len() <= MOST_SHOWN && !word.chars().any(char::is_control)
 }
 
-/// These texts, one behind another.
+/// These texts, one after another.
 pub(crate) fn joined(alloc: Global, texts: &[&str]) -> Result<String, AllocError> {
     let mut joined = String::new(alloc);
     push_all(&mut joined, texts)?;

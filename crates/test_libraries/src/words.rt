@@ -99,7 +99,7 @@ pub fn long_text(alloc: Global, text: &str) -> Option<String> {
     repeated(alloc, [front, one, between, back], times).ok()
 }
 
-/// A part of a text between spaces; an empty one behind the last.
+/// A part of a text between spaces; an empty one after the last.
 fn part(text: &str, at: usize) -> &str {
     text.split(' ').nth(at).unwrap_or("")
 }
