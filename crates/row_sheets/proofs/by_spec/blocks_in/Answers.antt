@@ -55,8 +55,7 @@ pub returns-clause-kept : goal.returns-clause-kept
 returns-clause-kept c =
     let on = c.args.on.now in
     let k = counted on.spec.now on.sheet on.page on.row.now c.modulo.result c.div_ceil-blocks.result c.groups-groups.result.now c.modulo.ensures.admissible c.modulo.ensures.value c.groups-groups.ensures.items c.div_ceil-blocks.ensures in
-    let total = ap (λ n. c.div_ceil-blocks.result * n) c.slots_in_block.ensures ∙ k.slot_total in
-    (
+    let total = ap (λ n. c.div_ceil-blocks.result * n) c.slots_in_block.ensures ∙ k.slot_total in (
       omega (arith, k.sheet_total, c.if-blocks-groups-gt-MOST_SHEETS.false),
       omega (arith, total, c.if-blocks-slots_in_block-gt-MOST_PLACES.false),
     )
