@@ -42,7 +42,7 @@ pub enum Run {
     Columns,
 }
 
-/// What stands on the pages is upright, or lies on its side: to read it one turns them to the left, or to the right.
+/// What is on the pages is upright, or lies on its side: to read it one turns them to the left, or to the right.
 #[derive(Clone, Copy, Debug, PartialEq, Eq)]
 pub enum Turned {
     Upright,
@@ -50,7 +50,7 @@ pub enum Turned {
     Right,
 }
 
-/// In which order pages stand in the cells, as one reads the sheet: from the top down, and from the left to the right or
+/// In which order pages are in the cells, as one reads the sheet: from the top down, and from the left to the right or
 /// the other way.
 #[derive(Clone, Copy, Debug, PartialEq, Eq)]
 pub struct Order {

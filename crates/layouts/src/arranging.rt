@@ -28,7 +28,7 @@ pub const MOST_ON_SHEET: u64 = 1_024;
 
 /// Pages on each sheet as they are asked for, each in the middle of its cell: as many as there are cells, or as many as
 /// are asked for in a grid of at least as many cells. They keep margins and gaps, are as large as they can be
-/// unless a scale is asked for, and stand in the order that is asked for. One page on a sheet of its own paper is left
+/// unless a scale is asked for, and are in the order that is asked for. One page on a sheet of its own paper is left
 /// as it is if nothing else is asked for.
 pub fn arrange(
     alloc: Global,
@@ -54,7 +54,7 @@ pub fn arrange(
 }
 
 /// Two pages side by side on each side of a sheet, with the fold parallel to its shorter edge, for a row of pages that
-/// stands in signature order. Half of the gap is kept free on each side of the fold. For printers that flip a sheet
+/// is in signature order. Half of the gap is kept free on each side of the fold. For printers that flip a sheet
 /// about its longer edge the backs are turned by half.
 pub fn bind(alloc: Global, papers: &Papers, binding: &Binding) -> Result<Spec, ArrangementError>
     ensures page { IsPaper papers.now.page }

@@ -150,7 +150,7 @@ impl GridLayout {
             + u128::from(height).saturating_sub(slack)
     }
 
-    /// Where the corner of what counts of the page in this row and column stands.
+    /// Where the corner of what counts of the page in this row and column is.
     fn corner(&self, row: u32, column: u32) -> (u128, u128)
         requires place { HasPlace self.now.page self.now.room self.now.grid self.now.scale }
         requires in_rows { row < self.now.grid.rows }
@@ -214,7 +214,7 @@ impl GridLayout {
         }
     }
 
-    /// Page n + k of a block, where page k stands if the sheet is turned by half.
+    /// Page n + k of a block, where page k is if the sheet is turned by half.
     pub fn back_in(&self, n: u32, k: u32) -> Item
         requires place { HasPlace self.now.page self.now.room self.now.grid self.now.scale }
         requires near { IsTrue (are_near self.now.room self.now.scale) }

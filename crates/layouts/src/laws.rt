@@ -5,7 +5,7 @@ ghost use Rattle.layouts.specs.Laws.{GridIsInside, GridIsApart, GridIsInOrder, G
 ghost use Rattle.layouts.specs.Laws.{BestHasCells, BestIsBest, BestIsLarge};
 ghost use Rattle.layouts.specs.Laws.{BackIsInside, BackIsHalfTurn, PrintedAsItIs, LeafKeepsFold, RightToLeftIsMirror};
 
-/// A whole point of a page stands where its item puts it.
+/// A whole point of a page is where its item puts it.
 pub fn stands_where_put()
     ensures { StandsWherePut }
 {}
@@ -15,7 +15,7 @@ pub fn pages_are_inside()
     ensures { GridIsInside }
 {}
 
-/// Pages stand in the order that is asked for, along rows or columns, as one reads the sheet.
+/// Pages are in the order that is asked for, along rows or columns, as one reads the sheet.
 pub fn pages_are_in_order()
     ensures { GridIsInOrder }
 {}
@@ -30,7 +30,7 @@ pub fn pages_are_in_cells()
     ensures { GridIsInCell }
 {}
 
-/// Each page stands in the middle of its cell, to 10^-5 of a point.
+/// Each page is in the middle of its cell, to 10^-5 of a point.
 pub fn pages_are_in_middle()
     ensures { GridIsInMiddle }
 {}
@@ -70,7 +70,7 @@ pub fn right_to_left_is_mirror()
     ensures { RightToLeftIsMirror }
 {}
 
-/// A page that nothing refuses keeps the margins, lies in its cell and stands in its middle, and is as large as the cell allows.
+/// A page that nothing refuses keeps the margins, lies in its cell and is in its middle, and is as large as the cell allows.
 pub fn fitted_stands()
     ensures { FittedStands }
 {}
@@ -80,7 +80,7 @@ pub fn fitted_is_apart()
     ensures { FittedIsApart }
 {}
 
-/// Pages of several papers stand in the order that is asked for, as one reads the sheet.
+/// Pages of several papers are in the order that is asked for, as one reads the sheet.
 pub fn fitted_is_in_order()
     ensures { FittedIsInOrder }
 {}

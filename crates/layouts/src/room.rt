@@ -150,7 +150,7 @@ impl Room {
     }
 }
 
-/// Whether all lengths are from 0 to 99,999 points and five nines behind the dot.
+/// Whether all lengths are from 0 to 99,999 points and five nines after the dot.
 pub fn are_lengths(free: &Free) -> bool
     ensures { result ≡ may_be_lengths free.now }
 {
@@ -160,7 +160,7 @@ pub fn are_lengths(free: &Free) -> bool
     beside && above && inner
 }
 
-/// Whether a length is from 0 to 99,999 points and five nines behind the dot.
+/// Whether a length is from 0 to 99,999 points and five nines after the dot.
 fn is_length(length: Grains) -> bool
     ensures { result ≡ may_be_length length }
 {

@@ -78,7 +78,7 @@ impl Setting {
         }
     }
 
-    /// The two halves of a sheet whose leaves are bound so, if pages of the one paper can stand in them: one fold
+    /// The two halves of a sheet whose leaves are bound so, if pages of the one paper can be in them: one fold
     /// for pages of all papers.
     pub fn of_binding(papers: &Papers, binding: &Binding) -> Result<Setting, ArrangementError>
         ensures page { IsPaper papers.now.page }
@@ -170,7 +170,7 @@ impl Setting {
         Ok(layout.item_in(cell))
     }
 
-    /// A page of this paper in a cell, counted from 0, as it stands if the whole sheet is turned by half. It is fitted into
+    /// A page of this paper in a cell, counted from 0, as it is if the whole sheet is turned by half. It is fitted into
     /// its cell on a sheet of its own paper too.
     pub fn back_item(&self, page_paper: &Paper, cell: u32) -> Result<Item, ArrangementError>
         requires { cell < size self.now.grid }

@@ -51,7 +51,7 @@ fn name_len(text: &[u8]) -> usize
     open + plain_len(rest)
 }
 
-/// The length of what stands before the first closing parenthesis.
+/// The length of what is before the first closing parenthesis.
 fn open_len(text: &[u8]) -> usize
     ensures value { result ≡ prefix_len (λ b. not (b == meaning.closing)) text.now }
     ensures within { result ≤ length text.now }
@@ -59,7 +59,7 @@ fn open_len(text: &[u8]) -> usize
     text.iter().take_while(|b| **b != b')').count()
 }
 
-/// The length of what stands before the first blank.
+/// The length of what is before the first blank.
 fn plain_len(text: &[u8]) -> usize
     ensures value { result ≡ meaning.plain_len text.now }
     ensures within { result ≤ length text.now }

@@ -19,7 +19,7 @@ pub fn turns_add_up()
     ensures { TurnsAddUp }
 {}
 
-/// Each point of a turned page stands where a page of the turned paper would have it, to 10^-5 of a point.
+/// Each point of a turned page is where a page of the turned paper would have it, to 10^-5 of a point.
 pub fn turned_stands()
     ensures { TurnedStands }
 {}

@@ -14,7 +14,7 @@ use pagespec::Turn;
 use sheet_plan::{MadeSheets, PlacedSlot};
 use std::alloc::AllocError;
 
-/// How far a number stands above the foot of its cell, in grains: 18 points.
+/// How far a number is above the foot of its cell, in grains: 18 points.
 const ABOVE_FOOT: i128 = 2_286_000_000_000;
 
 /// The numbers of the pages on sheets.
@@ -114,7 +114,7 @@ fn degrees(turn: Turn) -> &'static [u8]
     }
 }
 
-/// Where a page's number stands, from the page's lower left corner on.
+/// Where a page's number is, from the page's lower left corner on.
 fn append_foot(
     below: Option<Grains>,
     placed: &PlacedSlot<'_>,
@@ -129,7 +129,7 @@ fn append_foot(
     Ok(())
 }
 
-/// How far a number stands above the page's lower edge.
+/// How far a number is above the page's lower edge.
 fn rise(below: Option<Grains>, placed: &PlacedSlot<'_>) -> i128
     ensures value { result ≡ rise_of below placed.now.paper.now (item_of placed.now.item.now) }
     ensures in_range { nat_abs result ≤ 2 * 10 ^ 23 }
@@ -160,7 +160,7 @@ fn scaled(scale: Number, side: Grains) -> u128
     u128::from(scale.billionths().unsigned_abs()) * side.get().unsigned_abs()
 }
 
-/// The number, in the middle of where it stands.
+/// The number, in the middle of its place.
 fn append_shown(number: u64, text: &mut Rope<'_>) -> Result<(), AllocError>
     ensures { OnOk result (text.new ≡ text.old ++ shown_text number) }
 {

@@ -29,7 +29,7 @@ pub fn index_of(documents: &[Document], name: &str) -> Option<usize> {
         .rposition(|document| document.name.as_str() == name)
 }
 
-/// Adds lines in the form that these words tell.
+/// Adds lines in the form that these words name.
 fn push_text(
     alloc: Global,
     bytes: &mut Vec<u8>,
