@@ -10,6 +10,7 @@ mod reports;
 mod said;
 mod shown;
 mod statuses;
+mod values;
 
 pub use fault::{IdleOption, ImposeFault, Packing};
 pub use finished::{Done, Finished, PaperOrigin, Told};
