@@ -33,7 +33,7 @@ pub struct Creep {
 
 /// A side of a leaf: whether it is turned by half, and how far its pages are moved.
 #[derive(Clone, Copy)]
-struct Side {
+struct LeafSide {
     by_half: bool,
     creep: u64,
 }
@@ -67,7 +67,7 @@ pub fn creeping_booklet_sheets(
     for s in 0..sheets {
         let by_half = is_turned(turned_backs, s);
         let by = creep_on(creep, s);
-        let side = Side { by_half, creep: by };
+        let side = LeafSide { by_half, creep: by };
         let place = 2 * u128::from(s);
         let entry = entry_at(row, place);
         let before = half_before(&made, creep, s, 0);
@@ -124,7 +124,7 @@ fn half_before(made: &MadeSheets, creep: Creep, s: u32, cell: u32) -> Option<Pla
 fn creeping_slot(
     setting: &Setting,
     papers: &[Paper],
-    side: Side,
+    side: LeafSide,
     before: Option<PlacedSlot<'_>>,
     entry: Option<u32>,
     cell: u32,
