@@ -48,10 +48,10 @@ unfolding all_groups_at
 all_none t b e = ap (or_bare t) e ∙ ap (λ o. o >>= λ i. Some ((i ∷ []) ∷ [])) b
 
 as_groups : (t : List ℕ) → IsSome AreWhole t → (m : List ℕ) × IsSome AreGroups (t ++ m)
-as_groups t (gs, are) = ([], gs, inl (subst (λ x. AreWhole x gs) (sym (append-nil t)) are))
+as_groups t (gs, are) = ([], (gs, inl (subst (λ x. AreWhole x gs) (sym (append-nil t)) are)))
 
 as_bare : (t : List ℕ) → IsSome IsBareItem t → (m : List ℕ) × IsSome AreGroups (t ++ m)
-as_bare t (i, is) = ([], (i ∷ []) ∷ [], inr (i, refl, subst (λ x. IsBareItem x i) (sym (append-nil t)) is))
+as_bare t (i, is) = ([], ((i ∷ []) ∷ [], inr (i, refl, subst (λ x. IsBareItem x i) (sym (append-nil t)) is)))
 
 -- both readers are stuck, and so is the one that goes farther
 pub all_stuck : (t : List ℕ) (bare groups left : ℕ) → StuckIn IsBareItem bare_at t bare → StuckIn AreWhole whole_groups_at t groups → left ≡ min groups bare → StuckIn AreGroups all_groups_at t left

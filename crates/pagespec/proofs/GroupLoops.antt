@@ -84,9 +84,6 @@ pub record GroupsOn (fuel : ℕ) (bytes rest : List ℕ) (items : List ParsedIte
   pub shows : AreParsed items (flat_map (λ g. g) front)
   pub counted : lengths ≡ map length front
 
-pub groups_first : (n : ℕ) (bytes : List ℕ) → n ≡ suc (length bytes) → GroupsOn n bytes bytes [] []
-groups_first n bytes e = record { front = []; reads = parts_first 44 group_at n bytes e; before = row_first 44 IsGroup bytes; many = e; shows = tt; counted = refl }
-
 items-one : (gs : List (List WrittenItem)) (g : List WrittenItem) → flat_map (λ x. x) (gs ++ g ∷ []) ≡ flat_map (λ x. x) gs ++ g
 items-one [] g = append-nil g
 items-one (h ∷ gs) g = ap (λ xs. h ++ xs) (items-one gs g) ∙ sym (append_assoc h (flat_map (λ x. x) gs) g)

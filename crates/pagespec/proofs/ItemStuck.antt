@@ -1,12 +1,12 @@
 -- Where no item can be read on, with its page number or without.
-use Rattle.std.proofs.Common.{inl, inr, ◌⊎◌, arith, ◌≡◌, ◌≢◌, ℕ, List, [], ◌∷◌, ◌++◌, Bool, true, false, Option, Some, None, refl, sym, ap, subst, ◌∙◌, append_assoc, append-nil, length, take}
+use Rattle.std.proofs.Common.{inl, inr, ◌⊎◌, ◌≡◌, ◌≢◌, ℕ, List, [], ◌∷◌, ◌++◌, Bool, true, false, Option, Some, None, refl, sym, ap, subst, ◌∙◌, append_assoc, append-nil, length}
 use Rattle.std.specs.Prelude.{◌==◌, if◌then◌else◌}
 use Rattle.std.specs.Char.{is_ascii_digit}
 use Rattle.std.specs.List.{AllPass}
 use Rattle.rules.specs.Numbers.{number_of}
-use Rattle.rules.specs.Specification.{Modifier, WrittenItem, IsItem, IsBareItem, AreModifiers, minus_text}
+use Rattle.rules.specs.Specification.{Modifier, WrittenItem, IsItem, IsBareItem, minus_text}
 use Rattle.lengths.specs.Reading.{digits, past_digits, is_empty}
-use Rattle.lengths.proofs.Digits.{by_test, digits_whole, digits_pass, digits-append, past_digits-append}
+use Rattle.lengths.proofs.Digits.{digits_whole, digits_pass, digits-append, past_digits-append}
 use Rattle.lengths.proofs.Numbers.{some_same, taken}
 use Rattle.pagespec.specs.Reading.{modifiers_at, is_minus, past_minus, item_with, item_from, item_at, bare_at, whole}
 use Rattle.pagespec.specs.Parsed.{ModifiersRead}
@@ -62,8 +62,10 @@ item_stuck t body b none = (
       (stuck_behind (λ x. x ≡ 48 ∷ []) (λ x. digits x ≡ []) (IsSome IsItem) (Nothing item_at) (minus_text (is_minus t)) body (length body)
       (λ x e. (
         [],
-        record { from_end = is_minus t; page = number_of (48 ∷ []); modifiers = [] },
-        (48 ∷ [], [], ap (λ y. minus_text (is_minus t) ++ y) (append-nil x ∙ e) ∙ sym (append-nil (minus_text (is_minus t) ++ 48 ∷ [])), (zero_digits, (λ n. cc (n)), refl), refl),
+        (
+          record { from_end = is_minus t; page = number_of (48 ∷ []); modifiers = [] },
+          (48 ∷ [], [], ap (λ y. minus_text (is_minus t) ++ y) (append-nil x ∙ e) ∙ sym (append-nil (minus_text (is_minus t) ++ 48 ∷ [])), (zero_digits, (λ n. cc (n)), refl), refl),
+        ),
       ))
       (λ u l e. item_read t u (subst (λ x. Alike x u) b l) ∙ no_digits (is_minus t) u e)
       (stuck_first (λ x. x ≡ 48 ∷ []) (λ x. digits x ≡ []) body (48 ∷ []) refl
@@ -84,10 +86,9 @@ item_ended t body behind rest left b some past s =
     let is_t : (m ++ ds) ++ behind ≡ t = append_assoc m ds behind ∙ (ap (λ x. m ++ (ds ++ x)) past ∙ (ap (λ x. m ++ x) (digits_whole body ∙ b) ∙ sym (minus_whole t))) in
     subst (λ x. StuckAfter IsItem item_at x rest left) is_t
     (stuck_behind (IsSome AreSomeModifiers) (λ x. ReadsBefore rest (Some (modifiers_at (length x) x))) (IsSome IsItem) (λ x. ReadsBefore rest (item_at x)) (m ++ ds) behind left
-    (λ x (ms, are, nonempty). (
+    (λ x (ms, (are, nonempty)). (
       [],
-      record { from_end = is_minus t; page = number_of ds; modifiers = ms },
-      (ds, x, ap (λ y. (m ++ ds) ++ y) (append-nil x), (digits_pass body, some, refl), are),
+      (record { from_end = is_minus t; page = number_of ds; modifiers = ms }, (ds, x, ap (λ y. (m ++ ds) ++ y) (append-nil x), (digits_pass body, some, refl), are)),
     ))
     (λ u l (ms, after, e, begins).
     let none = digits_alike behind u l (ap digits past ∙ past_none body) in
@@ -106,10 +107,9 @@ item_ended t body behind rest left b some past s =
     s)
 
 bare_text : (t : List ℕ) → IsSome AreSomeModifiers t → (from_end : Bool) → (m : List ℕ) × IsSome IsBareItem (minus_text from_end ++ (t ++ m))
-bare_text t (ms, are, some) from_end = (
+bare_text t (ms, (are, some)) from_end = (
   [],
-  record { from_end = from_end; page = 0; modifiers = ms },
-  (t, ap (λ y. minus_text from_end ++ y) (append-nil t), refl, not_empty from_end, are),
+  (record { from_end = from_end; page = 0; modifiers = ms }, (t, ap (λ y. minus_text from_end ++ y) (append-nil t), refl, not_empty from_end, are)),
 )
   where
     not_empty : (b : Bool) → minus_text b ++ (t ++ []) ≢ []

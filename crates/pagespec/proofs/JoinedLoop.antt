@@ -1,5 +1,5 @@
 -- A loop over parts with a byte between them.
-use Rattle.std.proofs.Common.{◌≡◌, ℕ, zero, suc, List, [], ◌∷◌, ◌++◌, Option, Some, None, refl, sym, ap, ◌∙◌, append_assoc, length}
+use Rattle.std.proofs.Common.{◌≡◌, ℕ, suc, List, [], ◌∷◌, ◌++◌, Option, Some, None, refl, sym, ap, ◌∙◌, append_assoc, length}
 use Rattle.std.specs.List.{AllZip}
 use Rattle.pagespec.specs.Reading.{◌>>=◌, byte_at, joined_at, with_part}
 

@@ -1,20 +1,20 @@
 -- Where no unit, measure, scale or offset can be read on.
-use Rattle.std.proofs.Common.{inl, inr, arith, ◌≡◌, ◌≢◌, ℕ, ◌≤◌, min, List, [], ◌∷◌, ◌++◌, Bool, true, false, Option, Some, None, refl, sym, ap, subst, ◌∙◌, append_assoc, append-nil, length, take}
+use Rattle.std.proofs.Common.{inl, inr, arith, ◌≡◌, ℕ, ◌≤◌, min, List, [], ◌∷◌, ◌++◌, Bool, true, false, Option, Some, None, refl, sym, ap, subst, ◌∙◌, append_assoc, append-nil, length, take}
 use Rattle.std.specs.Prelude.{◌==◌, ◌||◌, ℤ, if◌then◌else◌}
 use Rattle.std.proofs.Math.Nat.{min-eq_left, min-eq_right}
 use Rattle.rules.specs.Numbers.{IsNumber}
 use Rattle.rules.specs.Papers.{LengthUnit, Pt, Cm, Mm, In, Width, Height}
-use Rattle.rules.specs.Specification.{Measure, Modifier, Quarters, Scaled, Moved, IsMeasure, IsModifier, unit_name}
+use Rattle.rules.specs.Specification.{Measure, Modifier, Scaled, Moved, IsMeasure, IsModifier, unit_name}
 use Rattle.lengths.specs.Reading.{number_at}
 use Rattle.lengths.proofs.Numbers.{number_found, some_same, same_byte}
 use Rattle.lengths.proofs.Digits.{by_test}
-use Rattle.pagespec.specs.Reading.{byte_at, unit_at, past_letter, measure_from, measure_at, scale_at, offset_at, modifier_at}
+use Rattle.pagespec.specs.Reading.{byte_at, unit_at, past_letter, measure_from, measure_at, scale_at, offset_at}
 use Rattle.pagespec.specs.Places.{IsStuck, StuckIn, StuckAfter, ReadsBefore, IsUnit}
 use Rattle.pagespec.proofs.Measures.{byte_found, measure_found, measure_read, unit_found, unit_read}
 use Rattle.pagespec.proofs.Modifiers.{comma_no_unit}
-use Rattle.pagespec.proofs.Scans.{no_measure, scale_none, no_first, no_comma, no_second, no_bracket, at_scale, at_offset}
-use Rattle.pagespec.proofs.NumberPlaces.{Alike, number_alike, byte_alike}
-use Rattle.pagespec.proofs.NumberStuck.{zero_digits, zero_number}
+use Rattle.pagespec.proofs.Scans.{no_measure, scale_none, no_first, no_comma, no_second, no_bracket}
+use Rattle.pagespec.proofs.NumberPlaces.{number_alike, byte_alike}
+use Rattle.pagespec.proofs.NumberStuck.{zero_number}
 use Rattle.pagespec.proofs.StuckPlaces.{stuck_behind, stuck_there}
 
 abbrev pub IsSome : {X : Type 0} → (List ℕ → X → Type 0) → List ℕ → Type 0
@@ -44,6 +44,14 @@ not_shorter a t e = omega (arith, ap length e)
 not_much_shorter : (a b : ℕ) (t : List ℕ) → t ≡ a ∷ b ∷ t → ⊥
 not_much_shorter a b t e = omega (arith, ap length e)
 
+first : {A : Type 0} (b : Bool) (x y : A) → b ≡ true → (if b then x else y) ≡ x
+first true x y e = refl
+first false x y e = absurd (cc (e))
+
+otherwise : {A : Type 0} (b : Bool) (x y : A) → b ≡ false → (if b then x else y) ≡ y
+otherwise true x y e = absurd (cc (e))
+otherwise false x y e = refl
+
 -- after the first letter of two
 letter_ended : (a second : ℕ) (u : LengthUnit) → unit_name u ≡ a ∷ second ∷ [] → ((b : ℕ) (t : List ℕ) → unit_at (a ∷ b ∷ t) ≡ (if b == second then (u, t) else (Pt, a ∷ b ∷ t)))
     → (t : List ℕ) → (unit_at (a ∷ t)).1 ≡ a ∷ t → UnitStuck (a ∷ t) (a ∷ t) (length t)
@@ -54,11 +62,14 @@ letter_ended a second u name table t none = record {
   left_is = refl;
   more = second ∷ [];
   begun = (u, inl (sym name));
-  fails = λ b tail is after. (Pt, a ∷ b ∷ after, ap (λ x. Some x) (table b after ∙ rw (other b tail is) refl), refl);
+  fails = λ b tail is after. (Pt, a ∷ b ∷ after, ap (λ x. Some x) (unread b after (other b tail is)), refl);
 }
   where
+    unread : (b : ℕ) (after : List ℕ) → (b == second) ≡ false → unit_at (a ∷ b ∷ after) ≡ (Pt, a ∷ b ∷ after)
+    unread b after h = table b after ∙ otherwise (b == second) (u, after) (Pt, a ∷ b ∷ after) h
+
     there : (b : ℕ) (tail : List ℕ) → (b == second) ≡ true → (unit_at (a ∷ b ∷ tail)).1 ≡ tail
-    there b tail h = ap (λ x. x.1) (table b tail ∙ rw h refl)
+    there b tail h = ap (λ x. x.1) (table b tail ∙ first (b == second) (u, tail) (Pt, a ∷ b ∷ tail) h)
 
     other : (b : ℕ) (tail : List ℕ) → t ≡ b ∷ tail → (b == second) ≡ false
     other b tail is = elim (by_test (b == second)) [
@@ -150,7 +161,7 @@ unit_stuck t rest half left r h e = let (front, split, is) = unit_found t in by_
 
 -- a number alone is a measure in points
 number_measure : (t : List ℕ) → IsSome IsNumber t → (m : List ℕ) × IsSome IsMeasure (t ++ m)
-number_measure t (v, is) = ([], record { number = v; unit = Pt }, (t, [], refl, is, inr (refl, refl)))
+number_measure t (v, is) = ([], (record { number = v; unit = Pt }, (t, [], refl, is, inr (refl, refl))))
 
 pub measure_stuck : (t : List ℕ) (left : ℕ) → StuckIn IsNumber number_at t left → StuckIn IsMeasure measure_at t left
 measure_stuck t left (none, s) =
@@ -165,7 +176,7 @@ measure_ended t behind rest v left found s =
     let (number, split, is) = number_found t behind v found in
     subst (λ x. StuckAfter IsMeasure measure_at x rest left) (sym split)
     (stuck_behind (IsSome IsUnit) (λ x. ReadsBefore rest (Some (unit_at x))) (IsSome IsMeasure) (λ x. ReadsBefore rest (measure_at x)) number behind left
-    (λ unit (u, is_unit). ([], record { number = v; unit = u }, subst (λ x. IsMeasure (number ++ x) (record { number = v; unit = u })) (sym (append-nil unit)) (number, unit, refl, is, is_unit)))
+    (λ unit (u, is_unit). ([], (record { number = v; unit = u }, subst (λ x. IsMeasure (number ++ x) (record { number = v; unit = u })) (sym (append-nil unit)) (number, unit, refl, is, is_unit))))
     (λ r l (u, after, e, begins). (
       record { number = v; unit = u },
       after,
@@ -182,7 +193,7 @@ pub scale_stuck : (t : List ℕ) (left : ℕ) → StuckIn IsNumber number_at t l
 scale_stuck t left (none, s) = (
   scale_none t none,
   stuck_there (IsSome IsNumber) (Nothing number_at) (IsSome IsScaleAfter) (Nothing scale_at) t left
-      (λ x (v, is). ([], Scaled v, subst (λ y. IsScaleAfter y (Scaled v)) (sym (append-nil x)) (x, refl, is))) (λ u l e. scale_none u e) s,
+      (λ x (v, is). ([], (Scaled v, subst (λ y. IsScaleAfter y (Scaled v)) (sym (append-nil x)) (x, refl, is)))) (λ u l e. scale_none u e) s,
 )
 
 -- an offset after its bracket
@@ -198,11 +209,11 @@ offset_text first second = ap (λ y. 40 ∷ y) (sym (append_assoc first (44 ∷ 
 first_begun : (t : List ℕ) → IsSome IsMeasure t → (m : List ℕ) × IsSome IsOffsetAfter (t ++ m)
 first_begun t (x, is) =
     let (y, is_y) = zero_measure in
-    (44 ∷ 48 ∷ 41 ∷ [], Moved x y, (t, 48 ∷ [], offset_text t (48 ∷ []), is, is_y))
+    (44 ∷ 48 ∷ 41 ∷ [], (Moved x y, (t, 48 ∷ [], offset_text t (48 ∷ []), is, is_y)))
 
 second_begun : (first : List ℕ) (x : Measure) → IsMeasure first x → (t : List ℕ) → IsSome IsMeasure t → (m : List ℕ) × IsSome IsOffsetAfter ((first ++ 44 ∷ []) ++ (t ++ m))
 second_begun first x is t (y, is_y) =
-    (41 ∷ [], Moved x y, (first, t, ap (λ z. 40 ∷ z) (append_assoc first (44 ∷ []) (t ++ 41 ∷ [])) ∙ offset_text first t, is, is_y))
+    (41 ∷ [], (Moved x y, (first, t, ap (λ z. 40 ∷ z) (append_assoc first (44 ∷ []) (t ++ 41 ∷ [])) ∙ offset_text first t, is, is_y)))
 
 pub first_stuck : (t : List ℕ) (left : ℕ) → StuckIn IsMeasure measure_at t left → StuckIn IsOffsetAfter offset_at t left
 first_stuck t left (none, s) =

@@ -41,6 +41,3 @@ reads_all k bytes rest s (front, e, shows) none =
 pub no_fuel : (t : List ℕ) → modifiers_at 0 t ≡ ([], t)
 unfolding modifiers_at
 no_fuel t = refl
-
-pub reads_first : (bytes : List ℕ) (s : Modifiers) → Shows [] s → ReadsOn (length bytes) bytes bytes s
-reads_first bytes s shows = ([], refl, shows)

@@ -1,5 +1,5 @@
 -- Where no modifier can be read on.
-use Rattle.std.proofs.Common.{inl, inr, arith, ◌≡◌, ◌≢◌, ℕ, zero, suc, ◌+◌, ◌<◌, ◌≤◌, List, [], ◌∷◌, ◌++◌, Option, Some, None, refl, sym, ap, subst, ◌∙◌, append_assoc, append-nil, length, take}
+use Rattle.std.proofs.Common.{inl, arith, ◌≡◌, ◌≢◌, ℕ, zero, suc, ◌<◌, ◌≤◌, List, [], ◌∷◌, ◌++◌, Option, Some, None, refl, sym, ap, subst, ◌∙◌, append_assoc, append-nil, length}
 use Rattle.std.specs.Prelude.{ℤ, Result, Ok, Err, MatchResult}
 use Rattle.std.proofs.lemmas.List.{length-append}
 use Rattle.rules.specs.Specification.{Modifier, Quarters, Scaled, Moved, IsModifier, AreModifiers}
@@ -11,7 +11,7 @@ use Rattle.pagespec.specs.Parsed.{ModifiersRead}
 use Rattle.pagespec.specs.declared.parsed.Modifiers.{Modifiers}
 use Rattle.pagespec.proofs.Letters.{turn_letter}
 use Rattle.pagespec.proofs.Measures.{bind_some}
-use Rattle.pagespec.proofs.Modifiers.{Stood, modifier_found, modifier_read, turn_read, offset_read, some_byte}
+use Rattle.pagespec.proofs.Modifiers.{modifier_found, turn_read, offset_read, some_byte}
 use Rattle.pagespec.proofs.Scans.{scale_from, at_nothing, at_scale, at_offset, at_other}
 use Rattle.pagespec.proofs.NumberPlaces.{Alike, number_alike}
 use Rattle.pagespec.proofs.StuckPlaces.{stuck_behind, stuck_first}
@@ -53,12 +53,16 @@ bracket_stuck t u b left e is s = part_stuck 40 t u offset_at left (e ∙ ap (λ
 pair : (w : ℤ × List ℕ) (v : ℤ) (rest : List ℕ) → w.0 ≡ v → w.1 ≡ rest → w ≡ (v, rest)
 pair w v rest a b = ap (λ x. (x, w.1)) a ∙ ap (λ y. (v, y)) b
 
+scaled_same : (a b : ℤ) → Scaled a ≡ Scaled b → a ≡ b
+scaled_same a b e = cc (e)
+
 scale_alike : (t number rest u : List ℕ) (v : ℤ) → t ≡ number ++ rest → scale_at t ≡ Some (Scaled v, rest) → Alike rest u → scale_at (number ++ u) ≡ Some (Scaled v, u)
 unfolding scale_at
 scale_alike t number rest u v split e l =
     let (w, found, both) = bind_some (number_at t) _ (Scaled v, rest) e in
-    let value : w.0 ≡ v = cc (both) in
-    let behind : w.1 ≡ rest = cc (both) in
+    let same = some_same _ _ both in
+    let value : w.0 ≡ v = scaled_same w.0 v (ap (λ x. x.0) same) in
+    let behind : w.1 ≡ rest = ap (λ x. x.1) same in
     scale_from (number ++ u) u v (number_alike t rest number u v (found ∙ ap (λ x. Some x) (pair w v rest value behind)) split l)
 
 -- the same modifier is read before another rest that begins with the same byte
@@ -84,7 +88,7 @@ unfolding modifiers_at
 none_again u zero e = refl
 none_again u (suc k) e = rw e refl
 
-no_front : (t rest : List ℕ) (ms : List Modifier) → ([], t) ≡ (ms, rest) → Front t rest ms
+no_front : (t rest : List ℕ) (ms : List Modifier) → ◌≡◌ {A = List Modifier × List ℕ} ([], t) (ms, rest) → Front t rest ms
 no_front t rest ms e =
     subst (λ x. Front t x.1 x.0) e
     (record { text = []; split = refl; are = refl; again = λ u l none k h. none_again u k none })
@@ -139,11 +143,8 @@ modifiers_stuck t rest s left (ms, read, shows) (none, stuck) =
     let front = modifiers_front (length t) t rest ms read in
     subst (λ x. ModifiersStuck x rest left) (sym front.split)
     (stuck_behind (IsSome IsModifier) (Nothing modifier_at) (IsSome AreSomeModifiers) (λ x. ReadsBefore rest (Some (modifiers_at (length x) x))) front.text rest left
-    (λ x (m, is). (
-      [],
-      ms ++ m ∷ [],
-      subst (λ y. AreSomeModifiers (front.text ++ y) (ms ++ m ∷ [])) (sym (append-nil x)) (one_more front.text x ms m front.are is, not_nothing front.text x (some_byte m x is)),
-    ))
+    (λ x (m, is).
+    ([], (ms ++ m ∷ [], subst (λ y. AreSomeModifiers (front.text ++ y) (ms ++ m ∷ [])) (sym (append-nil x)) (one_more front.text x ms m front.are is, not_nothing front.text x (some_byte m x is)))))
     (λ u l e. (ms, u, ap (λ x. Some x) (front.again u l e (length (front.text ++ u)) (omega (arith, length-append front.text u))), l))
     stuck)
 

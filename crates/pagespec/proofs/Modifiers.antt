@@ -105,7 +105,7 @@ pub comma_no_unit : (t : List ℕ) → NoUnit (44 ∷ t)
 comma_no_unit [] = refl
 comma_no_unit (b ∷ t) = refl
 
-pub bracket_no_unit : (t : List ℕ) → NoUnit (41 ∷ t)
+bracket_no_unit : (t : List ℕ) → NoUnit (41 ∷ t)
 bracket_no_unit [] = refl
 bracket_no_unit (b ∷ t) = refl
 

@@ -123,7 +123,7 @@ modulo_stuck t rest left p (none, s) =
     subst (λ x. StuckIn IsSpec spec_at x left) (append_assoc ds (58 ∷ []) rest ∙ sym has.0) (
       modulo_read ds rest (digits_pass t) has.1 none,
       stuck_behind (IsSome AreGroups) (Nothing all_groups_at) (IsSome IsSpec) (Nothing spec_at) (ds ++ 58 ∷ []) rest left
-          (λ x (gs, are). ([], record { modulo = number_of ds; groups = gs }, inr (ds, x, append_assoc ds (58 ∷ []) (x ++ []) ∙ ap (λ y. ds ++ 58 ∷ y) (append-nil x), (digits_pass t, has.1, refl), are)))
+          (λ x (gs, are). ([], (record { modulo = number_of ds; groups = gs }, inr (ds, x, append_assoc ds (58 ∷ []) (x ++ []) ∙ ap (λ y. ds ++ 58 ∷ y) (append-nil x), (digits_pass t, has.1, refl), are))))
           (λ u l e. modulo_read ds u (digits_pass t) has.1 e) s,
     )
 

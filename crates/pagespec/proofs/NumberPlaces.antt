@@ -1,9 +1,9 @@
 -- A number is read the same whatever follows the byte after it.
-use Rattle.std.proofs.Common.{inl, inr, ◌≡◌, ◌≢◌, ℕ, List, [], ◌∷◌, ◌++◌, Bool, true, false, Option, Some, None, refl, sym, ap, subst, ◌∙◌, append_assoc, append-nil, take}
+use Rattle.std.proofs.Common.{inl, inr, ◌≡◌, ◌≢◌, ℕ, List, [], ◌∷◌, ◌++◌, Bool, true, false, Some, None, refl, sym, ap, subst, ◌∙◌, append_assoc, append-nil, take}
 use Rattle.std.specs.Prelude.{◌==◌, ◌||◌, ℤ, if◌then◌else◌}
 use Rattle.std.specs.Char.{is_ascii_digit}
 use Rattle.std.proofs.lemmas.List.{append_cancel_right}
-use Rattle.lengths.specs.Reading.{digits, past_digits, is_minus, unsigned, decimals_at, past_decimals, value_of, is_empty, number_from, number_at}
+use Rattle.lengths.specs.Reading.{digits, past_digits, decimals_at, past_decimals, value_of, is_empty, number_from, number_at}
 use Rattle.lengths.proofs.Digits.{by_test, digits-yes, digits-no, past_digits-yes, past_digits-no, digits_whole, digits_pass, digits-append, past_digits-append}
 use Rattle.lengths.proofs.Numbers.{same_byte, chosen_some, not_empty, from_parts, point_of}
 use Rattle.pagespec.specs.Reading.{byte_at}
@@ -65,10 +65,10 @@ dot_decimals t r l =
     )
 
 no_decimals : (b c : ℕ) (t r : List ℕ) → c ≡ b → (b == 46) ≡ false → is_ascii_digit b ≡ false → Decimals (b ∷ t) (c ∷ r)
-no_decimals b c t r same no none =
-    let dot : (c == 46) ≡ false = ap (λ x. x == 46) same ∙ no in
+no_decimals b c t r same dotless none =
+    let dot : (c == 46) ≡ false = ap (λ x. x == 46) same ∙ dotless in
     let digit : is_ascii_digit c ≡ false = ap is_ascii_digit same ∙ none in
-    rw (no, dot, digit) (refl, refl, refl, refl)
+    rw (dotless, dot, digit) (refl, refl, refl, refl)
 
 decimals_alike : (t r : List ℕ) → digits t ≡ [] → Alike (past_decimals t) r → Decimals t r
 decimals_alike [] [] none l = (refl, refl, refl, refl)
@@ -144,10 +144,10 @@ no_number = refl
 
 -- a body that begins with this byte
 begun_at : (body r rest t : List ℕ) (c : ℕ) → body ≢ [] → body ++ rest ≡ c ∷ t → ((c == 45) || (c == 43)) ≡ false → number_at (body ++ r) ≡ number_from (c == 45) (body ++ r)
-begun_at [] r rest t c n e no = absurd (n refl)
-begun_at (d ∷ body) r rest t c n e no =
+begun_at [] r rest t c n e signless = absurd (n refl)
+begun_at (d ∷ body) r rest t c n e signless =
     let same : d ≡ c = cc (e) in
-    subst (λ x. number_at (x ∷ (body ++ r)) ≡ number_from (c == 45) (x ∷ (body ++ r))) (sym same) (unsigned_at c (body ++ r) no)
+    subst (λ x. number_at (x ∷ (body ++ r)) ≡ number_from (c == 45) (x ∷ (body ++ r))) (sym same) (unsigned_at c (body ++ r) signless)
 
 -- the same number is read before another rest that begins with the same byte
 pub number_alike : (t rest front r : List ℕ) (v : ℤ) → number_at t ≡ Some (v, rest) → t ≡ front ++ rest → Alike rest r → number_at (front ++ r) ≡ Some (v, r)

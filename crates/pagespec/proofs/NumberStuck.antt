@@ -1,15 +1,15 @@
 -- Where no number can be read on.
-use Rattle.std.proofs.Common.{inl, inr, arith, ◌≡◌, ◌≢◌, ℕ, List, [], ◌∷◌, ◌++◌, Bool, true, false, Option, Some, None, refl, sym, ap, subst, ◌∙◌, append_assoc, append-nil, length}
+use Rattle.std.proofs.Common.{inl, inr, arith, ◌≡◌, ℕ, List, [], ◌∷◌, ◌++◌, Bool, true, false, Some, None, refl, sym, ap, subst, ◌∙◌, append_assoc, append-nil, length}
 use Rattle.std.specs.Prelude.{◌==◌, ◌||◌, ℤ, if◌then◌else◌}
 use Rattle.std.specs.Char.{is_ascii_digit}
 use Rattle.std.specs.List.{AllPass}
 use Rattle.std.proofs.lemmas.List.Elements.{All-nil, All-cons}
 use Rattle.rules.specs.Numbers.{IsNumber, IsSign}
-use Rattle.lengths.specs.Reading.{digits, past_digits, is_minus, unsigned, decimals_at, past_decimals, value_of, is_empty, number_from, number_at}
+use Rattle.lengths.specs.Reading.{digits, past_digits, is_minus, unsigned, decimals_at, is_empty, number_from, number_at}
 use Rattle.lengths.proofs.Digits.{IsDigit, by_test, digits-yes}
 use Rattle.lengths.proofs.Numbers.{same_byte, sign_of}
 use Rattle.pagespec.specs.Reading.{byte_at}
-use Rattle.pagespec.specs.Places.{StuckIn, IsStuck}
+use Rattle.pagespec.specs.Places.{StuckIn}
 use Rattle.pagespec.proofs.Measures.{byte_found}
 
 pub zero_digits : AllPass is_ascii_digit (48 ∷ [])
@@ -49,11 +49,11 @@ signed_again (c ∷ t) u none = elim (by_test ((c == 45) || (c == 43))) [
   | inr e ↦ unsigned_case e (none (rw e refl))
 ]
   where
-    unsigned_case : ((c == 45) || (c == 43)) ≡ false → Unsigned u → number_at (sign_of (c ∷ t) ++ u) ≡ number_from (c == 45) u
-    unsigned_case e (a, b) = rw e (rw (b, a, no_minus e) refl)
-
     no_minus : ((c == 45) || (c == 43)) ≡ false → (c == 45) ≡ false
     no_minus e = elim (by_test (c == 45)) [ inl h ↦ absurd (cc (e, h)) | inr h ↦ h ]
+
+    unsigned_case : ((c == 45) || (c == 43)) ≡ false → Unsigned u → number_at (sign_of (c ∷ t) ++ u) ≡ number_from (c == 45) u
+    unsigned_case e (a, b) = rw e (rw (b, a, no_minus e) refl)
 
 digit_read : (negative : Bool) (b : ℕ) (t : List ℕ) → number_from negative (b ∷ t) ≡ None → is_ascii_digit b ≡ false
 digit_read negative b t e = elim (by_test (is_ascii_digit b)) [ inl h ↦ absurd (by_some h) | inr h ↦ h ]

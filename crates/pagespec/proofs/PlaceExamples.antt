@@ -1,10 +1,9 @@
 -- Places of syntax faults, worked out.
-use Rattle.std.proofs.Common.{◌≡◌, inl, inr, ℕ, List, [], ◌∷◌, ◌++◌, None, refl, sym, subst, Bool, true, false}
+use Rattle.std.proofs.Common.{◌≡◌, inl, inr, ℕ, List, [], ◌∷◌, ◌++◌, None, refl, subst, true, false}
 use Rattle.std.specs.Prelude.{codes, pos, ◌*◌, ◌^◌}
 use Rattle.std.proofs.lemmas.List.Elements.{All-nil, All-cons}
-use Rattle.rules.specs.Numbers.{IsNumber}
 use Rattle.rules.specs.Papers.{Pt}
-use Rattle.rules.specs.Specification.{Modifier, Quarters, Moved, Measure, WrittenItem, WrittenSpec, Left, IsDigits, IsMeasure, IsItem, IsSpec}
+use Rattle.rules.specs.Specification.{Modifier, Quarters, Moved, Measure, WrittenItem, WrittenSpec, Left, IsDigits, IsMeasure}
 use Rattle.rules.proofs.Digits.{IsDigit}
 use Rattle.pagespec.specs.Reading.{measure_at, offset_at, scale_at, modifier_at, modifiers_at, item_at, joined_at, bare_at, all_groups_at, spec_at}
 use Rattle.pagespec.specs.Places.{IsPlaceIn}

@@ -1,5 +1,5 @@
 -- Where a row of parts can't be read on.
-use Rattle.std.proofs.Common.{arith, ◌≡◌, ℕ, zero, suc, ◌+◌, ◌<◌, ◌≤◌, List, [], ◌∷◌, ◌++◌, Option, Some, None, refl, sym, ap, subst, ◌∙◌, append_assoc, append-nil, length}
+use Rattle.std.proofs.Common.{arith, ◌≡◌, ℕ, zero, suc, ◌<◌, ◌≤◌, List, [], ◌∷◌, ◌++◌, Option, Some, None, refl, sym, ap, subst, ◌∙◌, append_assoc, append-nil, length}
 use Rattle.std.proofs.lemmas.List.{length-append}
 use Rattle.rules.specs.Specification.{IsJoined}
 use Rattle.pagespec.specs.Reading.{byte_at, joined_at}
@@ -44,10 +44,10 @@ row_joined c R text last [] x e is = subst (λ y. R (y ++ last) x) (sym e) is
 row_joined c R text last (y ∷ ys) x (front, rest, e, is_y, row) is =
     subst (λ z. IsJoined c R z (y ∷ (ys ++ x ∷ []))) (sym (ap (λ z. z ++ last) e ∙ append_assoc front (c ∷ rest) last)) (cons_joined c R front (rest ++ last) y (ys ++ x ∷ []) is_y (row_joined c R rest last ys x row is))
 
--- what one part more makes of the row
-step_on : {X : Type 0} (c : ℕ) (R : List ℕ → X → Type 0) (Closed : List ℕ → Type 0) (part : List ℕ → Option (X × List ℕ)) → Reads R Closed part → ((t : List ℕ) → Closed (c ∷ t)) → (k : ℕ) (text front rest u : List ℕ) (x : X)
+-- the first part of a row is read before anything
+step_on : {X : Type 0} (c : ℕ) (R : List ℕ → X → Type 0) (Closed : List ℕ → Type 0) (part : List ℕ → Option (X × List ℕ)) → Reads R Closed part → ((t : List ℕ) → Closed (c ∷ t)) → (text front rest u : List ℕ) (x : X)
     → text ≡ front ++ c ∷ rest → R front x → (part (text ++ u) ≡ Some (x, c ∷ (rest ++ u)))
-step_on c R Closed part reads sep k text front rest u x e is = ap (λ y. part (y ++ u)) e ∙ (ap part (append_assoc front (c ∷ rest) u) ∙ reads front (c ∷ (rest ++ u)) x is (sep (rest ++ u)))
+step_on c R Closed part reads sep text front rest u x e is = ap (λ y. part (y ++ u)) e ∙ (ap part (append_assoc front (c ∷ rest) u) ∙ reads front (c ∷ (rest ++ u)) x is (sep (rest ++ u)))
 
 row_fails : {X : Type 0} (c : ℕ) (R : List ℕ → X → Type 0) (Closed : List ℕ → Type 0) (part : List ℕ → Option (X × List ℕ)) → Reads R Closed part → ((t : List ℕ) → Closed (c ∷ t)) → (k : ℕ) (text u : List ℕ) (xs : List X)
     → Row c R text xs → part u ≡ None → joined_at c part k (text ++ u) ≡ None
@@ -55,7 +55,7 @@ unfolding joined_at
 row_fails c R Closed part reads sep zero text u xs row e = refl
 row_fails c R Closed part reads sep (suc k) text u [] row e = rw (ap (λ y. part (y ++ u)) row ∙ e) refl
 row_fails c R Closed part reads sep (suc k) text u (x ∷ xs) (front, rest, same, is, row) e =
-    rw (step_on c R Closed part reads sep k text front rest u x same is) (rw (byte_here c (rest ++ u)) (rw (row_fails c R Closed part reads sep k rest u xs row e) refl))
+    rw (step_on c R Closed part reads sep text front rest u x same is) (rw (byte_here c (rest ++ u)) (rw (row_fails c R Closed part reads sep k rest u xs row e) refl))
 
 row_ends : {X : Type 0} (c : ℕ) (R : List ℕ → X → Type 0) (Closed : List ℕ → Type 0) (part : List ℕ → Option (X × List ℕ)) → Reads R Closed part → ((t : List ℕ) → Closed (c ∷ t)) → (k : ℕ) (text u after : List ℕ) (xs : List X) (x : X)
     → Row c R text xs → part u ≡ Some (x, after) → byte_at c after ≡ None → length xs < k → joined_at c part k (text ++ u) ≡ Some (xs ++ x ∷ [], after)
@@ -63,7 +63,7 @@ unfolding joined_at
 row_ends c R Closed part reads sep zero text u after xs x row e none h = absurd (omega arith)
 row_ends c R Closed part reads sep (suc k) text u after [] x row e none h = rw (ap (λ y. part (y ++ u)) row ∙ e) (rw none refl)
 row_ends c R Closed part reads sep (suc k) text u after (y ∷ ys) x (front, rest, same, is, row) e none h =
-    rw (step_on c R Closed part reads sep k text front rest u y same is) (rw (byte_here c (rest ++ u)) (rw (row_ends c R Closed part reads sep k rest u after ys x row e none (omega arith)) refl))
+    rw (step_on c R Closed part reads sep text front rest u y same is) (rw (byte_here c (rest ++ u)) (rw (row_ends c R Closed part reads sep k rest u after ys x row e none (omega arith)) refl))
 
 abbrev pub row_at : {X : Type 0} → ℕ → (List ℕ → Option (X × List ℕ)) → List ℕ → Option (List X × List ℕ)
 row_at c part t = joined_at c part (suc (length t)) t
@@ -75,7 +75,7 @@ row_stuck c R Closed part reads sep bytes rest left xs (text, split, row) (none,
   ap (row_at c part) split ∙ row_fails c R Closed part reads sep _ text rest xs row none,
   subst (λ y. IsStuck (IsSome (IsJoined c R)) (Nothing (row_at c part)) y left) (sym split)
       (stuck_behind (IsSome R) (Nothing part) (IsSome (IsJoined c R)) (Nothing (row_at c part)) text rest left
-      (λ t (x, is). ([], xs ++ x ∷ [], subst (λ y. IsJoined c R (text ++ y) (xs ++ x ∷ [])) (sym (append-nil t)) (row_joined c R text t xs x row is)))
+      (λ t (x, is). ([], (xs ++ x ∷ [], subst (λ y. IsJoined c R (text ++ y) (xs ++ x ∷ [])) (sym (append-nil t)) (row_joined c R text t xs x row is))))
       (λ u l e. row_fails c R Closed part reads sep _ text u xs row e) s),
 )
 
@@ -85,7 +85,7 @@ pub row_ended : {X : Type 0} (c : ℕ) (R : List ℕ → X → Type 0) (Closed :
 row_ended c R Closed part reads sep bytes rest behind left xs (text, split, row) none s =
     subst (λ y. StuckAfter (IsJoined c R) (row_at c part) y behind left) (sym split)
     (stuck_behind (IsSome R) (λ t. ReadsBefore behind (part t)) (IsSome (IsJoined c R)) (λ t. ReadsBefore behind (row_at c part t)) text rest left
-    (λ t (x, is). ([], xs ++ x ∷ [], subst (λ y. IsJoined c R (text ++ y) (xs ++ x ∷ [])) (sym (append-nil t)) (row_joined c R text t xs x row is)))
+    (λ t (x, is). ([], (xs ++ x ∷ [], subst (λ y. IsJoined c R (text ++ y) (xs ++ x ∷ [])) (sym (append-nil t)) (row_joined c R text t xs x row is))))
     (λ u l (x, after, e, begins). (
       xs ++ x ∷ [],
       after,

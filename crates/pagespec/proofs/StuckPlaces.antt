@@ -1,5 +1,5 @@
 -- Where a reader is stuck, and where one is that calls it.
-use Rattle.std.proofs.Common.{inl, inr, arith, ◌≡◌, ◌≢◌, ℕ, suc, ◌-◌, ◌<◌, ◌≤◌, List, [], ◌∷◌, ◌++◌, Bool, true, false, Option, Some, None, refl, sym, ap, subst, ◌∙◌, append_assoc, append-nil, length, take, min}
+use Rattle.std.proofs.Common.{inl, inr, arith, ◌≡◌, ℕ, ◌≤◌, List, [], ◌∷◌, ◌++◌, refl, sym, ap, subst, ◌∙◌, append_assoc, length, take, min}
 use Rattle.std.proofs.Math.Nat.{min-eq_left, min-eq_right}
 use Rattle.std.proofs.lemmas.Bool.{cases_lt}
 use Rattle.std.proofs.lemmas.List.{length-append}
@@ -56,6 +56,10 @@ longer (y ∷ one) back (x ∷ other) tail after b e h =
     let l = longer one back other tail after b behind_is h in
     record { c = l.c; rest = l.rest; more = l.more; back_is = l.back_is; same = ap (λ z. z ∷ (other ++ b ∷ after)) (sym first) ∙ ap (λ z. y ∷ z) l.same }
 
+misses : (Misses : List ℕ → Type 0) (one back other after : List ℕ) (b : ℕ) → Longer one back other after b
+    → ((c : ℕ) (rest : List ℕ) → back ≡ c ∷ rest → (u : List ℕ) → Misses (one ++ c ∷ u)) → Misses (other ++ b ∷ after)
+misses Misses one back other after b l fails = subst Misses (sym l.same) (fails l.c l.rest l.back_is l.more)
+
 -- of two readers that are stuck, the one that goes at least as far as the other
 stuck_far : (Begun Fails Starts Misses Begins Ends : List ℕ → Type 0) (bytes : List ℕ) (far near : ℕ) → far ≤ near
     → ((t : List ℕ) → Begun t → (m : List ℕ) × Begins (t ++ m)) → ((u : List ℕ) → Fails u → Misses u → Ends u)
@@ -71,7 +75,7 @@ stuck_far Begun Fails Starts Misses Begins Ends bytes far near few begins ends a
       begun = subst Begins (append_assoc a.front a.more m) text;
       fails = λ x tail is after.
           let l = longer b.front b.back a.front tail after x (sym b.split ∙ (a.split ∙ ap (λ z. a.front ++ z) is)) (omega (arith, few, a.left_is, b.left_is, ap length is)) in
-          ends (a.front ++ x ∷ after) (a.fails x tail is after) (subst Misses (sym l.same) (b.fails l.c l.rest l.back_is l.more));
+          ends (a.front ++ x ∷ after) (a.fails x tail is after) (misses Misses b.front b.back a.front after x l (λ c rest e u. b.fails c rest e u));
     }
 
 -- a reader that tries both

@@ -44,7 +44,7 @@ group_read text rest g is closed =
     joined_read 43 IsItem Closed item_at item_read plus_closed (suc (length (text ++ rest))) g text rest is closed.0 closed.1
     (omega (arith, few_parts 43 IsItem g text is, length-append text rest))
 
-pub groups_found : (t : List ℕ) (x : List (List WrittenItem) × List ℕ) → groups_at t ≡ Some x → Stood (IsJoined 44 IsGroup) t x
+groups_found : (t : List ℕ) (x : List (List WrittenItem) × List ℕ) → groups_at t ≡ Some x → Stood (IsJoined 44 IsGroup) t x
 groups_found t x e = joined_found 44 IsGroup group_at group_found (suc (length t)) t x e
 
 groups_read : (text rest : List ℕ) (gs : List (List WrittenItem)) → IsJoined 44 IsGroup text gs → GroupClosed rest → byte_at 44 rest ≡ None → groups_at (text ++ rest) ≡ Some (gs, rest)

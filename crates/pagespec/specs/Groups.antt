@@ -1,5 +1,5 @@
 -- Groups as they were read, compared with the groups of the text.
-use Rattle.std.specs.Prelude.{◌≡◌, ℕ, List, [], ◌∷◌, ◌++◌, length, map, flat_map, Option, Some, None}
+use Rattle.std.specs.Prelude.{◌≡◌, ℕ, List, [], ◌∷◌, ◌++◌, length, map, flat_map, Option, Some}
 use Rattle.std.specs.List.{AllZip}
 use Rattle.rules.specs.Bytes.{plus_sign, comma}
 use Rattle.rules.specs.Specification.{WrittenItem, IsItem, IsJoined}

@@ -1,7 +1,7 @@
 use Rattle.std.proofs.Common.{arith, ◌-◌, ◌+◌, length}
 use Rattle.pagespec.specs.Reading.{group_at, groups_at}
 use Rattle.pagespec.specs.Groups.{IsGroup, AreWhole}
-use Rattle.pagespec.proofs.GroupLoops.{groups_first, groups_more, groups_last, groups_stuck, groups_ended, groups_out, stop_same}
+use Rattle.pagespec.proofs.GroupLoops.{groups_more, groups_last, groups_stuck, groups_ended, groups_out, stop_same}
 use Rattle.pagespec.proofs.groups.read_groups.Goals as goal
 
 pub returns-in-Err : goal.returns-in-Err

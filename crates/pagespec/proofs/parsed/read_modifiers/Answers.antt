@@ -1,8 +1,8 @@
-use Rattle.std.proofs.Common.{arith, refl, ◌≡◌, ℕ, ◌-◌, ◌+◌, List, [], length, ap, ◌∙◌, sym, subst}
+use Rattle.std.proofs.Common.{arith, ◌≡◌, ℕ, ◌-◌, ◌+◌, List, [], length, ap, ◌∙◌, sym, subst}
 use Rattle.std.proofs.lemmas.List.{nil_from_length}
 use Rattle.pagespec.specs.Reading.{modifiers_at}
 use Rattle.pagespec.specs.Parsed.{ModifiersRead}
-use Rattle.pagespec.proofs.ModifierLoop.{ReadsOn, reads_first, reads_more, reads_all, step_none, no_fuel}
+use Rattle.pagespec.proofs.ModifierLoop.{reads_more, reads_all, step_none, no_fuel}
 use Rattle.pagespec.proofs.ModifierStuck.{modifiers_stuck, nothing_stuck, modifier_bytes, ModifiersStuck}
 use Rattle.pagespec.proofs.parsed.read_modifiers.Goals as goal
 

@@ -16,7 +16,7 @@ pub returns-in-Err-Stuck-clause-placed : goal.returns-in-Err-Stuck-clause-placed
 returns-in-Err-Stuck-clause-placed c =
     subst (λ (t : List ℕ). IsPlaceIn t c.saturating_sub.result) c.as_bytes-bytes.ensures.value
     (place_in c.as_bytes-bytes.result.now c.in-Err-Stuck.stuck.left c.saturating_sub.result
-    (stuck_at IsSpec spec_at c.as_bytes-bytes.result.now c.in-Err-Stuck.field-0 c.in-Err-Stuck.stuck c.in-Err-Stuck.field-0-is c.in-Err-Stuck.ensures) (omega (arith, c.saturating_sub.ensures)))
+    (stuck_at IsSpec spec_at c.as_bytes-bytes.result.now c.in-Err-Stuck.field-0 c.in-Err-Stuck.stuck c.in-Err-Stuck.field-0-is c.in-Err-Stuck.ensures) (omega (arith, rw c.in-Err-Stuck.field-0-is at c.saturating_sub.ensures)))
 
 pub first_fault-requires-clause-items : goal.first_fault-requires-clause-items
 first_fault-requires-clause-items c =
