@@ -12,7 +12,7 @@ use Rattle.rules.specs.Admissible.{Fault, TooLarge, ModuloZero, PageOutOfBlock, 
 use Rattle.rules.proofs.Digits.{Writes, decimal_writes}
 use Rattle.rules.proofs.Printed.{number_text_is_number}
 use Rattle.pagespec.specs.Items.{group_text, groups_text}
-use Rattle.pagespec.proofs.Texts.{IsGroup}
+use Rattle.pagespec.specs.Groups.{IsGroup}
 use Rattle.pagespec.proofs.Faults.{no_fault, neither}
 use Rattle.pagespec.proofs.Settling.{same_item, map_row}
 use Rattle.pagespec.proofs.NumberLengths.{small_abs}

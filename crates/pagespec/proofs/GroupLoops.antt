@@ -1,19 +1,24 @@
 -- The loops over items and over groups.
-use Rattle.std.proofs.Common.{arith, ◌≡◌, ◌≢◌, ℕ, suc, ◌+◌, List, [], ◌∷◌, ◌++◌, Bool, true, false, Option, Some, None, refl, sym, ap, subst, ◌∙◌, append_assoc, append-nil, length, true≢false}
+use Rattle.std.proofs.Common.{arith, ◌≡◌, ◌≢◌, ℕ, suc, ◌+◌, ◌<◌, List, [], ◌∷◌, ◌++◌, Bool, true, false, Option, Some, None, refl, sym, ap, subst, ◌∙◌, append_assoc, append-nil, length, true≢false}
 use Rattle.std.specs.Prelude.{map, flat_map, if◌then◌else◌, ◌==◌}
 use Rattle.std.proofs.lemmas.List.{length-append, map-append, nil_from_length}
-use Rattle.rules.specs.Specification.{WrittenItem}
+use Rattle.rules.specs.Specification.{WrittenItem, IsItem}
 use Rattle.pagespec.specs.Reading.{byte_at, item_at, group_at, groups_at, bare_at, whole, item_with, is_minus, past_minus, modifiers_at}
 use Rattle.lengths.specs.Reading.{is_empty}
 use Rattle.pagespec.specs.Parsed.{ItemShows, ModifiersRead}
-use Rattle.pagespec.specs.Groups.{AreParsed, ItemAppended, GroupRead, GroupsRead, BareRead, IsStop}
+use Rattle.pagespec.specs.Places.{StuckIn, StuckAfter}
+use Rattle.pagespec.specs.Groups.{AreParsed, ItemAppended, GroupRead, GroupsRead, BareRead, IsStop, IsGroup, AreWhole}
 use Rattle.pagespec.specs.declared.parsed.ParsedItem.{ParsedItem}
 use Rattle.pagespec.specs.declared.parsed.Modifiers.{Modifiers}
 use Rattle.pagespec.specs.declared.groups.ParsedGroups.{ParsedGroups}
 use Rattle.pagespec.specs.declared.groups.Stop.{Stop}
 use Rattle.pagespec.specs.declared.groups.Stop.TheVariants.{Stuck, NoMemory}
 use Rattle.lengths.proofs.Numbers.{same_byte}
-use Rattle.pagespec.proofs.JoinedLoop.{ReadsParts, parts_first, parts_more, parts_last, parts_stuck, parts_out, zip_append, zip_one}
+use Rattle.pagespec.proofs.JoinedLoop.{ReadsParts, parts_first, parts_more, parts_last, zip_append, zip_one}
+use Rattle.pagespec.proofs.Measures.{byte_found}
+use Rattle.pagespec.proofs.Items.{Closed, item_found, item_read}
+use Rattle.pagespec.proofs.Texts.{GroupClosed, plus_closed, comma_closed, group_found, group_read}
+use Rattle.pagespec.proofs.RowStuck.{RowBefore, row_first, row_more, row_length, row_stuck, row_ended}
 
 abbrev IsParsed : ParsedItem → WrittenItem → Type 0
 IsParsed k i = ItemShows i k
@@ -23,13 +28,14 @@ pub record KeepsOn (fuel : ℕ) (bytes rest : List ℕ) (old new : List ParsedIt
   pub front : List WrittenItem
   pub parsed : List ParsedItem
   pub reads : ReadsParts 43 item_at fuel bytes rest front
+  pub before : RowBefore 43 IsItem bytes rest front
   pub added : new ≡ old ++ parsed
   pub shows : AreParsed parsed front
   pub counted : count ≡ length front
 
 pub keeps_first : (n : ℕ) (bytes : List ℕ) (old : List ParsedItem) → n ≡ suc (length bytes) → KeepsOn n bytes bytes old old 0
 keeps_first n bytes old e =
-    record { front = []; parsed = []; reads = parts_first 43 item_at n bytes e; added = sym (append-nil old); shows = tt; counted = refl }
+    record { front = []; parsed = []; reads = parts_first 43 item_at n bytes e; before = row_first 43 IsItem bytes; added = sym (append-nil old); shows = tt; counted = refl }
 
 length-one : {X : Type 0} (xs : List X) (x : X) (n : ℕ) → n ≡ length xs → n + 1 ≡ length (xs ++ x ∷ [])
 length-one xs x n e = omega (arith, e, length-append xs (x ∷ []))
@@ -40,6 +46,7 @@ keeps_more k n count bytes rest behind next old new newer is on item b = record 
   front = on.front ++ item.item ∷ [];
   parsed = on.parsed ++ item.parsed ∷ [];
   reads = parts_more 43 item_at k n bytes rest behind next on.front item.item is item.found b on.reads;
+  before = let (text, split, is_item) = item_found rest (item.item, behind) item.found in row_more 43 IsItem bytes rest text behind next on.front item.item on.before split is_item (byte_found 43 behind next b);
   added = item.added ∙ (ap (λ xs. xs ++ item.parsed ∷ []) on.added ∙ append_assoc old on.parsed (item.parsed ∷ []));
   shows = zip_append IsParsed on.parsed (item.parsed ∷ []) on.front (item.item ∷ []) on.shows (zip_one IsParsed item.parsed item.item item.shows);
   counted = length-one on.front item.item count on.counted;
@@ -56,16 +63,24 @@ keeps_last k n count bytes rest behind old new newer is on item b = record {
   counted = length-one on.front item.item count on.counted;
 }
 
-pub keeps_stuck : (n count : ℕ) (bytes rest : List ℕ) (old new : List ParsedItem) → KeepsOn n bytes rest old new count → item_at rest ≡ None → group_at bytes ≡ None
-keeps_stuck n count bytes rest old new on e = parts_stuck 43 item_at n bytes rest on.front e on.reads
+pub keeps_stuck : (n count left : ℕ) (bytes rest : List ℕ) (old new : List ParsedItem) → KeepsOn n bytes rest old new count → StuckIn IsItem item_at rest left → StuckIn IsGroup group_at bytes left
+keeps_stuck n count left bytes rest old new on s = row_stuck 43 IsItem Closed item_at item_read plus_closed bytes rest left on.front on.before s
 
-pub keeps_out : (n count : ℕ) (bytes rest : List ℕ) (old new : List ParsedItem) → n ≡ 0 → KeepsOn n bytes rest old new count → group_at bytes ≡ None
-keeps_out n count bytes rest old new is on = parts_out 43 item_at n bytes rest on.front is on.reads
+pub keeps_ended : (n count left : ℕ) (bytes rest behind : List ℕ) (old new : List ParsedItem) → KeepsOn n bytes rest old new count → byte_at 43 behind ≡ None → StuckAfter IsItem item_at rest behind left → StuckAfter IsGroup group_at bytes behind left
+keeps_ended n count left bytes rest behind old new on none s = row_ended 43 IsItem Closed item_at item_read plus_closed bytes rest behind left on.front on.before none s
+
+-- there is no row with more parts than bytes
+pub keeps_out : (n count left : ℕ) (bytes rest : List ℕ) (old new : List ParsedItem) → length bytes < count → KeepsOn n bytes rest old new count → StuckIn IsGroup group_at bytes left
+keeps_out n count left bytes rest old new h on =
+    let (text, split, row) = on.before in
+    absurd (omega (arith, h, on.counted, row_length 43 IsItem text on.front row, ap length split, length-append text rest))
 
 -- these groups were parsed so far
 pub record GroupsOn (fuel : ℕ) (bytes rest : List ℕ) (items : List ParsedItem) (lengths : List ℕ) : Type 0 where
   pub front : List (List WrittenItem)
   pub reads : ReadsParts 44 group_at fuel bytes rest front
+  pub before : RowBefore 44 IsGroup bytes rest front
+  pub many : length front + fuel ≡ suc (length bytes)
   pub shows : AreParsed items (flat_map (λ g. g) front)
   pub counted : lengths ≡ map length front
 
@@ -87,6 +102,8 @@ pub groups_more : (k n count : ℕ) (bytes rest behind next : List ℕ) (items n
 groups_more k n count bytes rest behind next items newer lengths more is on group e b = record {
   front = on.front ++ group.group ∷ [];
   reads = parts_more 44 group_at k n bytes rest behind next on.front group.group is group.found b on.reads;
+  before = let (text, split, is_group) = group_found rest (group.group, behind) group.found in row_more 44 IsGroup bytes rest text behind next on.front group.group on.before split is_group (byte_found 44 behind next b);
+  many = omega (arith, is, on.many, length-append on.front (group.group ∷ []));
   shows = items_parsed items newer group.parsed on.front group.group on.shows group.added group.shows;
   counted = e ∙ lengths_parsed lengths count on.front group.group on.counted group.counted;
 }
@@ -102,11 +119,16 @@ groups_last k n count bytes rest behind items lengths parsed is on group e b = (
   },
 )
 
-pub groups_stuck : (n : ℕ) (bytes rest : List ℕ) (items : List ParsedItem) (lengths : List ℕ) → GroupsOn n bytes rest items lengths → group_at rest ≡ None → groups_at bytes ≡ None
-groups_stuck n bytes rest items lengths on e = parts_stuck 44 group_at n bytes rest on.front e on.reads
+pub groups_stuck : (n left : ℕ) (bytes rest : List ℕ) (items : List ParsedItem) (lengths : List ℕ) → GroupsOn n bytes rest items lengths → StuckIn IsGroup group_at rest left → StuckIn AreWhole groups_at bytes left
+groups_stuck n left bytes rest items lengths on s = row_stuck 44 IsGroup GroupClosed group_at group_read comma_closed bytes rest left on.front on.before s
 
-pub groups_out : (n : ℕ) (bytes rest : List ℕ) (items : List ParsedItem) (lengths : List ℕ) → n ≡ 0 → GroupsOn n bytes rest items lengths → groups_at bytes ≡ None
-groups_out n bytes rest items lengths is on = parts_out 44 group_at n bytes rest on.front is on.reads
+pub groups_ended : (n left : ℕ) (bytes rest behind : List ℕ) (items : List ParsedItem) (lengths : List ℕ) → GroupsOn n bytes rest items lengths → byte_at 44 behind ≡ None → StuckAfter IsGroup group_at rest behind left → StuckAfter AreWhole groups_at bytes behind left
+groups_ended n left bytes rest behind items lengths on none s = row_ended 44 IsGroup GroupClosed group_at group_read comma_closed bytes rest behind left on.front on.before none s
+
+pub groups_out : (n left : ℕ) (bytes rest : List ℕ) (items : List ParsedItem) (lengths : List ℕ) → n ≡ 0 → GroupsOn n bytes rest items lengths → StuckIn AreWhole groups_at bytes left
+groups_out n left bytes rest items lengths is on =
+    let (text, split, row) = on.before in
+    absurd (omega (arith, is, on.many, row_length 44 IsGroup text on.front row, ap length split, length-append text rest))
 
 -- the item that leaves its page number out
 is_some_text : {A : Type 0} (t : List ℕ) (o : Option A) → t ≢ [] → (if is_empty t then None else o) ≡ o
@@ -135,9 +157,10 @@ bare_there t body rest from_end parsed m b some (ms, found, shows) e = (
 )
 
 -- one reader is stuck exactly where the other is
-pub stop_same : {X Y : Type 0} (o : Option X) (p : Option Y) (s : Stop) → (o ≡ None → p ≡ None) → IsStop o s → IsStop p s
-stop_same o p (Stuck left) f e = f e
-stop_same o p NoMemory f e = tt
+pub stop_same : {X Y U V : Type 0} (R : List ℕ → X → Type 0) (part : List ℕ → Option Y) (bytes : List ℕ) (S : List ℕ → U → Type 0) (whole : List ℕ → Option V) (text : List ℕ) (s : Stop)
+    → ((left : ℕ) → StuckIn R part bytes left → StuckIn S whole text left) → IsStop R part bytes s → IsStop S whole text s
+stop_same R part bytes S whole text (Stuck place) f e = f place.left e
+stop_same R part bytes S whole text NoMemory f e = tt
 
 pub nil_told : (t : List ℕ) (b : Bool) → b ≡ (length t == 0) → b ≡ true → t ≡ []
 nil_told t b e h = nil_from_length t (same_byte (length t) 0 (sym e ∙ h))

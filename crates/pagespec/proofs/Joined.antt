@@ -38,7 +38,7 @@ joined_found c R part finds (suc k) t xs e =
 abbrev pub Reads : {X : Type 0} → (List ℕ → X → Type 0) → (List ℕ → Type 0) → (List ℕ → Option (X × List ℕ)) → Type 0
 Reads {X = X} R Closed part = (text rest : List ℕ) (x : X) → R text x → Closed rest → part (text ++ rest) ≡ Some (x, rest)
 
-byte_here : (c : ℕ) (t : List ℕ) → byte_at c (c ∷ t) ≡ Some t
+pub byte_here : (c : ℕ) (t : List ℕ) → byte_at c (c ∷ t) ≡ Some t
 byte_here c t = elim (by_test (c == c)) [ inl e ↦ rw e refl | inr e ↦ absurd (grind (arith, common_steps)) ]
 
 pub joined_read : {X : Type 0} (c : ℕ) (R : List ℕ → X → Type 0) (Closed : List ℕ → Type 0) (part : List ℕ → Option (X × List ℕ)) → Reads R Closed part → ((t : List ℕ) → Closed (c ∷ t))

@@ -1,5 +1,5 @@
 -- A loop over parts with a byte between them.
-use Rattle.std.proofs.Common.{◌≡◌, ℕ, zero, suc, List, [], ◌∷◌, ◌++◌, Option, Some, None, refl, sym, ap, ◌∙◌, append_assoc, length}
+use Rattle.std.proofs.Common.{◌≡◌, ℕ, suc, List, [], ◌∷◌, ◌++◌, Option, Some, None, refl, sym, ap, ◌∙◌, append_assoc, length}
 use Rattle.std.specs.List.{AllZip}
 use Rattle.pagespec.specs.Reading.{◌>>=◌, byte_at, joined_at, with_part}
 
@@ -33,15 +33,6 @@ step_last : {X : Type 0} (c : ℕ) (part : List ℕ → Option (X × List ℕ)) 
 unfolding joined_at
 step_last c part k rest behind x e b = rw e (rw b refl)
 
-step_none : {X : Type 0} (c : ℕ) (part : List ℕ → Option (X × List ℕ)) (k : ℕ) (rest : List ℕ) → part rest ≡ None → joined_at c part k rest ≡ None
-unfolding joined_at
-step_none c part zero rest e = refl
-step_none c part (suc k) rest e = rw e refl
-
-no_fuel : {X : Type 0} (c : ℕ) (part : List ℕ → Option (X × List ℕ)) (rest : List ℕ) → joined_at c part 0 rest ≡ None
-unfolding joined_at
-no_fuel c part rest = refl
-
 pub parts_more : {X : Type 0} (c : ℕ) (part : List ℕ → Option (X × List ℕ)) (k n : ℕ) (bytes rest behind next : List ℕ) (front : List X) (x : X) → n ≡ suc k
     → part rest ≡ Some (x, behind) → byte_at c behind ≡ Some next → ReadsParts c part n bytes rest front → ReadsParts c part k bytes next (front ++ x ∷ [])
 parts_more c part k n bytes rest behind next front x is e b reads =
@@ -52,14 +43,6 @@ pub parts_last : {X : Type 0} (c : ℕ) (part : List ℕ → Option (X × List �
     → part rest ≡ Some (x, behind) → byte_at c behind ≡ None → ReadsParts c part n bytes rest front → joined_at c part (suc (length bytes)) bytes ≡ Some (front ++ x ∷ [], behind)
 parts_last c part k n bytes rest behind front x is e b reads =
     sym reads ∙ ap (with_parts front) (ap (λ j. joined_at c part j rest) is ∙ step_last c part k rest behind x e b)
-
-pub parts_stuck : {X : Type 0} (c : ℕ) (part : List ℕ → Option (X × List ℕ)) (n : ℕ) (bytes rest : List ℕ) (front : List X) → part rest ≡ None
-    → ReadsParts c part n bytes rest front → joined_at c part (suc (length bytes)) bytes ≡ None
-parts_stuck c part n bytes rest front e reads = sym reads ∙ ap (with_parts front) (step_none c part n rest e)
-
-pub parts_out : {X : Type 0} (c : ℕ) (part : List ℕ → Option (X × List ℕ)) (n : ℕ) (bytes rest : List ℕ) (front : List X) → n ≡ 0
-    → ReadsParts c part n bytes rest front → joined_at c part (suc (length bytes)) bytes ≡ None
-parts_out c part n bytes rest front is reads = sym reads ∙ ap (with_parts front) (ap (λ j. joined_at c part j rest) is ∙ no_fuel c part rest)
 
 pub zip_append : {X Y : Type 0} (R : X → Y → Type 0) (xs us : List X) (ys vs : List Y) → AllZip R xs ys → AllZip R us vs → AllZip R (xs ++ us) (ys ++ vs)
 zip_append R [] us [] vs h g = g

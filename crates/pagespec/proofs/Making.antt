@@ -9,7 +9,7 @@ use Rattle.rules.specs.Specification.{Item, WrittenItem, WrittenSpec, Spec, IsJo
 use Rattle.rules.specs.Admissible.{TooLarge, ModuloZero, PageOutOfBlock, ScaleZero, Repeated, TooManySlots, TooManyGroups, items, fault_of, only_if, at_lowest, any_too_large, has_large, is_flat, repeats, Takes, IsAdmissible, most_groups}
 use Rattle.pagespec.specs.Items.{group_text, groups_text}
 use Rattle.pagespec.specs.Made.{IsItemOf, IsGroupOf, IsWritable}
-use Rattle.pagespec.proofs.Texts.{IsGroup}
+use Rattle.pagespec.specs.Groups.{IsGroup}
 use Rattle.pagespec.proofs.NumberLengths.{not_large}
 use Rattle.pagespec.proofs.Settling.{same_item}
 use Rattle.pagespec.proofs.Short.{any_row}

@@ -1,5 +1,5 @@
 -- Units and measures at the front of a text.
-use Rattle.std.proofs.Common.{inl, inr, ◌⊎◌, arith, ◌≡◌, ℕ, List, [], ◌∷◌, ◌++◌, Bool, true, false, Option, Some, None, refl, sym, ap, subst, ◌∙◌, append_assoc}
+use Rattle.std.proofs.Common.{inl, inr, arith, ◌≡◌, ℕ, List, [], ◌∷◌, ◌++◌, Bool, true, false, Option, Some, None, refl, sym, ap, subst, ◌∙◌, append_assoc}
 use Rattle.std.specs.Prelude.{◌==◌, ◌&&◌, if◌then◌else◌, codes}
 use Rattle.std.proofs.lemmas.Grind.{common_steps}
 use Rattle.rules.specs.Papers.{LengthUnit, Pt, Cm, Mm, In, Width, Height}
@@ -7,6 +7,7 @@ use Rattle.rules.specs.Specification.{Measure, IsMeasure, unit_name}
 use Rattle.lengths.specs.Reading.{number_at, Ends}
 use Rattle.lengths.proofs.Digits.{by_test}
 use Rattle.lengths.proofs.Numbers.{number_found, number_read, some_same, same_byte}
+use Rattle.pagespec.specs.Places.{IsUnit}
 use Rattle.pagespec.specs.Reading.{◌>>=◌, byte_at, second_letter, unit_at, measure_from, measure_at}
 
 -- what a step took, and what the next step made of that
@@ -33,11 +34,8 @@ unit_read In rest = refl
 unit_read Width rest = refl
 unit_read Height rest = refl
 
-abbrev IsUnit : List ℕ → LengthUnit → Type 0
-IsUnit text u = (text ≡ unit_name u) ⊎ ((text ≡ []) × (u ≡ Pt))
-
 -- a unit is found, or there is none
-abbrev Unit_found : List ℕ → LengthUnit × List ℕ → Type 0
+abbrev pub Unit_found : List ℕ → LengthUnit × List ℕ → Type 0
 Unit_found t x = (front : List ℕ) × (t ≡ front ++ x.1) × IsUnit front x.0
 
 two_letters : (a b : ℕ) (t : List ℕ) (pt cm mm inch : Bool) → ((a == 112) && (b == 116)) ≡ pt → ((a == 99) && (b == 109)) ≡ cm → ((a == 109) && (b == 109)) ≡ mm → ((a == 105) && (b == 110)) ≡ inch

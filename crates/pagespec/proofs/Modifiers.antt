@@ -94,14 +94,14 @@ not_bracket b n q h = elim (by_test (b == 40)) [ inl e ↦ absurd (grind (arith,
 not_none : (b n : ℕ) → n ≡ quarters_of b → 0 < n → (quarters_of b == 0) ≡ false
 not_none b n q h = elim (by_test (quarters_of b == 0)) [ inl e ↦ absurd (omega (arith, same_byte (quarters_of b) 0 e, q)) | inr e ↦ e ]
 
-turn_read : (b n : ℕ) (t : List ℕ) (at bracket none : Bool) → (b == 64) ≡ at → (b == 40) ≡ bracket → (quarters_of b == 0) ≡ none → n ≡ quarters_of b → 0 < n
+pub turn_read : (b n : ℕ) (t : List ℕ) (at bracket none : Bool) → (b == 64) ≡ at → (b == 40) ≡ bracket → (quarters_of b == 0) ≡ none → n ≡ quarters_of b → 0 < n
     → (if at then scale_at t else (if bracket then offset_at t else (if none then None else Some (Quarters (quarters_of b), t)))) ≡ Some (Quarters n, t)
 turn_read b n t true bracket none p q z e h = absurd (cc (p, not_at b n e h))
 turn_read b n t false true none p q z e h = absurd (cc (q, not_bracket b n e h))
 turn_read b n t false false true p q z e h = absurd (cc (z, not_none b n e h))
 turn_read b n t false false false p q z e h = ap (λ x. Some (Quarters x, t)) (sym e)
 
-comma_no_unit : (t : List ℕ) → NoUnit (44 ∷ t)
+pub comma_no_unit : (t : List ℕ) → NoUnit (44 ∷ t)
 comma_no_unit [] = refl
 comma_no_unit (b ∷ t) = refl
 
@@ -109,7 +109,7 @@ bracket_no_unit : (t : List ℕ) → NoUnit (41 ∷ t)
 bracket_no_unit [] = refl
 bracket_no_unit (b ∷ t) = refl
 
-offset_read : (first second rest : List ℕ) (x y : Measure) → IsMeasure first x → IsMeasure second y → offset_at (first ++ (44 ∷ (second ++ (41 ∷ rest)))) ≡ Some (Moved x y, rest)
+pub offset_read : (first second rest : List ℕ) (x y : Measure) → IsMeasure first x → IsMeasure second y → offset_at (first ++ (44 ∷ (second ++ (41 ∷ rest)))) ≡ Some (Moved x y, rest)
 unfolding offset_at
 offset_read first second rest x y is_x is_y =
     let a = measure_read first (44 ∷ (second ++ (41 ∷ rest))) x is_x (refl, refl) (comma_no_unit _) in
@@ -140,7 +140,7 @@ modifiers_read (suc k) (m ∷ ms) text rest (front, more, e, is, are) ends none 
     ∙ ap (with_modifier m) (modifiers_read k ms more rest are ends none (omega arith)))
 
 -- each modifier has at least one byte
-some_byte : (m : Modifier) (text : List ℕ) → IsModifier text m → 0 < length text
+pub some_byte : (m : Modifier) (text : List ℕ) → IsModifier text m → 0 < length text
 some_byte (Quarters n) text is = let (letter, e, q, more) = turn_letter text n is in subst (λ x. 0 < length x) (sym e) (omega arith)
 some_byte (Scaled v) text (number, e, is) = subst (λ x. 0 < length x) (sym e) (omega arith)
 some_byte (Moved x y) text (first, second, e, is, is_y) = subst (λ x. 0 < length x) (sym e) (omega arith)

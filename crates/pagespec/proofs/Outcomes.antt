@@ -19,7 +19,8 @@ use Rattle.pagespec.specs.declared.error.SpecError.{SpecError}
 use Rattle.pagespec.specs.declared.error.SpecError.TheVariants as error
 use Rattle.lengths.proofs.Numbers.{some_same}
 use Rattle.pagespec.proofs.Joined.{few_parts}
-use Rattle.pagespec.proofs.Texts.{IsGroup, spec_found, no_tree}
+use Rattle.pagespec.specs.Groups.{IsGroup}
+use Rattle.pagespec.proofs.Texts.{spec_found, no_tree}
 use Rattle.pagespec.proofs.Faults.{told_fault, no_fault, neither, small_items, capped_small}
 use Rattle.pagespec.proofs.Settling.{groups_settle, parsed_fit}
 

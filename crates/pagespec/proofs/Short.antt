@@ -12,7 +12,7 @@ use Rattle.rules.specs.Admissible.{fault_of, has_large, items, most_slots, most_
 use Rattle.pagespec.specs.Canonical.{LeavesPageOut, CanonicalIsShort}
 use Rattle.pagespec.proofs.Letters.{turn_letter}
 use Rattle.pagespec.proofs.Faults.{no_fault, neither}
-use Rattle.pagespec.proofs.Texts.{IsGroup}
+use Rattle.pagespec.specs.Groups.{IsGroup}
 use Rattle.pagespec.proofs.NumberLengths.{number_short, number_few, digits_short}
 
 unit_short : (u : LengthUnit) → length (unit_text u) ≤ length (unit_name u)

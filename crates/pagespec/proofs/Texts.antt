@@ -10,23 +10,21 @@ use Rattle.lengths.specs.Reading.{digits, past_digits, is_empty}
 use Rattle.lengths.proofs.Digits.{digits_whole, digits_pass, digits-append, past_digits-append}
 use Rattle.lengths.proofs.Numbers.{some_same, not_empty, ends_digits}
 use Rattle.pagespec.specs.Reading.{◌>>=◌, byte_at, modifier_at, modifiers_at, is_minus, past_minus, item_with, item_from, item_at, bare_at, whole, joined_at, group_at, groups_at, or_bare, all_groups_at, tree_of, past_modulo, tree_from, spec_at}
+use Rattle.pagespec.specs.Groups.{IsGroup}
 use Rattle.pagespec.proofs.Measures.{bind_some, byte_found}
 use Rattle.pagespec.proofs.Modifiers.{Stood, modifiers_found, modifiers_read, modifiers_end, few_modifiers}
 use Rattle.pagespec.proofs.Joined.{joined_found, joined_read, few_parts}
 use Rattle.pagespec.proofs.Items.{Closed, minus_whole, item_found, item_read, minus_taken, modifiers_unsigned}
 
-abbrev pub IsGroup : List ℕ → List WrittenItem → Type 0
-IsGroup text g = IsJoined 43 IsItem text g
-
 -- the text continues neither an item nor a group
 abbrev pub GroupClosed : List ℕ → Type 0
 GroupClosed rest = Closed rest × (byte_at 43 rest ≡ None)
 
-plus_closed : (t : List ℕ) → Closed (43 ∷ t)
+pub plus_closed : (t : List ℕ) → Closed (43 ∷ t)
 unfolding modifier_at
 plus_closed t = record { ends = (refl, refl); none = refl }
 
-comma_closed : (t : List ℕ) → GroupClosed (44 ∷ t)
+pub comma_closed : (t : List ℕ) → GroupClosed (44 ∷ t)
 unfolding modifier_at
 comma_closed t = (record { ends = (refl, refl); none = refl }, refl)
 
@@ -38,10 +36,10 @@ colon_closed : (t : List ℕ) → GroupClosed (58 ∷ t)
 unfolding modifier_at
 colon_closed t = (record { ends = (refl, refl); none = refl }, refl)
 
-group_found : (t : List ℕ) (x : List WrittenItem × List ℕ) → group_at t ≡ Some x → Stood IsGroup t x
+pub group_found : (t : List ℕ) (x : List WrittenItem × List ℕ) → group_at t ≡ Some x → Stood IsGroup t x
 group_found t x e = joined_found 43 IsItem item_at item_found (suc (length t)) t x e
 
-group_read : (text rest : List ℕ) (g : List WrittenItem) → IsGroup text g → GroupClosed rest → group_at (text ++ rest) ≡ Some (g, rest)
+pub group_read : (text rest : List ℕ) (g : List WrittenItem) → IsGroup text g → GroupClosed rest → group_at (text ++ rest) ≡ Some (g, rest)
 group_read text rest g is closed =
     joined_read 43 IsItem Closed item_at item_read plus_closed (suc (length (text ++ rest))) g text rest is closed.0 closed.1
     (omega (arith, few_parts 43 IsItem g text is, length-append text rest))
@@ -72,7 +70,7 @@ bare_found t i e =
     let u_is : u ≡ front = m_is ∙ (ap (λ x. front ++ x) rest ∙ append-nil front) in
     subst (IsBareItem t) same (u, minus_whole t, refl, not_empty t some, subst (λ x. AreModifiers x (modifiers_at (length u) u).0) (sym u_is) are)
 
-bare_taken : {A : Type 0} (t : List ℕ) (o : Option A) → t ≢ [] → (if is_empty t then None else o) ≡ o
+pub bare_taken : {A : Type 0} (t : List ℕ) (o : Option A) → t ≢ [] → (if is_empty t then None else o) ≡ o
 bare_taken [] o n = absurd (n refl)
 bare_taken (b ∷ t) o n = refl
 
@@ -126,14 +124,14 @@ all_groups_read t gs (inr (i, same, bare)) =
     ∙ (ap (λ o. o >>= λ j. Some ((j ∷ []) ∷ [])) (bare_read t i bare) ∙ ap (λ x. Some x) (sym same))
 
 -- the digits before a colon
-abbrev HasModulo : List ℕ → List ℕ → Type 0
+abbrev pub HasModulo : List ℕ → List ℕ → Type 0
 HasModulo t rest = (t ≡ digits t ++ 58 ∷ rest) × (digits t ≢ [])
 
 modulo_of : (b : Bool) (o : Option (List ℕ)) (r : List ℕ) → (if b then None else o) ≡ Some r → (b ≡ false) × (o ≡ Some r)
 modulo_of true o r e = absurd (cc (e))
 modulo_of false o r e = (refl, e)
 
-modulo_found : (t rest : List ℕ) → past_modulo t ≡ Some rest → HasModulo t rest
+pub modulo_found : (t rest : List ℕ) → past_modulo t ≡ Some rest → HasModulo t rest
 modulo_found t rest e =
     let (some, colon) = modulo_of (is_empty (digits t)) _ rest e in
     (sym (digits_whole t) ∙ ap (λ x. digits t ++ x) (byte_found 58 (past_digits t) rest colon), not_empty (digits t) some)
@@ -177,7 +175,7 @@ tree_read : (t : List ℕ) (o : Option (List ℕ)) (gs : List (List WrittenItem)
 tree_read t None gs m are = ap (λ x. x >>= tree_of 1) (all_groups_read t gs are)
 tree_read t (Some rest) gs m are = absurd (no_colon t rest gs (modulo_found t rest m) are)
 
-colon_here : (ds rest : List ℕ) → AllPass is_ascii_digit ds → (digits (ds ++ 58 ∷ rest) ≡ ds) × (past_digits (ds ++ 58 ∷ rest) ≡ 58 ∷ rest)
+pub colon_here : (ds rest : List ℕ) → AllPass is_ascii_digit ds → (digits (ds ++ 58 ∷ rest) ≡ ds) × (past_digits (ds ++ 58 ∷ rest) ≡ 58 ∷ rest)
 colon_here ds rest h = (digits-append ds (58 ∷ rest) h ∙ append-nil ds, past_digits-append ds (58 ∷ rest) h)
 
 -- each text of the grammar is read, with its tree

@@ -1,18 +1,27 @@
 -- Groups as they were read, compared with the groups of the text.
-use Rattle.std.specs.Prelude.{◌≡◌, ℕ, List, [], ◌∷◌, ◌++◌, length, map, flat_map, Option, Some, None}
+use Rattle.std.specs.Prelude.{◌≡◌, ℕ, List, [], ◌∷◌, ◌++◌, length, map, flat_map, Option, Some}
 use Rattle.std.specs.List.{AllZip}
-use Rattle.rules.specs.Specification.{WrittenItem}
+use Rattle.rules.specs.Bytes.{plus_sign, comma}
+use Rattle.rules.specs.Specification.{WrittenItem, IsItem, IsJoined}
 use Rattle.pagespec.specs.Reading.{item_at, group_at, groups_at, bare_at}
+use Rattle.pagespec.specs.Places.{StuckIn}
 use Rattle.pagespec.specs.Parsed.{ItemShows}
 use Rattle.pagespec.specs.declared.parsed.ParsedItem.{ParsedItem}
 use Rattle.pagespec.specs.declared.groups.ParsedGroups.{ParsedGroups}
 use Rattle.pagespec.specs.declared.groups.Stop.{Stop}
 use Rattle.pagespec.specs.declared.groups.Stop.TheVariants.{Stuck, NoMemory}
 
--- if a reader is stuck, nothing is read; out of memory says nothing of the text
-abbrev pub IsStop : {X : Type 0} → Option X → Stop → Type 0
-IsStop o (Stuck left) = o ≡ None
-IsStop o NoMemory = Unit {0}
+-- where a reader of this stops; out of memory says nothing of the text
+abbrev pub IsStop : {X Y : Type 0} → (List ℕ → X → Type 0) → (List ℕ → Option Y) → List ℕ → Stop → Type 0
+IsStop R part bytes (Stuck place) = StuckIn R part bytes place.left
+IsStop R part bytes NoMemory = Unit {0}
+
+-- items with plus signs between them, and groups with commas between them
+abbrev pub IsGroup : List ℕ → List WrittenItem → Type 0
+IsGroup text g = IsJoined plus_sign IsItem text g
+
+abbrev pub AreWhole : List ℕ → List (List WrittenItem) → Type 0
+AreWhole text gs = IsJoined comma IsGroup text gs
 
 -- the written items were parsed as these
 abbrev pub AreParsed : List ParsedItem → List WrittenItem → Type 0

@@ -37,6 +37,11 @@ abbrev pub unit_at : List ℕ → LengthUnit × List ℕ
 unit_at [] = (Pt, [])
 unit_at (a ∷ text) = if a == 119 then (Width, text) else (if a == 104 then (Height, text) else second_letter a text)
 
+-- what follows the first letter of a unit of two
+abbrev pub past_letter : List ℕ → List ℕ
+past_letter [] = []
+past_letter (b ∷ text) = if ((b == 112) || (b == 99)) || ((b == 109) || (b == 105)) then text else b ∷ text
+
 abbrev pub measure_from : ℤ → LengthUnit × List ℕ → Measure × List ℕ
 measure_from v u = (record { number = v; unit = u.0 }, u.1)
 

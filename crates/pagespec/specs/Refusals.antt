@@ -4,6 +4,7 @@ use Rattle.rules.specs.Admissible.{Refuses, Fault, most_slots, most_spec_bytes}
 use Rattle.pagespec.specs.declared.error.SpecError.{SpecError}
 use Rattle.pagespec.specs.declared.error.SpecError.TheVariants.{Syntax}
 use Rattle.pagespec.specs.Faults.{fault_named}
+use Rattle.pagespec.specs.Places.{IsPlaceIn}
 
 -- this is the text's first fault; out of memory says only that the text isn't too long
 abbrev pub NamesFault : List ℕ → Option Fault → Type 0
@@ -13,7 +14,7 @@ NamesFault text (Some fault) = Refuses most_slots text fault
 abbrev pub IsRefusal : List ℕ → SpecError → Type 0
 IsRefusal text e = NamesFault text (fault_named e)
 
--- the place of a syntax fault is a byte of the text, or the end after its last one
+-- the place of a syntax fault is how far some text of the grammar goes along with the text
 abbrev pub IsPlaced : List ℕ → SpecError → Type 0
-IsPlaced text (Syntax at) = at ≤ length text
+IsPlaced text (Syntax at) = IsPlaceIn text at
 IsPlaced text e = Unit {0}

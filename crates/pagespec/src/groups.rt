@@ -1,7 +1,9 @@
 //! Reading the items and groups of a text.
-ghost use Rattle.std.specs.Prelude.{◌≡◌, ◌∷◌, [], None, IfOk, IfErr, MatchResult};
+ghost use Rattle.std.specs.Prelude.{◌≡◌, ◌∷◌, [], min, IfOk, IfErr, MatchResult};
+ghost use Rattle.rules.specs.Specification.{IsItem, IsBareItem, AreGroups};
+ghost use Rattle.pagespec.specs.Places.{StuckIn, StuckAfter};
 ghost use Rattle.pagespec.specs.Reading.{item_at, group_at, groups_at, bare_at, all_groups_at, whole_groups_at};
-ghost use Rattle.pagespec.specs.Groups.{IsStop, ItemAppended, GroupRead, GroupsRead, BareRead, ParsesTo};
+ghost use Rattle.pagespec.specs.Groups.{IsStop, IsGroup, AreWhole, ItemAppended, GroupRead, GroupsRead, BareRead, ParsesTo};
 
 use crate::parsed::{ParsedItem, read_item, read_modifiers, split_minus};
 use crate::scan::{Rest, Stuck, read_byte};
@@ -23,7 +25,7 @@ pub enum Stop {
 
 /// All groups of a text that has no modulo before them; or its only item, whose page number is left out.
 pub fn read_all_groups(alloc: Global, bytes: &[u8]) -> Result<ParsedGroups, Stop>
-    ensures { MatchResult result (ParsesTo (all_groups_at bytes.now)) (IsStop (all_groups_at bytes.now)) }
+    ensures { MatchResult result (ParsesTo (all_groups_at bytes.now)) (IsStop AreGroups all_groups_at bytes.now) }
 {
     let bare = match read_bare_item(bytes) {
         Ok(item) => return one_item(alloc, item),
@@ -37,7 +39,9 @@ pub fn read_all_groups(alloc: Global, bytes: &[u8]) -> Result<ParsedGroups, Stop
 }
 
 /// The place that is further on in the text.
-fn farther(one: Stuck, other: Stuck) -> Stuck {
+fn farther(one: Stuck, other: Stuck) -> Stuck
+    ensures { result.left ≡ min one.left other.left }
+{
     Stuck {
         left: one.left.min(other.left),
     }
@@ -45,7 +49,7 @@ fn farther(one: Stuck, other: Stuck) -> Stuck {
 
 /// The groups that are the whole text.
 fn read_groups_to_end(alloc: Global, bytes: &[u8]) -> Result<ParsedGroups, Stop>
-    ensures { let groups = whole_groups_at bytes.now in MatchResult result (ParsesTo groups) (IsStop groups) }
+    ensures { MatchResult result (ParsesTo (whole_groups_at bytes.now)) (IsStop AreWhole whole_groups_at bytes.now) }
 {
     match read_groups(alloc, bytes) {
         Ok((parsed, rest)) => {
@@ -76,7 +80,7 @@ fn one_item(alloc: Global, item: ParsedItem) -> Result<ParsedGroups, Stop>
 
 /// An item without its page number, which is 0, as the whole text.
 fn read_bare_item(bytes: &[u8]) -> Result<ParsedItem, Stuck>
-    ensures { MatchResult result (BareRead bytes.now) (λ stuck. bare_at bytes.now ≡ None) }
+    ensures { MatchResult result (BareRead bytes.now) (λ stuck. StuckIn IsBareItem bare_at bytes.now stuck.left) }
 {
     if bytes.is_empty() {
         return Err(Stuck { left: 0 });
@@ -95,7 +99,9 @@ fn read_bare_item(bytes: &[u8]) -> Result<ParsedItem, Stuck>
 
 /// The groups at the front, and what is left after them.
 fn read_groups(alloc: Global, bytes: &[u8]) -> Result<(ParsedGroups, Rest<'_>), Stop>
-    ensures { MatchResult result (λ x. GroupsRead bytes.now x.0 x.1.text.now) (IsStop (groups_at bytes.now)) }
+    ensures { MatchResult result (λ x. GroupsRead bytes.now x.0 x.1.text.now
+        × StuckAfter AreWhole groups_at bytes.now x.1.text.now x.1.stuck.left)
+        (IsStop AreWhole groups_at bytes.now) }
 {
     let mut items = Vec::new(alloc);
     let mut lengths = Vec::new(alloc);
@@ -119,8 +125,9 @@ fn read_groups(alloc: Global, bytes: &[u8]) -> Result<(ParsedGroups, Rest<'_>), 
 
 /// Adds the items of the group at the front to the row; gives their number, and what is left after them.
 fn read_group<'t>(bytes: &'t [u8], items: &mut Vec<ParsedItem>) -> Result<(usize, Rest<'t>), Stop>
-    ensures { MatchResult result (λ x. GroupRead bytes.now items.old.items items.new.items x.0 x.1.text.now)
-        (IsStop (group_at bytes.now)) }
+    ensures { MatchResult result (λ x. GroupRead bytes.now items.old.items items.new.items x.0 x.1.text.now
+        × StuckAfter IsGroup group_at bytes.now x.1.text.now x.1.stuck.left)
+        (IsStop IsGroup group_at bytes.now) }
 {
     let mut rest = bytes;
     for i in 0..bytes.len() + 1 {
@@ -138,8 +145,9 @@ fn read_group<'t>(bytes: &'t [u8], items: &mut Vec<ParsedItem>) -> Result<(usize
 
 /// Adds the item at the front to the row; gives what is left after it.
 fn append_item<'t>(bytes: &'t [u8], items: &mut Vec<ParsedItem>) -> Result<Rest<'t>, Stop>
-    ensures { MatchResult result (λ x. ItemAppended bytes.now items.old.items items.new.items x.text.now)
-        (IsStop (item_at bytes.now)) }
+    ensures { MatchResult result (λ x. ItemAppended bytes.now items.old.items items.new.items x.text.now
+        × StuckAfter IsItem item_at bytes.now x.text.now x.stuck.left)
+        (IsStop IsItem item_at bytes.now) }
 {
     match read_item(bytes) {
         Ok((item, rest)) => match items.push(item) {

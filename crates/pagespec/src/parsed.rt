@@ -1,7 +1,8 @@
 //! An item as it is parsed: enough to find every fault, and the item itself if it has none.
-ghost use Rattle.std.specs.Prelude.{◌≡◌, ◌∷◌, ◌++◌, [], List, None, MatchResult, not, int_le, pos};
-ghost use Rattle.rules.specs.Specification.{Modifier as WrittenModifier};
-ghost use Rattle.pagespec.specs.Reading.{is_minus, past_minus, item_at};
+ghost use Rattle.std.specs.Prelude.{◌≡◌, ◌∷◌, ◌++◌, [], List, Some, length, MatchResult, not, int_le, pos};
+ghost use Rattle.rules.specs.Specification.{IsItem, Modifier as WrittenModifier};
+ghost use Rattle.pagespec.specs.Places.{StuckIn, StuckAfter, AreSomeModifiers};
+ghost use Rattle.pagespec.specs.Reading.{is_minus, past_minus, modifiers_at, item_at};
 ghost use Rattle.pagespec.specs.Views.{Stands};
 ghost use Rattle.pagespec.specs.Parsed.{Shows, ModifiersRead, ItemRead};
 
@@ -82,7 +83,9 @@ pub struct ParsedItem {
 
 /// The item at the front, and what is left after it.
 pub fn read_item(bytes: &[u8]) -> Result<(ParsedItem, Rest<'_>), Stuck>
-    ensures { MatchResult result (λ x. ItemRead bytes.now x.0 x.1.text.now) (λ stuck. item_at bytes.now ≡ None) }
+    ensures { MatchResult result (λ x. ItemRead bytes.now x.0 x.1.text.now
+        × StuckAfter IsItem item_at bytes.now x.1.text.now x.1.stuck.left)
+        (λ stuck. StuckIn IsItem item_at bytes.now stuck.left) }
 {
     let (from_end, body) = split_minus(bytes);
     match read_digits(body) {
@@ -112,7 +115,9 @@ pub fn split_minus(bytes: &[u8]) -> (bool, &[u8])
 
 /// The result of the modifiers at the front, and what is left after them.
 pub fn read_modifiers(bytes: &[u8]) -> (Modifiers, Rest<'_>)
-    ensures { ModifiersRead bytes.now result.0 result.1.text.now }
+    ensures read { ModifiersRead bytes.now result.0 result.1.text.now }
+    ensures stuck { StuckAfter AreSomeModifiers (λ t. Some (modifiers_at (length t) t))
+        bytes.now result.1.text.now result.1.stuck.left }
 {
     let mut modifiers = Modifiers::NONE;
     let mut rest = bytes;

@@ -1,5 +1,6 @@
 //! Reading a specification.
 ghost use Rattle.std.specs.Prelude.{◌≡◌, ◌≤◌, length, IfOk, IfErr, MatchResult};
+ghost use Rattle.rules.specs.Specification.{IsSpec};
 ghost use Rattle.rules.specs.Admissible.{Takes, most_slots};
 ghost use Rattle.pagespec.specs.Reading.{spec_at, past_modulo};
 ghost use Rattle.pagespec.specs.Groups.{IsStop};
@@ -52,7 +53,7 @@ pub fn read_spec(alloc: Global, text: &str) -> Result<Spec, SpecError>
 
 /// The modulo of a text, or 100,000 if it is larger, and its groups.
 fn read_written(alloc: Global, bytes: &[u8]) -> Result<(u32, ParsedGroups), Stop>
-    ensures { MatchResult result (λ x. WrittenRead bytes.now x.0 x.1) (IsStop (spec_at bytes.now)) }
+    ensures { MatchResult result (λ x. WrittenRead bytes.now x.0 x.1) (IsStop IsSpec spec_at bytes.now) }
 {
     let (modulo, rest) = split_modulo(bytes);
     match read_all_groups(alloc, rest) {

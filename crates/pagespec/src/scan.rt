@@ -1,8 +1,13 @@
 //! Reading units, measures and modifiers off the front of a text.
-ghost use Rattle.std.specs.Prelude.{◌≡◌, ◌<◌, ℕ, Some, None, MatchResult, MatchOption};
-ghost use Rattle.rules.specs.Specification.{Measure as WrittenMeasure, Modifier as WrittenModifier, Moved};
+ghost use Rattle.std.specs.Prelude.{◌≡◌, ◌<◌, ◌∷◌, ℕ, length, Some, None, MatchResult, MatchOption};
+ghost use Rattle.rules.specs.Bytes.{at_sign, opening_parenthesis};
+ghost use Rattle.rules.specs.Numbers.{IsNumber};
+ghost use Rattle.rules.specs.Specification.{IsMeasure, IsModifier, Moved};
+ghost use Rattle.rules.specs.Specification.{Measure as WrittenMeasure, Modifier as WrittenModifier};
+ghost use Rattle.lengths.specs.Reading.{number_at, unsigned};
 ghost use Rattle.lengths.specs.Units.{length_unit};
-ghost use Rattle.pagespec.specs.Reading.{byte_at, unit_at, measure_at, offset_at, scale_at, modifier_at, quarters_of};
+ghost use Rattle.pagespec.specs.Places.{StuckIn, StuckAfter, IsUnit};
+ghost use Rattle.pagespec.specs.Reading.{byte_at, unit_at, past_letter, measure_at, offset_at, scale_at, modifier_at, quarters_of};
 ghost use Rattle.pagespec.specs.Views.{MeasureRead, ModifierRead, IsMeasureOf, Stands};
 
 use crate::item::Measure;
@@ -36,7 +41,7 @@ pub enum Modifier {
 /// The modifier at the front, and what follows it.
 pub fn read_modifier(bytes: &[u8]) -> Result<(Modifier, &[u8]), Stuck>
     ensures { MatchResult result (λ x. ModifierRead bytes.now x.0 x.1.now)
-        (λ stuck. modifier_at bytes.now ≡ None) }
+        (λ stuck. StuckIn IsModifier modifier_at bytes.now stuck.left) }
 {
     match bytes.split_first() {
         None => Err(Stuck { left: 0 }),
@@ -74,7 +79,7 @@ fn quarters_of(letter: u8) -> u8
 fn read_scale(bytes: &[u8]) -> Result<(Modifier, &[u8]), Stuck>
     ensures { MatchResult result
         (λ x. (m : WrittenModifier) × (scale_at bytes.now ≡ Some (m, x.1.now)) × Stands x.0 m)
-        (λ stuck. scale_at bytes.now ≡ None) }
+        (λ stuck. StuckIn (λ t m. IsModifier (at_sign ∷ t) m) scale_at bytes.now stuck.left) }
 {
     match read_number(bytes) {
         Ok((number, len)) => Ok((Modifier::Scale(number), bytes.split_at(len).1)),
@@ -87,7 +92,7 @@ fn read_scale(bytes: &[u8]) -> Result<(Modifier, &[u8]), Stuck>
 fn read_offset(bytes: &[u8]) -> Result<(Modifier, &[u8]), Stuck>
     ensures { MatchResult result
         (λ x. (m : WrittenModifier) × (offset_at bytes.now ≡ Some (m, x.1.now)) × Stands x.0 m)
-        (λ stuck. offset_at bytes.now ≡ None) }
+        (λ stuck. StuckIn (λ t m. IsModifier (opening_parenthesis ∷ t) m) offset_at bytes.now stuck.left) }
 {
     let (x, behind_x) = match read_measure(bytes) {
         Ok(found) => found,
@@ -119,8 +124,9 @@ fn offset_of(x: Option<Measure>, y: Option<Measure>) -> Modifier
 
 /// A number and a unit; None if the number is too large.
 fn read_measure(bytes: &[u8]) -> Result<(Option<Measure>, Rest<'_>), Stuck>
-    ensures { MatchResult result (λ x. MeasureRead bytes.now x.0 x.1.text.now)
-        (λ stuck. measure_at bytes.now ≡ None) }
+    ensures { MatchResult result (λ x. MeasureRead bytes.now x.0 x.1.text.now
+        × StuckAfter IsMeasure measure_at bytes.now x.1.text.now x.1.stuck.left)
+        (λ stuck. StuckIn IsMeasure measure_at bytes.now stuck.left) }
 {
     match read_number(bytes) {
         Ok((number, len)) => {
@@ -140,28 +146,44 @@ fn read_measure(bytes: &[u8]) -> Result<(Option<Measure>, Rest<'_>), Stuck>
 fn read_unit(bytes: &[u8]) -> (Unit, Rest<'_>)
     ensures unit { (unit_at bytes.now).0 ≡ length_unit result.0 }
     ensures rest { (unit_at bytes.now).1 ≡ result.1.text.now }
+    ensures stuck { StuckAfter IsUnit (λ t. Some (unit_at t)) bytes.now result.1.text.now result.1.stuck.left }
+{
+    let (unit, text) = split_unit(bytes);
+    let left = text.len().min(past_letter(bytes).len());
+    let stuck = Stuck { left };
+    (unit, Rest { text, stuck })
+}
+
+/// The unit at the front, which is points if there is none, and what follows it.
+fn split_unit(bytes: &[u8]) -> (Unit, &[u8])
+    ensures unit { (unit_at bytes.now).0 ≡ length_unit result.0 }
+    ensures rest { (unit_at bytes.now).1 ≡ result.1.now }
 {
     match bytes {
-        [b'w', rest @ ..] => (Unit::W, rest_at(rest)),
-        [b'h', rest @ ..] => (Unit::H, rest_at(rest)),
-        [b'p', b't', rest @ ..] => (Unit::Pt, rest_at(rest)),
-        [b'c', b'm', rest @ ..] => (Unit::Cm, rest_at(rest)),
-        [b'm', b'm', rest @ ..] => (Unit::Mm, rest_at(rest)),
-        [b'i', b'n', rest @ ..] => (Unit::In, rest_at(rest)),
-        [b'p' | b'c' | b'm' | b'i', rest @ ..] => (
-            Unit::Pt,
-            Rest {
-                text: bytes,
-                stuck: Stuck { left: rest.len() },
-            },
-        ),
-        _ => (Unit::Pt, rest_at(bytes)),
+        [b'w', rest @ ..] => (Unit::W, rest),
+        [b'h', rest @ ..] => (Unit::H, rest),
+        [b'p', b't', rest @ ..] => (Unit::Pt, rest),
+        [b'c', b'm', rest @ ..] => (Unit::Cm, rest),
+        [b'm', b'm', rest @ ..] => (Unit::Mm, rest),
+        [b'i', b'n', rest @ ..] => (Unit::In, rest),
+        _ => (Unit::Pt, bytes),
+    }
+}
+
+/// What follows the first letter of a unit of two letters, if the text begins with one.
+fn past_letter(bytes: &[u8]) -> &[u8]
+    ensures { result.now ≡ past_letter bytes.now }
+{
+    match bytes {
+        [b'p' | b'c' | b'm' | b'i', rest @ ..] => rest,
+        _ => bytes,
     }
 }
 
 /// This rest, if nothing more could be read of it.
 pub fn rest_at(text: &[u8]) -> Rest<'_>
-    ensures { result.text.now ≡ text.now }
+    ensures text { result.text.now ≡ text.now }
+    ensures left { result.stuck.left ≡ length text.now }
 {
     Rest {
         text,
@@ -180,10 +202,25 @@ pub fn read_byte(byte: u8, bytes: &[u8]) -> Option<&[u8]>
 }
 
 /// The place after a sign and a dot, if the text doesn't begin with a number.
-fn stuck_in_number(bytes: &[u8]) -> Stuck {
-    let left = match bytes {
-        [b'+' | b'-', b'.', rest @ ..] | [b'+' | b'-' | b'.', rest @ ..] => rest.len(),
-        _ => bytes.len(),
-    };
-    Stuck { left }
+fn stuck_in_number(bytes: &[u8]) -> Stuck
+    requires { number_at bytes.now ≡ None }
+    ensures { StuckIn IsNumber number_at bytes.now result.left }
+{
+    let body = past_sign(bytes);
+    match read_byte(b'.', body) {
+        Some(decimals) => Stuck {
+            left: decimals.len(),
+        },
+        None => Stuck { left: body.len() },
+    }
+}
+
+/// What follows a sign, if the text begins with one.
+fn past_sign(bytes: &[u8]) -> &[u8]
+    ensures { result.now ≡ unsigned bytes.now }
+{
+    match bytes {
+        [b'+' | b'-', rest @ ..] => rest,
+        _ => bytes,
+    }
 }

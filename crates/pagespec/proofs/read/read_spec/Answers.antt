@@ -1,16 +1,22 @@
-use Rattle.std.proofs.Common.{arith, ap, length, ◌∙◌}
+use Rattle.std.proofs.Common.{arith, ◌∙◌, subst, List, ℕ}
+use Rattle.rules.specs.Specification.{IsSpec}
+use Rattle.pagespec.specs.Places.{IsPlaceIn}
 use Rattle.pagespec.specs.Reading.{spec_at}
-use Rattle.pagespec.proofs.AllGroups.{stuck_none}
+use Rattle.pagespec.proofs.AllGroups.{stuck_at}
+use Rattle.pagespec.proofs.Places.{place_in}
 use Rattle.pagespec.proofs.Outcomes.{all_read, syntax_refused, few_parsed, few_lengths, fault_refused, fault_placed, lengths_right, admissible, taken, split_same}
 use Rattle.pagespec.proofs.read.read_spec.Goals as goal
 
 pub returns-in-Err-Stuck-clause-refused : goal.returns-in-Err-Stuck-clause-refused
 returns-in-Err-Stuck-clause-refused c =
     syntax_refused c.args.text.now _ c.if-text-gt-MOST_BYTES.false c.as_bytes-bytes.ensures.value
-    (stuck_none (spec_at c.as_bytes-bytes.result.now) c.in-Err-Stuck.field-0 c.in-Err-Stuck.stuck c.in-Err-Stuck.field-0-is c.in-Err-Stuck.ensures)
+    (stuck_at IsSpec spec_at c.as_bytes-bytes.result.now c.in-Err-Stuck.field-0 c.in-Err-Stuck.stuck c.in-Err-Stuck.field-0-is c.in-Err-Stuck.ensures).0
 
 pub returns-in-Err-Stuck-clause-placed : goal.returns-in-Err-Stuck-clause-placed
-returns-in-Err-Stuck-clause-placed c = omega (arith, c.saturating_sub.ensures, ap length c.as_bytes-bytes.ensures.value)
+returns-in-Err-Stuck-clause-placed c =
+    subst (λ (t : List ℕ). IsPlaceIn t c.saturating_sub.result) c.as_bytes-bytes.ensures.value
+    (place_in c.as_bytes-bytes.result.now c.in-Err-Stuck.stuck.left c.saturating_sub.result
+    (stuck_at IsSpec spec_at c.as_bytes-bytes.result.now c.in-Err-Stuck.field-0 c.in-Err-Stuck.stuck c.in-Err-Stuck.field-0-is c.in-Err-Stuck.ensures) (omega (arith, rw c.in-Err-Stuck.field-0-is at c.saturating_sub.ensures)))
 
 pub first_fault-requires-clause-items : goal.first_fault-requires-clause-items
 first_fault-requires-clause-items c =
