@@ -3,13 +3,14 @@ ghost use Rattle.std.specs.Prelude.{◌≡◌, ◌<◌, length, IsTrue, ◌↔�
 ghost use Rattle.rules.specs.Sheets.{layout};
 ghost use Rattle.sheet_plan.specs.Plans.{pages_on};
 ghost use Rattle.sheet_plan.specs.Places.{is_blank, born_complete};
-ghost use Rattle.sheet_plan.specs.Sources.{plan_from};
+ghost use Rattle.sheet_plan.specs.Sources.{plan_from, IsPlannable};
 
 use crate::source::PlanSource;
 use std::alloc::{AllocError, Global};
 
 /// The sheets whose slots are all blank, ascending.
 pub fn blank_sheets_in(alloc: Global, source: &PlanSource) -> Result<Vec<u32>, AllocError>
+    requires { IsPlannable source.now }
     ensures { IfOk result (λ v. v.items ≡ born_complete (layout (plan_from source.now))) }
 {
     let mut blank_sheets = Vec::new(alloc);
@@ -23,7 +24,8 @@ pub fn blank_sheets_in(alloc: Global, source: &PlanSource) -> Result<Vec<u32>, A
 
 /// Tests that no slot of a sheet has a page.
 fn is_blank(source: &PlanSource, sheet: u32) -> bool
-    requires { sheet < length (plan_from source.now).sheets }
+    requires plannable { IsPlannable source.now }
+    requires sheet { sheet < length (plan_from source.now).sheets }
     ensures { result ≡ is_blank (layout (plan_from source.now)) sheet }
 {
     for slot in 0..source.slots(sheet) {

@@ -3,7 +3,7 @@ ghost use Rattle.std.specs.Prelude.{◌≡◌, ◌<◌, ◌++◌, length, OnOk, 
 ghost use Rattle.rules.specs.Sheets.{layout};
 ghost use Rattle.sheet_plan.specs.Plans.{pages_on};
 ghost use Rattle.sheet_plan.specs.Placed.{placed_in, placed_from};
-ghost use Rattle.sheet_plan.specs.Sources.{plan_from};
+ghost use Rattle.sheet_plan.specs.Sources.{plan_from, IsPlannable};
 
 use crate::source::PlanSource;
 use std::alloc::{AllocError, Global};
@@ -18,6 +18,7 @@ pub struct PlacedPage {
 
 /// All placed pages.
 pub fn placed_pages(alloc: Global, source: &PlanSource) -> Result<Vec<PlacedPage>, AllocError>
+    requires { IsPlannable source.now }
     ensures { IfOk result (λ v. v.items ≡ placed_from 0 (layout (plan_from source.now)).sheets) }
 {
     let mut placed = Vec::new(alloc);
@@ -33,7 +34,8 @@ fn list_sheet(
     sheet: u32,
     placed: &mut Vec<PlacedPage>,
 ) -> Result<(), AllocError>
-    requires { sheet < length (plan_from source.now).sheets }
+    requires plannable { IsPlannable source.now }
+    requires sheet { sheet < length (plan_from source.now).sheets }
     ensures { OnOk result (placed.new.items ≡ placed.old.items ++ placed_in sheet 0 (pages_on (plan_from source.now) sheet)) }
 {
     for slot in 0..source.slots(sheet) {

@@ -16,17 +16,15 @@ ghost use Rattle.sheet_plan.specs.MadeRefusals.{RefusesMade};
 ghost use Rattle.sheet_plan.specs.Places.{places_of, born_complete};
 ghost use Rattle.sheet_plan.specs.Laws.{ArePlaces, AreWithoutPages};
 ghost use Rattle.sheet_plan.specs.Refusals.{Refuses, RefusesIn};
-ghost use Rattle.sheet_plan.specs.Sources.{plan_from};
+ghost use Rattle.sheet_plan.specs.Sources.{plan_from, IsPlannable};
 
 use crate::blank_sheets::blank_sheets_in;
 use crate::error::{MadeError, PlanError};
 use crate::index::PageIndex;
 use crate::made::MadeSheets;
-use crate::made_expansion::MadeExpansion;
 use crate::placed::placed_pages;
 use crate::row::Row;
 use crate::source::PlanSource;
-use crate::spec_expansion::SpecExpansion;
 use pagespec::{Item, Spec};
 use std::alloc::{AllocError, Global};
 use std::fmt;
@@ -56,13 +54,14 @@ impl<'s> Model for Plan<'s> {
     ghost use Rattle.std.specs.List.{range_with_len};
     ghost use Rattle.rules.specs.Sheets.{layout};
     ghost use Rattle.sheet_plan.specs.Places.{places_of, born_complete};
-    ghost use Rattle.sheet_plan.specs.Sources.{plan_from};
+    ghost use Rattle.sheet_plan.specs.Sources.{plan_from, IsPlannable};
 
     ghost view = { λ p. plan_from p.source };
 
     ghost invariant = { λ p.
         (p.index ≡ map (places_of (layout (plan_from p.source))) (range_with_len 0 (plan_from p.source).pages))
-        × (p.blank_sheets.items ≡ born_complete (layout (plan_from p.source))) };
+        × (p.blank_sheets.items ≡ born_complete (layout (plan_from p.source)))
+        × IsPlannable p.source };
 }
 
 impl<'s> Plan<'s> {
@@ -112,8 +111,7 @@ impl<'s> Plan<'s> {
         ensures accepted { OnOk result (made_plan_of pages sheets.now ≡ Ok sheets.now) }
         ensures refused { IfErr result (RefusesMade pages sheets.now) }
     {
-        let expansion = MadeExpansion::new(pages, sheets)?;
-        let source = PlanSource::Made(expansion);
+        let source = PlanSource::of_sheets(pages, sheets)?;
         let (index, blank_sheets) = listed(alloc, &source).map_err(|_| MadeError::NoMemory)?;
         Ok(Plan {
             source,
@@ -130,8 +128,7 @@ impl<'s> Plan<'s> {
             ≡ Ok (sheets_in row.sides spec.now row.pages)) }
         ensures refused { IfErr result (RefusesIn row.sides spec.now row.pages) }
     {
-        let expansion = SpecExpansion::new(spec, row)?;
-        let source = PlanSource::Spec(expansion);
+        let source = PlanSource::of_spec(spec, row)?;
         let (index, blank_sheets) = listed(alloc, &source).map_err(|_| PlanError::NoMemory)?;
         Ok(Plan {
             source,
@@ -224,6 +221,7 @@ impl<'s> Plan<'s> {
 
 /// The places of each page, and the sheets without pages.
 fn listed(alloc: Global, source: &PlanSource) -> Result<(PageIndex, Vec<u32>), AllocError>
+    requires { IsPlannable source.now }
     ensures index { IfOk result (λ x.
         x.0 ≡ map (places_of (layout (plan_from source.now))) (range_with_len 0 (plan_from source.now).pages)) }
     ensures blank_sheets { IfOk result (λ x. x.1.items ≡ born_complete (layout (plan_from source.now))) }
