@@ -244,6 +244,3 @@ item_read pages all plan s k slot view at =
 
 pub slot_made : (pages : ℕ) (all : List MadeSheet) (plan : Plan) (s k : ℕ) → made_plan pages all ≡ plan → k < length (pages_on plan s) → k < length (slots_at all s)
 slot_made pages all plan s k view lt = let e = ap (λ (p : Plan). length (pages_on p s)) view in let l = row_len pages all s in omega arith
-
-pub sound_as : (pages : ℕ) (all : List MadeSheet) (plan : Plan) → made_plan pages all ≡ plan → made_plan_of pages all ≡ Ok all → IsSound plan
-sound_as pages all plan view e = subst IsSound view (sound_made pages all e)

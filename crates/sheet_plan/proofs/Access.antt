@@ -14,15 +14,12 @@ use Rattle.rules.specs.Specification.{Spec, Item}
 use Rattle.rules.specs.Sheets.{Plan, place, blocks}
 use Rattle.rules.specs.Signatures.{entry_in, row_len, sheets_in}
 use Rattle.rules.proofs.Counts.{sheet_count}
-use Rattle.sheet_plan.specs.Plans.{planned_in, pages_on, items_on, IsSound, IsOfSpec}
+use Rattle.sheet_plan.specs.Plans.{planned_in, pages_on, items_on}
 use Rattle.sheet_plan.specs.Refusals.{IsAccepted}
+use Rattle.sheet_plan.specs.Sources.{spec_of}
 use Rattle.sheet_plan.proofs.Admitted.{IsBounded, bounded}
 use Rattle.sheet_plan.proofs.Rows.{is_sheet, pages_row, items_row, slot_count}
-use Rattle.sheet_plan.proofs.Bounds.{blocks_times, place_below, sound, of_spec}
-
--- the specification that these fields make
-abbrev pub spec_of : ℕ → List (Vec PageItem Global) → Spec
-spec_of modulo groups = record { modulo = modulo; groups = groups_of groups }
+use Rattle.sheet_plan.proofs.Bounds.{blocks_times, place_below}
 
 -- a sheet of the plan, its block and its group among count groups
 pub record IsAt (sides : Option ℕ) (spec : Spec) (n count : ℕ) (plan : Plan) (s : ℕ) : Type 0 where
@@ -45,12 +42,6 @@ at_sheet sides modulo n groups plan is s lt =
     let here = at_of sides spec n s lt' in
     let counted = subst (λ count. IsAt sides spec n count (planned_in sides spec n) s) (length-map groups (λ g. map item_of g.items)) here in
     subst (λ (p : Plan). IsAt sides spec n (length groups) p s) is counted
-
-pub sound_of : (sides : Option ℕ) (modulo n : ℕ) (groups : List (Vec PageItem Global)) (plan : Plan) → planned_in sides (spec_of modulo groups) n ≡ plan → IsAccepted sides (spec_of modulo groups) n → IsSound plan
-sound_of sides modulo n groups plan is a = subst IsSound is (sound sides (spec_of modulo groups) n a)
-
-pub of_spec_of : (sides : Option ℕ) (modulo n : ℕ) (groups : List (Vec PageItem Global)) (plan : Plan) → planned_in sides (spec_of modulo groups) n ≡ plan → IsAccepted sides (spec_of modulo groups) n → IsOfSpec plan
-of_spec_of sides modulo n groups plan is a = subst IsOfSpec is (of_spec sides (spec_of modulo groups) n a)
 
 -- the number of sheets
 pub sheets_of : (sides : Option ℕ) (modulo n : ℕ) (groups : List (Vec PageItem Global)) (plan : Plan) → planned_in sides (spec_of modulo groups) n ≡ plan → blocks modulo (row_len sides n) * length groups ≡ length plan.sheets

@@ -12,5 +12,6 @@ pub mod Exact
 pub mod Stored
 pub mod Placings
 pub mod Accepted
+pub mod Sources
 pub mod Examples
 pub mod MadeExamples

@@ -16,7 +16,8 @@ use Rattle.rules.proofs.Counts.{sheet_count, place_count}
 use Rattle.sheet_plan.specs.Refusals.{IsAccepted}
 use Rattle.sheet_plan.proofs.Admitted.{bounded}
 use Rattle.sheet_plan.proofs.Bounds.{blocks_ceil, blocks_le}
-use Rattle.sheet_plan.proofs.Access.{spec_of, few_in_block}
+use Rattle.sheet_plan.specs.Sources.{spec_of}
+use Rattle.sheet_plan.proofs.Access.{few_in_block}
 
 pub refused : {A E : Type 0} (b : Bool) (fault : E) (next : Result A E) → b ≡ true → refuse_if b fault next ≡ Err fault
 refused true fault next e = refl

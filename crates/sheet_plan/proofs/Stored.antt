@@ -1,6 +1,6 @@
 -- Sheets that are kept stay as they are while slots and placings are added, and while one more is added after them.
 use Rattle.std.proofs.Common.{arith, ◌≡◌, ℕ, zero, suc, ◌+◌, ◌-◌, ◌<◌, ◌≤◌, List, [], ◌∷◌, ◌++◌, length, map, get_or, take, drop, refl, sym, ap, ◌∙◌, subst, Option, Some, None, Result, Ok, Err}
-use Rattle.std.specs.Prelude.{if◌then◌else◌, slice_get, slice_range, option_map, sum_by, All, OnErr}
+use Rattle.std.specs.Prelude.{slice_get, slice_range, option_map, sum_by, All, OnErr}
 use Rattle.std.proofs.Math.Seq.{take-length, drop-length, take-append_seam, drop-append_seam}
 use Rattle.std.proofs.lemmas.List.{length-take, length-take-le, length-drop, length-map, take-take, drop-take, take_rest, take-append-drop, drop-append-le, map-append, map_more}
 use Rattle.std.proofs.lemmas.List.Elements.{All-head, All-tail, All-take, All-drop, All-push, All-weaker}

@@ -3,17 +3,19 @@ ghost use Rattle.std.specs.Prelude.{◌≡◌, ◌<◌, length, IsTrue, ◌↔�
 ghost use Rattle.rules.specs.Sheets.{layout};
 ghost use Rattle.sheet_plan.specs.Plans.{pages_on};
 ghost use Rattle.sheet_plan.specs.Places.{is_blank, born_complete};
+ghost use Rattle.sheet_plan.specs.Sources.{plan_from, IsPlannable};
 
-use crate::expansion::Expansion;
+use crate::source::PlanSource;
 use std::alloc::{AllocError, Global};
 
 /// The sheets whose slots are all blank, ascending.
-pub fn blank_sheets_in(alloc: Global, expansion: &Expansion) -> Result<Vec<u32>, AllocError>
-    ensures { IfOk result (λ v. v.items ≡ born_complete (layout expansion.now)) }
+pub fn blank_sheets_in(alloc: Global, source: &PlanSource) -> Result<Vec<u32>, AllocError>
+    requires { IsPlannable source.now }
+    ensures { IfOk result (λ v. v.items ≡ born_complete (layout (plan_from source.now))) }
 {
     let mut blank_sheets = Vec::new(alloc);
-    for sheet in 0..expansion.sheets() {
-        if is_blank(expansion, sheet) {
+    for sheet in 0..source.sheets() {
+        if is_blank(source, sheet) {
             blank_sheets.push(sheet)?;
         }
     }
@@ -21,12 +23,13 @@ pub fn blank_sheets_in(alloc: Global, expansion: &Expansion) -> Result<Vec<u32>,
 }
 
 /// Tests that no slot of a sheet has a page.
-fn is_blank(expansion: &Expansion, sheet: u32) -> bool
-    requires { sheet < length expansion.now.sheets }
-    ensures { result ≡ is_blank (layout expansion.now) sheet }
+fn is_blank(source: &PlanSource, sheet: u32) -> bool
+    requires plannable { IsPlannable source.now }
+    requires sheet { sheet < length (plan_from source.now).sheets }
+    ensures { result ≡ is_blank (layout (plan_from source.now)) sheet }
 {
-    for slot in 0..expansion.slots(sheet) {
-        if expansion.page_of(sheet, slot).is_some() {
+    for slot in 0..source.slots(sheet) {
+        if source.page_of(sheet, slot).is_some() {
             return false;
         }
     }

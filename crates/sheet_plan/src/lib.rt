@@ -3,7 +3,6 @@
 
 mod blank_sheets;
 mod error;
-mod expansion;
 mod index;
 pub mod laws;
 mod made;

@@ -1,19 +1,16 @@
 //! Made sheets as the sheets of a plan.
 ghost use Rattle.std.specs.Prelude.{◌≡◌, ◌≢◌, ◌<◌, ◌≤◌, length, not, position, Some, Ok, Err, OnOk, IfOk, IfErr, slice_get};
 ghost use Rattle.std.specs.List.{list_any};
-ghost use Rattle.rules.specs.Admissible.{most_slots};
 ghost use Rattle.rules.specs.Run.{most_sheets};
-ghost use Rattle.pagespec.specs.Items.{item_of};
 ghost use Rattle.made_sheets.specs.Made.{MadeSlot};
 ghost use Rattle.made_sheets.specs.MadePlans.{made_plan_of, is_slot_count, slot_count, is_missing};
-ghost use Rattle.sheet_plan.specs.OfSheets.{made_plan, slots_at, IsOfSheets};
-ghost use Rattle.sheet_plan.specs.Plans.{pages_on, items_on, IsSound};
+ghost use Rattle.sheet_plan.specs.OfSheets.{made_plan, slots_at};
 ghost use Rattle.sheet_plan.specs.MadeRefusals.{RefusesMade};
+ghost use Rattle.sheet_plan.specs.Sources.{plan_from, IsPlannable};
 
 use crate::error::MadeError;
 use crate::made::MadeSheets;
-use pagespec::Item;
-use std::marker::Model;
+use crate::source::PlanSource;
 
 const MOST_PAGES: u32 = 1_000_000;
 
@@ -23,30 +20,11 @@ const MOST_SLOTS: u32 = 4_096;
 
 const MOST_PLACES: u32 = 4_000_000;
 
-/// Made sheets within the limits of a plan over this many pages. A contract sees the plan that they make.
-#[derive(Drop)]
-pub struct MadeExpansion<'s> {
-    pages: u32,
-    made: &'s MadeSheets,
-}
-
-impl<'s> Model for MadeExpansion<'s> {
-    ghost use Rattle.std.specs.Prelude.{◌≡◌, Ok};
-    ghost use Rattle.rules.specs.Sheets.{Plan};
-    ghost use Rattle.made_sheets.specs.MadePlans.{made_plan_of};
-    ghost use Rattle.sheet_plan.specs.OfSheets.{made_plan};
-
-    ghost Value = { Plan };
-
-    ghost view = { λ e. made_plan e.pages e.made.now };
-
-    ghost invariant = { λ e. made_plan_of e.pages e.made.now ≡ Ok e.made.now };
-}
-
-impl<'s> MadeExpansion<'s> {
-    /// Tests the limits of a plan, and that the document has each page.
-    pub fn new(pages: u32, made: &'s MadeSheets) -> Result<MadeExpansion<'s>, MadeError>
-        ensures value { IfOk result (λ e. e ≡ made_plan pages made.now) }
+impl<'s> PlanSource<'s> {
+    /// Sheets that were made. Tests the limits of a plan, and that the document has each page.
+    pub fn of_sheets(pages: u32, made: &'s MadeSheets) -> Result<PlanSource<'s>, MadeError>
+        ensures value { IfOk result (λ s. plan_from s ≡ made_plan pages made.now) }
+        ensures plannable { IfOk result IsPlannable }
         ensures accepted { OnOk result (made_plan_of pages made.now ≡ Ok made.now) }
         ensures refused { IfErr result (RefusesMade pages made.now) }
         ensures no_growth { result ≢ Err MadeError.NoMemory }
@@ -66,54 +44,7 @@ impl<'s> MadeExpansion<'s> {
         if let Some(sheet) = first_missing(pages, made) {
             return Err(MadeError::NoSuchPage(sheet));
         }
-        Ok(MadeExpansion { pages, made })
-    }
-
-    pub fn pages(&self) -> u32
-        ensures value { result ≡ self.now.pages }
-        ensures sound { IsSound self.now }
-        ensures of_sheets { IsOfSheets self.now }
-    {
-        self.pages
-    }
-
-    pub fn sheets(&self) -> u32
-        ensures value { result ≡ length self.now.sheets }
-        ensures sound { IsSound self.now }
-    {
-        self.made.len() as u32
-    }
-
-    pub fn slots(&self, sheet: u32) -> u16
-        requires { sheet < length self.now.sheets }
-        ensures value { result ≡ length (pages_on self.now sheet) }
-        ensures some { 0 < result }
-        ensures few { result ≤ most_slots }
-    {
-        self.made.slots(sheet) as u16
-    }
-
-    pub fn item_of(&self, sheet: u32, slot: u16) -> &'s Item
-        requires sheet { sheet < length self.now.sheets }
-        requires slot { slot < length (pages_on self.now sheet) }
-        ensures value { slice_get (items_on self.now sheet) slot ≡ Some (item_of result.now) }
-    {
-        let made = self.made;
-        match made.placed(sheet, u32::from(slot)) {
-            Some(placed) => placed.item,
-            None => made.nothing(),
-        }
-    }
-
-    pub fn page_of(&self, sheet: u32, slot: u16) -> Option<u32>
-        requires sheet { sheet < length self.now.sheets }
-        requires slot { slot < length (pages_on self.now sheet) }
-        ensures value { slice_get (pages_on self.now sheet) slot ≡ Some result }
-    {
-        match self.made.placed(sheet, u32::from(slot)) {
-            Some(placed) => Some(placed.page),
-            None => None,
-        }
+        Ok(PlanSource::Made { pages, made })
     }
 }
 

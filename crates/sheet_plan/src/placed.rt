@@ -3,8 +3,9 @@ ghost use Rattle.std.specs.Prelude.{◌≡◌, ◌<◌, ◌++◌, length, OnOk, 
 ghost use Rattle.rules.specs.Sheets.{layout};
 ghost use Rattle.sheet_plan.specs.Plans.{pages_on};
 ghost use Rattle.sheet_plan.specs.Placed.{placed_in, placed_from};
+ghost use Rattle.sheet_plan.specs.Sources.{plan_from, IsPlannable};
 
-use crate::expansion::Expansion;
+use crate::source::PlanSource;
 use std::alloc::{AllocError, Global};
 
 /// A page in a slot of a sheet.
@@ -16,27 +17,29 @@ pub struct PlacedPage {
 }
 
 /// All placed pages.
-pub fn placed_pages(alloc: Global, expansion: &Expansion) -> Result<Vec<PlacedPage>, AllocError>
-    ensures { IfOk result (λ v. v.items ≡ placed_from 0 (layout expansion.now).sheets) }
+pub fn placed_pages(alloc: Global, source: &PlanSource) -> Result<Vec<PlacedPage>, AllocError>
+    requires { IsPlannable source.now }
+    ensures { IfOk result (λ v. v.items ≡ placed_from 0 (layout (plan_from source.now)).sheets) }
 {
     let mut placed = Vec::new(alloc);
-    for sheet in 0..expansion.sheets() {
-        list_sheet(expansion, sheet, &mut placed)?;
+    for sheet in 0..source.sheets() {
+        list_sheet(source, sheet, &mut placed)?;
     }
     Ok(placed)
 }
 
 /// Adds the placed pages of a sheet.
 fn list_sheet(
-    expansion: &Expansion,
+    source: &PlanSource,
     sheet: u32,
     placed: &mut Vec<PlacedPage>,
 ) -> Result<(), AllocError>
-    requires { sheet < length expansion.now.sheets }
-    ensures { OnOk result (placed.new.items ≡ placed.old.items ++ placed_in sheet 0 (pages_on expansion.now sheet)) }
+    requires plannable { IsPlannable source.now }
+    requires sheet { sheet < length (plan_from source.now).sheets }
+    ensures { OnOk result (placed.new.items ≡ placed.old.items ++ placed_in sheet 0 (pages_on (plan_from source.now) sheet)) }
 {
-    for slot in 0..expansion.slots(sheet) {
-        if let Some(page) = expansion.page_of(sheet, slot) {
+    for slot in 0..source.slots(sheet) {
+        if let Some(page) = source.page_of(sheet, slot) {
             placed.push(PlacedPage { page, sheet, slot })?;
         }
     }

@@ -16,14 +16,15 @@ ghost use Rattle.sheet_plan.specs.MadeRefusals.{RefusesMade};
 ghost use Rattle.sheet_plan.specs.Places.{places_of, born_complete};
 ghost use Rattle.sheet_plan.specs.Laws.{ArePlaces, AreWithoutPages};
 ghost use Rattle.sheet_plan.specs.Refusals.{Refuses, RefusesIn};
+ghost use Rattle.sheet_plan.specs.Sources.{plan_from, IsPlannable};
 
 use crate::blank_sheets::blank_sheets_in;
 use crate::error::{MadeError, PlanError};
-use crate::expansion::Expansion;
 use crate::index::PageIndex;
 use crate::made::MadeSheets;
 use crate::placed::placed_pages;
 use crate::row::Row;
+use crate::source::PlanSource;
 use pagespec::{Item, Spec};
 use std::alloc::{AllocError, Global};
 use std::fmt;
@@ -39,7 +40,7 @@ use std::marker::Model;
 /// place is one of its entries.
 #[derive(Drop)]
 pub struct Plan<'s> {
-    expansion: Expansion<'s>,
+    source: PlanSource<'s>,
     index: PageIndex,
     blank_sheets: Vec<u32>,
 }
@@ -53,11 +54,14 @@ impl<'s> Model for Plan<'s> {
     ghost use Rattle.std.specs.List.{range_with_len};
     ghost use Rattle.rules.specs.Sheets.{layout};
     ghost use Rattle.sheet_plan.specs.Places.{places_of, born_complete};
+    ghost use Rattle.sheet_plan.specs.Sources.{plan_from, IsPlannable};
 
-    ghost view = { λ p. p.expansion };
+    ghost view = { λ p. plan_from p.source };
 
-    ghost invariant = { λ p. (p.index ≡ map (places_of (layout p.expansion)) (range_with_len 0 p.expansion.pages))
-        × (p.blank_sheets.items ≡ born_complete (layout p.expansion)) };
+    ghost invariant = { λ p.
+        (p.index ≡ map (places_of (layout (plan_from p.source))) (range_with_len 0 (plan_from p.source).pages))
+        × (p.blank_sheets.items ≡ born_complete (layout (plan_from p.source)))
+        × IsPlannable p.source };
 }
 
 impl<'s> Plan<'s> {
@@ -107,10 +111,10 @@ impl<'s> Plan<'s> {
         ensures accepted { OnOk result (made_plan_of pages sheets.now ≡ Ok sheets.now) }
         ensures refused { IfErr result (RefusesMade pages sheets.now) }
     {
-        let expansion = Expansion::of_sheets(pages, sheets)?;
-        let (index, blank_sheets) = listed(alloc, &expansion).map_err(|_| MadeError::NoMemory)?;
+        let source = PlanSource::of_sheets(pages, sheets)?;
+        let (index, blank_sheets) = listed(alloc, &source).map_err(|_| MadeError::NoMemory)?;
         Ok(Plan {
-            expansion,
+            source,
             index,
             blank_sheets,
         })
@@ -124,10 +128,10 @@ impl<'s> Plan<'s> {
             ≡ Ok (sheets_in row.sides spec.now row.pages)) }
         ensures refused { IfErr result (RefusesIn row.sides spec.now row.pages) }
     {
-        let expansion = Expansion::of_spec(spec, row)?;
-        let (index, blank_sheets) = listed(alloc, &expansion).map_err(|_| PlanError::NoMemory)?;
+        let source = PlanSource::of_spec(spec, row)?;
+        let (index, blank_sheets) = listed(alloc, &source).map_err(|_| PlanError::NoMemory)?;
         Ok(Plan {
-            expansion,
+            source,
             index,
             blank_sheets,
         })
@@ -139,7 +143,7 @@ impl<'s> Plan<'s> {
         ensures sound { IsSound self.now }
         ensures origin { IsOfSpec self.now ⊎ IsOfSheets self.now }
     {
-        self.expansion.pages()
+        self.source.pages()
     }
 
     /// The number of sheets.
@@ -147,7 +151,7 @@ impl<'s> Plan<'s> {
         ensures value { result ≡ length self.now.sheets }
         ensures sound { IsSound self.now }
     {
-        self.expansion.sheets()
+        self.source.sheets()
     }
 
     /// The number of slots of a sheet, including blank ones: 1 to 4,096.
@@ -157,7 +161,7 @@ impl<'s> Plan<'s> {
         ensures some { 0 < result }
         ensures few { result ≤ most_slots }
     {
-        self.expansion.slots(sheet)
+        self.source.slots(sheet)
     }
 
     /// The page in a slot; None is a blank.
@@ -166,7 +170,7 @@ impl<'s> Plan<'s> {
         requires slot { slot < length (pages_on self.now sheet) }
         ensures value { slice_get (pages_on self.now sheet) slot ≡ Some result }
     {
-        self.expansion.page_of(sheet, slot)
+        self.source.page_of(sheet, slot)
     }
 
     /// The item of a slot.
@@ -175,7 +179,7 @@ impl<'s> Plan<'s> {
         requires slot { slot < length (pages_on self.now sheet) }
         ensures value { slice_get (items_on self.now sheet) slot ≡ Some (item_of result.now) }
     {
-        self.expansion.item_of(sheet, slot)
+        self.source.item_of(sheet, slot)
     }
 
     /// The slots of a slot group that aren't blank: bit j is set for slot `64 * group + j`. A sheet has a slot
@@ -216,14 +220,15 @@ impl<'s> Plan<'s> {
 }
 
 /// The places of each page, and the sheets without pages.
-fn listed(alloc: Global, expansion: &Expansion) -> Result<(PageIndex, Vec<u32>), AllocError>
+fn listed(alloc: Global, source: &PlanSource) -> Result<(PageIndex, Vec<u32>), AllocError>
+    requires { IsPlannable source.now }
     ensures index { IfOk result (λ x.
-        x.0 ≡ map (places_of (layout expansion.now)) (range_with_len 0 expansion.now.pages)) }
-    ensures blank_sheets { IfOk result (λ x. x.1.items ≡ born_complete (layout expansion.now)) }
+        x.0 ≡ map (places_of (layout (plan_from source.now))) (range_with_len 0 (plan_from source.now).pages)) }
+    ensures blank_sheets { IfOk result (λ x. x.1.items ≡ born_complete (layout (plan_from source.now))) }
 {
-    let placed = placed_pages(alloc, expansion)?;
-    let index = PageIndex::new(alloc, expansion.pages(), &placed)?;
-    let blank_sheets = blank_sheets_in(alloc, expansion)?;
+    let placed = placed_pages(alloc, source)?;
+    let index = PageIndex::new(alloc, source.pages(), &placed)?;
+    let blank_sheets = blank_sheets_in(alloc, source)?;
     Ok((index, blank_sheets))
 }
 

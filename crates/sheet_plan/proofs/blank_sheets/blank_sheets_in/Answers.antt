@@ -4,6 +4,7 @@ use Rattle.std.specs.declared.alloc.Global.{Global}
 use Rattle.std.specs.Prelude.{ℕ}
 use Rattle.rules.specs.Sheets.{layout}
 use Rattle.sheet_plan.specs.Places.{is_blank}
+use Rattle.sheet_plan.specs.Sources.{plan_from}
 use Rattle.sheet_plan.proofs.Blanks.{filter_next_yes, filter_next_no}
 use Rattle.sheet_plan.proofs.blank_sheets.blank_sheets_in.Goals as goal
 use Rattle.sheet_plan.proofs.blank_sheets.blank_sheets_in.Goals.{then-is_blank+in_ok-push, else-is_blank}
@@ -14,8 +15,8 @@ loop-sheet-preserved c =
       | then-is_blank+in_ok-push w ↦
           ap (λ (v : Vec ℕ Global). v.items) w.blank_sheets-is ∙ w.in_ok-push.ensures.items
           ∙ ap (λ xs. xs ++ c.loop-sheet.sheet ∷ []) c.loop-sheet.invariant
-          ∙ sym (filter_next_yes (is_blank (layout c.args.expansion.now)) c.loop-sheet.sheet (sym c.is_blank.ensures ∙ w.if-is_blank.true))
+          ∙ sym (filter_next_yes (is_blank (layout (plan_from c.args.source.now))) c.loop-sheet.sheet (sym c.is_blank.ensures ∙ w.if-is_blank.true))
       | else-is_blank w ↦
           ap (λ (v : Vec ℕ Global). v.items) w.blank_sheets-is ∙ c.loop-sheet.invariant
-          ∙ sym (filter_next_no (is_blank (layout c.args.expansion.now)) c.loop-sheet.sheet (sym c.is_blank.ensures ∙ w.if-is_blank.false))
+          ∙ sym (filter_next_no (is_blank (layout (plan_from c.args.source.now))) c.loop-sheet.sheet (sym c.is_blank.ensures ∙ w.if-is_blank.false))
     ]

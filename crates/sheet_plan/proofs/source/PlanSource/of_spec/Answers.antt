@@ -1,11 +1,9 @@
-use Rattle.std.proofs.Common.{arith, ◌*◌, length, sym, ap, ◌∙◌, Ok}
+use Rattle.std.proofs.Common.{arith, ◌*◌, length, ap, ◌∙◌}
 use Rattle.std.proofs.lemmas.Nat.{mul-le}
 use Rattle.rules.specs.Admissible.{most_groups, most_slots}
-use Rattle.rules.specs.Specification.{Spec}
-use Rattle.rules.specs.Signatures.{sheets_in}
 use Rattle.sheet_plan.proofs.Admitted.{filled}
 use Rattle.sheet_plan.proofs.Limits.{counted, accepted_fields, accepted, too_many_sheets, too_many_places}
-use Rattle.sheet_plan.proofs.spec_expansion.SpecExpansion.new.Goals as goal
+use Rattle.sheet_plan.proofs.source.PlanSource.of_spec.Goals as goal
 
 pub overflow_mul-from : goal.overflow_mul-from
 overflow_mul-from c =
@@ -41,17 +39,16 @@ returns-then-from-slots_in_block-gt-MOST_PLACES-clause-refused c =
     let p = ap (λ b. b * c.slots_in_block.result) c.from-2.ensures ∙ ap (λ w. c.div_ceil-blocks.result * w) c.slots_in_block.ensures ∙ k.place_total in
     too_many_places c.args.row.sides c.args.spec.now c.args.row.pages (omega arith) (omega (arith, ap (λ b. b * length c.groups-groups.result.now) c.from.ensures)) (omega arith)
 
-pub invariant_of-result : goal.invariant_of-result
-invariant_of-result c =
+pub returns-clause-plannable : goal.returns-clause-plannable
+returns-clause-plannable c =
     let k = counted c.args.row.sides c.args.spec.now c.args.row.pages c.len-entries.result c.modulo-modulo.result c.div_ceil-blocks.result c.groups-groups.result.now c.len-entries.ensures c.modulo-modulo.ensures.value c.groups-groups.ensures.items c.groups-groups.ensures.admissible c.div_ceil-blocks.ensures in
     let s = k.sheet_total in
     let p = ap (λ b. b * c.slots_in_block.result) c.from-2.ensures ∙ ap (λ w. c.div_ceil-blocks.result * w) c.slots_in_block.ensures ∙ k.place_total in
     (accepted_fields c.args.row.sides c.args.spec.now c.args.row.pages c.modulo-modulo.result c.groups-groups.result.now c.requires k.same c.groups-groups.ensures.admissible (filled c.args.spec.now c.groups-groups.ensures.admissible) (omega arith) (omega (arith, ap (λ b. b * length c.groups-groups.result.now) c.from.ensures)) (omega arith), k.ceil)
 
-pub returns-clause-within : goal.returns-clause-within
-returns-clause-within c =
+pub returns-clause-accepted : goal.returns-clause-accepted
+returns-clause-accepted c =
     let k = counted c.args.row.sides c.args.spec.now c.args.row.pages c.len-entries.result c.modulo-modulo.result c.div_ceil-blocks.result c.groups-groups.result.now c.len-entries.ensures c.modulo-modulo.ensures.value c.groups-groups.ensures.items c.groups-groups.ensures.admissible c.div_ceil-blocks.ensures in
     let s = k.sheet_total in
     let p = ap (λ b. b * c.slots_in_block.result) c.from-2.ensures ∙ ap (λ w. c.div_ceil-blocks.result * w) c.slots_in_block.ensures ∙ k.place_total in
     accepted c.args.row.sides c.args.spec.now c.args.row.pages (omega arith) (omega (arith, ap (λ b. b * length c.groups-groups.result.now) c.from.ensures)) (omega arith)
-    ∙ ap (λ (spec : Spec). Ok (sheets_in c.args.row.sides spec c.args.row.pages)) (sym k.same)
