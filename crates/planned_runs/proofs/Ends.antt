@@ -30,7 +30,7 @@ use Rattle.planned_runs.specs.declared.gathering.Gathered.{Gathered}
 use Rattle.planned_runs.specs.declared.outcome.RunError.TheVariants.{NoMemory}
 use Rattle.planned_runs.specs.declared.tokens.Tokens.{Tokens}
 use Rattle.run_steps.proofs.Counts.{gathers_all}
-use Rattle.sheet_writer.proofs.Fronts.{starved, if_failed, if_starved}
+use Rattle.sheet_writer.proofs.Fronts.{starves, if_failed, if_starved}
 use Rattle.planned_runs.proofs.HandedOn.{gathered_handed_on, gathered_all_put}
 use Rattle.planned_runs.proofs.Holdings.{AllAreBack}
 
@@ -40,7 +40,7 @@ stands_wrote : (job : JobView) (old new : SinkView) (p : Progress) → Stands jo
 stands_wrote job old new p stands = by_halt p.halted refl
   where
     by_halt : (h : Option Halt) → p.halted ≡ h → WroteFirst job old new p.written × ((new.failures ≡ old.failures) ⊎ (new.failures ≡ old.failures + 1))
-    by_halt None is = let ended = starved job old new p 0 is stands in (ended.0, inl ended.1)
+    by_halt None is = let ended = starves job old new p (record p { halted = Some halt.NoMemory }) p.swept is refl stands in (ended.0, inl ended.1)
     by_halt (Some halt.Failed) is = let here = if_failed job old new p (HasFront job old new p) is stands in (here.0, inr here.1)
     by_halt (Some halt.NoMemory) is = let here = if_starved job old new p (HasFront job old new p) is stands in (here.0, inl here.1)
 

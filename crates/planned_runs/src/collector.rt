@@ -33,7 +33,7 @@ impl<'s, 'r, 't, 'd, 'a, T: SheetTexts, G: Gate, S: Sink> Collector<CollectorSta
 
     ghost is_ready_to_collect = { λ input state. IsSeatAt (receives_on input.channel.now.receiver) state.ticket.now
         × (state.header.now ≡ dressed_preamble (length input.shared.now.job.now.plan.sheets) input.shared.now.job.now.header input.shared.now.job.now.units)
-        × (state.progress ≡ record { next = 0; written = 0; halted = None })
+        × (state.progress ≡ record { next = 0; written = 0; swept = 0; halted = None })
         × AreEarly input.shared.now.job.now state.early.now.groups.items
         × IsCountable (S.seen state.sink.now) };
 

@@ -39,7 +39,7 @@ use crate::worker_counts::Workers;
 use gather_table::{GatherTable, Seat};
 use handover::{Overflow, Pass, Ready, Shelf};
 use sheet_text::Job;
-use sheet_writer::{Halt, Progress, RunEnd, Sink, write_rest};
+use sheet_writer::{Halt, Progress, Sink, write_rest};
 use std::alloc::Global;
 use std::marker::{Brand, PhantomData};
 use std::sync::Wait;
@@ -315,6 +315,7 @@ fn gather_at<
         progress: Progress {
             next: 0,
             written: 0,
+            swept: 0,
             halted: None,
         },
     };
@@ -413,8 +414,8 @@ fn conclude<'d, S: Sink>(
     let rest = write_rest(alloc, job, state.sink, state.progress, state.early, trailer);
     let Holding { tokens, unshelved } = ended;
     let Tokens { seat, pass } = tokens;
-    let written = rest.progress.written;
-    match rest.progress.halted {
+    let written = rest.written;
+    match rest.halted {
         None => Gathered {
             outcome: Ok(report_on(job, rest)),
             unshelved,
@@ -436,9 +437,9 @@ fn conclude<'d, S: Sink>(
 }
 
 /// The numbers of a job whose whole output was written.
-fn report_on(job: &Job<'_, '_>, rest: RunEnd) -> Report
+fn report_on(job: &Job<'_, '_>, rest: Progress) -> Report
     requires swept { rest.swept ≤ length job.now.plan.sheets }
-    ensures numbers { rest.progress.written ≡ length (output_of job.now) → ReportsOf job.now result }
+    ensures numbers { rest.written ≡ length (output_of job.now) → ReportsOf job.now result }
     ensures swept { result.swept ≡ rest.swept }
 {
     let plan = job.plan();
@@ -447,6 +448,6 @@ fn report_on(job: &Job<'_, '_>, rest: RunEnd) -> Report
         sheets: plan.sheets(),
         born: plan.born_complete().len() as u32,
         swept: rest.swept,
-        bytes: rest.progress.written,
+        bytes: rest.written,
     }
 }

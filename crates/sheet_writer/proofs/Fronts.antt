@@ -168,17 +168,13 @@ early_filled job places j new is early k m at = ⊎_elim
     (λ p. early k m p)
     (found_after places j k (Some new) (Some m) at)
 
--- nothing more is written for lack of memory
-pub starved : (job : JobView) (start now : SinkView) (p : Progress) (n : ℕ) → p.halted ≡ None → Stands job start now p
-    → Ends job start now (record { next = n; written = p.written; halted = Some NoMemory })
-starved job start now p n none stands =
-    let was = while_going job start now p (HasFront job start now p) none stands in
-    (subst (WroteFirst job start now) (sym was.1) (wrote_front job start now now p.next was.2.0 (Keeps-refl now.bytes)), was.2.1)
-
 -- the next sheet couldn't be made
-pub starves : (job : JobView) (start now : SinkView) (p q : Progress) → p.halted ≡ None → q ≡ record { next = p.next; written = p.written; halted = Some NoMemory }
+pub starves : (job : JobView) (start now : SinkView) (p q : Progress) (swept : ℕ) → p.halted ≡ None → q ≡ record p { swept = swept; halted = Some NoMemory }
     → Stands job start now p → Stands job start now q
-starves job start now p q none is stands = subst (λ r. Stands job start now r) (sym is) (starved job start now p p.next none stands)
+starves job start now p q swept none is stands =
+    let was = while_going job start now p (HasFront job start now p) none stands in
+    subst (λ r. Stands job start now r) (sym is)
+    (subst (WroteFirst job start now) (sym was.1) (wrote_front job start now now p.next was.2.0 (Keeps-refl now.bytes)), was.2.1)
 
 -- what was halted has ended
 pub halted_ends : (job : JobView) (start now : SinkView) (p : Progress) → is_some p.halted ≡ true → Stands job start now p → Ends job start now p

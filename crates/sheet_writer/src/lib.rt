@@ -7,4 +7,4 @@ mod writing;
 
 pub use early::{Early, FinishedSheets, Spent};
 pub use sink::{MemorySink, Sink, SinkFault, WriteSink};
-pub use writing::{Halt, Progress, RunEnd, write_early, write_in_pieces, write_rest, write_text};
+pub use writing::{Halt, Progress, write_early, write_in_pieces, write_rest, write_text};

@@ -22,11 +22,13 @@ pub enum Halt {
     NoMemory,
 }
 
-/// How far the output was written: the sheet that comes next, and the number of bytes.
+/// How far the output was written: the sheet that comes next, the number of bytes, and how many of the sheets that were
+/// left at the end no worker imposed.
 #[derive(Clone, Copy, Debug)]
 pub struct Progress {
     pub next: u32,
     pub written: u64,
+    pub swept: u32,
     pub halted: Option<Halt>,
 }
 
@@ -35,6 +37,7 @@ pub fn write_text<S: Sink>(sink: &mut S, progress: Progress, text: &[u8]) -> Pro
     requires countable { IsCountable (S.seen sink.old) }
     ensures handed { Handed text.now (S.seen sink.old) (S.seen sink.new) progress result }
     ensures next { result.next ≡ progress.next }
+    ensures swept { result.swept ≡ progress.swept }
 {
     let Some(total) = progress.written.checked_add(text.len() as u64) else {
         return halted(progress, progress.written, Halt::NoMemory);
@@ -47,6 +50,7 @@ pub fn write_in_pieces<S: Sink>(sink: &mut S, progress: Progress, text: Pieces<'
     requires countable { IsCountable (S.seen sink.old) }
     ensures handed { Handed text.entry (S.seen sink.old) (S.seen sink.new) progress result }
     ensures next { result.next ≡ progress.next }
+    ensures swept { result.swept ≡ progress.swept }
 {
     let total = text
         .len()
@@ -61,18 +65,15 @@ pub fn write_in_pieces<S: Sink>(sink: &mut S, progress: Progress, text: Pieces<'
 /// bytes.
 fn counted(progress: Progress, total: u64, handed: Result<(), Stopped>) -> Progress
     requires { IfErr handed (λ e. progress.written + e.written ≤ total) }
-    ensures written { OnOk handed (result ≡ record { next = progress.next; written = total; halted = None }) }
-    ensures stopped { IfErr handed (λ e. result ≡ record {
-      next = progress.next;
-      written = progress.written + e.written;
-      halted = Some Failed;
-    }) }
+    ensures written { OnOk handed (result ≡ record progress { written = total; halted = None }) }
+    ensures stopped { IfErr handed (λ e. result
+        ≡ record progress { written = progress.written + e.written; halted = Some Failed }) }
 {
     match handed {
         Ok(()) => Progress {
-            next: progress.next,
             written: total,
             halted: None,
+            ..progress
         },
         Err(stopped) => halted(
             progress,
@@ -83,12 +84,12 @@ fn counted(progress: Progress, total: u64, handed: Result<(), Stopped>) -> Progr
 }
 
 fn halted(progress: Progress, written: u64, why: Halt) -> Progress
-    ensures { result ≡ record { next = progress.next; written = written; halted = Some why } }
+    ensures { result ≡ record progress { written = written; halted = Some why } }
 {
     Progress {
-        next: progress.next,
         written,
         halted: Some(why),
+        ..progress
     }
 }
 
@@ -107,6 +108,7 @@ fn write_sheets<S: Sink>(
     requires text { text ≡ texts_from job.now progress.next count }
     ensures goes_on { GoesOn job.now (S.seen sink.old) (S.seen sink.new) progress result }
     ensures next { result.next ≡ progress.next + count }
+    ensures swept { result.swept ≡ progress.swept }
     ensures steady { result.halted ≡ None → (S.seen sink.new).failures ≡ (S.seen sink.old).failures }
 {
     let progress = write_in_pieces(sink, progress, text);
@@ -152,13 +154,6 @@ pub fn write_early<'r, S: Sink, B: Spent<'r>>(
     progress
 }
 
-/// How a run ended, and how many sheets no worker imposed.
-#[derive(Clone, Copy, Debug)]
-pub struct RunEnd {
-    pub progress: Progress,
-    pub swept: u32,
-}
-
 /// Writes what is left when all workers have ended: the other sheets in order, each made again if it never came,
 /// and the trailer. After a halt nothing more is written.
 pub fn write_rest<S: Sink>(
@@ -168,33 +163,32 @@ pub fn write_rest<S: Sink>(
     progress: Progress,
     early: &Early<'_>,
     trailer: &[u8],
-) -> RunEnd
+) -> Progress
     requires countable { progress.halted ≡ None → IsCountable (S.seen sink.old) }
     requires next { progress.halted ≡ None → progress.next ≤ length job.now.plan.sheets }
     requires early { AreEarly job.now early.now.groups.items }
     requires trailer { trailer.now ≡ trailer_text job.now.units }
-    ensures ended { EndsAfter job.now (S.seen sink.old) (S.seen sink.new) progress result.progress }
+    ensures ended { EndsAfter job.now (S.seen sink.old) (S.seen sink.new) progress result }
     ensures swept { result.swept ≤ length job.now.plan.sheets }
 
     // At the end exactly those sheets are counted that hadn't come.
-    ensures counted { result.progress.halted ≡ None → result.swept
+    ensures counted { result.halted ≡ None → result.swept
         ≡ not_come early.now progress.next (length job.now.plan.sheets - progress.next) }
 {
-    let mut progress = progress;
-    let mut swept = 0;
+    let mut progress = Progress {
+        swept: 0,
+        ..progress
+    };
     if progress.halted.is_some() {
-        return RunEnd { progress, swept };
+        return progress;
     }
     for _ in progress.next..job.sheets() {
-        progress = write_next(alloc, job, sink, progress, early, &mut swept);
+        progress = write_next(alloc, job, sink, progress, early);
         if progress.halted.is_some() {
-            return RunEnd { progress, swept };
+            return progress;
         }
     }
-    RunEnd {
-        progress: write_text(sink, progress, trailer),
-        swept,
-    }
+    write_text(sink, progress, trailer)
 }
 
 /// Writes the next sheet. If it never came, it is made again and counted.
@@ -204,22 +198,24 @@ fn write_next<S: Sink>(
     sink: &mut S,
     progress: Progress,
     early: &Early<'_>,
-    swept: &mut u32,
 ) -> Progress
     requires countable { IsCountable (S.seen sink.old) }
     requires going { progress.halted ≡ None }
     requires within { progress.next < length job.now.plan.sheets }
-    requires few { (progress.next < u32.MAX) × (swept.old < u32.MAX) }
+    requires few { (progress.next < u32.MAX) × (progress.swept < u32.MAX) }
     requires early { AreEarly job.now early.now.groups.items }
     ensures goes_on { GoesOn job.now (S.seen sink.old) (S.seen sink.new) progress result }
     ensures next { result.halted ≡ None → result.next ≡ progress.next + 1 }
     ensures steady { result.halted ≡ None → (S.seen sink.new).failures ≡ (S.seen sink.old).failures }
-    ensures swept { swept.new ≡ swept.old + (if has_come early.now progress.next then 0 else 1) }
+    ensures swept { result.swept ≡ progress.swept + (if has_come early.now progress.next then 0 else 1) }
 {
     if let Some(next) = early.joined(progress.next, 1) {
         return write_sheets(job, sink, progress, next.text, next.count);
     }
-    *swept += 1;
+    let progress = Progress {
+        swept: progress.swept + 1,
+        ..progress
+    };
     match sheet_rope(alloc, job, progress.next) {
         Ok(text) => write_sheets(job, sink, progress, text.pieces(), 1),
         Err(_) => halted(progress, progress.written, Halt::NoMemory),

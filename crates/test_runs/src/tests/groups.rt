@@ -137,6 +137,7 @@ fn early_with<'r>(
 const START: Progress = Progress {
     next: 0,
     written: 0,
+    swept: 0,
     halted: None,
 };
 
@@ -320,7 +321,7 @@ fn write_rest_of<R: Abort>(
     let trailer = job.document().trailer_text()?;
     let early = early_with(alloc, job, bodies, came)?;
     let rest = write_rest(alloc, job, sink, START, &early, trailer.as_slice());
-    assert_that(rt, rest.progress.halted.is_none());
+    assert_that(rt, rest.halted.is_none());
     Ok(rest.swept)
 }
 

@@ -5,7 +5,7 @@ use Rattle.planned_runs.proofs.gathering.conclude.Goals as goal
 
 pub returns-in-None-clause-ended : goal.returns-in-None-clause-ended
 returns-in-None-clause-ended g c = λ start stands.
-    let p = c.write_rest-rest.result.progress in
+    let p = c.write_rest-rest.result in
     let now = g.S.Sink.seen c.write_rest-rest.new.sink in
     let ended = while_going c.args.job.now start now p (HasAll c.args.job.now start now p) c.in-None.is (c.write_rest-rest.ensures.ended start stands) in
     (ended.1.0, ended.1.1, c.report_on.ensures.numbers ended.0)
@@ -15,14 +15,14 @@ returns-in-None-clause-swept g c = c.report_on.ensures.swept ∙ c.write_rest-re
 
 pub returns-in-Failed-clause-ended : goal.returns-in-Failed-clause-ended
 returns-in-Failed-clause-ended g c = λ start stands.
-    let p = c.write_rest-rest.result.progress in
+    let p = c.write_rest-rest.result in
     let now = g.S.Sink.seen c.write_rest-rest.new.sink in
     let ended = if_failed c.args.job.now start now p (HasAll c.args.job.now start now p) (c.in-Some.is ∙ ap Some c.in-Failed.is) (c.write_rest-rest.ensures.ended start stands) in
     (ended.0, ended.1)
 
 pub returns-in-NoMemory-clause-ended : goal.returns-in-NoMemory-clause-ended
 returns-in-NoMemory-clause-ended g c = λ start stands.
-    let p = c.write_rest-rest.result.progress in
+    let p = c.write_rest-rest.result in
     let now = g.S.Sink.seen c.write_rest-rest.new.sink in
     let ended = if_starved c.args.job.now start now p (HasAll c.args.job.now start now p) (c.in-Some.is ∙ ap Some c.in-NoMemory.is) (c.write_rest-rest.ensures.ended start stands) in
     (ended.0, inl ended.1)

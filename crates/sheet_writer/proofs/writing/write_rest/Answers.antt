@@ -22,8 +22,8 @@ loop-preserved g c = record {
   first = (let f = c.loop.invariant.first in omega (arith, f));
   counted =
       c.write_next-progress.ensures.swept
-      ∙ ap (λ n. c.loop.swept + (if has_come c.args.early.now n then 0 else 1)) c.loop.invariant.next
-      ∙ count_next c.args.early.now c.args.progress.next c.loop.counter c.loop.swept c.loop.invariant.first c.loop.invariant.counted;
+      ∙ ap (λ n. c.loop.progress.swept + (if has_come c.args.early.now n then 0 else 1)) c.loop.invariant.next
+      ∙ count_next c.args.early.now c.args.progress.next c.loop.counter c.loop.progress.swept c.loop.invariant.first c.loop.invariant.counted;
 }
 
 pub returns-clause-ended : goal.returns-clause-ended

@@ -9,7 +9,7 @@ invariant-loop g l = record {
   next : l.progress.next ≡ l.counter;
   goes_on : GoesOn l.job (g.S.Sink.seen l.initial.sink) (g.S.Sink.seen l.sink) l.initial.progress l.progress;
   steady : (g.S.Sink.seen l.sink).failures ≡ (g.S.Sink.seen l.initial.sink).failures;
-  swept : l.swept ≤ l.counter;
+  swept : l.progress.swept ≤ l.counter;
   first : l.initial.progress.next ≤ l.counter;
-  counted : l.swept ≡ not_come l.early l.initial.progress.next (l.counter - l.initial.progress.next);
+  counted : l.progress.swept ≡ not_come l.early l.initial.progress.next (l.counter - l.initial.progress.next);
 }

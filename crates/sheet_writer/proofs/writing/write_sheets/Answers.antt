@@ -10,5 +10,7 @@ overflow_add-result g c = omega (arith, c.requires.few, c.write_in_pieces-progre
 
 pub returns-clause-goes_on : goal.returns-clause-goes_on
 returns-clause-goes_on g c = λ start stands.
-    sheets_handed c.args.job.now start _ _ c.args.progress _ c.args.text c.args.count (ap (λ n. n + c.args.count) c.write_in_pieces-progress.ensures.next)
+    let given = c.write_in_pieces-progress.result in
+    sheets_handed c.args.job.now start _ _ c.args.progress (record given { next = given.next + c.args.count }) c.args.text c.args.count
+    (ap (λ n. n + c.args.count) c.write_in_pieces-progress.ensures.next)
     c.requires.within c.requires.text c.requires.going c.write_in_pieces-progress.ensures.handed stands
