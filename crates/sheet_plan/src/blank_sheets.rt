@@ -1,7 +1,6 @@
 //! The sheets that have no page.
-ghost use Rattle.std.specs.Prelude.{◌≡◌, ◌<◌, length, IsTrue, ◌↔◌, IfOk};
+ghost use Rattle.std.specs.Prelude.{◌≡◌, ◌<◌, length, IfOk};
 ghost use Rattle.rules.specs.Sheets.{layout};
-ghost use Rattle.sheet_plan.specs.Plans.{pages_on};
 ghost use Rattle.sheet_plan.specs.Places.{is_blank, born_complete};
 ghost use Rattle.sheet_plan.specs.Sources.{plan_from, IsPlannable};
 

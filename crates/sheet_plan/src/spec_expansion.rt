@@ -1,5 +1,5 @@
 //! A specification expanded over a row of pages, from either end. The sheets are not stored: each slot is computed.
-ghost use Rattle.std.specs.Prelude.{◌≡◌, ◌≢◌, ℕ, ◌+◌, ◌-◌, ◌*◌, ◌^◌, ◌<◌, ◌≤◌, length, map, Some, Ok, Err, OnOk, IfOk, IfErr};
+ghost use Rattle.std.specs.Prelude.{◌≡◌, ◌≢◌, ℕ, ◌+◌, ◌-◌, ◌*◌, ◌^◌, ◌<◌, ◌≤◌, length, Some, Ok, Err, OnOk, IfOk, IfErr};
 ghost use Rattle.std.specs.Prelude.{slice_get, slice_index_or, sum_by, [], ◌%◌};
 ghost use Rattle.rules.specs.Admissible.{most_groups};
 ghost use Rattle.rules.specs.Run.{plan_in};
