@@ -105,7 +105,7 @@
 #define TEXT(m) ((m) / 16 - 1)
 #define MOST(a, b) ((a) > (b) -> (a) : (b))
 
-/* FinishedSheets::last */
+/* last */
 #define LAST(m, n, o) (MOST(MOST((m) & 15, (n) & 15), (o) & 15) - 1)
 
 /* What threads share. Setup::new, channel_of, gather_as: channel, places and the queue of written sheets have room for a window. */
@@ -157,7 +157,7 @@ byte memory_of[CAP];                     /* that of the group that lies there */
 #define BYTES(memory, n) text[3 * ((memory) - 1) + (n)]
 #define IS_FREE(memory) !(there & bit((memory) - 1))
 
-/* FinishedSheets::clear, Texts::clear */
+/* Texts::clear */
 #define CLEAR(memory) BYTES(memory, 0) = 0; BYTES(memory, 1) = 0; BYTES(memory, 2) = 0
 
 /* A group is dropped. */
@@ -310,7 +310,7 @@ over:
 #define LIFTS 4                  /* a sheet isn't made, so the window is lifted */
 #define ENDS 5                   /* there is no memory */
 
-/* FinishedSheets::push, Texts::push: the text is written behind the others in the group's memory */
+/* Texts::push: the text is written behind the others in the group's memory */
 #ifdef SPENT
 #define WRITE_TEXT(n, m) BYTES(memory, n) = m
 #else
@@ -326,7 +326,7 @@ inline add(m)
 }
 
 #ifdef SPENT
-/* RunInput::impose_batch, FinishedSheets::with_room, Texts::with_room: for its first sheet, a group that was written,
+/* RunInput::impose_batch, Texts::with_room: for its first sheet, a group that was written,
    or a new one. One for which memory is refused (F_IMP) is here for a moment, till `no_memory` lets it go; in the code it
    never is. In a window there are no more groups than sheets. */
 inline take_memory()
@@ -425,7 +425,7 @@ proctype imposer()
 {
 	byte held;                       /* a bit for each sheet */
 	byte looked_to, end, s, to;
-	byte b0, b1, b2;                 /* its batch, FinishedSheets.sheets */
+	byte b0, b1, b2;                 /* its batch */
 	byte finds;                      /* looks for sheets that the batch has had, with the first one */
 	bool none_left;
 #ifdef SPENT
@@ -633,7 +633,7 @@ inline hand_to_sink(sheet, n)
 #define TEXT_AT(at) TEXT(lying[at])
 #endif
 
-/* Early::joined, FinishedSheets::joined: a sheet came if the group that its place names is there, and has it at this
+/* Early::joined, Texts::joined: a sheet came if the group that its place names is there, and has it at this
    index. */
 #ifndef BAD_NOT_COMPARED
 #define HAS_COME(s) (SHEET(lying[noted[PLACE(s)]]) == (s))
@@ -734,7 +734,7 @@ inline take_written(sheet)
 }
 
 /* write_early, write_sheets: as long as the next sheet came, it and those behind it in its group that follow it
-   (count_in_row) go to the sink by one call, or fewer of them if one has a long body (Texts::joined, plain). */
+   go to the sink by one call, or fewer of them if one has a long body (Texts::joined, neighbours). */
 inline write_next_ones()
 {
 	do

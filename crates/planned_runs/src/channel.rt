@@ -5,8 +5,7 @@ ghost use Rattle.sheet_text.specs.Jobs.{text_of};
 use crossbeam_channel::protocol::{Lesson, Outcome, Protocol, Split};
 use crossbeam_channel::{Pass, RuledReceiver, RuledSender};
 use crossbeam_queue::ArrayQueue;
-use sheet_text::Job;
-use sheet_writer::FinishedSheets;
+use sheet_text::{Job, Texts};
 use std::marker::{Brand, PhantomData};
 
 /// Ghost parameter, chosen in the proof of each call; no code: the text that each sheet of the run's job has.
@@ -23,7 +22,7 @@ pub(crate) struct SheetRule<T: SheetTexts> {
     of: PhantomData<T>,
 }
 
-impl<'r, T: SheetTexts> Protocol<FinishedSheets<'r>, ()> for SheetRule<T> {
+impl<'r, T: SheetTexts> Protocol<Texts<'r>, ()> for SheetRule<T> {
     ghost use Rattle.sheet_writer.specs.Writing.{HaveTexts};
 
     ghost holds = { λ items views. All (λ m. HaveTexts T.text m) items };
@@ -31,13 +30,13 @@ impl<'r, T: SheetTexts> Protocol<FinishedSheets<'r>, ()> for SheetRule<T> {
     ghost first = { tt };
 }
 
-impl<'r, T: SheetTexts> Outcome<FinishedSheets<'r>, ()> for SheetRule<T> {
+impl<'r, T: SheetTexts> Outcome<Texts<'r>, ()> for SheetRule<T> {
     ghost use Rattle.sheet_writer.specs.Writing.{HaveTexts};
 
     ghost then = { λ v m w. HaveTexts T.text m };
 }
 
-impl<'r, T: SheetTexts> Lesson<FinishedSheets<'r>, ()> for SheetRule<T> {
+impl<'r, T: SheetTexts> Lesson<Texts<'r>, ()> for SheetRule<T> {
     ghost fact = { λ v items. ⊤ };
 }
 
@@ -56,11 +55,11 @@ pub(crate) struct RuledJob<'s, 'r, 'd, T: SheetTexts> {
 }
 
 /// What a thread needs to send or to receive.
-pub(crate) type Ticket<'r> = Pass<FinishedSheets<'r>, ()>;
+pub(crate) type Ticket<'r> = Pass<Texts<'r>, ()>;
 
-pub(crate) type SheetSender<'r, T> = RuledSender<FinishedSheets<'r>, (), SheetRule<T>>;
+pub(crate) type SheetSender<'r, T> = RuledSender<Texts<'r>, (), SheetRule<T>>;
 
-pub(crate) type SheetReceiver<'r, T> = RuledReceiver<FinishedSheets<'r>, (), SheetRule<T>>;
+pub(crate) type SheetReceiver<'r, T> = RuledReceiver<Texts<'r>, (), SheetRule<T>>;
 
 /// The two ends of the channel, and places for sheets that were written.
 #[derive(Drop)]
@@ -68,5 +67,5 @@ pub(crate) struct Channel<'r, T: SheetTexts> {
     pub(crate) sender: SheetSender<'r, T>,
     pub(crate) receiver: SheetReceiver<'r, T>,
     /// Sheets that were written, whose memory is used again.
-    pub(crate) spent: ArrayQueue<FinishedSheets<'r>>,
+    pub(crate) spent: ArrayQueue<Texts<'r>>,
 }

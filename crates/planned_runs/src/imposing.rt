@@ -17,8 +17,7 @@ use crate::turns::Stint;
 use crate::window::Held;
 use gather_table::Seat;
 use run_steps::{ImposeError, Imposition, is_complete};
-use sheet_text::{Openings, Rope};
-use sheet_writer::FinishedSheets;
+use sheet_text::{Openings, Rope, Texts};
 use std::alloc::AllocError;
 use std::sync::Wait;
 use std::sync::atomic::Ordering::SeqCst;
@@ -148,7 +147,7 @@ impl<'s, 'r, 't, 'd, T: SheetTexts, G: Gate> RunInput<'s, 'r, 't, 'd, T, G> {
         bench: &mut ImposerBench<'r>,
         first: u32,
         end: u32,
-    ) -> Result<FinishedSheets<'r>, AllocError>
+    ) -> Result<Texts<'r>, AllocError>
         requires tokens { AreTokens self.now.shared.now.table.now self.now.shared.now.ready.now 1 tokens.old }
         ensures tokens { AreTokens self.now.shared.now.table.now self.now.shared.now.ready.now 1 tokens.new }
         ensures imposes { OnlyImposes tokens.old tokens.new }
@@ -158,7 +157,7 @@ impl<'s, 'r, 't, 'd, T: SheetTexts, G: Gate> RunInput<'s, 'r, 't, 'd, T, G> {
             Some(spent) => spent,
             None => {
                 let window = &self.shared.window;
-                FinishedSheets::with_room(self.shared.alloc, window.batch(), window.batch_bytes())?
+                Texts::with_room(self.shared.alloc, window.batch(), window.batch_bytes())?
             }
         };
         batch.clear();
@@ -177,7 +176,7 @@ impl<'s, 'r, 't, 'd, T: SheetTexts, G: Gate> RunInput<'s, 'r, 't, 'd, T, G> {
         rt: &R,
         tokens: &mut Tokens,
         bench: &mut ImposerBench<'r>,
-        batch: &mut FinishedSheets<'r>,
+        batch: &mut Texts<'r>,
         end: u32,
     ) -> Result<bool, AllocError>
         requires tokens { AreTokens self.now.shared.now.table.now self.now.shared.now.ready.now 1 tokens.old }
@@ -201,7 +200,7 @@ impl<'s, 'r, 't, 'd, T: SheetTexts, G: Gate> RunInput<'s, 'r, 't, 'd, T, G> {
     fn impose_into(
         &self,
         tokens: &mut Tokens,
-        batch: &mut FinishedSheets<'r>,
+        batch: &mut Texts<'r>,
         bench: &mut ImposerBench<'r>,
         sheet: u32,
     ) -> Result<(), AllocError>
@@ -227,13 +226,13 @@ impl<'s, 'r, 't, 'd, T: SheetTexts, G: Gate> RunInput<'s, 'r, 't, 'd, T, G> {
 
     /// Sends a batch to the collector. A sheet that the collector isn't sent it makes itself, and its turn isn't waited
     /// for.
-    fn send<R: Wait>(&self, rt: &R, ticket: &mut Ticket<'r>, batch: FinishedSheets<'r>)
+    fn send<R: Wait>(&self, rt: &R, ticket: &mut Ticket<'r>, batch: Texts<'r>)
         requires ticket { IsSeatAt (sends_on self.now.channel.now.sender) ticket.old }
         requires texts { HaveTexts T.text batch }
         ensures { IsSeatAt (sends_on self.now.channel.now.sender) ticket.new }
     {
         // Dropped by calls, so that what becomes of the parts is proved once, and not here.
-        if batch.sheets.is_empty() {
+        if batch.len() == 0 {
             drop(batch);
             return;
         }

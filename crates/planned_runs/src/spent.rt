@@ -1,17 +1,18 @@
 //! Sheets that were written and whose memory is used again.
 use crossbeam_queue::ArrayQueue;
-use sheet_writer::{FinishedSheets, Spent};
+use sheet_text::Texts;
+use sheet_writer::Spent;
 use std::sync::Wait;
 
 /// Where sheets go that were written. If there is no more room, they are let go.
 #[derive(Drop)]
 pub(crate) struct Written<'w, 'r, R> {
     pub(crate) rt: &'w R,
-    pub(crate) queue: &'w ArrayQueue<FinishedSheets<'r>>,
+    pub(crate) queue: &'w ArrayQueue<Texts<'r>>,
 }
 
 impl<'w, 'r, R: Wait> Spent<'r> for Written<'w, 'r, R> {
-    fn give_back(&mut self, sheets: FinishedSheets<'r>) {
+    fn give_back(&mut self, sheets: Texts<'r>) {
         drop(self.queue.push(self.rt, sheets));
     }
 }

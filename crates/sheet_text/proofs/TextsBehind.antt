@@ -1,7 +1,8 @@
 -- Texts that lie in the same memory: what adding one does, and which can be written together.
 use Rattle.std.proofs.Common.{ℕ, zero, suc, List, [], ◌∷◌, ◌+◌, ◌-◌, ◌<◌, ◌≤◌, ◌++◌, ◌≡◌, ap, sym, subst, refl, ◌∙◌, length, take, drop, arith, length-append, length-drop, slice_index_or, take-add, drop-drop, Bool, true}
 use Rattle.std.specs.Prelude.{slice_get, Some, ◌==◌}
-use Rattle.std.proofs.lemmas.Option.{slice_get_read, same_Some}
+use Rattle.std.specs.List.{range_with_len}
+use Rattle.std.proofs.lemmas.Option.{same_Some}
 use Rattle.std.proofs.lemmas.List.{take-append-le, drop-append-le, append-nil, map-append, length-map, nil_from_length, length-take-le}
 use Rattle.std.proofs.lemmas.List.Concat.{flat_map-append}
 use Rattle.std.proofs.Math.Seq.{take-length, drop-append_seam}
@@ -9,7 +10,7 @@ use Rattle.lengths.proofs.Numbers.{same_byte}
 use Rattle.sheet_text.specs.declared.texts.TextPart.{TextPart}
 use Rattle.sheet_text.specs.declared.rope.Placed.{Placed}
 use Rattle.sheet_text.specs.Ropes.{woven, AreInPlace}
-use Rattle.sheet_text.specs.Texts.{text_in, texts_in, IsIn, AreIn, joined}
+use Rattle.sheet_text.specs.Texts.{TextsView, sheets_of, joined, text_in, texts_in, IsIn, AreIn}
 
 -- more bytes after those of a part
 pub text_more : (own more : List ℕ) (p : TextPart) → IsIn own p → text_in (own ++ more) p ≡ text_in own p
@@ -23,7 +24,8 @@ is_in_more own more p h = let len = length-append own more in (h.0, omega (arith
 
 pub texts_more : (own more : List ℕ) (ps : List TextPart) → AreIn own ps → texts_in (own ++ more) ps ≡ texts_in own ps
 texts_more own more [] h = refl
-texts_more own more (p ∷ ps) h = ap (λ t. t ∷ texts_in (own ++ more) ps) (text_more own more p h.0) ∙ ap (λ ts. text_in own p ∷ ts) (texts_more own more ps h.1)
+texts_more own more (p ∷ ps) h =
+    ap (λ t. (p.sheet, t) ∷ texts_in (own ++ more) ps) (text_more own more p h.0) ∙ ap (λ ts. (p.sheet, text_in own p) ∷ ts) (texts_more own more ps h.1)
 
 pub are_in_more : (own more : List ℕ) (ps : List TextPart) → AreIn own ps → AreIn (own ++ more) ps
 are_in_more own more [] h = tt
@@ -57,14 +59,14 @@ pushed_in own more own_now ps ps_now p {ss} grown added start end same h placed 
     (are_in_with (own ++ more) ps p (are_in_more own more ps h)
     (is_behind own more p start (end ∙ ap (λ x. length x) grown) (subst (λ xs. AreInPlace 0 (length more) xs) (sym same) placed))))
 
-pub pushed_behind : (own more own_now : List ℕ) (ps ps_now : List TextPart) (p : TextPart) {ss : List Placed} {texts : List (List ℕ)} {text : List ℕ}
+pub pushed_behind : (own more own_now : List ℕ) (ps ps_now : List TextPart) (p : TextPart) {ss : List Placed} {texts : TextsView} {text : List ℕ}
     → own_now ≡ own ++ more → ps_now ≡ ps ++ p ∷ [] → p.start ≡ length own → p.end ≡ length own_now → p.slices.items ≡ ss → AreIn own ps
-    → texts_in own ps ≡ texts → woven 0 more ss ≡ text → texts_in own_now ps_now ≡ texts ++ text ∷ []
+    → texts_in own ps ≡ texts → woven 0 more ss ≡ text → texts_in own_now ps_now ≡ texts ++ (p.sheet, text) ∷ []
 pushed_behind own more own_now ps ps_now p {ss} {texts} {text} grown added start end same h view one =
     let front : texts_in (own ++ more) ps ≡ texts = texts_more own more ps h ∙ view in
     let last : text_in (own ++ more) p ≡ text = text_behind own more p start (end ∙ ap (λ x. length x) grown) ∙ ap (λ xs. woven 0 more xs) same ∙ one in
-    ap (λ xs. texts_in xs ps_now) grown ∙ ap (λ qs. texts_in (own ++ more) qs) added ∙ map-append (text_in (own ++ more)) ps (p ∷ [])
-    ∙ ap (λ ts. ts ++ text_in (own ++ more) p ∷ []) front ∙ ap (λ t. texts ++ t ∷ []) last
+    ap (λ xs. texts_in xs ps_now) grown ∙ ap (λ qs. texts_in (own ++ more) qs) added ∙ map-append (λ (q : TextPart). (q.sheet, text_in (own ++ more) q)) ps (p ∷ [])
+    ∙ ap (λ ts. ts ++ (p.sheet, text_in (own ++ more) p) ∷ []) front ∙ ap (λ t. texts ++ (p.sheet, t) ∷ []) last
 
 -- each part has its bytes
 pub is_in_at : (own : List ℕ) (n : ℕ) (ps : List TextPart) (d : TextPart) → n < length ps → AreIn own ps → IsIn own (slice_index_or ps n d)
@@ -72,8 +74,9 @@ is_in_at own n [] d lt h = absurd (omega (arith, lt))
 is_in_at own zero (p ∷ ps) d lt h = h.0
 is_in_at own (suc n) (p ∷ ps) d lt h = is_in_at own n ps d (omega (arith, lt)) h.1
 
--- the text at this index
-pub text_at : (own : List ℕ) (n : ℕ) (ps : List TextPart) (d : TextPart) → n < length ps → drop n (texts_in own ps) ≡ text_in own (slice_index_or ps n d) ∷ drop (suc n) (texts_in own ps)
+-- the sheet at this index, and its text
+pub text_at : (own : List ℕ) (n : ℕ) (ps : List TextPart) (d : TextPart) → n < length ps
+    → drop n (texts_in own ps) ≡ ((slice_index_or ps n d).sheet, text_in own (slice_index_or ps n d)) ∷ drop (suc n) (texts_in own ps)
 text_at own n [] d lt = absurd (omega (arith, lt))
 text_at own zero (p ∷ ps) d lt = refl
 text_at own (suc n) (p ∷ ps) d lt = text_at own n ps d (omega (arith, lt))
@@ -87,84 +90,86 @@ bytes_behind own start end next up more within =
     ap (λ xs. take (end - start) (drop start own) ++ take (next - end) xs) rest ∙ sym (take-add (end - start) (next - end) (drop start own))
     ∙ ap (λ n. take n (drop start own)) all
 
--- some texts from this one on are the bytes between these two places
-pub record AreBytes (own : List ℕ) (ps : List TextPart) (n count start end : ℕ) : Type 0 where
+sheet_at : (own : List ℕ) (n : ℕ) (ps : List TextPart) (d : TextPart) → n < length ps → slice_get (sheets_of (texts_in own ps)) n ≡ Some (slice_index_or ps n d).sheet
+sheet_at own n [] d lt = absurd (omega (arith, lt))
+sheet_at own zero (p ∷ ps) d lt = refl
+sheet_at own (suc n) (p ∷ ps) d lt = sheet_at own n ps d (omega (arith, lt))
+
+pub has_sheet : (own : List ℕ) (ps : List TextPart) (n : ℕ) (p : TextPart) → n < length ps → p ≡ slice_index_or ps n p → slice_get (sheets_of (texts_in own ps)) n ≡ Some p.sheet
+has_sheet own ps n p lt is = sheet_at own n ps p lt ∙ ap (λ (q : TextPart). Some q.sheet) (sym is)
+
+-- one more number in a row
+row_more : (first n : ℕ) → range_with_len first (n + 1) ≡ range_with_len first n ++ (first + n) ∷ []
+row_more first n = let next : n + 1 ≡ suc n = omega arith in ap (λ k. range_with_len first k) next ∙ last n first
+  where
+    last : (n first : ℕ) → range_with_len first (suc n) ≡ range_with_len first n ++ (first + n) ∷ []
+    last zero first = ap (λ k. k ∷ []) (omega arith)
+    last (suc n) first = ap (λ xs. first ∷ xs) (last n (first + 1) ∙ ap (λ k. range_with_len (first + 1) n ++ k ∷ []) (omega arith))
+
+-- from this index on so many sheets follow each other, and their texts are the bytes between these two places, with these slices
+pub record AreNeighbours (own : List ℕ) (ps : List TextPart) (sheet : ℕ) (ss : List Placed) (n count start end : ℕ) : Type 0 where
   pub some : 0 < count
-  pub parts : n + count ≤ length ps
   pub up : start ≤ end
   pub within : end ≤ length own
-  pub bytes : joined (take count (drop n (texts_in own ps))) ≡ take (end - start) (drop start own)
+  pub placed : AreInPlace 0 (end - start) ss
+  pub row : sheets_of (take count (drop n (texts_in own ps))) ≡ range_with_len sheet count
+  pub bytes : joined (take count (drop n (texts_in own ps))) ≡ woven 0 (take (end - start) (drop start own)) ss
 
--- one without slices is
-pub one_is_bytes : (own : List ℕ) (ps : List TextPart) (n : ℕ) (p : TextPart) → n < length ps → AreIn own ps → p ≡ slice_index_or ps n p → p.slices.items ≡ []
-    → AreBytes own ps n 1 p.start p.end
-one_is_bytes own ps n p lt h is no_slices =
+-- one is
+pub one_alone : (own : List ℕ) (ps : List TextPart) (sheet : ℕ) (ss : List Placed) (n : ℕ) (p : TextPart) → n < length ps → AreIn own ps → p ≡ slice_index_or ps n p
+    → slice_get (sheets_of (texts_in own ps)) n ≡ Some sheet → ss ≡ p.slices.items → AreNeighbours own ps sheet ss n 1 p.start p.end
+one_alone own ps sheet ss n p lt h is at same =
     let fits : IsIn own p = subst (λ q. IsIn own q) (sym is) (is_in_at own n ps p lt h) in
+    let number : (slice_index_or ps n p).sheet ≡ sheet = same_Some _ _ (sym (sheet_at own n ps p lt) ∙ at) in
     record {
       some = omega arith;
-      parts = omega (arith, lt);
       up = fits.0;
       within = fits.1;
+      placed = subst (λ xs. AreInPlace 0 (p.end - p.start) xs) (sym same) fits.2;
+      row = ap (λ ts. sheets_of (take 1 ts)) (text_at own n ps p lt) ∙ ap (λ k. k ∷ []) number;
       bytes = ap (λ ts. joined (take 1 ts)) (text_at own n ps p lt) ∙ append-nil (text_in own (slice_index_or ps n p)) ∙ ap (λ q. text_in own q) (sym is)
-          ∙ ap (λ ss. woven 0 (take (p.end - p.start) (drop p.start own)) ss) no_slices;
+          ∙ ap (λ xs. woven 0 (take (p.end - p.start) (drop p.start own)) xs) (sym same);
     }
 
--- and one more right after them, without slices
-pub more_are_bytes : (own : List ℕ) (ps : List TextPart) (n count start end next : ℕ) (p : TextPart) → next < length ps → n + count ≡ next → AreIn own ps
-    → AreBytes own ps n count start end → p ≡ slice_index_or ps next p → p.start ≡ end → p.slices.items ≡ []
-    → AreBytes own ps n (count + 1) start p.end
-more_are_bytes own ps n count start end next p lt comes h before is at no_slices =
+-- and one more right after them, if none has slices
+pub one_more : (own : List ℕ) (ps : List TextPart) (sheet : ℕ) (ss : List Placed) (n count start end next : ℕ) (p : TextPart) → next < length ps → n + count ≡ next → AreIn own ps
+    → AreNeighbours own ps sheet ss n count start end → p ≡ slice_index_or ps next p → p.sheet ≡ sheet + count → p.start ≡ end → ss ≡ [] → p.slices.items ≡ []
+    → AreNeighbours own ps sheet ss n (count + 1) start p.end
+one_more own ps sheet ss n count start end next p lt comes h before is number at nil no_slices =
     let texts = texts_in own ps in
     let fits : IsIn own p = subst (λ q. IsIn own q) (sym is) (is_in_at own next ps p lt h) in
-    let rest : drop count (drop n texts) ≡ text_in own p ∷ drop (suc next) texts =
-    drop-drop count n texts ∙ ap (λ k. drop k texts) (omega (arith, comes)) ∙ text_at own next ps p lt ∙ ap (λ q. text_in own q ∷ drop (suc next) texts) (sym is) in
-    let one : take 1 (drop count (drop n texts)) ≡ text_in own p ∷ [] = ap (λ ts. take 1 ts) rest in
+    let rest : drop count (drop n texts) ≡ (p.sheet, text_in own p) ∷ drop (suc next) texts =
+    drop-drop count n texts ∙ ap (λ k. drop k texts) (omega (arith, comes)) ∙ text_at own next ps p lt ∙ ap (λ (q : TextPart). (q.sheet, text_in own q) ∷ drop (suc next) texts) (sym is) in
+    let more : take (count + 1) (drop n texts) ≡ take count (drop n texts) ++ (p.sheet, text_in own p) ∷ [] =
+    take-add count 1 (drop n texts) ∙ ap (λ ts. take count (drop n texts) ++ take 1 ts) rest in
     let bytes : text_in own p ≡ take (p.end - end) (drop end own) =
-    ap (λ ss. woven 0 (take (p.end - p.start) (drop p.start own)) ss) no_slices ∙ ap (λ s. take (p.end - s) (drop s own)) at in
+    ap (λ xs. woven 0 (take (p.end - p.start) (drop p.start own)) xs) no_slices ∙ ap (λ s. take (p.end - s) (drop s own)) at in
+    let all : take (end - start) (drop start own) ++ (text_in own p ++ []) ≡ take (p.end - start) (drop start own) =
+    ap (λ x. take (end - start) (drop start own) ++ x) (append-nil (text_in own p) ∙ bytes)
+    ∙ bytes_behind own start end p.end before.up (omega (arith, at, fits.0)) fits.1 in
     record {
       some = omega (arith, before.some);
-      parts = omega (arith, comes, lt);
       up = omega (arith, before.up, at, fits.0);
       within = fits.1;
-      bytes = ap (λ ts. joined ts) (take-add count 1 (drop n texts) ∙ ap (λ ts. take count (drop n texts) ++ ts) one)
-          ∙ flat_map-append (λ text. text) (take count (drop n texts)) (text_in own p ∷ [])
-          ∙ ap (λ x. x ++ (text_in own p ++ [])) before.bytes ∙ ap (λ x. take (end - start) (drop start own) ++ x) (append-nil (text_in own p) ∙ bytes)
-          ∙ bytes_behind own start end p.end before.up (omega (arith, at, fits.0)) fits.1;
+      placed = subst (λ xs. AreInPlace 0 (p.end - start) xs) (sym nil) (omega arith);
+      row = ap sheets_of more ∙ map-append (λ (t : ℕ × List ℕ). t.0) (take count (drop n texts)) ((p.sheet, text_in own p) ∷ []) ∙ ap (λ xs. xs ++ p.sheet ∷ []) before.row
+          ∙ ap (λ k. range_with_len sheet count ++ k ∷ []) number ∙ sym (row_more sheet count);
+      bytes = ap joined more ∙ flat_map-append (λ (t : ℕ × List ℕ). t.1) (take count (drop n texts)) ((p.sheet, text_in own p) ∷ [])
+          ∙ ap (λ x. x ++ (text_in own p ++ [])) before.bytes
+          ∙ subst (λ xs. woven 0 (take (end - start) (drop start own)) xs ++ (text_in own p ++ []) ≡ woven 0 (take (p.end - start) (drop start own)) xs) (sym nil) all;
     }
 
--- what is at an index, and what an empty list of slices has
-pub at_index : (ps : List TextPart) (n : ℕ) (p : TextPart) → n < length ps → p ≡ slice_index_or ps n p → slice_get ps n ≡ Some p
-at_index ps n p lt is = slice_get_read ps (length ps) n p refl lt is
+pub nil_told : {X : Type 0} (xs : List X) (b : Bool) → b ≡ (length xs == 0) → b ≡ true → xs ≡ []
+nil_told xs b is told = nil_from_length xs (same_byte (length xs) 0 (sym is ∙ told))
 
-pub nil_told : (ss : List Placed) (b : Bool) → b ≡ (length ss == 0) → b ≡ true → ss ≡ []
-nil_told ss b is told = nil_from_length ss (same_byte (length ss) 0 (sym is ∙ told))
-
--- the part that is there has no slices
-pub no_slices_at : (items ps : List TextPart) (n : ℕ) (p part : TextPart) → items ≡ ps → n < length ps → p ≡ slice_index_or ps n p → p.slices.items ≡ []
-    → slice_get items n ≡ Some part → part.slices.items ≡ []
-no_slices_at items ps n p part same lt is nil at =
-    let one : Some p ≡ Some part = sym (at_index ps n p lt is) ∙ ap (λ qs. slice_get qs n) (sym same) ∙ at in
-    ap (λ (q : TextPart). q.slices.items) (sym (same_Some p part one)) ∙ nil
-
--- a part by itself
-pub one_in : (own : List ℕ) (ps : List TextPart) (n : ℕ) (p : TextPart) → n < length ps → AreIn own ps → p ≡ slice_index_or ps n p → IsIn own p
-one_in own ps n p lt h is = subst (λ q. IsIn own q) (sym is) (is_in_at own n ps p lt h)
-
-pub one_text : (own : List ℕ) (ps : List TextPart) (n : ℕ) (p : TextPart) (texts : List (List ℕ)) → texts_in own ps ≡ texts → n < length ps → p ≡ slice_index_or ps n p
-    → text_in own p ≡ joined (take 1 (drop n texts))
-one_text own ps n p texts view lt is =
-    ap (λ q. text_in own q) is ∙ sym (append-nil (text_in own (slice_index_or ps n p))) ∙ sym (ap (λ ts. joined (take 1 ts)) (text_at own n ps p lt))
-    ∙ ap (λ ts. joined (take 1 (drop n ts))) view
+-- their slices lie between their bytes
+pub piece_placed : {own : List ℕ} {ps : List TextPart} {sheet : ℕ} {ss : List Placed} {n count start end : ℕ} → AreNeighbours own ps sheet ss n count start end
+    → AreInPlace 0 (0 + length (take (end - start) (drop start own))) (drop 0 ss)
+piece_placed {own} {ps} {sheet} {ss} {n} {count} {start} {end} are =
+    let rest_len : length (drop start own) ≡ length own - start = length-drop start own in
+    let len : length (take (end - start) (drop start own)) ≡ end - start = length-take-le (end - start) (drop start own) (omega (arith, are.up, are.within, rest_len)) in
+    subst (λ k. AreInPlace 0 k ss) (omega (arith, len)) are.placed
 
 -- as many texts as parts
-pub below_parts : (own : List ℕ) (ps : List TextPart) (texts : List (List ℕ)) (n : ℕ) → texts_in own ps ≡ texts → n < length texts → n < length ps
-below_parts own ps texts n view lt = let len = sym (length-map ps (text_in own)) ∙ ap (λ ts. length ts) view in omega (arith, len, lt)
-
-pub one_in_place : (own xs : List ℕ) (p : TextPart) (ss : List Placed) → xs ≡ own → ss ≡ p.slices.items → IsIn own p
-    → AreInPlace 0 (0 + length (take (p.end - p.start) (drop p.start xs))) (drop 0 ss)
-one_in_place own xs p ss same slices h =
-    let rest_len : length (drop p.start own) ≡ length own - p.start = length-drop p.start own in
-    let len : length (take (p.end - p.start) (drop p.start own)) ≡ p.end - p.start = length-take-le (p.end - p.start) (drop p.start own) (omega (arith, h.0, h.1, rest_len)) in
-    subst (λ ys. AreInPlace 0 (0 + length (take (p.end - p.start) (drop p.start ys))) ss) (sym same)
-    (subst (λ zs. AreInPlace 0 (0 + length (take (p.end - p.start) (drop p.start own))) zs) (sym slices)
-    (subst (λ n. AreInPlace 0 n p.slices.items) (omega (arith, len)) h.2))
+pub below_parts : (own : List ℕ) (ps : List TextPart) (texts : TextsView) (n : ℕ) → texts_in own ps ≡ texts → n < length texts → n < length ps
+below_parts own ps texts n view lt = let len = sym (length-map ps (λ (p : TextPart). (p.sheet, text_in own p))) ∙ ap (λ ts. length ts) view in omega (arith, len, lt)

@@ -20,4 +20,4 @@ pub use numbers::Numbers;
 pub use openings::Openings;
 pub use rope::{Pieces, Rope};
 pub use sheet::{append_placed, begin_sheet, end_sheet, sheet_rope, sheet_text};
-pub use texts::{Joined, Texts};
+pub use texts::Texts;

@@ -1,14 +1,15 @@
 //! Texts of several sheets in the same memory.
-ghost use Rattle.std.specs.Prelude.{◌≡◌, ◌<◌, ◌≤◌, ◌+◌, ◌++◌, ◌∷◌, [], length, take, drop, IfOk, OnOk, OnErr, Some, slice_get};
-ghost use Rattle.sheet_text.specs.Texts.{joined, texts_in, AreIn};
-ghost use Rattle.sheet_text.specs.declared.texts.TextPart.{TextPart};
+ghost use Rattle.std.specs.Prelude.{◌≡◌, ◌≢◌, ◌<◌, ◌≤◌, ◌++◌, ◌∷◌, [], length, take, drop, IfOk, IfSome, IsNone, OnOk, OnErr, Some, slice_get};
+ghost use Rattle.std.specs.List.{range_with_len};
+ghost use Rattle.sheet_text.specs.Texts.{sheets_of, joined, texts_in, AreIn};
 
 use crate::rope::{Pieces, Placed, Rope};
 use std::alloc::{AllocError, Global};
 use std::marker::Model;
 use std::mem;
 
-/// Texts in pieces whose own bytes lie one after the other in the same memory. A contract sees the list of them.
+/// Sheets, counted from 0, with their texts in pieces, whose own bytes lie one after the other in the same memory. A
+/// contract sees the list of both.
 #[derive(Drop)]
 pub struct Texts<'r> {
     alloc: Global,
@@ -16,32 +17,24 @@ pub struct Texts<'r> {
     parts: Vec<TextPart<'r>>,
 }
 
-/// A text: where its own bytes begin and end, and the slices between them, whose places are counted from where they
-/// begin.
+/// A sheet's text: where its own bytes begin and end, and the slices between them, whose places are counted from where
+/// they begin.
 #[derive(Drop)]
 struct TextPart<'r> {
+    sheet: u32,
     start: usize,
     end: usize,
     slices: Vec<Placed<'r>>,
 }
 
 impl<'r> Model for Texts<'r> {
-    ghost use Rattle.std.specs.Prelude.{ℕ, List};
-    ghost use Rattle.sheet_text.specs.Texts.{texts_in, AreIn};
+    ghost use Rattle.sheet_text.specs.Texts.{TextsView, texts_in, AreIn};
 
-    ghost Value = { List (List ℕ) };
+    ghost Value = { TextsView };
 
     ghost view = { λ t. texts_in t.own.items t.parts.items };
 
     ghost invariant = { λ t. AreIn t.own.items t.parts.items };
-}
-
-/// Some texts, one after the other.
-#[derive(Drop)]
-pub struct Joined<'p, 'r> {
-    /// How many texts they are.
-    pub count: usize,
-    pub text: Pieces<'p, 'r>,
 }
 
 impl<'r> Texts<'r> {
@@ -75,9 +68,10 @@ impl<'r> Texts<'r> {
         self.parts.clear();
     }
 
-    /// Adds a text, and leaves an empty one, which keeps its memory. If memory is refused, nothing is added.
-    pub fn push(&mut self, text: &mut Rope<'r>) -> Result<(), AllocError>
-        ensures pushed { OnOk result (self.new ≡ self.old ++ text.old ∷ []) }
+    /// Adds a sheet with its text, and leaves an empty text, which keeps its memory. If memory is refused, nothing is
+    /// added.
+    pub fn push(&mut self, sheet: u32, text: &mut Rope<'r>) -> Result<(), AllocError>
+        ensures pushed { OnOk result (self.new ≡ self.old ++ (sheet, text.old) ∷ []) }
         ensures emptied { OnOk result (text.new ≡ []) }
         ensures unchanged { OnErr result ((self.new ≡ self.old) × (text.new ≡ text.old)) }
     {
@@ -87,6 +81,7 @@ impl<'r> Texts<'r> {
         let slices = mem::replace(&mut text.slices, Vec::new(self.alloc));
         text.own.clear();
         self.parts.push_reserved(TextPart {
+            sheet,
             start,
             end: self.own.len(),
             slices,
@@ -101,59 +96,75 @@ impl<'r> Texts<'r> {
         self.parts.len()
     }
 
-    /// This text, counted from 0, and those after it that can be written with it, so many at most.
-    pub fn joined(&self, nth: usize, most: usize) -> Joined<'_, 'r>
+    /// The sheet at this index.
+    pub fn sheet(&self, nth: usize) -> u32
         requires nth { nth < length self.now }
-        requires most { 0 < most }
-        ensures count { (0 < result.count) × (result.count ≤ most) × (nth + result.count ≤ length self.now) }
-        ensures text { result.text ≡ joined (take result.count (drop nth self.now)) }
+        ensures { slice_get (sheets_of self.now) nth ≡ Some result }
     {
-        let part = &self.parts[nth];
-        if part.slices.is_empty() {
-            let (count, own) = plain(self.own.as_slice(), self.parts.as_slice(), nth, most);
-            return Joined {
-                count,
-                text: Pieces {
-                    from: 0,
-                    own,
-                    slices: part.slices.as_slice(),
-                    next: 0,
-                },
-            };
+        self.parts[nth].sheet
+    }
+
+    /// The text of a sheet, if it has this index, and those of the next sheets that can be written with it: how many they
+    /// are, so many at most, and their bytes.
+    pub fn joined(&self, sheet: u32, nth: usize, most: u32) -> Option<(u32, Pieces<'_, 'r>)>
+        requires most { 0 < most }
+        ensures count { IfSome result (λ j. (0 < j.0) × (j.0 ≤ most)) }
+        ensures row { IfSome result (λ j. sheets_of (take j.0 (drop nth self.now)) ≡ range_with_len sheet j.0) }
+        ensures text { IfSome result (λ j. j.1 ≡ joined (take j.0 (drop nth self.now))) }
+        ensures found { IfSome result (λ j. slice_get (sheets_of self.now) nth ≡ Some sheet) }
+        ensures none { IsNone result → slice_get (sheets_of self.now) nth ≢ Some sheet }
+    {
+        if nth >= self.parts.len() {
+            return None;
         }
-        Joined {
-            count: 1,
-            text: Pieces {
-                from: 0,
-                own: &self.own.as_slice()[part.start..part.end],
-                slices: part.slices.as_slice(),
-                next: 0,
-            },
+        if self.parts[nth].sheet != sheet {
+            return None;
         }
+        Some(neighbours(self.own.as_slice(), self.parts.as_slice(), sheet, nth, most))
     }
 }
 
-/// How many texts come right after each other from this one on, none of which has slices, so many at most, and their
-/// bytes.
-fn plain<'p>(own: &'p [u8], parts: &[TextPart<'_>], nth: usize, most: usize) -> (usize, &'p [u8])
+/// The text of this sheet, which has this index, and those of the next sheets that lie right after it: how many they are, so
+/// many at most, and their bytes. If one has slices, it is alone.
+fn neighbours<'p, 'r>(
+    own: &'p [u8],
+    parts: &'p [TextPart<'r>],
+    sheet: u32,
+    nth: usize,
+    most: u32,
+) -> (u32, Pieces<'p, 'r>)
     requires nth { nth < length parts.now }
     requires most { 0 < most }
     requires parts { AreIn own.now parts.now }
-    requires plain { (part : TextPart) → slice_get parts.now nth ≡ Some part → part.slices.items ≡ [] }
-    ensures count { (0 < result.0) × (result.0 ≤ most) × (nth + result.0 ≤ length parts.now) }
-    ensures bytes { result.1.now ≡ joined (take result.0 (drop nth (texts_in own.now parts.now))) }
+    requires sheet { slice_get (sheets_of (texts_in own.now parts.now)) nth ≡ Some sheet }
+    ensures count { (0 < result.0) × (result.0 ≤ most) }
+    ensures row { sheets_of (take result.0 (drop nth (texts_in own.now parts.now))) ≡ range_with_len sheet result.0 }
+    ensures text { result.1 ≡ joined (take result.0 (drop nth (texts_in own.now parts.now))) }
 {
-    let first = &parts[nth];
-    let start = first.start;
-    let mut end = first.end;
+    let part = &parts[nth];
+    let first = u64::from(sheet);
+    let start = part.start;
+    let slices = part.slices.as_slice();
+    let mut end = part.end;
     let mut count = 1;
     for next in nth + 1..parts.len() {
         let part = &parts[next];
-        if count == most || part.start != end || !part.slices.is_empty() {
+        if count == most
+            || u64::from(part.sheet) != first + u64::from(count)
+            || part.start != end
+            || !slices.is_empty()
+            || !part.slices.is_empty()
+        {
             break;
         }
         end = part.end;
         count += 1;
     }
-    (count, &own[start..end])
+    let text = Pieces {
+        from: 0,
+        own: &own[start..end],
+        slices,
+        next: 0,
+    };
+    (count, text)
 }

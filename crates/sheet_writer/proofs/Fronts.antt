@@ -12,7 +12,7 @@ use Rattle.made_sheets.specs.MadeOutput.{dressed_preamble}
 use Rattle.sheet_text.specs.Jobs.{JobView, text_of, output_of}
 use Rattle.sheet_writer.specs.Sinks.{SinkView, Took, FailedBehind, IsUntouched}
 use Rattle.sheet_writer.specs.Writing.{front_text, WroteFirst, AfterHalt, Halts, Handed, HasFront, HasAll, Stands, Ends, HaveTexts, AreEarly, texts_from}
-use Rattle.sheet_writer.specs.declared.early.FinishedSheets.{FinishedSheets}
+use Rattle.sheet_text.specs.Texts.{TextsView}
 use Rattle.sheet_writer.specs.declared.writing.Halt.{Halt}
 use Rattle.sheet_writer.specs.declared.writing.Halt.TheVariants.{Failed, NoMemory}
 use Rattle.sheet_writer.specs.declared.writing.Progress.{Progress}
@@ -162,7 +162,7 @@ some_inside {A = A} x y e = ap (λ o. inside o) e
     inside (Some z) = z
 
 -- a sheet's place was filled
-pub early_filled : (job : JobView) (places : List (Option FinishedSheets)) (j : ℕ) (new : FinishedSheets) → HaveTexts (text_of job) new → AreEarly job places → AreEarly job (slice_set places j (Some new))
+pub early_filled : (job : JobView) (places : List (Option TextsView)) (j : ℕ) (new : TextsView) → HaveTexts (text_of job) new → AreEarly job places → AreEarly job (slice_set places j (Some new))
 early_filled job places j new is early k m at = ⊎_elim
     (λ p. let same : new ≡ m = some_inside new m (some_inside (Some new) (Some m) p.1) in subst (λ t. HaveTexts (text_of job) t) same is)
     (λ p. early k m p)
@@ -211,10 +211,10 @@ trailer_handed job start old new p q text all is none handed stands =
     handed
 
 -- no sheet came yet
-abbrev pub AreNone : List (Option FinishedSheets) → Type 0
-AreNone places = (k : ℕ) (m : FinishedSheets) → slice_get places k ≡ Some (Some m) → ⊥
+abbrev pub AreNone : List (Option TextsView) → Type 0
+AreNone places = (k : ℕ) (m : TextsView) → slice_get places k ≡ Some (Some m) → ⊥
 
-pub none_pushed : (places : List (Option FinishedSheets)) → AreNone places → AreNone (places ++ None ∷ [])
+pub none_pushed : (places : List (Option TextsView)) → AreNone places → AreNone (places ++ None ∷ [])
 none_pushed [] none zero m at = absurd (cc (at))
 none_pushed [] none (suc k) m at = absurd (cc (at))
 none_pushed (x ∷ places) none zero m at = none zero m at

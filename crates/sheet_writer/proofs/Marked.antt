@@ -3,7 +3,7 @@ use Rattle.std.proofs.Common.{ℕ, zero, suc, ◌+◌, ◌%◌, ◌<◌, ◌≤�
 use Rattle.std.proofs.Common.{slice_set, slice_index_or, List, [], ◌∷◌, Option, Some, None, length}
 use Rattle.std.specs.Prelude.{◌≢◌, All, slice_get}
 use Rattle.std.proofs.lemmas.Option.{same_Some, slice_get_within, get_or_from_slice_get, slice_get-get_or}
-use Rattle.sheet_writer.specs.declared.early.FinishedSheets.{FinishedSheets}
+use Rattle.sheet_text.specs.Texts.{TextsView, sheets_of}
 use Rattle.sheet_writer.specs.declared.early.Place.{Place}
 use Rattle.sheet_writer.specs.declared.early.Early.{Early}
 use Rattle.sheet_writer.specs.Places.{last_of, place_of, HavePlacesOfTheirOwn, is_number, is_nth, is_there, has_come}
@@ -41,7 +41,7 @@ not_its_place early sheets n sheet place k at is none same =
     (same ∙ is ∙ ap (λ s. place_of early s) (sym (get_or_from_slice_get sheets n sheet 0 at)))
 
 -- whether a sheet came, once this group is put at its place
-come_by : (groups before : List (Option FinishedSheets)) (group sheet : ℕ) (x : Option FinishedSheets) (places : List Place) → groups ≡ before
+come_by : (groups before : List (Option TextsView)) (group sheet : ℕ) (x : Option TextsView) (places : List Place) → groups ≡ before
     → is_there sheet (slice_set groups group x) (slice_get places (sheet % length (slice_set groups group x)))
     ≡ is_there sheet (slice_set before group x) (slice_get places (sheet % length before))
 come_by groups before group sheet x places same =
@@ -49,23 +49,23 @@ come_by groups before group sheet x places same =
     ∙ ap (λ n. is_there sheet (slice_set before group x) (slice_get places (sheet % n))) (length_filled before group x)
 
 -- each sheet of a group has come once their places are marked and the group is put
-pub have_come : (early : Early) (finished : FinishedSheets) (sheets : List ℕ) (group : ℕ) (groups : List (Option FinishedSheets)) (places : List Place)
-    → groups ≡ early.groups.items → group < length early.groups.items → sheets ≡ finished.sheets.items
-    → ((nth sheet : ℕ) → slice_get sheets nth ≡ Some sheet → slice_get places (place_of early sheet) ≡ Some (record { group = group; nth = nth }))
+pub have_come : (early : Early) (finished : TextsView) (group : ℕ) (groups : List (Option TextsView)) (places : List Place)
+    → groups ≡ early.groups.items → group < length early.groups.items
+    → ((nth sheet : ℕ) → slice_get (sheets_of finished) nth ≡ Some sheet → slice_get places (place_of early sheet) ≡ Some (record { group = group; nth = nth }))
     → All (λ sheet. is_there sheet (slice_set groups group (Some finished)) (slice_get places (sheet % length (slice_set groups group (Some finished)))) ≡ true)
-    finished.sheets.items
-have_come early finished sheets group groups places same lt those marked k d within =
-    let sheet : ℕ = slice_index_or finished.sheets.items k d in
-    let at : slice_get finished.sheets.items k ≡ Some sheet = slice_get-get_or finished.sheets.items k d within in
-    let now : List (Option FinishedSheets) = slice_set early.groups.items group (Some finished) in
+    (sheets_of finished)
+have_come early finished group groups places same lt marked k d within =
+    let sheet : ℕ = slice_index_or (sheets_of finished) k d in
+    let at : slice_get (sheets_of finished) k ≡ Some sheet = slice_get-get_or (sheets_of finished) k d within in
+    let now : List (Option TextsView) = slice_set early.groups.items group (Some finished) in
     come_by groups early.groups.items group sheet (Some finished) places same
-    ∙ ap (λ p. is_there sheet now p) (marked k sheet (ap (λ xs. slice_get xs k) those ∙ at))
+    ∙ ap (λ p. is_there sheet now p) (marked k sheet at)
     ∙ ap (λ x. is_nth sheet k x) (get_filled early.groups.items group (Some finished) lt)
-    ∙ number_is sheet (slice_get finished.sheets.items k) at
+    ∙ number_is sheet (slice_get (sheets_of finished) k) at
 
 -- a sheet outside the group stays there when the group is put at a free place
-there_as_before : (finished : FinishedSheets) (sheet nth : ℕ) → is_number sheet (slice_get finished.sheets.items nth) ≡ false
-    → (groups : List (Option FinishedSheets)) (group k : ℕ) → slice_get groups group ≡ Some None
+there_as_before : (finished : TextsView) (sheet nth : ℕ) → is_number sheet (slice_get (sheets_of finished) nth) ≡ false
+    → (groups : List (Option TextsView)) (group k : ℕ) → slice_get groups group ≡ Some None
     → is_nth sheet nth (slice_get (slice_set groups group (Some finished)) k) ≡ is_nth sheet nth (slice_get groups k)
 there_as_before finished sheet nth other [] group k free = refl
 there_as_before finished sheet nth other (g ∷ groups) zero zero free = other ∙ ap (λ x. is_nth sheet nth x) (sym free)
@@ -74,26 +74,26 @@ there_as_before finished sheet nth other (g ∷ groups) (suc group) zero free = 
 there_as_before finished sheet nth other (g ∷ groups) (suc group) (suc k) free = there_as_before finished sheet nth other groups group k free
 
 -- whether another sheet has come doesn't change
-pub come_as_before : (early : Early) (finished : FinishedSheets) (group : ℕ) (groups : List (Option FinishedSheets)) (places : List Place) (sheet : ℕ)
+pub come_as_before : (early : Early) (finished : TextsView) (group : ℕ) (groups : List (Option TextsView)) (places : List Place) (sheet : ℕ)
     → groups ≡ early.groups.items → slice_get early.groups.items group ≡ Some None
     → slice_get places (place_of early sheet) ≡ slice_get early.places.items (place_of early sheet)
-    → All (λ one. place_of early sheet ≢ place_of early one) finished.sheets.items
+    → All (λ one. place_of early sheet ≢ place_of early one) (sheets_of finished)
     → is_there sheet (slice_set groups group (Some finished)) (slice_get places (sheet % length (slice_set groups group (Some finished)))) ≡ has_come early sheet
 come_as_before early finished group groups places sheet same free kept elsewhere =
     come_by groups early.groups.items group sheet (Some finished) places same
     ∙ ap (λ p. is_there sheet (slice_set early.groups.items group (Some finished)) p) kept
     ∙ there (slice_get early.places.items (place_of early sheet))
   where
-    not_among : (at : Option ℕ) (nth : ℕ) → slice_get finished.sheets.items nth ≡ at → is_number sheet at ≡ false
+    not_among : (at : Option ℕ) (nth : ℕ) → slice_get (sheets_of finished) nth ≡ at → is_number sheet at ≡ false
     not_among None nth is = refl
     not_among (Some number) nth is = ne_eqb number sheet
-        (λ one. elsewhere nth 0 (slice_get_within finished.sheets.items nth number is)
-        (ap (λ s. place_of early s) (sym (get_or_from_slice_get finished.sheets.items nth number 0 is ∙ one))))
+        (λ one. elsewhere nth 0 (slice_get_within (sheets_of finished) nth number is)
+        (ap (λ s. place_of early s) (sym (get_or_from_slice_get (sheets_of finished) nth number 0 is ∙ one))))
 
     there : (p : Option Place) → is_there sheet (slice_set early.groups.items group (Some finished)) p ≡ is_there sheet early.groups.items p
     there None = refl
     there (Some p) =
-        there_as_before finished sheet p.nth (not_among (slice_get finished.sheets.items p.nth) p.nth refl) early.groups.items group p.group free
+        there_as_before finished sheet p.nth (not_among (slice_get (sheets_of finished) p.nth) p.nth refl) early.groups.items group p.group free
 
 -- the last of some sheets is at least each of them
 at_most_last : (sheets : List ℕ) (nth sheet : ℕ) → slice_get sheets nth ≡ Some sheet → sheet ≤ last_of sheets
@@ -102,8 +102,8 @@ at_most_last (one ∷ sheets) zero sheet at = let is : one ≡ sheet = same_Some
 at_most_last (one ∷ sheets) (suc nth) sheet at = let rest = at_most_last sheets nth sheet at in omega (arith, rest)
 
 -- a sheet outside the group stays there when the group is taken
-there_when_taken : (finished : FinishedSheets) (sheet nth : ℕ) → is_number sheet (slice_get finished.sheets.items nth) ≡ false
-    → (groups : List (Option FinishedSheets)) (group k : ℕ) → slice_get groups group ≡ Some (Some finished)
+there_when_taken : (finished : TextsView) (sheet nth : ℕ) → is_number sheet (slice_get (sheets_of finished) nth) ≡ false
+    → (groups : List (Option TextsView)) (group k : ℕ) → slice_get groups group ≡ Some (Some finished)
     → is_nth sheet nth (slice_get (slice_set groups group None) k) ≡ is_nth sheet nth (slice_get groups k)
 there_when_taken finished sheet nth other [] group k there = refl
 there_when_taken finished sheet nth other (g ∷ groups) zero zero there = sym (ap (λ x. is_nth sheet nth x) there ∙ other)
@@ -112,8 +112,8 @@ there_when_taken finished sheet nth other (g ∷ groups) (suc group) zero there 
 there_when_taken finished sheet nth other (g ∷ groups) (suc group) (suc k) there = there_when_taken finished sheet nth other groups group k there
 
 -- whether a later sheet than those of the group has come doesn't change
-pub later_as_before : (early : Early) (finished : FinishedSheets) (group : ℕ) (left : Option FinishedSheets) (sheet later : ℕ)
-    → slice_get early.groups.items group ≡ Some (Some finished) → left ≡ None → last_of finished.sheets.items ≡ sheet → sheet < later
+pub later_as_before : (early : Early) (finished : TextsView) (group : ℕ) (left : Option TextsView) (sheet later : ℕ)
+    → slice_get early.groups.items group ≡ Some (Some finished) → left ≡ None → last_of (sheets_of finished) ≡ sheet → sheet < later
     → is_there later (slice_set early.groups.items group left) (slice_get early.places.items (later % length (slice_set early.groups.items group left))) ≡ has_come early later
 later_as_before early finished group left sheet later there none last less =
     come_by early.groups.items early.groups.items group later left early.places.items refl
@@ -124,6 +124,6 @@ later_as_before early finished group left sheet later there none last less =
     stays None = refl
     stays (Some p) =
         there_when_taken finished later p.nth
-        (number_is_not later (slice_get finished.sheets.items p.nth)
-        (λ found. let most = at_most_last finished.sheets.items p.nth later found in omega (arith, most, last, less)))
+        (number_is_not later (slice_get (sheets_of finished) p.nth)
+        (λ found. let most = at_most_last (sheets_of finished) p.nth later found in omega (arith, most, last, less)))
         early.groups.items group p.group there

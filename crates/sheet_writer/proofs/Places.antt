@@ -3,7 +3,7 @@ use Rattle.std.proofs.Common.{ℕ, suc, ◌+◌, ◌-◌, ◌<◌, ◌≤◌, �
 use Rattle.std.proofs.Common.{if◌then◌else◌, arith, zero, ◌%◌, true, false, true≢false, slice_set, [], ◌∷◌, List, Option, Some, None, length, slice_index_or, eq-eqb, ne_eqb}
 use Rattle.std.specs.Prelude.{All, slice_get, is_some, IfSome, IsNone, MatchOption}
 use Rattle.std.proofs.lemmas.Option.{slice_get_read, slice_get-get_or}
-use Rattle.sheet_writer.specs.declared.early.FinishedSheets.{FinishedSheets}
+use Rattle.sheet_text.specs.Texts.{TextsView, sheets_of}
 use Rattle.sheet_writer.specs.declared.early.Place.{Place}
 use Rattle.sheet_writer.specs.Places.{place_of, in_place, is_number, is_nth, is_there}
 use Rattle.sheet_writer.specs.declared.early.Early.{Early}
@@ -22,15 +22,15 @@ count_next early first sheet counted le is =
     subst (λ k. counted + one_without (has_come early sheet) ≡ not_come early first k) e (omega (arith, one, is))
 
 -- what is at this place
-pub lies_at : (groups : List (Option FinishedSheets)) (k : ℕ) (o : Option FinishedSheets) (finished : FinishedSheets) → k < length groups → o ≡ slice_index_or groups k o
+pub lies_at : (groups : List (Option TextsView)) (k : ℕ) (o : Option TextsView) (finished : TextsView) → k < length groups → o ≡ slice_index_or groups k o
     → o ≡ Some finished → slice_get groups k ≡ Some (Some finished)
 lies_at groups k o finished lt is holds = slice_get_read groups (length groups) k o refl lt is ∙ ap (λ x. Some x) holds
 
 -- whether the sheet came, if this is its place and what is there
-pub comes_by : (early : Early) (sheet place : ℕ) (p : Place) (o : Option FinishedSheets) (finished : FinishedSheets)
+pub comes_by : (early : Early) (sheet place : ℕ) (p : Place) (o : Option TextsView) (finished : TextsView)
     → place ≡ place_of early sheet → place < length early.places.items → p ≡ slice_index_or early.places.items place p
     → p.group < length early.groups.items → o ≡ slice_index_or early.groups.items p.group o → o ≡ Some finished
-    → has_come early sheet ≡ is_number sheet (slice_get finished.sheets.items p.nth)
+    → has_come early sheet ≡ is_number sheet (slice_get (sheets_of finished) p.nth)
 comes_by early sheet place p o finished at lt is group_lt group_is holds =
     let its : slice_get early.places.items (place_of early sheet) ≡ Some p =
     ap (λ k. slice_get early.places.items k) (sym at) ∙ slice_get_read early.places.items (length early.places.items) place p refl lt is in
@@ -51,7 +51,7 @@ told_by None come sheet at is found none = is ∙ number_is_not sheet at (none r
 told_by (Some x) come sheet at is found none = is ∙ number_is sheet at found
 
 -- what is in the place of a sheet, if that is free, or if it isn't
-pub free_place : (early : Early) (sheet place : ℕ) (o : Option FinishedSheets) → place ≡ place_of early sheet → place < length early.groups.items
+pub free_place : (early : Early) (sheet place : ℕ) (o : Option TextsView) → place ≡ place_of early sheet → place < length early.groups.items
     → o ≡ slice_index_or early.groups.items place o → in_place early sheet ≡ Some o
 free_place early sheet place o at lt is =
     ap (λ k. slice_get early.groups.items k) (sym at) ∙ slice_get_read early.groups.items (length early.groups.items) place o refl lt is
@@ -74,7 +74,7 @@ get_other (y ∷ xs) zero (suc j) x other = refl
 get_other (y ∷ xs) (suc k) zero x other = refl
 get_other (y ∷ xs) (suc k) (suc j) x other = get_other xs k j x (λ same. other (ap suc same))
 
-pub filled_place : (early : Early) (sheet place : ℕ) (finished : FinishedSheets) {groups : List (Option FinishedSheets)} → groups ≡ early.groups.items
+pub filled_place : (early : Early) (sheet place : ℕ) (finished : TextsView) {groups : List (Option TextsView)} → groups ≡ early.groups.items
     → place ≡ place_of early sheet → place < length early.groups.items
     → slice_get (slice_set groups place (Some finished)) (sheet % length (slice_set groups place (Some finished))) ≡ Some (Some finished)
 filled_place early sheet place finished {groups} same at lt =
@@ -82,24 +82,24 @@ filled_place early sheet place finished {groups} same at lt =
     let here : sheet % length (slice_set groups place (Some finished)) ≡ place = ap (λ n. sheet % n) len ∙ sym at in
     ap (λ k. slice_get (slice_set groups place (Some finished)) k) here ∙ get_filled groups place (Some finished) (subst (λ xs. place < length xs) (sym same) lt)
 
-pub other_place : (groups before : List (Option FinishedSheets)) (place k : ℕ) (x : Option FinishedSheets) → groups ≡ before → (k ≡ place → ⊥)
+pub other_place : (groups before : List (Option TextsView)) (place k : ℕ) (x : Option TextsView) → groups ≡ before → (k ≡ place → ⊥)
     → slice_get (slice_set groups place x) k ≡ slice_get before k
 other_place groups before place k x same other = get_other groups place k x other ∙ ap (λ xs. slice_get xs k) same
 
-pub none_there : (o : Option FinishedSheets) (other : FinishedSheets) → is_some o ≡ false → Some o ≡ Some (Some other) → ⊥
+pub none_there : (o : Option TextsView) (other : TextsView) → is_some o ≡ false → Some o ≡ Some (Some other) → ⊥
 none_there None other none there = cc (there)
 none_there (Some x) other none there = true≢false none
 
 -- this place exists, and is empty
-pub is_free : (groups : List (Option FinishedSheets)) (k : ℕ) (o : Option FinishedSheets) → k < length groups → o ≡ slice_index_or groups k o
+pub is_free : (groups : List (Option TextsView)) (k : ℕ) (o : Option TextsView) → k < length groups → o ≡ slice_index_or groups k o
     → is_some o ≡ false → slice_get groups k ≡ Some None
 is_free groups k None lt is none = slice_get_read groups (length groups) k None refl lt is
 is_free groups k (Some x) lt is none = absurd (true≢false none)
 
-pub all_are_free : (groups : List (Option FinishedSheets)) → ((k : ℕ) (finished : FinishedSheets) → slice_get groups k ≡ Some (Some finished) → ⊥)
+pub all_are_free : (groups : List (Option TextsView)) → ((k : ℕ) (finished : TextsView) → slice_get groups k ≡ Some (Some finished) → ⊥)
     → All (λ group. group ≡ None) groups
 all_are_free groups none k d lt = is_none_at (slice_index_or groups k d) refl
   where
-    is_none_at : (group : Option FinishedSheets) → slice_index_or groups k d ≡ group → slice_index_or groups k d ≡ None
+    is_none_at : (group : Option TextsView) → slice_index_or groups k d ≡ group → slice_index_or groups k d ≡ None
     is_none_at None is = is
     is_none_at (Some finished) is = absurd (none k finished (slice_get-get_or groups k d lt ∙ ap (λ x. Some x) is))

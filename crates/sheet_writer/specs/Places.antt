@@ -1,8 +1,8 @@
 -- The places of sheets that wait for their turn.
 use Rattle.std.specs.Prelude.{◌≢◌, ℕ, zero, suc, ◌+◌, ◌%◌, ◌<◌, ◌==◌, Bool, false, if◌then◌else◌, List, [], ◌∷◌, length, max}
 use Rattle.std.specs.Prelude.{All, AllPairs, slice_get, Option, Some, None}
+use Rattle.sheet_text.specs.Texts.{TextsView, sheets_of}
 use Rattle.sheet_writer.specs.declared.early.Early.{Early}
-use Rattle.sheet_writer.specs.declared.early.FinishedSheets.{FinishedSheets}
 use Rattle.sheet_writer.specs.declared.early.Place.{Place}
 
 -- the last of these sheets
@@ -20,7 +20,7 @@ HavePlacesOfTheirOwn early sheets = All (λ sheet. place_of early sheet < length
     × AllPairs (λ one other. place_of early one ≢ place_of early other) sheets
 
 -- what is at the place of this sheet, if there is such a place
-abbrev pub in_place : Early → ℕ → Option (Option FinishedSheets)
+abbrev pub in_place : Early → ℕ → Option (Option TextsView)
 in_place early sheet = slice_get early.groups.items (place_of early sheet)
 
 -- this number is that of the sheet
@@ -29,13 +29,13 @@ is_number sheet None = false
 is_number sheet (Some number) = number == sheet
 
 -- in this group of sheets it is the one with this index
-abbrev pub is_nth : ℕ → ℕ → Option (Option FinishedSheets) → Bool
+abbrev pub is_nth : ℕ → ℕ → Option (Option TextsView) → Bool
 is_nth sheet nth None = false
 is_nth sheet nth (Some None) = false
-is_nth sheet nth (Some (Some finished)) = is_number sheet (slice_get finished.sheets.items nth)
+is_nth sheet nth (Some (Some finished)) = is_number sheet (slice_get (sheets_of finished) nth)
 
 -- it is where its place says
-abbrev pub is_there : ℕ → List (Option FinishedSheets) → Option Place → Bool
+abbrev pub is_there : ℕ → List (Option TextsView) → Option Place → Bool
 is_there sheet groups None = false
 is_there sheet groups (Some place) = is_nth sheet place.nth (slice_get groups place.group)
 

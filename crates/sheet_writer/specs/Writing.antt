@@ -1,11 +1,11 @@
 -- How far the output of a job is written.
-use Rattle.std.specs.Prelude.{◌≡◌, ℕ, ◌+◌, ◌≤◌, List, ◌++◌, length, take, flat_map, map, slice_get, Option, Some, None}
+use Rattle.std.specs.Prelude.{◌≡◌, ℕ, ◌+◌, ◌≤◌, List, ◌++◌, length, take, flat_map, All, slice_get, Option, Some, None}
 use Rattle.std.specs.List.{range_with_len}
 use Rattle.std.specs.Io.KnownBytes.{Appends}
 use Rattle.made_sheets.specs.MadeOutput.{dressed_preamble}
 use Rattle.sheet_text.specs.Jobs.{JobView, text_of, output_of}
+use Rattle.sheet_text.specs.Texts.{TextsView}
 use Rattle.sheet_writer.specs.Sinks.{SinkView, Took, FailedBehind, IsUntouched}
-use Rattle.sheet_writer.specs.declared.early.FinishedSheets.{FinishedSheets}
 use Rattle.sheet_writer.specs.declared.writing.Halt.{Halt}
 use Rattle.sheet_writer.specs.declared.writing.Halt.TheVariants.{Failed, NoMemory}
 use Rattle.sheet_writer.specs.declared.writing.Progress.{Progress}
@@ -70,9 +70,9 @@ abbrev pub EndsAfter : JobView → (old new : SinkView) → Progress → Progres
 EndsAfter job old new p q = (start : SinkView) → Stands job start old p → Ends job start new q
 
 -- each of these sheets has its own text
-abbrev pub HaveTexts : (text : ℕ → List ℕ) → FinishedSheets → Type 0
-HaveTexts text m = m.texts ≡ map text m.sheets.items
+abbrev pub HaveTexts : (text : ℕ → List ℕ) → TextsView → Type 0
+HaveTexts text texts = All (λ (t : ℕ × List ℕ). t.1 ≡ text t.0) texts
 
 -- so has each sheet that came before its turn
-abbrev pub AreEarly : JobView → List (Option FinishedSheets) → Type 0
-AreEarly job groups = (k : ℕ) (m : FinishedSheets) → slice_get groups k ≡ Some (Some m) → HaveTexts (text_of job) m
+abbrev pub AreEarly : JobView → List (Option TextsView) → Type 0
+AreEarly job groups = (k : ℕ) (m : TextsView) → slice_get groups k ≡ Some (Some m) → HaveTexts (text_of job) m

@@ -5,6 +5,6 @@ mod early;
 mod sink;
 mod writing;
 
-pub use early::{Early, FinishedSheets, Spent};
+pub use early::{Early, Spent};
 pub use sink::{MemorySink, Sink, SinkFault, WriteSink};
 pub use writing::{Halt, Progress, write_early, write_in_pieces, write_rest, write_text};

@@ -1,7 +1,6 @@
 //! Writes the output of a job: each sheet when its turn comes, and at the end what is left.
-ghost use Rattle.std.specs.Prelude.{◌≡◌, ◌≢◌, ℕ, ◌+◌, ◌-◌, ◌<◌, ◌≤◌, ◌⊎◌, None, Some, IfOk, IfErr, OnOk, length};
+ghost use Rattle.std.specs.Prelude.{◌≡◌, ℕ, ◌+◌, ◌-◌, ◌<◌, ◌≤◌, ◌⊎◌, None, Some, IfErr, OnOk, length};
 ghost use Rattle.std.specs.Prelude.{if◌then◌else◌, false};
-ghost use Rattle.sheet_text.specs.Jobs.{text_of};
 ghost use Rattle.rules.specs.Filters.{trailer_text};
 ghost use Rattle.sheet_writer.specs.declared.writing.Halt.TheVariants.{Failed};
 ghost use Rattle.sheet_writer.specs.Sinks.{IsCountable};
@@ -99,7 +98,7 @@ fn write_sheets<S: Sink>(
     sink: &mut S,
     progress: Progress,
     text: Pieces<'_, '_>,
-    count: usize,
+    count: u32,
 ) -> Progress
     requires countable { IsCountable (S.seen sink.old) }
     requires going { progress.halted ≡ None }
@@ -113,7 +112,7 @@ fn write_sheets<S: Sink>(
 {
     let progress = write_in_pieces(sink, progress, text);
     Progress {
-        next: progress.next + count as u32,
+        next: progress.next + count,
         ..progress
     }
 }
@@ -140,10 +139,10 @@ pub fn write_early<'r, S: Sink, B: Spent<'r>>(
 {
     let mut progress = progress;
     while progress.next < job.sheets() {
-        let Some(next) = early.joined(progress.next, job.sheets() - progress.next) else {
+        let Some((count, text)) = early.joined(progress.next, job.sheets() - progress.next) else {
             break;
         };
-        progress = write_sheets(job, sink, progress, next.text, next.count);
+        progress = write_sheets(job, sink, progress, text, count);
         if let Some(written) = early.take_written(progress.next - 1) {
             spent.give_back(written);
         }
@@ -209,8 +208,8 @@ fn write_next<S: Sink>(
     ensures steady { result.halted ≡ None → (S.seen sink.new).failures ≡ (S.seen sink.old).failures }
     ensures swept { result.swept ≡ progress.swept + (if has_come early.now progress.next then 0 else 1) }
 {
-    if let Some(next) = early.joined(progress.next, 1) {
-        return write_sheets(job, sink, progress, next.text, next.count);
+    if let Some((count, text)) = early.joined(progress.next, 1) {
+        return write_sheets(job, sink, progress, text, count);
     }
     let progress = Progress {
         swept: progress.swept + 1,

@@ -5,10 +5,8 @@ ghost use Rattle.sheet_writer.specs.Writing.{AreEarly, HaveTexts};
 
 use super::jobs::{Task, with_job};
 use crate::tests::checks::{assert_bytes, assert_that};
-use sheet_text::{Job, Openings, Rope, append_placed, begin_sheet, end_sheet, sheet_text};
-use sheet_writer::{
-    Early, FinishedSheets, MemorySink, Progress, Sink, Spent, WriteSink, write_early, write_rest,
-};
+use sheet_text::{Job, Openings, Rope, Texts, append_placed, begin_sheet, end_sheet, sheet_text};
+use sheet_writer::{Early, MemorySink, Progress, Sink, Spent, WriteSink, write_early, write_rest};
 use std::alloc::{AllocError, Global};
 use std::io::{self, ErrorKind, Write};
 use std::process::Abort;
@@ -84,7 +82,7 @@ fn text_with<'r>(
 fn finish<'r>(
     alloc: Global,
     job: &Job<'r, '_>,
-    finished: &mut FinishedSheets<'r>,
+    finished: &mut Texts<'r>,
     sheet: u32,
     body: &'r [u8],
 ) -> Result<(), AllocError>
@@ -107,7 +105,7 @@ fn put_sheets<'r>(
     requires { AreEarly job.now early.old.groups.items }
     ensures { OnOk result (AreEarly job.now early.new.groups.items) }
 {
-    let mut finished = FinishedSheets::new(alloc);
+    let mut finished = Texts::new(alloc);
     for sheet in sheets {
         if *sheet >= job.sheets() || *sheet >= 4 {
             return Err(AllocError);
@@ -163,6 +161,7 @@ impl Write for Calls {
 /// Notes which sheets are given back together, and counts the bytes of all their texts.
 #[derive(Drop)]
 struct GivenBack {
+    alloc: Global,
     groups: Vec<Vec<u32>>,
     bytes: usize,
 }
@@ -170,6 +169,7 @@ struct GivenBack {
 impl GivenBack {
     fn new(alloc: Global) -> GivenBack {
         GivenBack {
+            alloc,
             groups: Vec::new(alloc),
             bytes: 0,
         }
@@ -185,12 +185,16 @@ impl GivenBack {
 }
 
 impl<'r> Spent<'r> for GivenBack {
-    fn give_back(&mut self, sheets: FinishedSheets<'r>) {
-        for nth in 0..sheets.texts.len() {
-            let text = sheets.texts.joined(nth, 1).text;
-            self.bytes = self.bytes.saturating_add(text.len().unwrap_or(0));
+    fn give_back(&mut self, sheets: Texts<'r>) {
+        let mut group = Vec::new(self.alloc);
+        for nth in 0..sheets.len() {
+            let sheet = sheets.sheet(nth);
+            let _ = group.push(sheet);
+            if let Some((_, text)) = sheets.joined(sheet, nth, 1) {
+                self.bytes = self.bytes.saturating_add(text.len().unwrap_or(0));
+            }
         }
-        let _ = self.groups.push(sheets.sheets);
+        let _ = self.groups.push(group);
     }
 }
 

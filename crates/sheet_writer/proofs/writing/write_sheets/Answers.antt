@@ -2,9 +2,6 @@ use Rattle.std.proofs.Common.{arith, ap, ◌+◌}
 use Rattle.sheet_writer.proofs.Fronts.{sheets_handed}
 use Rattle.sheet_writer.proofs.writing.write_sheets.Goals as goal
 
-pub overflow_cast-result : goal.overflow_cast-result
-overflow_cast-result g c = omega (arith, c.requires.few)
-
 pub overflow_add-result : goal.overflow_add-result
 overflow_add-result g c = omega (arith, c.requires.few, c.write_in_pieces-progress.ensures.next)
 

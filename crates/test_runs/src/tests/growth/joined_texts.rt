@@ -3,7 +3,7 @@
 use crate::tests::callers::stories::{Called, number, show, tell};
 use crate::tests::checks::{assert_that, assert_told};
 use sheet_text::{Pieces, Rope, Texts};
-use sheet_writer::{Early, FinishedSheets};
+use sheet_writer::Early;
 use std::alloc::{AllocError, Global};
 use std::io::Write;
 use std::mem;
@@ -11,15 +11,14 @@ use std::process::Abort;
 use std::test::Fail;
 use test_tools::{Refused, has_refused, refuse, refuse_each};
 
-/// What a story calls: texts, sheets that are finished, and sheets that came. A text is made in the same memory again and
-/// again, and then added to them. Two slices aren't copied.
+/// What a story calls: texts of finished sheets, and sheets that came. A text is made in the same memory again and again,
+/// and then added to them. Two slices aren't copied.
 #[derive(Drop)]
 struct InTexts<'r> {
     long: &'r [u8],
     longer: &'r [u8],
     text: Rope<'r>,
     texts: Texts<'r>,
-    finished: FinishedSheets<'r>,
     early: Early<'r>,
 }
 
@@ -41,31 +40,19 @@ impl<'r> InTexts<'r> {
         self.text.append(parts.next().unwrap_or("").as_bytes())
     }
 
-    /// Adds such a text to the texts: how many they are then.
-    fn push(&mut self, parts: &str, answer: &mut Vec<u8>) -> anyhow::Result<()> {
-        self.write(parts)?;
-        let before = (self.texts.len(), size_of(&self.text));
-        let is_added = self.texts.push(&mut self.text).is_ok();
-        let after = (self.texts.len(), size_of(&self.text));
-        show_added(is_added, before, after, answer)
-    }
-
-    /// Adds a sheet with such a text to the finished ones: how many they are then.
+    /// Adds a sheet with such a text: how many they are then.
     fn finish(&mut self, sheet: u32, parts: &str, answer: &mut Vec<u8>) -> anyhow::Result<()> {
         self.write(parts)?;
-        let before = (self.finished.sheets.len(), size_of(&self.text));
-        let is_added = self.finished.push(sheet, &mut self.text).is_ok();
-        let after = (self.finished.sheets.len(), size_of(&self.text));
-        if self.finished.texts.len() != after.0 {
-            return show("not as many texts as sheets", answer);
-        }
+        let before = (self.texts.len(), size_of(&self.text));
+        let is_added = self.texts.push(sheet, &mut self.text).is_ok();
+        let after = (self.texts.len(), size_of(&self.text));
         show_added(is_added, before, after, answer)
     }
 
     /// The finished sheets come: how many they are.
     fn come(&mut self, alloc: Global) -> usize {
-        let finished = mem::replace(&mut self.finished, FinishedSheets::new(alloc));
-        let count = finished.sheets.len();
+        let finished = mem::replace(&mut self.texts, Texts::new(alloc));
+        let count = finished.len();
         self.early.put(finished);
         count
     }
@@ -73,26 +60,27 @@ impl<'r> InTexts<'r> {
     /// Takes the sheets that came with this one: how many they are.
     fn take(&mut self, sheet: u32) -> usize {
         match self.early.take_written(sheet) {
-            Some(written) => written.sheets.len(),
+            Some(written) => written.len(),
             None => 0,
         }
     }
 
-    /// From one of the texts on, how many are joined, of so many at most, and their pieces.
-    fn join(&self, nth: u32, most: u32, answer: &mut Vec<u8>) -> anyhow::Result<()> {
-        let (nth, most) = (nth as usize, most as usize);
-        if nth >= self.texts.len() || most == 0 {
+    /// From a sheet on, which has the index of its number, how many are joined, of so many at most, and their pieces.
+    fn join(&self, sheet: u32, most: u32, answer: &mut Vec<u8>) -> anyhow::Result<()> {
+        if most == 0 {
             return show("no such text", answer);
         }
-        let joined = self.texts.joined(nth, most);
-        show(joined.count, answer)?;
-        self.show_pieces(joined.text, answer)
+        let Some((count, text)) = self.texts.joined(sheet, sheet as usize, most) else {
+            return show("no such text", answer);
+        };
+        show(count, answer)?;
+        self.show_pieces(text, answer)
     }
 
     /// The text of a sheet that came.
     fn text_of(&self, sheet: u32, answer: &mut Vec<u8>) -> anyhow::Result<()> {
         match self.early.joined(sheet, 1) {
-            Some(joined) => self.show_pieces(joined.text, answer),
+            Some((_, text)) => self.show_pieces(text, answer),
             None => show("no such sheet", answer),
         }
     }
@@ -157,7 +145,6 @@ impl<'r> Called for InTexts<'r> {
         let (word, parts) = rest.split_once(' ').unwrap_or((rest, ""));
         let first = number(Some(word));
         match name {
-            "push" => self.push(rest, answer),
             "joined" => self.join(first, number(Some(parts)), answer),
             "clear" => {
                 self.texts.clear();
@@ -191,7 +178,6 @@ impl<'s, R: Abort> Refused<R> for Story<'s> {
             longer: self.longer,
             text,
             texts: Texts::new(alloc),
-            finished: FinishedSheets::new(alloc),
             early: Early::new(alloc, self.places)?,
         };
         let told = tell(alloc, &mut called, number, self.story)?;
@@ -220,14 +206,14 @@ fn assert_story<R: Abort>(
 
 /// Long texts and short ones come out as their own.
 const TEXTS: &str = "\
-    push ab|cd|ef = 1\n\
-    push |long|g = 2\n\
-    push h = 3\n\
-    push  = 4\n\
-    push ij|longer| = 5\n\
-    push |long| = 6\n\
-    push k|long|l = 7\n\
-    push m = 8\n\
+    finish 0 ab|cd|ef = 1\n\
+    finish 1 |long|g = 2\n\
+    finish 2 h = 3\n\
+    finish 3  = 4\n\
+    finish 4 ij|longer| = 5\n\
+    finish 5 |long| = 6\n\
+    finish 6 k|long|l = 7\n\
+    finish 7 m = 8\n\
     joined 0 1 = 1 abcdef\n\
     joined 1 1 = 1 long g\n\
     joined 2 1 = 1 h\n\
@@ -240,12 +226,12 @@ const TEXTS: &str = "\
 
 /// Neighbours without slices are in one piece.
 const NEIGHBOURS: &str = "\
-    push ab = 1\n\
-    push c = 2\n\
-    push |long| = 3\n\
-    push d = 4\n\
-    push ef = 5\n\
-    push g = 6\n\
+    finish 0 ab = 1\n\
+    finish 1 c = 2\n\
+    finish 2 |long| = 3\n\
+    finish 3 d = 4\n\
+    finish 4 ef = 5\n\
+    finish 5 g = 6\n\
     joined 0 9 = 2 abc\n\
     joined 1 9 = 1 c\n\
     joined 2 9 = 1 long\n\
@@ -253,7 +239,7 @@ const NEIGHBOURS: &str = "\
     joined 3 2 = 2 def\n\
     joined 5 9 = 1 g\n\
     clear = 0\n\
-    push d = 1\n\
+    finish 0 d = 1\n\
     joined 0 9 = 1 d\n\
 ";
 
@@ -297,18 +283,18 @@ const TOGETHER: &str = "\
 /// Adds a sheet in memory that another one had, with the first growth refused: whether none was asked for.
 fn is_added_anew<'r>(
     alloc: Global,
-    finished: &mut FinishedSheets<'r>,
+    texts: &mut Texts<'r>,
     text: &mut Rope<'r>,
 ) -> Result<bool, AllocError> {
     text.append(b"text")?;
-    finished.push(0, text)?;
-    finished.clear();
-    let is_empty = finished.sheets.is_empty() && finished.texts.len() == 0;
+    texts.push(0, text)?;
+    texts.clear();
+    let is_empty = texts.len() == 0;
     text.append(b"text")?;
     refuse(alloc, 1);
-    let is_added = finished.push(1, text).is_ok();
+    let is_added = texts.push(1, text).is_ok();
     let is_refused = has_refused(alloc);
-    Ok(is_empty && is_added && !is_refused && finished.sheets.as_slice() == [1].as_slice())
+    Ok(is_empty && is_added && !is_refused && texts.joined(1, 0, 1).is_some())
 }
 
 #[test]
@@ -319,8 +305,8 @@ fn texts_and_sheets_come_out_as_they_were(rt: HostRuntime) -> Result<(), Fail> {
     for (places, story) in [(1, TEXTS), (1, NEIGHBOURS), (2, ONE_PLACE), (4, TOGETHER)] {
         assert_story(&rt, rt.alloc(), slices, places, story)?;
     }
-    let mut finished = FinishedSheets::new(rt.alloc());
+    let mut texts = Texts::new(rt.alloc());
     let mut text = Rope::new(rt.alloc());
-    assert_that(&rt, is_added_anew(rt.alloc(), &mut finished, &mut text)?);
+    assert_that(&rt, is_added_anew(rt.alloc(), &mut texts, &mut text)?);
     Ok(())
 }

@@ -8,7 +8,7 @@ use Rattle.planned_runs.proofs.shared.RunInput.impose_batch.Goals.{else-loop-tes
 
 pub impose_into-requires-clause-texts : goal.impose_into-requires-clause-texts
 impose_into-requires-clause-texts g c =
-    have_none g.T.SheetTexts.text c.clear.new.self c.clear.ensures.sheets c.clear.ensures.texts
+    have_none g.T.SheetTexts.text c.clear.new.self c.clear.ensures
 
 pub loop-preserved : goal.loop-preserved
 loop-preserved g c = record {

@@ -1,6 +1,7 @@
 use Rattle.std.proofs.Common.{rules, arith, ap, sym, subst, length, ◌≡◌, ◌<◌, ◌∙◌}
-use Rattle.std.specs.Prelude.{◌≢◌, All, None, Some, slice_get, vec_len}
-use Rattle.sheet_writer.specs.Places.{place_of, last_of, HavePlacesOfTheirOwn}
+use Rattle.std.specs.Prelude.{None, Some, slice_get, vec_len}
+use Rattle.sheet_text.specs.Texts.{sheets_of}
+use Rattle.sheet_writer.specs.Places.{place_of, last_of}
 use Rattle.sheet_writer.specs.Writing.{AreEarly}
 use Rattle.sheet_writer.proofs.Fronts.{early_filled}
 use Rattle.sheet_writer.proofs.Places.{free_place, filled_place, is_free, other_place, none_there}
@@ -17,22 +18,21 @@ returns-clause-early c = λ job have early.
 pub returns-clause-put : goal.returns-clause-put
 returns-clause-put c = λ free.
     let lt : c.place_of-group.result < length c.args.self.now.groups.items = search rules in
-    let at : c.place_of-group.result ≡ place_of c.args.self.now (last_of c.args.finished.sheets.items) =
+    let at : c.place_of-group.result ≡ place_of c.args.self.now (last_of (sheets_of c.args.finished)) =
     c.place_of-group.ensures (omega (arith, lt)) ∙ ap (λ s. place_of c.args.self.now s) c.last.ensures in
-    filled_place c.args.self.now (last_of c.args.finished.sheets.items) c.place_of-group.result c.args.finished (ap (λ v. v.items) c.mark_all.ensures.groups) at lt
+    filled_place c.args.self.now (last_of (sheets_of c.args.finished)) c.place_of-group.result c.args.finished (ap (λ v. v.items) c.mark_all.ensures.groups) at lt
 
 pub returns-clause-others : goal.returns-clause-others
 returns-clause-others c = λ k other.
     let lt : c.place_of-group.result < length c.args.self.now.groups.items = search rules in
-    let at : c.place_of-group.result ≡ place_of c.args.self.now (last_of c.args.finished.sheets.items) =
+    let at : c.place_of-group.result ≡ place_of c.args.self.now (last_of (sheets_of c.args.finished)) =
     c.place_of-group.ensures (omega (arith, lt)) ∙ ap (λ s. place_of c.args.self.now s) c.last.ensures in
     other_place _ _ c.place_of-group.result k _ (ap (λ v. v.items) c.mark_all.ensures.groups) (λ same. other (same ∙ at))
 
 pub returns-clause-came : goal.returns-clause-came
 returns-clause-came c = λ free own.
     let lt : c.place_of-group.result < length c.args.self.now.groups.items = search rules in
-    have_come c.args.self.now c.args.finished c.as_slice.result.now c.place_of-group.result _ _ (ap (λ v. v.items) c.mark_all.ensures.groups) lt c.as_slice.ensures.value
-    (c.mark_all.ensures.marked (omega (arith, lt)) (subst (λ xs. HavePlacesOfTheirOwn c.args.self.now xs) (sym c.as_slice.ensures.value) own))
+    have_come c.args.self.now c.args.finished c.place_of-group.result _ _ (ap (λ v. v.items) c.mark_all.ensures.groups) lt (c.mark_all.ensures.marked (omega (arith, lt)) own)
 
 pub returns-clause-elsewhere : goal.returns-clause-elsewhere
 returns-clause-elsewhere c = λ sheet none.
@@ -40,13 +40,11 @@ returns-clause-elsewhere c = λ sheet none.
     let free : slice_get c.args.self.now.groups.items c.place_of-group.result ≡ Some None =
     is_free c.args.self.now.groups.items c.place_of-group.result c.index.result.now lt c.index.ensures (sym c.is_some.ensures ∙ c.if-is_some.false) in
     come_as_before c.args.self.now c.args.finished c.place_of-group.result _ _ sheet (ap (λ v. v.items) c.mark_all.ensures.groups) free
-    (c.mark_all.ensures.others (omega (arith, lt)) (place_of c.args.self.now sheet)
-    (subst (λ xs. All (λ one. place_of c.args.self.now sheet ≢ place_of c.args.self.now one) xs) (sym c.as_slice.ensures.value) none))
-    none
+    (c.mark_all.ensures.others (omega (arith, lt)) (place_of c.args.self.now sheet) none) none
 
 pub returns-clause-dropped : goal.returns-clause-dropped
 returns-clause-dropped c = λ other there.
     let lt : c.place_of-group.result < length c.args.self.now.groups.items = search rules in
-    let at : c.place_of-group.result ≡ place_of c.args.self.now (last_of c.args.finished.sheets.items) =
+    let at : c.place_of-group.result ≡ place_of c.args.self.now (last_of (sheets_of c.args.finished)) =
     c.place_of-group.ensures (omega (arith, lt)) ∙ ap (λ s. place_of c.args.self.now s) c.last.ensures in
     absurd (none_there _ other (sym c.is_some.ensures ∙ c.if-is_some.false) (sym (free_place c.args.self.now _ _ _ at lt c.index.ensures) ∙ there))
