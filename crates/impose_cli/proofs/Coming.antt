@@ -24,6 +24,8 @@ use Rattle.planned_runs.specs.declared.outcome.RunError.{RunError}
 use Rattle.planned_runs.specs.declared.outcome.RunError.TheVariants as run
 use Rattle.impose_cli.specs.Abouts.{finished_by, reported_by}
 use Rattle.impose_cli.specs.Endings.{AfterWrite, Comes, HasFirst, HasFront, IsNotCreated, IsSaidOf, TellsCount, WritesJob}
+use Rattle.impose_cli.specs.declared.left.Rest.{Rest}
+use Rattle.impose_cli.specs.declared.left.Rest.TheVariants.{World}
 use Rattle.impose_cli.specs.declared.runs.About.{About}
 use Rattle.impose_said.specs.declared.fault.ImposeFault.{ImposeFault}
 use Rattle.impose_said.specs.declared.fault.ImposeFault.TheVariants as fault
@@ -59,65 +61,38 @@ after_as (fault.Run (run.Document e)) P Q P' Q' failed spent h = absurd h
 after_as (fault.Run (run.Plan e)) P Q P' Q' failed spent h = absurd h
 after_as (fault.Run (run.Write n)) P Q P' Q' failed spent h = absurd h
 
-pub after_so : (f : ImposeFault) (P Q : ℕ → Type 0) (A : Type 0) → ((n : ℕ) → P n → A) → ((n : ℕ) → Q n → A) → AfterWrite f P Q → A
-after_so (fault.Write n cause) P Q A failed spent h = failed n h
-after_so (fault.Run (run.NoMemory n)) P Q A failed spent h = spent n h
-after_so (fault.Command c) P Q A failed spent h = absurd h
-after_so (fault.Layout e) P Q A failed spent h = absurd h
-after_so (fault.Poster e) P Q A failed spent h = absurd h
-after_so (fault.Row e) P Q A failed spent h = absurd h
-after_so (fault.NoSuchPage place pages) P Q A failed spent h = absurd h
-after_so (fault.Sheets e) P Q A failed spent h = absurd h
-after_so fault.NoSpecification P Q A failed spent h = absurd h
-after_so fault.SeveralPapers P Q A failed spent h = absurd h
-after_so (fault.Idle option) P Q A failed spent h = absurd h
-after_so fault.OverInput P Q A failed spent h = absurd h
-after_so (fault.Read cause) P Q A failed spent h = absurd h
-after_so fault.NoInput P Q A failed spent h = absurd h
-after_so fault.Pdf P Q A failed spent h = absurd h
-after_so (fault.Compressed how) P Q A failed spent h = absurd h
-after_so fault.DosEps P Q A failed spent h = absurd h
-after_so fault.Utf16 P Q A failed spent h = absurd h
-after_so fault.JobLanguage P Q A failed spent h = absurd h
-after_so fault.TooLong P Q A failed spent h = absurd h
-after_so (fault.Run run.Options) P Q A failed spent h = absurd h
-after_so (fault.Run (run.Spec e)) P Q A failed spent h = absurd h
-after_so (fault.Run (run.Document e)) P Q A failed spent h = absurd h
-after_so (fault.Run (run.Plan e)) P Q A failed spent h = absurd h
-after_so (fault.Run (run.Write n)) P Q A failed spent h = absurd h
-
 -- ---- what comes of it
 
 -- it is refused
-pub comes_refused : {T : Type 0} (R : ImposeFault → Type 0) (W : (old new : Option (List ℕ)) → T → Type 0) (name : Option (List ℕ)) (tells : Bool) (f : ImposeFault) (outcome : Result T ImposeFault) (has_output : Bool) (written : Option (List ℕ))
-    → outcome ≡ Err f → has_output ≡ false → R f → Comes R W name tells outcome has_output written
-comes_refused R W name tells f outcome has_output written is none why =
-    subst (λ o. Comes R W name tells o has_output written) (sym is) (inl (why, none))
+pub comes_refused : {T V O : Type 0} (R : ImposeFault → Type 0) (W : (old new : Option (List ℕ)) → T → Type 0) (name : Option (List ℕ)) (tells : Bool) (f : ImposeFault) (outcome : Result T ImposeFault) (world : V) (rest : Rest V O) (written : Option (List ℕ))
+    → outcome ≡ Err f → rest ≡ World world → R f → Comes R W name tells outcome world rest written
+comes_refused R W name tells f outcome world rest written is none why =
+    subst (λ o. Comes R W name tells o world rest written) (sym is) (inl (why, none))
 
 -- the same of other words for it
-pub comes_as : {T : Type 0} (R R' : ImposeFault → Type 0) (W W' : (old new : Option (List ℕ)) → T → Type 0) (name : Option (List ℕ)) (tells : Bool) (outcome : Result T ImposeFault) (has_output : Bool) (written : Option (List ℕ))
+pub comes_as : {T V O : Type 0} (R R' : ImposeFault → Type 0) (W W' : (old new : Option (List ℕ)) → T → Type 0) (name : Option (List ℕ)) (tells : Bool) (outcome : Result T ImposeFault) (world : V) (rest : Rest V O) (written : Option (List ℕ))
     → ((f : ImposeFault) → R f → R' f) → ((old new : Option (List ℕ)) (x : T) → W old new x → W' old new x)
-    → Comes R W name tells outcome has_output written → Comes R' W' name tells outcome has_output written
-comes_as R R' W W' name tells (Ok x) has_output written refused wrote h = wrote _ _ x h
-comes_as R R' W W' name tells (Err f) has_output written refused wrote h = elim h [
+    → Comes R W name tells outcome world rest written → Comes R' W' name tells outcome world rest written
+comes_as R R' W W' name tells (Ok x) world rest written refused wrote h = wrote _ _ x h
+comes_as R R' W W' name tells (Err f) world rest written refused wrote h = elim h [
   | inl stopped ↦ inl (refused f stopped.0, stopped.1)
   | inr some ↦ inr (some.0, some.1, wrote _ _ some.1 some.2, some.3)
 ]
 
 -- and of what is reported
-pub comes_reported : (R R' : ImposeFault → Type 0) (W : (old new : Option (List ℕ)) → Report → Type 0) (W' : (old new : Option (List ℕ)) → Done → Type 0) (about : About) (name : Option (List ℕ)) (tells : Bool)
-    (outcome : Result Report ImposeFault) (has_output : Bool) (written : Option (List ℕ))
+pub comes_reported : {V O : Type 0} (R R' : ImposeFault → Type 0) (W : (old new : Option (List ℕ)) → Report → Type 0) (W' : (old new : Option (List ℕ)) → Done → Type 0) (about : About) (name : Option (List ℕ)) (tells : Bool)
+    (outcome : Result Report ImposeFault) (world : V) (rest : Rest V O) (written : Option (List ℕ))
     → ((f : ImposeFault) → R f → R' f) → ((old new : Option (List ℕ)) (report : Report) → W old new report → W' old new (done.Imposed (finished_by about report)))
-    → Comes R W name tells outcome has_output written → Comes R' W' name tells (reported_by about outcome) has_output written
-comes_reported R R' W W' about name tells (Ok report) has_output written refused wrote h = wrote _ _ report h
-comes_reported R R' W W' about name tells (Err f) has_output written refused wrote h = elim h [
+    → Comes R W name tells outcome world rest written → Comes R' W' name tells (reported_by about outcome) world rest written
+comes_reported R R' W W' about name tells (Ok report) world rest written refused wrote h = wrote _ _ report h
+comes_reported R R' W W' about name tells (Err f) world rest written refused wrote h = elim h [
   | inl stopped ↦ inl (refused f stopped.0, stopped.1)
-  | inr some ↦ inr (some.0, done.Imposed (finished_by about some.1), wrote _ _ some.1 some.2, not_created f has_output written some.0 some.3)
+  | inr some ↦ inr (some.0, done.Imposed (finished_by about some.1), wrote _ _ some.1 some.2, not_created f world rest written some.0 some.3)
 ]
   where
-    not_created : (f : ImposeFault) (has_output : Bool) (written : Option (List ℕ)) (text : List ℕ) → IsNotCreated {T = Report} (Err f) has_output ⊎ HasFront (told_if tells name []) written text f
-        → IsNotCreated {T = Done} (Err f) has_output ⊎ HasFront (told_if tells name []) written text f
-    not_created f has_output written text h = h
+    not_created : {V O : Type 0} (f : ImposeFault) (world : V) (rest : Rest V O) (written : Option (List ℕ)) (text : List ℕ) → IsNotCreated {T = Report} (Err f) rest ⊎ HasFront (told_if tells name []) written text f
+        → IsNotCreated {T = Done} (Err f) rest ⊎ HasFront (told_if tells name []) written text f
+    not_created f world rest written text h = h
 
 -- ---- made sheets
 
@@ -142,21 +117,21 @@ report_of j = record {
 whole : (j : JobView) → WritesJob j (Some []) (Some (output_of j)) (report_of j)
 whole j = (refl, record { page_count = refl; sheet_count = refl; born_blank = refl; swept_within = omega arith; byte_count = refl })
 
-abbrev Left : JobView → (name : Option (List ℕ)) → (tells : Bool) → Result Report ImposeFault → (has_output : Bool) → (written : Option (List ℕ)) → Type 0
-Left j name tells outcome has_output written = Comes (λ f. ⊥) (WritesJob j) name tells outcome has_output written
+abbrev Left : {V O : Type 0} → JobView → (name : Option (List ℕ)) → (tells : Bool) → Result Report ImposeFault → (world : V) → (rest : Rest V O) → (written : Option (List ℕ)) → Type 0
+Left j name tells outcome world rest written = Comes (λ f. ⊥) (WritesJob j) name tells outcome world rest written
 
 -- no output could be created for them
-pub job_uncreated : (j : JobView) (name : Option (List ℕ)) (tells : Bool) (outcome : Result Report ImposeFault) (has_output : Bool) (written : Option (List ℕ))
-    → IsNotCreated outcome has_output → Left j name tells outcome has_output written
-job_uncreated j name tells (Ok report) has_output written none = absurd none
-job_uncreated j name tells (Err f) has_output written none = inr (output_of j, report_of j, whole j, inl none)
+pub job_uncreated : {V O : Type 0} (j : JobView) (name : Option (List ℕ)) (tells : Bool) (outcome : Result Report ImposeFault) (world : V) (rest : Rest V O) (written : Option (List ℕ))
+    → IsNotCreated outcome rest → Left j name tells outcome world rest written
+job_uncreated j name tells (Ok report) world rest written none = absurd none
+job_uncreated j name tells (Err f) world rest written none = inr (output_of j, report_of j, whole j, inl none)
 
 -- they were written
-pub job_written : (j : JobView) (name : Option (List ℕ)) (tells : Bool) (n : ℕ) (report : Report) (outcome : Result Report ImposeFault) (output out : Option (List ℕ)) (has_output : Bool) (start all : Option (List ℕ))
+pub job_written : {V O : Type 0} (j : JobView) (name : Option (List ℕ)) (tells : Bool) (n : ℕ) (report : Report) (outcome : Result Report ImposeFault) (output out : Option (List ℕ)) (world : V) (rest : Rest V O) (start all : Option (List ℕ))
     → outcome ≡ Ok report → output ≡ out → start ≡ told_if tells name [] → Appends start all (output_of j) × ReportsOf j report → Keeps all (counted n out)
-    → Left j name tells outcome has_output output
-job_written j name tells n report outcome output out has_output start all is same began wrote kept =
-    subst (λ o. Left j name tells o has_output output) (sym is) (
+    → Left j name tells outcome world rest output
+job_written j name tells n report outcome output out world rest start all is same began wrote kept =
+    subst (λ o. Left j name tells o world rest output) (sym is) (
       subst (λ s. Appends s output (output_of j)) began
           (Appends-kept start all output (output_of j) wrote.0 (subst (λ o. Keeps all o) (sym same) (uncounted_kept n all out kept))),
       wrote.1,
@@ -173,11 +148,11 @@ has_front n text start out f is h =
     after_as f (λ m. m ≡ n) (λ m. m ≡ n) (HasFirst start out text) (HasFirst start out text) (λ m e. subst (λ k. HasFirst start out text k) (sym e) h) (λ m e. subst (λ k. HasFirst start out text k) (sym e) h) is
 
 -- a part of them was
-job_broken : (j : JobView) (name : Option (List ℕ)) (tells : Bool) (n k : ℕ) (outcome : Result Report ImposeFault) (output out : Option (List ℕ)) (has_output : Bool) (start all : Option (List ℕ))
+job_broken : {V O : Type 0} (j : JobView) (name : Option (List ℕ)) (tells : Bool) (n k : ℕ) (outcome : Result Report ImposeFault) (output out : Option (List ℕ)) (world : V) (rest : Rest V O) (start all : Option (List ℕ))
     → TellsCount n outcome → output ≡ out → start ≡ told_if tells name [] → Appends start all (take k (output_of j)) → IsFrontOf (counted n out) all
-    → Left j name tells outcome has_output output
-job_broken j name tells n k (Ok report) output out has_output start all tells_it same began wrote front = absurd tells_it
-job_broken j name tells n k (Err f) output out has_output start all tells_it same began wrote front =
+    → Left j name tells outcome world rest output
+job_broken j name tells n k (Ok report) output out world rest start all tells_it same began wrote front = absurd tells_it
+job_broken j name tells n k (Err f) output out world rest start all tells_it same began wrote front =
     inr (
       output_of j,
       report_of j,
@@ -188,26 +163,26 @@ job_broken j name tells n k (Err f) output out has_output start all tells_it sam
     )
 
 -- all of them were handed on, but not all were written out
-pub job_unwritten : (j : JobView) (name : Option (List ℕ)) (tells : Bool) (n : ℕ) (outcome : Result Report ImposeFault) (output out : Option (List ℕ)) (has_output : Bool) (start all : Option (List ℕ))
+pub job_unwritten : {V O : Type 0} (j : JobView) (name : Option (List ℕ)) (tells : Bool) (n : ℕ) (outcome : Result Report ImposeFault) (output out : Option (List ℕ)) (world : V) (rest : Rest V O) (start all : Option (List ℕ))
     → TellsCount n outcome → output ≡ out → start ≡ told_if tells name [] → Appends start all (output_of j) → IsFrontOf (counted n out) all
-    → Left j name tells outcome has_output output
-job_unwritten j name tells n outcome output out has_output start all tells_it same began wrote front =
-    job_broken j name tells n (length (output_of j)) outcome output out has_output start all tells_it same began
+    → Left j name tells outcome world rest output
+job_unwritten j name tells n outcome output out world rest start all tells_it same began wrote front =
+    job_broken j name tells n (length (output_of j)) outcome output out world rest start all tells_it same began
     (subst (λ t. Appends start all t) (sym (take-length (output_of j))) wrote) front
 
 -- the run broke off
-pub job_broken_off : (j : JobView) (name : Option (List ℕ)) (tells : Bool) (n : ℕ) (error : RunError) (outcome : Result Report ImposeFault) (output out : Option (List ℕ)) (has_output : Bool) (start all : Option (List ℕ))
+pub job_broken_off : {V O : Type 0} (j : JobView) (name : Option (List ℕ)) (tells : Bool) (n : ℕ) (error : RunError) (outcome : Result Report ImposeFault) (output out : Option (List ℕ)) (world : V) (rest : Rest V O) (start all : Option (List ℕ))
     → TellsCount n outcome → output ≡ out → start ≡ told_if tells name []
     → AfterError error ⊥ (λ k. (k ≤ length (output_of j)) × Appends start all (take k (output_of j))) (λ k. (k ≤ length (output_of j)) × Appends start all (take k (output_of j)))
-    → IsFrontOf (counted n out) all → Left j name tells outcome has_output output
-job_broken_off j name tells n run.Options outcome output out has_output start all tells_it same began wrote front = absurd wrote
-job_broken_off j name tells n (run.Spec e) outcome output out has_output start all tells_it same began wrote front = absurd wrote
-job_broken_off j name tells n (run.Document e) outcome output out has_output start all tells_it same began wrote front = absurd wrote
-job_broken_off j name tells n (run.Plan e) outcome output out has_output start all tells_it same began wrote front = absurd wrote
-job_broken_off j name tells n (run.NoMemory k) outcome output out has_output start all tells_it same began wrote front =
-    job_broken j name tells n k outcome output out has_output start all tells_it same began wrote.1 front
-job_broken_off j name tells n (run.Write k) outcome output out has_output start all tells_it same began wrote front =
-    job_broken j name tells n k outcome output out has_output start all tells_it same began wrote.1 front
+    → IsFrontOf (counted n out) all → Left j name tells outcome world rest output
+job_broken_off j name tells n run.Options outcome output out world rest start all tells_it same began wrote front = absurd wrote
+job_broken_off j name tells n (run.Spec e) outcome output out world rest start all tells_it same began wrote front = absurd wrote
+job_broken_off j name tells n (run.Document e) outcome output out world rest start all tells_it same began wrote front = absurd wrote
+job_broken_off j name tells n (run.Plan e) outcome output out world rest start all tells_it same began wrote front = absurd wrote
+job_broken_off j name tells n (run.NoMemory k) outcome output out world rest start all tells_it same began wrote front =
+    job_broken j name tells n k outcome output out world rest start all tells_it same began wrote.1 front
+job_broken_off j name tells n (run.Write k) outcome output out world rest start all tells_it same began wrote front =
+    job_broken j name tells n k outcome output out world rest start all tells_it same began wrote.1 front
 
 said_as : (error : RunError) (n : ℕ) (f : ImposeFault) → IsSaidOf error n f → TellsCount {T = Report} n (Err f)
 said_as (run.NoMemory k) n f h = after_as f (λ m. ⊥) (λ m. m ≡ n) (λ m. m ≡ n) (λ m. m ≡ n) (λ m e. absurd e) (λ m e. e) h

@@ -1,5 +1,5 @@
 -- What comes of a task by a specification.
-use Rattle.std.proofs.Common.{◌≡◌, ◌∙◌, ℕ, ap, arith, sym, subst, refl, inl, inr, Bool, false, List, Option, None, Result, Ok, Err}
+use Rattle.std.proofs.Common.{◌≡◌, ◌∙◌, ℕ, ap, arith, sym, subst, refl, inl, inr, Bool, List, Option, None, Result, Ok, Err}
 use Rattle.std.specs.Prelude.{length, option_map, string_bytes}
 use Rattle.std.specs.Io.KnownBytes.{Appends}
 use Rattle.rules.specs.Papers.{Paper}
@@ -36,6 +36,8 @@ use Rattle.row_runs.specs.ToldPages.{told_pages}
 use Rattle.impose_cli.specs.Claims.{IsToldBy}
 use Rattle.impose_said.specs.declared.finished.Told.{Told}
 use Rattle.impose_cli.specs.Tasks.{FinishesSpec, IsPlaced, IsSpec, IsTask, asked_by}
+use Rattle.impose_cli.specs.declared.left.Rest.{Rest}
+use Rattle.impose_cli.specs.declared.left.Rest.TheVariants.{World}
 use Rattle.impose_words.specs.declared.request.Spacing.{Spacing}
 use Rattle.impose_words.specs.declared.request.Layout.{Layout}
 use Rattle.impose_words.specs.declared.request.Layout.TheVariants as layout
@@ -104,24 +106,24 @@ by_spec layout.Selection text r input f is h = absurd is
 by_spec (layout.SpecRow specs signing) text r input f is h = absurd is
 
 -- there is no task
-pub spec_stops : (r : ImposeRequest) (input : List ℕ) (tells : Bool) (f : ImposeFault) (outcome : Result Done ImposeFault) (has_output : Bool) (written : Option (List ℕ)) → ((text : List ℕ) × IsSpec r.layout text) → outcome ≡ Err f → has_output ≡ false
-    → RefusesTask r input f → Runs r input tells outcome has_output written
-spec_stops r input tells f outcome has_output written named is none why =
-    comes_refused (RefusesImposing r.layout r input) (IsImposed r input) _ tells f outcome has_output written is none (by_spec r.layout named.0 r input f named.1 (inl why))
+pub spec_stops : {V O : Type 0} (r : ImposeRequest) (input : List ℕ) (tells : Bool) (f : ImposeFault) (outcome : Result Done ImposeFault) (world : V) (rest : Rest V O) (written : Option (List ℕ)) → ((text : List ℕ) × IsSpec r.layout text) → outcome ≡ Err f → rest ≡ World world
+    → RefusesTask r input f → Runs r input tells outcome world rest written
+spec_stops r input tells f outcome world rest written named is none why =
+    comes_refused (RefusesImposing r.layout r input) (IsImposed r input) _ tells f outcome world rest written is none (by_spec r.layout named.0 r input f named.1 (inl why))
 
 abbrev pub about_spec : Task → (told : Told) → About
 about_spec t told = record { page_paper = t.options.paper; origin = t.origin; cut = None; reach = t.counted.reach; behind = t.counted.behind; told = told }
 
 -- what comes of its run comes of the request
-pub spec_runs : (r : ImposeRequest) (input : List ℕ) (t : Task) (told : Told) (tells : Bool) (outcome : Result Done ImposeFault) (left : Result Report ImposeFault) (has_output : Bool) (name written : Option (List ℕ))
+pub spec_runs : {V O : Type 0} (r : ImposeRequest) (input : List ℕ) (t : Task) (told : Told) (tells : Bool) (outcome : Result Done ImposeFault) (left : Result Report ImposeFault) (world : V) (rest : Rest V O) (name written : Option (List ℕ))
     → ((text : List ℕ) × IsSpec r.layout text) → IsTask r input t → IsToldBy r input told → outcome ≡ reported_by (about_spec t told) left → name ≡ option_map string_bytes r.outfile
-    → Comes (RefusesTaskRun t) (WritesTask t) name tells left has_output written → Runs r input tells outcome has_output written
-spec_runs r input t told tells outcome left has_output name written text is tells_it reports named h =
-    subst (λ o. Runs r input tells o has_output written) (sym reports)
-    (comes_reported (RefusesTaskRun t) (RefusesImposing r.layout r input) (WritesTask t) (IsImposed r input) (about_spec t told) (option_map string_bytes r.outfile) tells left has_output written
+    → Comes (RefusesTaskRun t) (WritesTask t) name tells left world rest written → Runs r input tells outcome world rest written
+spec_runs r input t told tells outcome left world rest name written text is tells_it reports named h =
+    subst (λ o. Runs r input tells o world rest written) (sym reports)
+    (comes_reported (RefusesTaskRun t) (RefusesImposing r.layout r input) (WritesTask t) (IsImposed r input) (about_spec t told) (option_map string_bytes r.outfile) tells left world rest written
     (λ f why. by_spec r.layout text.0 r input f text.1 (inr (record { task = t; is_task = is; refused = why })))
     (λ old new report done. inl (finishes r input t told old new report text is tells_it done))
-    (subst (λ n. Comes (RefusesTaskRun t) (WritesTask t) n tells left has_output written) named h))
+    (subst (λ n. Comes (RefusesTaskRun t) (WritesTask t) n tells left world rest written) named h))
 
 -- a task of a request that names a specification has no signatures, and so many workers
 pub sides_of : (r : ImposeRequest) (input : List ℕ) (t : Task) → ((text : List ℕ) × IsSpec r.layout text) → IsTask r input t → t.options.sides ≡ None
@@ -138,12 +140,12 @@ plan_refused t spec us n e f error is named sides options takes document count w
     (of_plan e, is ∙ ap fault.Run named, said.0, said.1)
 
 -- what comes of its sheets comes of the task
-pub job_comes : (t : Task) (spec : Spec) (us : List NestedUnit) (plan : Plan) (n : ℕ) (job : JobView) (name : Option (List ℕ)) (tells : Bool) (outcome : Result Report ImposeFault) (has_output : Bool) (written : Option (List ℕ))
+pub job_comes : {V O : Type 0} (t : Task) (spec : Spec) (us : List NestedUnit) (plan : Plan) (n : ℕ) (job : JobView) (name : Option (List ℕ)) (tells : Bool) (outcome : Result Report ImposeFault) (world : V) (rest : Rest V O) (written : Option (List ℕ))
     → t.options.sides ≡ None → AreOptions t.options → Takes most_slots (string_bytes t.spec) spec → document_of t.text.items ≡ Ok us → n ≡ length (pages us)
     → plan ≡ planned spec n → plan_in None spec n ≡ Ok (sheets_in None spec n) → job ≡ of_frame plan us (frame_of t.options)
-    → Comes (λ f. ⊥) (WritesJob job) name tells outcome has_output written → Comes (RefusesTaskRun t) (WritesTask t) name tells outcome has_output written
-job_comes t spec us plan n job name tells outcome has_output written sides options takes document count is_plan accepted is_job h =
-    comes_as (λ f. ⊥) (RefusesTaskRun t) (WritesJob job) (WritesTask t) name tells outcome has_output written
+    → Comes (λ f. ⊥) (WritesJob job) name tells outcome world rest written → Comes (RefusesTaskRun t) (WritesTask t) name tells outcome world rest written
+job_comes t spec us plan n job name tells outcome world rest written sides options takes document count is_plan accepted is_job h =
+    comes_as (λ f. ⊥) (RefusesTaskRun t) (WritesJob job) (WritesTask t) name tells outcome world rest written
     (λ f none. absurd none)
     (λ old new report done. (job_answers (asked_by t) t.options (record { spec = spec; document = us }) plan n job (fresh_sink old) (fresh_sink new) (Ok report)
     (record { same_options = refl; options = options; takes = takes; document = document }) count

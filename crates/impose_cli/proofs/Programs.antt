@@ -4,8 +4,8 @@ use Rattle.clap.specs.Words.{Row, Text}
 use Rattle.std.specs.Prelude.{⊤, ◌⊎◌, option_map, string_bytes}
 use Rattle.std.specs.Io.KnownBytes.{Appends}
 use Rattle.world.specs.Outputs.{told_if}
-use Rattle.impose_cli.specs.Endings.{HasFirst, IsUncreated, Runs}
-use Rattle.impose_cli.proofs.Coming.{after_as, after_so}
+use Rattle.impose_cli.specs.Endings.{AfterWrite, HasFirst, IsUncreated, Runs, has_output}
+use Rattle.impose_cli.proofs.Coming.{after_as}
 use Rattle.world.specs.Input.{IsFirst, most_bytes}
 use Rattle.impose_cli.specs.Looks.{MayBeMade, TellsRow}
 use Rattle.impose_words.specs.Products.{lays_rows}
@@ -17,6 +17,8 @@ use Rattle.impose_cli.specs.Printed.{printed_text}
 use Rattle.impose_cli.specs.Refusals.{HasNoFault}
 use Rattle.impose_cli.specs.Unread.{MayBeRead, RefusesRequest}
 use Rattle.impose_cli.specs.Tasks.{IsTask}
+use Rattle.impose_cli.specs.declared.left.Rest.{Rest}
+use Rattle.impose_cli.specs.declared.left.Rest.TheVariants.{World}
 use Rattle.impose_said.specs.declared.fault.ImposeFault.{ImposeFault}
 use Rattle.impose_said.specs.declared.finished.Done.{Done}
 use Rattle.impose_said.specs.declared.finished.Done.TheVariants as done
@@ -29,60 +31,60 @@ use Rattle.impose_words.specs.declared.request.ImposeRequest.{ImposeRequest}
 use Rattle.impose_cli.specs.declared.task.Task.{Task}
 
 -- nothing was created: the request is refused unread, or the input can't be read
-pub stopped_before : (r : ImposeRequest) (gives : Gives) (tells : Bool) (f : ImposeFault) (outcome : Result Done ImposeFault)
-    (has_output : Bool) (written : Option (List ℕ)) → outcome ≡ Err f → has_output ≡ false
+pub stopped_before : {V O : Type 0} (r : ImposeRequest) (gives : Gives) (tells : Bool) (f : ImposeFault) (outcome : Result Done ImposeFault)
+    (world : V) (rest : Rest V O) (written : Option (List ℕ)) → outcome ≡ Err f → rest ≡ World world
     → RefusesRequest r f ⊎ (MayBeRead r × IsReading f)
-    → CarriesOut r gives tells outcome has_output written
-stopped_before r gives tells f outcome has_output written told none why = inl (f, told, none, why)
+    → CarriesOut r gives tells outcome world rest written
+stopped_before r gives tells f outcome world rest written told none why = inl (f, told, none, why)
 
 -- the input was read, and what is asked for was made of it
-pub took : (r : ImposeRequest) (gives : Gives) (tells : Bool) (input : List ℕ) (name : Option (List ℕ))
-    (outcome : Result Done ImposeFault) (has_output : Bool) (written : Option (List ℕ))
+pub took : {V O : Type 0} (r : ImposeRequest) (gives : Gives) (tells : Bool) (input : List ℕ) (name : Option (List ℕ))
+    (outcome : Result Done ImposeFault) (world : V) (rest : Rest V O) (written : Option (List ℕ))
     → name ≡ option_map string_bytes r.infile → IsFirst most_bytes (gives name) input
-    → MayBeRead r → Makes r.product r input tells outcome has_output written
-    → CarriesOut r gives tells outcome has_output written
-took r gives tells input name outcome has_output written named read possible taken =
+    → MayBeRead r → Makes r.product r input tells outcome world rest written
+    → CarriesOut r gives tells outcome world rest written
+took r gives tells input name outcome world rest written named read possible taken =
     inr (input, subst (λ n. IsFirst most_bytes (gives n) input) named read, possible, taken)
 
 -- a text was written
-pub wrote_text : (name : Option (List ℕ)) (text : List ℕ) (what : Done) (tells : Bool) (start written : Option (List ℕ))
-    → start ≡ told_if tells name [] → Appends start written text → Writes name text what tells (Ok what) true written
-wrote_text name text what tells start written began wrote = (refl, subst (λ s. Appends s written text) began wrote)
+pub wrote_text : (name : Option (List ℕ)) (text : List ℕ) (tells : Bool) (start written : Option (List ℕ))
+    → start ≡ told_if tells name [] → Appends start written text → Appends (told_if tells name []) written text
+wrote_text name text tells start written began wrote = subst (λ s. Appends s written text) began wrote
 
 -- a first part of it was
-pub wrote_part : (name : Option (List ℕ)) (text : List ℕ) (what : Done) (tells : Bool) (start written : Option (List ℕ)) (f : ImposeFault)
-    → start ≡ told_if tells name [] → BreaksAt start written text f → Writes name text what tells (Err f) true written
-wrote_part name text what tells start written f began broke = inr (subst (λ s. BreaksAt s written text f) began broke)
+pub wrote_part : (name : Option (List ℕ)) (text : List ℕ) (tells : Bool) (start written : Option (List ℕ)) (f : ImposeFault)
+    → start ≡ told_if tells name [] → BreaksAt start written text f → BreaksAt (told_if tells name []) written text f
+wrote_part name text tells start written f began broke = subst (λ s. BreaksAt s written text f) began broke
 
 -- no output could be created
-pub uncreated : (name : Option (List ℕ)) (text : List ℕ) (what : Done) (tells : Bool) (f : ImposeFault) (outcome : Result Done ImposeFault)
-    (has_output : Bool) (written : Option (List ℕ)) → outcome ≡ Err f → IsUncreated f has_output
-    → Writes name text what tells outcome has_output written
-uncreated name text what tells f outcome has_output written told none =
-    subst (λ o. Writes name text what tells o has_output written) (sym told) (inl none)
+pub uncreated : {V O : Type 0} (name : Option (List ℕ)) (text : List ℕ) (what : Done) (tells : Bool) (f : ImposeFault) (outcome : Result Done ImposeFault)
+    (rest : Rest V O) (written : Option (List ℕ)) → outcome ≡ Err f → IsUncreated f rest
+    → Writes name text what tells outcome rest written
+uncreated name text what tells f outcome rest written told none =
+    subst (λ o. Writes name text what tells o rest written) (sym told) (inl none)
 
 -- the specification was printed to standard output
-printed_whole : (r : ImposeRequest) (input : List ℕ) (tells : Bool) (task : Task) (outcome : Result Done ImposeFault) (has_output : Bool)
+printed_whole : {V O : Type 0} (r : ImposeRequest) (input : List ℕ) (tells : Bool) (task : Task) (outcome : Result Done ImposeFault) (world : V) (rest : Rest V O)
     (written : Option (List ℕ)) → IsTask r input task → HasNoFault r input
-    → Writes None (printed_text r task) done.Printed tells outcome has_output written → Prints r input tells outcome has_output written
-printed_whole r input tells task (Ok what) has_output written is_task none h =
-    subst (λ d. Prints r input tells (Ok d) has_output written) (sym h.0) (task, is_task, none, h.1)
-printed_whole r input tells task (Err f) has_output written is_task none h = inr (task, is_task, none, h)
+    → Writes None (printed_text r task) done.Printed tells outcome rest written → Prints r input tells outcome world rest written
+printed_whole r input tells task (Ok what) world rest written is_task none h =
+    subst (λ d. Prints r input tells (Ok d) world rest written) (sym h.0) (task, is_task, none, h.1)
+printed_whole r input tells task (Err f) world rest written is_task none h = inr (task, is_task, none, h)
 
-pub printed : (r : ImposeRequest) (input : List ℕ) (tells : Bool) (task : Task) (lines : List ℕ) (outcome : Result Done ImposeFault)
-    (has_output : Bool) (written : Option (List ℕ)) → lines ≡ printed_text r task → IsTask r input task → HasNoFault r input
-    → Writes None lines done.Printed tells outcome has_output written → Prints r input tells outcome has_output written
-printed r input tells task lines outcome has_output written is is_task none h =
-    printed_whole r input tells task outcome has_output written is_task none
-    (subst (λ l. Writes None l done.Printed tells outcome has_output written) is h)
+pub printed : {V O : Type 0} (r : ImposeRequest) (input : List ℕ) (tells : Bool) (task : Task) (lines : List ℕ) (outcome : Result Done ImposeFault)
+    (world : V) (rest : Rest V O) (written : Option (List ℕ)) → lines ≡ printed_text r task → IsTask r input task → HasNoFault r input
+    → Writes None lines done.Printed tells outcome rest written → Prints r input tells outcome world rest written
+printed r input tells task lines outcome world rest written is is_task none h =
+    printed_whole r input tells task outcome world rest written is_task none
+    (subst (λ l. Writes None l done.Printed tells outcome rest written) is h)
 
 -- the plan or the picture was written to the output of that name
-pub shown : (l : Overview) (name : Option (List ℕ)) (r : ImposeRequest) (input : List ℕ) (tells : Bool) (text : List ℕ)
-    (outcome : Result Done ImposeFault) (has_output : Bool) (written : Option (List ℕ)) → TellsRow r input l text
-    → Writes name text done.Shown tells outcome has_output written → Shows l name r input tells outcome has_output written
-shown l name r input tells text (Ok what) has_output written told h =
-    subst (λ d. Shows l name r input tells (Ok d) has_output written) (sym h.0) (text, told, h.1)
-shown l name r input tells text (Err f) has_output written told h = inr (text, told, h)
+pub shown_whole : {V O : Type 0} (l : Overview) (name : Option (List ℕ)) (r : ImposeRequest) (input : List ℕ) (tells : Bool) (text : List ℕ)
+    (outcome : Result Done ImposeFault) (world : V) (rest : Rest V O) (written : Option (List ℕ)) → TellsRow r input l text
+    → Writes name text done.Shown tells outcome rest written → Shows l name r input tells outcome world rest written
+shown_whole l name r input tells text (Ok what) world rest written told h =
+    subst (λ d. Shows l name r input tells (Ok d) world rest written) (sym h.0) (text, told, h.1)
+shown_whole l name r input tells text (Err f) world rest written told h = inr (text, told, h)
 
 lays : (l : Layout) → lays_rows l ≡ true → LaysRows l
 lays (layout.NUp cells) e = tt
@@ -114,46 +116,45 @@ may_be_made_at_home words r given home e h = subst (λ (q : ImposeRequest). MayB
 
 -- ---- an output that exists
 
-uncreated_none : (f : ImposeFault) (has_output : Bool) → IsUncreated f has_output → has_output ≡ false
-uncreated_none f has_output h = after_so f (λ n. (n ≡ 0) × (has_output ≡ false)) (λ n. ⊥) (has_output ≡ false) (λ n e. e.1) (λ n e. absurd e) h
+after_any : (f : ImposeFault) (P Q : ℕ → Type 0) → AfterWrite f P Q → AfterWrite f (λ n. ⊤) (λ n. ⊤)
+after_any f P Q h = after_as f P Q (λ n. ⊤) (λ n. ⊤) (λ n e. tt) (λ n e. tt) h
 
-text_created : (name : Option (List ℕ)) (text : List ℕ) (tells : Bool) (f : ImposeFault) (has_output : Bool) (written : Option (List ℕ)) → FailsToWrite name text tells f has_output written → IsCreatedFor (Err f) has_output
-text_created name text tells f has_output written h = elim h [
-  | inl absent ↦ inl (uncreated_none f has_output absent)
-  | inr broke ↦ inr (after_as f (λ n. (n < length text) × Appends (told_if tells name []) written (take n text)) (λ n. ⊥) (λ n. ⊤) (λ n. ⊤) (λ n e. tt) (λ n e. tt) broke)
+text_created : {V O : Type 0} (name : Option (List ℕ)) (text : List ℕ) (tells : Bool) (f : ImposeFault) (world : V) (rest : Rest V O) (written : Option (List ℕ)) → FailsToWrite name text tells f rest written → IsCreatedFor (Err f) world rest
+text_created name text tells f world rest written h = elim h [
+  | inl absent ↦ inr (after_any f (λ n. (n ≡ 0) × (has_output rest ≡ false)) (λ n. ⊥) absent)
+  | inr broke ↦ inr (after_any f (λ n. (n < length text) × Appends (told_if tells name []) written (take n text)) (λ n. ⊥) broke)
 ]
 
-run_created : (r : ImposeRequest) (input : List ℕ) (tells : Bool) (f : ImposeFault) (has_output : Bool) (written : Option (List ℕ)) → Runs r input tells (Err f) has_output written → IsCreatedFor (Err f) has_output
-run_created r input tells f has_output written h = elim h [
+run_created : {V O : Type 0} (r : ImposeRequest) (input : List ℕ) (tells : Bool) (f : ImposeFault) (world : V) (rest : Rest V O) (written : Option (List ℕ)) → Runs r input tells (Err f) world rest written → IsCreatedFor (Err f) world rest
+run_created r input tells f world rest written h = elim h [
   | inl stopped ↦ inl stopped.1
   | inr some ↦ elim some.3 [
     | inl absent ↦ elim absent [
-      | inl spent ↦ inl spent.1
-      | inr refused ↦ inl (uncreated_none f has_output refused)
+      | inl spent ↦ inr (subst (λ e. AfterWrite e (λ n. ⊤) (λ n. ⊤)) (sym spent.0) tt)
+      | inr refused ↦ inr (after_any f (λ n. (n ≡ 0) × (has_output rest ≡ false)) (λ n. ⊥) refused)
     ]
-    | inr front ↦ let first = HasFirst (told_if tells (option_map string_bytes r.outfile) []) written some.0 in
-        inr (after_as f first first (λ n. ⊤) (λ n. ⊤) (λ n e. tt) (λ n e. tt) front)
+    | inr front ↦ let first = HasFirst (told_if tells (option_map string_bytes r.outfile) []) written some.0 in inr (after_any f first first front)
   ]
 ]
 
-made_created : (p : Product) (r : ImposeRequest) (input : List ℕ) (tells : Bool) (f : ImposeFault) (has_output : Bool) (written : Option (List ℕ)) → Makes p r input tells (Err f) has_output written → IsCreatedFor (Err f) has_output
-made_created product.Sheets r input tells f has_output written h = run_created r input tells f has_output written h
-made_created product.Specification r input tells f has_output written h = elim h [
+made_created : {V O : Type 0} (p : Product) (r : ImposeRequest) (input : List ℕ) (tells : Bool) (f : ImposeFault) (world : V) (rest : Rest V O) (written : Option (List ℕ)) → Makes p r input tells (Err f) world rest written → IsCreatedFor (Err f) world rest
+made_created product.Sheets r input tells f world rest written h = run_created r input tells f world rest written h
+made_created product.Specification r input tells f world rest written h = elim h [
   | inl stopped ↦ inl stopped.1
-  | inr some ↦ text_created None (printed_text r some.0) tells f has_output written some.3
+  | inr some ↦ text_created None (printed_text r some.0) tells f world rest written some.3
 ]
-made_created product.Plan r input tells f has_output written h = elim h [
+made_created product.Plan r input tells f world rest written h = elim h [
   | inl stopped ↦ inl stopped.1
-  | inr some ↦ text_created None some.0 tells f has_output written some.2
+  | inr some ↦ text_created None some.0 tells f world rest written some.2
 ]
-made_created (product.Picture file) r input tells f has_output written h = elim h [
+made_created (product.Picture file) r input tells f world rest written h = elim h [
   | inl stopped ↦ inl stopped.1
-  | inr some ↦ text_created (option_map string_bytes file) some.0 tells f has_output written some.2
+  | inr some ↦ text_created (option_map string_bytes file) some.0 tells f world rest written some.2
 ]
 
-pub created_for : (r : ImposeRequest) (gives : Gives) (tells : Bool) (outcome : Result Done ImposeFault) (has_output : Bool) (written : Option (List ℕ)) → CarriesOut r gives tells outcome has_output written → IsCreatedFor outcome has_output
-created_for r gives tells (Ok what) has_output written h = tt
-created_for r gives tells (Err f) has_output written h = elim h [
+pub created_for : {V O : Type 0} (r : ImposeRequest) (gives : Gives) (tells : Bool) (outcome : Result Done ImposeFault) (world : V) (rest : Rest V O) (written : Option (List ℕ)) → CarriesOut r gives tells outcome world rest written → IsCreatedFor outcome world rest
+created_for r gives tells (Ok what) world rest written h = tt
+created_for r gives tells (Err f) world rest written h = elim h [
   | inl stopped ↦ inl stopped.2
-  | inr made ↦ made_created r.product r made.0 tells f has_output written made.3
+  | inr made ↦ made_created r.product r made.0 tells f world rest written made.3
 ]

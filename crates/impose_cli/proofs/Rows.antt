@@ -1,5 +1,5 @@
 -- What comes of a task with a row, and of a request.
-use Rattle.std.proofs.Common.{◌≡◌, ◌⊎◌, ◌∙◌, ap, sym, subst, refl, inl, inr, Bool, true, false, ◌∷◌, List, ℕ, Option, Some, None, Result, Ok, Err, ap₂}
+use Rattle.std.proofs.Common.{◌≡◌, ◌⊎◌, ◌∙◌, ap, sym, subst, refl, inl, inr, Bool, true, ◌∷◌, List, ℕ, Option, Some, None, Result, Ok, Err, ap₂}
 use Rattle.std.specs.Prelude.{IfSome, length, map, option_map, string_bytes}
 use Rattle.std.specs.Io.KnownBytes.{Appends}
 use Rattle.made_sheets.specs.Made.{MadeSheet}
@@ -39,6 +39,8 @@ use Rattle.impose_cli.specs.Refusals.{RefusesDocument, RefusesFor, RefusesOption
 use Rattle.impose_cli.specs.Reaches.{HasReachOver, reach_in, reach_over}
 use Rattle.papers.specs.declared.reach.Reach.{Reach}
 use Rattle.impose_cli.specs.RowTasks.{ArePapersOf, cut_in, papers_in, placed_in, row_paper, text_for, why_no_row, FinishesRow, ImposesTask, IsJobOf, IsRowJob, IsRowPaper, IsRowTask, LaysRows, HasReach, cells_paper, counted_in, own_in, row_in, row_papers}
+use Rattle.impose_cli.specs.declared.left.Rest.{Rest}
+use Rattle.impose_cli.specs.declared.left.Rest.TheVariants.{World}
 use Rattle.impose_said.specs.declared.fault.ImposeFault.{ImposeFault}
 use Rattle.impose_words.specs.declared.request.Layout.{Layout}
 use Rattle.impose_words.specs.declared.request.Layout.TheVariants as layout
@@ -162,22 +164,22 @@ on_row (layout.Spec specs) r input f rows h = absurd rows
 on_row (layout.SpecRow specs signing) r input f rows h = absurd rows
 
 -- there is no task
-pub row_stops : (r : ImposeRequest) (input : List ℕ) (tells : Bool) (f : ImposeFault) (outcome : Result Done ImposeFault) (has_output : Bool) (written : Option (List ℕ)) → LaysRows r.layout → outcome ≡ Err f → has_output ≡ false
-    → RefusesRowTask r input f → Runs r input tells outcome has_output written
-row_stops r input tells f outcome has_output written rows is none why =
-    comes_refused (RefusesImposing r.layout r input) (IsImposed r input) _ tells f outcome has_output written is none (on_row r.layout r input f rows (inl why))
+pub row_stops : {V O : Type 0} (r : ImposeRequest) (input : List ℕ) (tells : Bool) (f : ImposeFault) (outcome : Result Done ImposeFault) (world : V) (rest : Rest V O) (written : Option (List ℕ)) → LaysRows r.layout → outcome ≡ Err f → rest ≡ World world
+    → RefusesRowTask r input f → Runs r input tells outcome world rest written
+row_stops r input tells f outcome world rest written rows is none why =
+    comes_refused (RefusesImposing r.layout r input) (IsImposed r input) _ tells f outcome world rest written is none (on_row r.layout r input f rows (inl why))
 
 -- what is reported of a task with a row
 abbrev pub about_row : RowTask → (told : Told) → About
 about_row t told = record { page_paper = t.page_paper; origin = t.origin; cut = t.cut; reach = t.reach; behind = t.behind; told = told }
 
 -- what comes of its run comes of the request
-pub row_runs : (r : ImposeRequest) (input : List ℕ) (t : RowTask) (told : Told) (tells : Bool) (outcome : Result Done ImposeFault) (left : Result Report ImposeFault) (has_output : Bool) (written : Option (List ℕ))
+pub row_runs : {V O : Type 0} (r : ImposeRequest) (input : List ℕ) (t : RowTask) (told : Told) (tells : Bool) (outcome : Result Done ImposeFault) (left : Result Report ImposeFault) (world : V) (rest : Rest V O) (written : Option (List ℕ))
     → LaysRows r.layout → IsRowTask r input t → IsToldBy r input told → outcome ≡ reported_by (about_row t told) left
-    → Comes (RefusesRowTaskRun r t) (ImposesTask r t) (option_map string_bytes r.outfile) tells left has_output written → Runs r input tells outcome has_output written
-row_runs r input t told tells outcome left has_output written rows is tells_it reports h =
-    subst (λ o. Runs r input tells o has_output written) (sym reports)
-    (comes_reported (RefusesRowTaskRun r t) (RefusesImposing r.layout r input) (ImposesTask r t) (IsImposed r input) (about_row t told) (option_map string_bytes r.outfile) tells left has_output written
+    → Comes (RefusesRowTaskRun r t) (ImposesTask r t) (option_map string_bytes r.outfile) tells left world rest written → Runs r input tells outcome world rest written
+row_runs r input t told tells outcome left world rest written rows is tells_it reports h =
+    subst (λ o. Runs r input tells o world rest written) (sym reports)
+    (comes_reported (RefusesRowTaskRun r t) (RefusesImposing r.layout r input) (ImposesTask r t) (IsImposed r input) (about_row t told) (option_map string_bytes r.outfile) tells left world rest written
     (λ f why. on_row r.layout r input f rows (inr (record { task = t; is_task = is; refused = why })))
     (λ old new report done. inr (inl (finishes_row r input t told old new report is tells_it done))) h)
 
@@ -189,12 +191,12 @@ pub both_drawn : {s t : List Stroke} {n m : Option Numbers} → s ≡ t → n �
 both_drawn e f = ap₂ with_both e f
 
 -- what comes of its sheets, if these are asked for, comes of a job
-pub made_comes : (job : RowJob) (made : List MadeSheet) (drawn : Drawn) (name : Option (List ℕ)) (tells : Bool) (outcome : Result Report ImposeFault) (has_output : Bool) (written : Option (List ℕ))
+pub made_comes : {V O : Type 0} (job : RowJob) (made : List MadeSheet) (drawn : Drawn) (name : Option (List ℕ)) (tells : Bool) (outcome : Result Report ImposeFault) (world : V) (rest : Rest V O) (written : Option (List ℕ))
     → AreTurned job made → drawn ≡ drawn_of job
-    → Comes (RefusesThese (page_count job) made) (WritesThese (page_count job) (border_on job) drawn made job.document.now) name tells outcome has_output written
-    → Comes (RefusesRowJob job) (Imposes job) name tells outcome has_output written
-made_comes job made drawn name tells outcome has_output written are marked h =
-    comes_as (RefusesThese (page_count job) made) (RefusesRowJob job) (WritesThese (page_count job) (border_on job) drawn made job.document.now) (Imposes job) name tells outcome has_output written
+    → Comes (RefusesThese (page_count job) made) (WritesThese (page_count job) (border_on job) drawn made job.document.now) name tells outcome world rest written
+    → Comes (RefusesRowJob job) (Imposes job) name tells outcome world rest written
+made_comes job made drawn name tells outcome world rest written are marked h =
+    comes_as (RefusesThese (page_count job) made) (RefusesRowJob job) (WritesThese (page_count job) (border_on job) drawn made job.document.now) (Imposes job) name tells outcome world rest written
     (λ f why. (why.0, why.1, sheets_refused job made why.0 are why.2))
     (λ old new report done. record {
       made = made;
@@ -204,8 +206,8 @@ made_comes job made drawn name tells outcome has_output written are marked h =
     }) h
 
 -- what comes of its job comes of a task
-pub task_comes : (r : ImposeRequest) (t : RowTask) (job : RowJob) (name other : Option (List ℕ)) (tells : Bool) (outcome : Result Report ImposeFault) (has_output : Bool) (written : Option (List ℕ))
-    → Comes (RefusesRowJob job) (Imposes job) name tells outcome has_output written → name ≡ other → IsJobOf r t job → Comes (RefusesRowTaskRun r t) (ImposesTask r t) other tells outcome has_output written
-task_comes r t job name other tells outcome has_output written h named is =
-    subst (λ n. Comes (RefusesRowTaskRun r t) (ImposesTask r t) n tells outcome has_output written) named
-    (comes_as (RefusesRowJob job) (RefusesRowTaskRun r t) (Imposes job) (ImposesTask r t) name tells outcome has_output written (λ f why. inr (job, is, why)) (λ old new report done. (job, is, done)) h)
+pub task_comes : {V O : Type 0} (r : ImposeRequest) (t : RowTask) (job : RowJob) (name other : Option (List ℕ)) (tells : Bool) (outcome : Result Report ImposeFault) (world : V) (rest : Rest V O) (written : Option (List ℕ))
+    → Comes (RefusesRowJob job) (Imposes job) name tells outcome world rest written → name ≡ other → IsJobOf r t job → Comes (RefusesRowTaskRun r t) (ImposesTask r t) other tells outcome world rest written
+task_comes r t job name other tells outcome world rest written h named is =
+    subst (λ n. Comes (RefusesRowTaskRun r t) (ImposesTask r t) n tells outcome world rest written) named
+    (comes_as (RefusesRowJob job) (RefusesRowTaskRun r t) (Imposes job) (ImposesTask r t) name tells outcome world rest written (λ f why. inr (job, is, why)) (λ old new report done. (job, is, done)) h)

@@ -1,5 +1,5 @@
 -- What comes of a task by a specification on a row.
-use Rattle.std.proofs.Common.{◌≡◌, ◌∙◌, ap, sym, subst, refl, inl, inr, Bool, false, List, [], ℕ, Option, None, Result, Err}
+use Rattle.std.proofs.Common.{◌≡◌, ◌∙◌, ap, sym, subst, refl, inl, inr, Bool, List, [], ℕ, Option, None, Result, Err}
 use Rattle.std.specs.Prelude.{IfSome, option_map, string_bytes}
 use Rattle.made_sheets.specs.Made.{MadeSheet}
 use Rattle.rows.specs.Sewing.{MayBeSewn}
@@ -17,6 +17,8 @@ use Rattle.row_runs.specs.ToldPages.{told_pages}
 use Rattle.impose_cli.specs.Claims.{IsToldBy}
 use Rattle.impose_said.specs.declared.finished.Told.{Told}
 use Rattle.impose_cli.specs.Tasks.{taken_text}
+use Rattle.impose_cli.specs.declared.left.Rest.{Rest}
+use Rattle.impose_cli.specs.declared.left.Rest.TheVariants.{World}
 use Rattle.impose_said.specs.declared.fault.ImposeFault.{ImposeFault}
 use Rattle.impose_words.specs.declared.request.Layout.{Layout}
 use Rattle.impose_words.specs.declared.request.Layout.TheVariants as layout
@@ -61,37 +63,37 @@ on_spec_row layout.Selection r input f rows h = absurd rows
 on_spec_row (layout.Spec specs) r input f rows h = absurd rows
 
 -- there is no task
-pub spec_row_stops : (r : ImposeRequest) (input : List ℕ) (tells : Bool) (f : ImposeFault) (outcome : Result Done ImposeFault) (has_output : Bool) (written : Option (List ℕ)) → LaysSpecRow r.layout → outcome ≡ Err f → has_output ≡ false
-    → RefusesSpecRowTask r input f → Runs r input tells outcome has_output written
-spec_row_stops r input tells f outcome has_output written rows is none why =
-    comes_refused (RefusesImposing r.layout r input) (IsImposed r input) _ tells f outcome has_output written is none (on_spec_row r.layout r input f rows (inl why))
+pub spec_row_stops : {V O : Type 0} (r : ImposeRequest) (input : List ℕ) (tells : Bool) (f : ImposeFault) (outcome : Result Done ImposeFault) (world : V) (rest : Rest V O) (written : Option (List ℕ)) → LaysSpecRow r.layout → outcome ≡ Err f → rest ≡ World world
+    → RefusesSpecRowTask r input f → Runs r input tells outcome world rest written
+spec_row_stops r input tells f outcome world rest written rows is none why =
+    comes_refused (RefusesImposing r.layout r input) (IsImposed r input) _ tells f outcome world rest written is none (on_spec_row r.layout r input f rows (inl why))
 
 -- what is reported of a task
 abbrev pub about_spec_row : SpecRowTask → (told : Told) → About
 about_spec_row t told = record { page_paper = t.page_paper; origin = t.origin; cut = None; reach = t.counted.reach; behind = t.counted.behind; told = told }
 
 -- what comes of its run comes of the request
-pub spec_row_runs : (r : ImposeRequest) (input : List ℕ) (t : SpecRowTask) (told : Told) (tells : Bool) (outcome : Result Done ImposeFault) (left : Result Report ImposeFault) (has_output : Bool) (written : Option (List ℕ))
+pub spec_row_runs : {V O : Type 0} (r : ImposeRequest) (input : List ℕ) (t : SpecRowTask) (told : Told) (tells : Bool) (outcome : Result Done ImposeFault) (left : Result Report ImposeFault) (world : V) (rest : Rest V O) (written : Option (List ℕ))
     → LaysSpecRow r.layout → IsSpecRowTask r input t → IsToldBy r input told → outcome ≡ reported_by (about_spec_row t told) left
-    → Comes (RefusesSpecTaskRun r t) (ImposesSpecTask r t) (option_map string_bytes r.outfile) tells left has_output written → Runs r input tells outcome has_output written
-spec_row_runs r input t told tells outcome left has_output written rows is tells_it reports h =
-    subst (λ o. Runs r input tells o has_output written) (sym reports)
-    (comes_reported (RefusesSpecTaskRun r t) (RefusesImposing r.layout r input) (ImposesSpecTask r t) (IsImposed r input) (about_spec_row t told) (option_map string_bytes r.outfile) tells left has_output written
+    → Comes (RefusesSpecTaskRun r t) (ImposesSpecTask r t) (option_map string_bytes r.outfile) tells left world rest written → Runs r input tells outcome world rest written
+spec_row_runs r input t told tells outcome left world rest written rows is tells_it reports h =
+    subst (λ o. Runs r input tells o world rest written) (sym reports)
+    (comes_reported (RefusesSpecTaskRun r t) (RefusesImposing r.layout r input) (ImposesSpecTask r t) (IsImposed r input) (about_spec_row t told) (option_map string_bytes r.outfile) tells left world rest written
     (λ f why. on_spec_row r.layout r input f rows (inr (record { task = t; is_task = is; refused = why })))
     (λ old new report done. inr (inr (finishes_spec_row r input t told old new report is tells_it done))) h)
 
 -- what comes of its sheets comes of a job
-pub spec_made_comes : (job : SpecJob) (made : List MadeSheet) (name : Option (List ℕ)) (tells : Bool) (outcome : Result Report ImposeFault) (has_output : Bool) (written : Option (List ℕ)) → AreBySpec job made
-    → Comes (RefusesThese (pages_of job) made) (WritesThese (pages_of job) (border_by_spec job) nothing_drawn made job.document.now) name tells outcome has_output written
-    → Comes (RefusesSpecRowJob job) (ImposesBySpec job) name tells outcome has_output written
-spec_made_comes job made name tells outcome has_output written are h =
-    comes_as (RefusesThese (pages_of job) made) (RefusesSpecRowJob job) (WritesThese (pages_of job) (border_by_spec job) nothing_drawn made job.document.now) (ImposesBySpec job) name tells outcome has_output written
+pub spec_made_comes : {V O : Type 0} (job : SpecJob) (made : List MadeSheet) (name : Option (List ℕ)) (tells : Bool) (outcome : Result Report ImposeFault) (world : V) (rest : Rest V O) (written : Option (List ℕ)) → AreBySpec job made
+    → Comes (RefusesThese (pages_of job) made) (WritesThese (pages_of job) (border_by_spec job) nothing_drawn made job.document.now) name tells outcome world rest written
+    → Comes (RefusesSpecRowJob job) (ImposesBySpec job) name tells outcome world rest written
+spec_made_comes job made name tells outcome world rest written are h =
+    comes_as (RefusesThese (pages_of job) made) (RefusesSpecRowJob job) (WritesThese (pages_of job) (border_by_spec job) nothing_drawn made job.document.now) (ImposesBySpec job) name tells outcome world rest written
     (λ f why. (why.0, why.1, spec_refused job made why.0 are why.2))
     (λ old new report done. record { made = made; planned = record { sheets = are; planned = done.0 }; written = done.1; report = done.2 }) h
 
 -- what comes of its job comes of a task
-pub spec_task_comes : (r : ImposeRequest) (t : SpecRowTask) (job : SpecJob) (name other : Option (List ℕ)) (tells : Bool) (outcome : Result Report ImposeFault) (has_output : Bool) (written : Option (List ℕ))
-    → Comes (RefusesSpecRowJob job) (ImposesBySpec job) name tells outcome has_output written → name ≡ other → IsSpecJobOf r t job → Comes (RefusesSpecTaskRun r t) (ImposesSpecTask r t) other tells outcome has_output written
-spec_task_comes r t job name other tells outcome has_output written h named is =
-    subst (λ n. Comes (RefusesSpecTaskRun r t) (ImposesSpecTask r t) n tells outcome has_output written) named
-    (comes_as (RefusesSpecRowJob job) (RefusesSpecTaskRun r t) (ImposesBySpec job) (ImposesSpecTask r t) name tells outcome has_output written (λ f why. inr (job, is, why)) (λ old new report done. (job, is, done)) h)
+pub spec_task_comes : {V O : Type 0} (r : ImposeRequest) (t : SpecRowTask) (job : SpecJob) (name other : Option (List ℕ)) (tells : Bool) (outcome : Result Report ImposeFault) (world : V) (rest : Rest V O) (written : Option (List ℕ))
+    → Comes (RefusesSpecRowJob job) (ImposesBySpec job) name tells outcome world rest written → name ≡ other → IsSpecJobOf r t job → Comes (RefusesSpecTaskRun r t) (ImposesSpecTask r t) other tells outcome world rest written
+spec_task_comes r t job name other tells outcome world rest written h named is =
+    subst (λ n. Comes (RefusesSpecTaskRun r t) (ImposesSpecTask r t) n tells outcome world rest written) named
+    (comes_as (RefusesSpecRowJob job) (RefusesSpecTaskRun r t) (ImposesBySpec job) (ImposesSpecTask r t) name tells outcome world rest written (λ f why. inr (job, is, why)) (λ old new report done. (job, is, done)) h)

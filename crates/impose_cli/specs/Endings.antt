@@ -1,6 +1,6 @@
--- How a request ends that is to be imposed: it is refused, and there is no output; or there is something to write, and it was
+-- How a request ends that is to be imposed: it is refused, and the world is back; or there is something to write, and it was
 -- written, or its first bytes were, or no output could be created.
-use Rattle.std.specs.Prelude.{◌≡◌, ◌⊎◌, ℕ, ◌≤◌, ◌++◌, List, [], length, take, Bool, false, Option, Some, Result, Ok, Err, IfSome, option_map, string_bytes}
+use Rattle.std.specs.Prelude.{◌≡◌, ◌⊎◌, ℕ, ◌≤◌, ◌++◌, List, [], length, take, Bool, true, false, Option, None, Some, Result, Ok, Err, IfSome, option_and_then, option_map, string_bytes}
 use Rattle.std.specs.Io.KnownBytes.{Appends}
 use Rattle.rules.specs.Parts.{pages}
 use Rattle.rules.specs.Output.{output}
@@ -23,6 +23,8 @@ use Rattle.impose_cli.specs.Tasks.{FinishesSpec, IsTask, asked_by}
 use Rattle.impose_cli.specs.RowTasks.{FinishesRow, IsJobOf, IsRowTask}
 use Rattle.impose_cli.specs.SpecRows.{FinishesSpecRow, RefusesSpecRowRun}
 use Rattle.impose_cli.specs.Refusals.{RefusesRowTask, RefusesTask, RefusesText}
+use Rattle.impose_cli.specs.declared.left.Rest.{Rest}
+use Rattle.impose_cli.specs.declared.left.Rest.TheVariants.{World, Output}
 use Rattle.impose_cli.specs.declared.row_task.RowTask.{RowTask}
 use Rattle.impose_cli.specs.declared.task.Task.{Task}
 use Rattle.impose_words.specs.declared.request.Layout.{Layout}
@@ -34,6 +36,18 @@ use Rattle.impose_said.specs.declared.finished.Done.{Done}
 use Rattle.impose_said.specs.declared.finished.Done.TheVariants as done
 use Rattle.impose_said.specs.declared.finished.Finished.{Finished}
 
+-- ---- what is left of the world
+
+-- an output was created in it
+abbrev pub has_output : {W O : Type 0} → Rest W O → Bool
+has_output (World world) = false
+has_output (Output output) = true
+
+-- what that output reports
+abbrev pub shown : {W O : Type 0} → (contents : O → Option (List ℕ)) → Rest W O → Option (List ℕ)
+shown contents (World world) = None
+shown contents (Output output) = option_and_then contents output
+
 -- ---- what is written
 
 -- what holds of the number of bytes that a fault says were written: after a failed write, and if memory ran out
@@ -43,13 +57,13 @@ AfterWrite (fault.Run (run.NoMemory n)) failed spent = spent n
 AfterWrite other failed spent = ⊥
 
 -- no output could be created
-abbrev pub IsUncreated : ImposeFault → (has_output : Bool) → Type 0
-IsUncreated f has_output = AfterWrite f (λ n. (n ≡ 0) × (has_output ≡ false)) (λ n. ⊥)
+abbrev pub IsUncreated : {W O : Type 0} → ImposeFault → Rest W O → Type 0
+IsUncreated f rest = AfterWrite f (λ n. (n ≡ 0) × (has_output rest ≡ false)) (λ n. ⊥)
 
 -- nor was there memory for its buffer
-abbrev pub IsNotCreated : {T : Type 0} → Result T ImposeFault → (has_output : Bool) → Type 0
-IsNotCreated (Ok x) has_output = ⊥
-IsNotCreated (Err f) has_output = ((f ≡ without_memory) × (has_output ≡ false)) ⊎ IsUncreated f has_output
+abbrev pub IsNotCreated : {T W O : Type 0} → Result T ImposeFault → Rest W O → Type 0
+IsNotCreated (Ok x) rest = ⊥
+IsNotCreated (Err f) rest = ((f ≡ without_memory) × (has_output rest ≡ false)) ⊎ IsUncreated f rest
 
 -- the output has the first bytes of this text, so many, if it reports what it has
 abbrev pub HasFirst : (old new : Option (List ℕ)) → (text : List ℕ) → (n : ℕ) → Type 0
@@ -69,16 +83,16 @@ abbrev pub IsSaidOf : RunError → (n : ℕ) → ImposeFault → Type 0
 IsSaidOf (run.NoMemory k) n f = AfterWrite f (λ m. ⊥) (λ m. m ≡ n)
 IsSaidOf other n f = AfterWrite f (λ m. m ≡ n) (λ m. ⊥)
 
--- What comes of what is to be written to the output of this name. It was written whole; or it is refused, and there is no
--- output; or a whole output would have this text, and none could be created, or one has its front. `Refuses` says why it is
+-- What comes of what is to be written to the output of this name. It was written whole; or it is refused, and this very world is
+-- back; or a whole output would have this text, and none could be created, or one has its front. `Refuses` says why it is
 -- refused, and `Wrote` what a whole output was before and is now.
-abbrev pub Comes : {T : Type 0} → (Refuses : ImposeFault → Type 0) → (Wrote : (old new : Option (List ℕ)) → T → Type 0)
-    → (name : Option (List ℕ)) → (tells : Bool) → Result T ImposeFault → (has_output : Bool) → (written : Option (List ℕ)) → Type 0
-Comes {T} Refuses Wrote name tells (Ok what) has_output written = Wrote (told_if tells name []) written what
-Comes {T} Refuses Wrote name tells (Err f) has_output written =
-    (Refuses f × (has_output ≡ false))
+abbrev pub Comes : {T W O : Type 0} → (Refuses : ImposeFault → Type 0) → (Wrote : (old new : Option (List ℕ)) → T → Type 0)
+    → (name : Option (List ℕ)) → (tells : Bool) → Result T ImposeFault → (world : W) → (rest : Rest W O) → (written : Option (List ℕ)) → Type 0
+Comes {T} Refuses Wrote name tells (Ok what) world rest written = Wrote (told_if tells name []) written what
+Comes {T} Refuses Wrote name tells (Err f) world rest written =
+    (Refuses f × (rest ≡ World world))
     ⊎ ((text : List ℕ) × (what : T) × Wrote (Some []) (Some text) what
-    × (IsNotCreated {T = T} (Err f) has_output ⊎ HasFront (told_if tells name []) written text f))
+    × (IsNotCreated {T = T} (Err f) rest ⊎ HasFront (told_if tells name []) written text f))
 
 -- ---- the sheets of a job
 
@@ -151,7 +165,7 @@ RefusesImposing (layout.SpecRow specs signing) r input f = RefusesSpecRowRun r i
 RefusesImposing other r input f = RefusesRow r input f
 
 -- what comes of a request to impose this input
-abbrev pub Runs : ImposeRequest → (input : List ℕ) → (tells : Bool) → Result Done ImposeFault → (has_output : Bool)
-    → (written : Option (List ℕ)) → Type 0
-Runs r input tells outcome has_output written =
-    Comes (RefusesImposing r.layout r input) (IsImposed r input) (option_map string_bytes r.outfile) tells outcome has_output written
+abbrev pub Runs : {W O : Type 0} → ImposeRequest → (input : List ℕ) → (tells : Bool) → Result Done ImposeFault
+    → (world : W) → (rest : Rest W O) → (written : Option (List ℕ)) → Type 0
+Runs r input tells outcome world rest written =
+    Comes (RefusesImposing r.layout r input) (IsImposed r input) (option_map string_bytes r.outfile) tells outcome world rest written

@@ -1,5 +1,5 @@
 -- The whole program: what its words ask for, what it reads, what it creates and writes, and how it ends.
-use Rattle.std.specs.Prelude.{⊤, ◌≡◌, ◌⊎◌, ◌<◌, ℕ, List, [], length, take, Bool, false, Option, Some, None, Result, Ok, Err}
+use Rattle.std.specs.Prelude.{⊤, ◌≡◌, ◌⊎◌, ◌<◌, ℕ, List, [], length, take, Bool, Option, Some, None, Result, Ok, Err}
 use Rattle.std.specs.Prelude.{codes, option_map, string_bytes}
 use Rattle.std.specs.Io.KnownBytes.{Appends}
 use Rattle.clap.specs.Words.{Text}
@@ -21,6 +21,8 @@ use Rattle.impose_said.specs.declared.fault.ImposeFault.{ImposeFault}
 use Rattle.impose_said.specs.declared.fault.ImposeFault.TheVariants as fault
 use Rattle.impose_said.specs.declared.finished.Done.{Done}
 use Rattle.impose_said.specs.declared.finished.Done.TheVariants as done
+use Rattle.impose_cli.specs.declared.left.Rest.{Rest}
+use Rattle.impose_cli.specs.declared.left.Rest.TheVariants.{World}
 use Rattle.impose_cli.specs.declared.look.Overview.{Overview}
 use Rattle.impose_cli.specs.declared.look.Overview.TheVariants as look
 use Rattle.impose_words.specs.declared.request.Product.{Product}
@@ -67,82 +69,82 @@ abbrev pub BreaksAt : (old new : Option (List ℕ)) → (text : List ℕ) → Im
 BreaksAt old new text f = AfterWrite f (λ n. (n < length text) × Appends old new (take n text)) (λ n. ⊥)
 
 -- a text wasn't written whole to the output of this name
-abbrev pub FailsToWrite : (name : Option (List ℕ)) → (text : List ℕ) → (tells : Bool) → ImposeFault → (has_output : Bool)
-    → (written : Option (List ℕ)) → Type 0
-FailsToWrite name text tells f has_output written =
-    IsUncreated f has_output ⊎ BreaksAt (told_if tells name []) written text f
+abbrev pub FailsToWrite : {W O : Type 0} → (name : Option (List ℕ)) → (text : List ℕ) → (tells : Bool) → ImposeFault
+    → (rest : Rest W O) → (written : Option (List ℕ)) → Type 0
+FailsToWrite name text tells f rest written =
+    IsUncreated f rest ⊎ BreaksAt (told_if tells name []) written text f
 
 -- What comes of a text that is written to the output of this name: the output tells its name and exactly the text; or a
 -- write failed.
-abbrev pub Writes : (name : Option (List ℕ)) → (text : List ℕ) → Done → (tells : Bool) → Result Done ImposeFault
-    → (has_output : Bool) → (written : Option (List ℕ)) → Type 0
-Writes name text what tells (Ok said) has_output written = (said ≡ what) × Appends (told_if tells name []) written text
-Writes name text what tells (Err f) has_output written = FailsToWrite name text tells f has_output written
+abbrev pub Writes : {W O : Type 0} → (name : Option (List ℕ)) → (text : List ℕ) → Done → (tells : Bool) → Result Done ImposeFault
+    → (rest : Rest W O) → (written : Option (List ℕ)) → Type 0
+Writes name text what tells (Ok said) rest written = (said ≡ what) × Appends (told_if tells name []) written text
+Writes name text what tells (Err f) rest written = FailsToWrite name text tells f rest written
 
 -- What comes of a request to print the specification for this input: there is a task, which nothing refuses, and standard
--- output has what was printed of it; or there is none, or no memory, and nothing was created; or there is such a task, and a
+-- output has what was printed of it; or there is none, or no memory, and the world is back; or there is such a task, and a
 -- write failed.
-abbrev pub Prints : ImposeRequest → (input : List ℕ) → (tells : Bool) → Result Done ImposeFault → (has_output : Bool)
-    → (written : Option (List ℕ)) → Type 0
-Prints r input tells (Ok (done.Imposed finished)) has_output written = ⊥
-Prints r input tells (Ok done.Printed) has_output written =
+abbrev pub Prints : {W O : Type 0} → ImposeRequest → (input : List ℕ) → (tells : Bool) → Result Done ImposeFault
+    → (world : W) → (rest : Rest W O) → (written : Option (List ℕ)) → Type 0
+Prints r input tells (Ok (done.Imposed finished)) world rest written = ⊥
+Prints r input tells (Ok done.Printed) world rest written =
     (task : Task) × IsTask r input task × HasNoFault r input
     × Appends (told_if tells None []) written (printed_text r task)
-Prints r input tells (Ok done.Shown) has_output written = ⊥
-Prints r input tells (Err f) has_output written =
-    ((RefusesTask r input f ⊎ (f ≡ without_memory)) × (has_output ≡ false))
+Prints r input tells (Ok done.Shown) world rest written = ⊥
+Prints r input tells (Err f) world rest written =
+    ((RefusesTask r input f ⊎ (f ≡ without_memory)) × (rest ≡ World world))
     ⊎ ((task : Task) × IsTask r input task × HasNoFault r input
-    × FailsToWrite None (printed_text r task) tells f has_output written)
+    × FailsToWrite None (printed_text r task) tells f rest written)
 
 -- What comes of a request to show the sheets for this input: the output of this name has exactly the text that reports on the
--- sheets that would be imposed; or the request is refused as its run would be, and nothing was created; or there is such a
+-- sheets that would be imposed; or the request is refused as its run would be, and the world is back; or there is such a
 -- text, and a write failed.
-abbrev pub Shows : Overview → (name : Option (List ℕ)) → ImposeRequest → (input : List ℕ) → (tells : Bool) → Result Done ImposeFault
-    → (has_output : Bool) → (written : Option (List ℕ)) → Type 0
-Shows l name r input tells (Ok (done.Imposed finished)) has_output written = ⊥
-Shows l name r input tells (Ok done.Printed) has_output written = ⊥
-Shows l name r input tells (Ok done.Shown) has_output written =
+abbrev pub Shows : {W O : Type 0} → Overview → (name : Option (List ℕ)) → ImposeRequest → (input : List ℕ) → (tells : Bool) → Result Done ImposeFault
+    → (world : W) → (rest : Rest W O) → (written : Option (List ℕ)) → Type 0
+Shows l name r input tells (Ok (done.Imposed finished)) world rest written = ⊥
+Shows l name r input tells (Ok done.Printed) world rest written = ⊥
+Shows l name r input tells (Ok done.Shown) world rest written =
     (text : List ℕ) × TellsRow r input l text × Appends (told_if tells name []) written text
-Shows l name r input tells (Err f) has_output written =
-    (RefusesRow r input f × (has_output ≡ false))
-    ⊎ ((text : List ℕ) × TellsRow r input l text × FailsToWrite name text tells f has_output written)
+Shows l name r input tells (Err f) world rest written =
+    (RefusesRow r input f × (rest ≡ World world))
+    ⊎ ((text : List ℕ) × TellsRow r input l text × FailsToWrite name text tells f rest written)
 
 -- ---- all of it
 
 -- this is made of what the input gives: the sheets in OUTFILE, a specification or a plan on standard output, or a picture in
 -- its own file
-abbrev pub Makes : Product → ImposeRequest → (input : List ℕ) → (tells : Bool) → Result Done ImposeFault → (has_output : Bool)
-    → (written : Option (List ℕ)) → Type 0
-Makes product.Sheets r input tells outcome has_output written = Runs r input tells outcome has_output written
-Makes product.Specification r input tells outcome has_output written = Prints r input tells outcome has_output written
-Makes product.Plan r input tells outcome has_output written =
-    Shows look.Plan None r input tells outcome has_output written
-Makes (product.Picture file) r input tells outcome has_output written =
-    Shows look.Picture (option_map string_bytes file) r input tells outcome has_output written
+abbrev pub Makes : {W O : Type 0} → Product → ImposeRequest → (input : List ℕ) → (tells : Bool) → Result Done ImposeFault
+    → (world : W) → (rest : Rest W O) → (written : Option (List ℕ)) → Type 0
+Makes product.Sheets r input tells outcome world rest written = Runs r input tells outcome world rest written
+Makes product.Specification r input tells outcome world rest written = Prints r input tells outcome world rest written
+Makes product.Plan r input tells outcome world rest written =
+    Shows look.Plan None r input tells outcome world rest written
+Makes (product.Picture file) r input tells outcome world rest written =
+    Shows look.Picture (option_map string_bytes file) r input tells outcome world rest written
 
--- What comes of a request: it is refused before its input is read; or it isn't, and its input can't be read, and nothing was
--- created; or the input was read, and what is asked for is made of it (RULES, 16)
-abbrev pub CarriesOut : ImposeRequest → Gives → (tells : Bool) → Result Done ImposeFault → (has_output : Bool)
-    → (written : Option (List ℕ)) → Type 0
-CarriesOut r gives tells outcome has_output written =
-    ((f : ImposeFault) × (outcome ≡ Err f) × (has_output ≡ false) × (RefusesRequest r f ⊎ (MayBeRead r × IsReading f)))
+-- What comes of a request: it is refused before its input is read; or it isn't, and its input can't be read, and the world is
+-- back; or the input was read, and what is asked for is made of it (RULES, 16)
+abbrev pub CarriesOut : {W O : Type 0} → ImposeRequest → Gives → (tells : Bool) → Result Done ImposeFault
+    → (world : W) → (rest : Rest W O) → (written : Option (List ℕ)) → Type 0
+CarriesOut r gives tells outcome world rest written =
+    ((f : ImposeFault) × (outcome ≡ Err f) × (rest ≡ World world) × (RefusesRequest r f ⊎ (MayBeRead r × IsReading f)))
     ⊎ ((input : List ℕ) × IsFirst most_bytes (gives (option_map string_bytes r.infile)) input × MayBeRead r
-    × Makes r.product r input tells outcome has_output written)
+    × Makes r.product r input tells outcome world rest written)
 
--- an output that exists is that of a request that was carried out, or for which a write failed or memory ran out: what is
--- refused has none
-abbrev pub IsCreatedFor : Result Done ImposeFault → (has_output : Bool) → Type 0
-IsCreatedFor (Ok what) has_output = ⊤
-IsCreatedFor (Err f) has_output = (has_output ≡ false) ⊎ AfterWrite f (λ n. ⊤) (λ n. ⊤)
+-- what is refused has this very world back: an output that exists is that of a request that was carried out, or for which a
+-- write failed or memory ran out
+abbrev pub IsCreatedFor : {W O : Type 0} → Result Done ImposeFault → (world : W) → (rest : Rest W O) → Type 0
+IsCreatedFor (Ok what) world rest = ⊤
+IsCreatedFor (Err f) world rest = (rest ≡ World world) ⊎ AfterWrite f (λ n. ⊤) (λ n. ⊤)
 
--- How the program ends: the words are refused, and nothing was created; or they make a request, with the paper at home,
+-- How the program ends: the words are refused, and the world is back; or they make a request, with the paper at home,
 -- and this comes of it.
-abbrev pub EndsProgram : (words : List Text) → (variable : List ℕ) → Gives → (tells : Bool) → Option ImposeRequest
-    → Result Done ImposeFault → (has_output : Bool) → (written : Option (List ℕ)) → Type 0
-EndsProgram words variable gives tells None (Ok what) has_output written = ⊥
-EndsProgram words variable gives tells None (Err (fault.Command f)) has_output written =
-    Refuses words f × (has_output ≡ false)
-EndsProgram words variable gives tells None (Err other) has_output written = ⊥
-EndsProgram words variable gives tells (Some r) outcome has_output written =
+abbrev pub EndsProgram : {W O : Type 0} → (words : List Text) → (variable : List ℕ) → Gives → (tells : Bool) → Option ImposeRequest
+    → Result Done ImposeFault → (world : W) → (rest : Rest W O) → (written : Option (List ℕ)) → Type 0
+EndsProgram words variable gives tells None (Ok what) world rest written = ⊥
+EndsProgram words variable gives tells None (Err (fault.Command f)) world rest written =
+    Refuses words f × (rest ≡ World world)
+EndsProgram words variable gives tells None (Err other) world rest written = ⊥
+EndsProgram words variable gives tells (Some r) outcome world rest written =
     Entered words (λ name found. Reads name found r) × IsHome variable gives r.home_paper
-    × CarriesOut r gives tells outcome has_output written
+    × CarriesOut r gives tells outcome world rest written

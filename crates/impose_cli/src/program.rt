@@ -1,15 +1,16 @@
 //! The whole program, over the files and standard streams around it.
-ghost use Rattle.std.specs.Prelude.{◌≡◌, is_some, map, option_and_then, option_map, string_bytes};
+ghost use Rattle.std.specs.Prelude.{◌≡◌, map, option_map, string_bytes};
 ghost use Rattle.std.specs.Prelude.{Some, IfOk, IfErr, OnOk};
 ghost use Rattle.std.specs.Io.KnownBytes.{Appends};
 ghost use Rattle.world.specs.Input.{IsFirst, most_bytes};
+ghost use Rattle.impose_cli.specs.Endings.{shown};
 ghost use Rattle.impose_cli.specs.Looks.{MayBeMade};
 ghost use Rattle.impose_cli.specs.Programs.{BreaksAt, CarriesOut, EndsProgram, IsCreatedFor, IsHome, IsReading, Makes};
 ghost use Rattle.impose_cli.specs.Programs.{Prints, Shows, Writes, most_home_bytes, status_of};
 ghost use Rattle.impose_cli.specs.RowTasks.{LaysRows};
 ghost use Rattle.impose_said.specs.declared.fault.ImposeFault.TheVariants as faults;
 
-use crate::left::{Left, closed, stopped};
+use crate::left::{Left, Rest, stopped};
 use crate::look::{Overview, look_text};
 use crate::printed::printed_task;
 use crate::runs::run_request;
@@ -35,10 +36,8 @@ pub struct Ended<W: World> {
     pub request: Option<ImposeRequest>,
     /// What was done, or why nothing, or not all.
     pub outcome: Result<Done, ImposeFault>,
-    /// What is left of the world, if no output was created in it.
-    pub world: Option<W>,
-    /// The output, if one was created.
-    pub output: Option<W::Output>,
+    /// The world, if no output was created in it, or the output.
+    pub rest: Rest<W, W::Output>,
 }
 
 impl<W: World> Ended<W> {
@@ -67,10 +66,10 @@ pub fn impose<R: Threads + Wait + Sync, W: World>(
     world: W,
 ) -> Ended<W>
     ensures ended { EndsProgram (map string_bytes words.now) paper_size.now (W.gives world) (W.tells world)
-        result.request result.outcome (is_some result.output) (option_and_then W.Output.contents result.output) }
-    // What is refused has created no output. One that exists has all that was to be written, or a write failed or memory
-    // ran out.
-    ensures created { IsCreatedFor result.outcome (is_some result.output) }
+        result.request result.outcome world result.rest (shown W.Output.contents result.rest) }
+    // What is refused has created no output, and has the very world back. An output that exists has all that was to be
+    // written, or a write failed or memory ran out.
+    ensures created { IsCreatedFor result.outcome world result.rest }
 {
     match read_command(alloc, words) {
         Ok(read) => {
@@ -79,15 +78,13 @@ pub fn impose<R: Threads + Wait + Sync, W: World>(
             Ended {
                 request: Some(request),
                 outcome: left.outcome,
-                world: left.world,
-                output: left.output,
+                rest: left.rest,
             }
         }
         Err(fault) => Ended {
             request: None,
             outcome: Err(ImposeFault::Command(fault)),
-            world: Some(world),
-            output: None,
+            rest: Rest::World(world),
         },
     }
 }
@@ -144,8 +141,8 @@ fn carry_out<R: Threads + Wait + Sync, W: World>(
     world: W,
 ) -> Left<W, Done>
     requires { MayBeMade request.now.product request.now.layout }
-    ensures { CarriesOut request.now (W.gives world) (W.tells world) result.outcome (is_some result.output)
-        (option_and_then W.Output.contents result.output) }
+    ensures { CarriesOut request.now (W.gives world) (W.tells world) result.outcome world result.rest
+        (shown W.Output.contents result.rest) }
 {
     match check_request(alloc, request) {
         Ok(()) => {}
@@ -166,8 +163,8 @@ fn make<R: Threads + Wait + Sync, W: World>(
     world: W,
 ) -> Left<W, Done>
     requires { MayBeMade request.now.product request.now.layout }
-    ensures { Makes request.now.product request.now input.items (W.tells world) result.outcome (is_some result.output)
-        (option_and_then W.Output.contents result.output) }
+    ensures { Makes request.now.product request.now input.items (W.tells world) result.outcome world result.rest
+        (shown W.Output.contents result.rest) }
 {
     match &request.product {
         Product::Sheets => run_request(rt, alloc, request, input, world),
@@ -228,8 +225,8 @@ fn print_input<W: World>(
     input: RoomyText,
     world: W,
 ) -> Left<W, Done>
-    ensures { Prints request.now input.items (W.tells world) result.outcome (is_some result.output)
-        (option_and_then W.Output.contents result.output) }
+    ensures { Prints request.now input.items (W.tells world) result.outcome world result.rest
+        (shown W.Output.contents result.rest) }
 {
     let task = match task_for(alloc, request, input) {
         Ok(task) => task,
@@ -253,7 +250,7 @@ fn show_input<W: World>(
 ) -> Left<W, Done>
     requires rows { LaysRows request.now.layout }
     ensures { Shows look (option_map (λ n. n.now) name.entry) request.now input.items (W.tells world) result.outcome
-        (is_some result.output) (option_and_then W.Output.contents result.output) }
+        world result.rest (shown W.Output.contents result.rest) }
 {
     match look_text(alloc, request, input, look) {
         Ok(text) => write_text(name, text.as_slice(), Done::Shown, world),
@@ -263,16 +260,22 @@ fn show_input<W: World>(
 
 /// Writes a text to the output of that name, which is created for it.
 fn write_text<W: World>(name: Option<&str>, text: &[u8], done: Done, world: W) -> Left<W, Done>
-    ensures { Writes (option_map (λ n. n.now) name.entry) text.now done (W.tells world) result.outcome
-        (is_some result.output) (option_and_then W.Output.contents result.output) }
+    ensures { Writes (option_map (λ n. n.now) name.entry) text.now done (W.tells world) result.outcome result.rest
+        (shown W.Output.contents result.rest) }
 {
     let mut output = match world.create(name) {
         Ok(output) => output,
         Err(refused) => return stopped(failed_at(0, refused.cause), refused.world),
     };
     match write_whole(&mut output, text) {
-        Ok(()) => closed(Ok(done), Some(output)),
-        Err(fault) => closed(Err(fault), Some(output)),
+        Ok(()) => Left {
+            outcome: Ok(done),
+            rest: Rest::Output(Some(output)),
+        },
+        Err(fault) => Left {
+            outcome: Err(fault),
+            rest: Rest::Output(Some(output)),
+        },
     }
 }
 

@@ -1,9 +1,9 @@
 //! What is imposed of a row of pages that a layout lays on sheets, and how.
 ghost use Rattle.std.specs.Prelude.{◌≡◌, ◌≤◌, ◌&&◌, ◌⊎◌, ℕ, length, true, IfErr, IfOk, IfSome, IsTrue, None, Ok};
-ghost use Rattle.std.specs.Prelude.{is_some, option_and_then, option_map, string_bytes};
+ghost use Rattle.std.specs.Prelude.{option_map, string_bytes};
 ghost use Rattle.rows.specs.Sewing.{MayBeSewn};
 ghost use Rattle.row_runs.specs.Sheets.{MayBeLaid};
-ghost use Rattle.impose_cli.specs.Endings.{Comes, RefusesRowTaskRun};
+ghost use Rattle.impose_cli.specs.Endings.{Comes, RefusesRowTaskRun, shown};
 ghost use Rattle.rules.specs.Parts.{bytes_of};
 ghost use Rattle.sheet_text.specs.Jobs.{is_border};
 ghost use Rattle.impose_said.specs.Faults.{without_memory};
@@ -343,7 +343,7 @@ pub(crate) fn impose_task<R: Threads + Wait + Sync, W: World>(
     requires border { IsTrue (is_border request.now.border) }
     ensures { Comes (RefusesRowTaskRun request.now task.now) (ImposesTask request.now task.now)
         (option_map string_bytes request.now.outfile) (W.tells world) result.outcome
-        (is_some result.output) (option_and_then W.Output.contents result.output) }
+        world result.rest (shown W.Output.contents result.rest) }
 {
     let document = match Document::read(alloc, task.text.as_slice()) {
         Ok(document) => document,

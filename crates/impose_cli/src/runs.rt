@@ -1,5 +1,5 @@
 //! Runs of requests, into outputs that are created once nothing is left to refuse.
-ghost use Rattle.std.specs.Prelude.{◌≡◌, ◌⊎◌, ℕ, List, IfErr, IfOk, IfSome, IsTrue, MatchResult, OnOk, None, Ok, Err, is_some, option_and_then, option_map, string_bytes};
+ghost use Rattle.std.specs.Prelude.{◌≡◌, ◌⊎◌, ℕ, List, IfErr, IfOk, IfSome, IsTrue, MatchResult, OnOk, None, Ok, Err, option_map, string_bytes};
 ghost use Rattle.rules.specs.Admissible.{Takes, most_slots};
 ghost use Rattle.rules.specs.Run.{document_of};
 ghost use Rattle.rows.specs.Sewing.{MayBeSewn};
@@ -14,14 +14,15 @@ ghost use Rattle.row_runs.specs.Sheets.{MayBeAsked};
 ghost use Rattle.impose_cli.specs.Tasks.{IsSpec};
 ghost use Rattle.impose_cli.specs.RowTasks.{LaysRows};
 ghost use Rattle.impose_cli.specs.SpecRows.{LaysSpecRow, RefusesSpecRowJob};
-ghost use Rattle.impose_cli.specs.Endings.{Comes, IsNotCreated, RefusesPlan, RefusesRowJob, RefusesTaskRun, Runs};
+ghost use Rattle.impose_cli.specs.Endings.{Comes, IsNotCreated, RefusesPlan, RefusesRowJob, RefusesTaskRun, Runs, shown};
 ghost use Rattle.impose_cli.specs.Endings.{IsSaidOf, WritesJob, WritesSheets, WritesTask};
 ghost use Rattle.impose_cli.specs.Abouts.{reported_by};
 ghost use Rattle.impose_said.specs.declared.fault.ImposeFault.TheVariants as faults;
+ghost use Rattle.impose_cli.specs.declared.left.Rest.TheVariants as rests;
 
 use crate::claims::told_by;
 use crate::laying::is_drawn;
-use crate::left::{Left, closed, stopped};
+use crate::left::{Left, Rest, stopped};
 use crate::row_task::{asked_fault_of, impose_task, row_task};
 use crate::spec_row::{impose_spec_task, spec_row_task};
 use crate::task::{Task, WORKERS, task_for};
@@ -52,7 +53,7 @@ pub(crate) fn run_request<R: Threads + Wait + Sync, W: World>(
     world: W,
 ) -> Left<W, Done>
     ensures { Runs request.now input.items (W.tells world) result.outcome
-        (is_some result.output) (option_and_then W.Output.contents result.output) }
+        world result.rest (shown W.Output.contents result.rest) }
 {
     match &request.layout {
         Layout::Spec(_) => run_spec(rt, alloc, request, input, world),
@@ -73,7 +74,7 @@ fn run_row<R: Threads + Wait + Sync, W: World>(
 ) -> Left<W, Done>
     requires rows { LaysRows request.now.layout }
     ensures { Runs request.now input.items (W.tells world) result.outcome
-        (is_some result.output) (option_and_then W.Output.contents result.output) }
+        world result.rest (shown W.Output.contents result.rest) }
 {
     let told = told_by(alloc, request, input.as_slice());
     let task = match row_task(alloc, request, input) {
@@ -89,7 +90,10 @@ fn run_row<R: Threads + Wait + Sync, W: World>(
         behind: task.behind,
         told,
     };
-    reported(left, about)
+    Left {
+        outcome: reported(left.outcome, about),
+        rest: left.rest,
+    }
 }
 
 /// Imposes a row.
@@ -103,7 +107,7 @@ pub(crate) fn impose_job<R: Threads + Wait + Sync, W: World>(
     requires asked { MayBeAsked job.now.asked }
     requires border { IsTrue (is_border job.now.border) }
     ensures { Comes (RefusesRowJob job.now) (Imposes job.now) (option_map (λ n. n.now) name.entry) (W.tells world) result.outcome
-        (is_some result.output) (option_and_then W.Output.contents result.output) }
+        world result.rest (shown W.Output.contents result.rest) }
 {
     let row = match job.lay(alloc) {
         Ok(row) => row,
@@ -132,7 +136,7 @@ fn run_spec_row<R: Threads + Wait + Sync, W: World>(
 ) -> Left<W, Done>
     requires rows { LaysSpecRow request.now.layout }
     ensures { Runs request.now input.items (W.tells world) result.outcome
-        (is_some result.output) (option_and_then W.Output.contents result.output) }
+        world result.rest (shown W.Output.contents result.rest) }
 {
     let told = told_by(alloc, request, input.as_slice());
     let task = match spec_row_task(alloc, request, input) {
@@ -148,7 +152,10 @@ fn run_spec_row<R: Threads + Wait + Sync, W: World>(
         behind: task.counted.behind,
         told,
     };
-    reported(left, about)
+    Left {
+        outcome: reported(left.outcome, about),
+        rest: left.rest,
+    }
 }
 
 /// Imposes by a specification on a row.
@@ -162,7 +169,7 @@ pub(crate) fn impose_spec_job<R: Threads + Wait + Sync, W: World>(
     requires sewn { IfSome job.now.signing MayBeSewn }
     requires border { IsTrue (is_border job.now.border) }
     ensures { Comes (RefusesSpecRowJob job.now) (ImposesBySpec job.now) (option_map (λ n. n.now) name.entry) (W.tells world) result.outcome
-        (is_some result.output) (option_and_then W.Output.contents result.output) }
+        world result.rest (shown W.Output.contents result.rest) }
 {
     let sheets = match job.lay(alloc) {
         Ok(sheets) => sheets,
@@ -191,7 +198,7 @@ fn run_spec<R: Threads + Wait + Sync, W: World>(
 ) -> Left<W, Done>
     requires spec { (text : List ℕ) × IsSpec request.now.layout text }
     ensures { Runs request.now input.items (W.tells world) result.outcome
-        (is_some result.output) (option_and_then W.Output.contents result.output) }
+        world result.rest (shown W.Output.contents result.rest) }
 {
     let told = told_by(alloc, request, input.as_slice());
     let task = match task_for(alloc, request, input) {
@@ -207,7 +214,10 @@ fn run_spec<R: Threads + Wait + Sync, W: World>(
         behind: task.counted.behind,
         told,
     };
-    reported(left, about)
+    Left {
+        outcome: reported(left.outcome, about),
+        rest: left.rest,
+    }
 }
 
 /// Imposes a task as `run` of imposer does it.
@@ -221,7 +231,7 @@ fn impose_by_spec<R: Threads + Wait + Sync, W: World>(
     requires sides { task.now.options.sides ≡ None }
     requires workers { AreWorkers task.now.options.workers }
     ensures { Comes (RefusesTaskRun task.now) (WritesTask task.now) (option_map (λ n. n.now) name.entry) (W.tells world) result.outcome
-        (is_some result.output) (option_and_then W.Output.contents result.output) }
+        world result.rest (shown W.Output.contents result.rest) }
 {
     let text = task.text.as_slice();
     let (spec, document) = match read_task(alloc, text, task.spec.as_str(), &task.options) {
@@ -271,37 +281,20 @@ struct About {
 }
 
 /// What came of a run, with what is reported of it.
-fn reported<W: World>(left: Left<W, Report>, about: About) -> Left<W, Done>
-    ensures outcome { result.outcome ≡ reported_by about left.outcome }
-    ensures output { result.output ≡ left.output }
+fn reported(outcome: Result<Report, ImposeFault>, about: About) -> Result<Done, ImposeFault>
+    ensures { result ≡ reported_by about outcome }
 {
-    let Left {
-        outcome,
-        world,
-        output,
-    } = left;
     match outcome {
-        Ok(report) => {
-            let finished = Finished {
-                report,
-                page_paper: about.page_paper,
-                origin: about.origin,
-                cut: about.cut,
-                reach: about.reach,
-                behind: about.behind,
-                told: about.told,
-            };
-            Left {
-                outcome: Ok(Done::Imposed(finished)),
-                world,
-                output,
-            }
-        }
-        Err(fault) => Left {
-            outcome: Err(fault),
-            world,
-            output,
-        },
+        Ok(report) => Ok(Done::Imposed(Finished {
+            report,
+            page_paper: about.page_paper,
+            origin: about.origin,
+            cut: about.cut,
+            reach: about.reach,
+            behind: about.behind,
+            told: about.told,
+        })),
+        Err(fault) => Err(fault),
     }
 }
 
@@ -317,7 +310,7 @@ fn write_sheets<R: Threads + Wait + Sync, W: World>(
 ) -> Left<W, Report>
     requires border { IsTrue (is_border made.now.border) }
     ensures { Comes (RefusesPlan made.now) (WritesSheets made.now) (option_map (λ n. n.now) name.entry) (W.tells world) result.outcome
-        (is_some result.output) (option_and_then W.Output.contents result.output) }
+        world result.rest (shown W.Output.contents result.rest) }
 {
     let planned = match PlannedSheets::of_job(alloc, made) {
         Ok(planned) => planned,
@@ -338,7 +331,7 @@ fn write_job<R: Threads + Wait + Sync, W: World>(
     world: W,
 ) -> Left<W, Report>
     ensures { Comes (λ fault. ⊥) (WritesJob job.now) (option_map (λ n. n.now) name.entry) (W.tells world) result.outcome
-        (is_some result.output) (option_and_then W.Output.contents result.output) }
+        world result.rest (shown W.Output.contents result.rest) }
 {
     let mut sink = match created(alloc, WRITTEN_AT_ONCE, name, world) {
         Ok(sink) => sink,
@@ -348,7 +341,10 @@ fn write_job<R: Threads + Wait + Sync, W: World>(
         Ok(report) => {
             let (is_whole, written) = write_out(sink);
             if is_whole {
-                closed(Ok(report), written.output)
+                Left {
+                    outcome: Ok(report),
+                    rest: Rest::Output(written.output),
+                }
             } else {
                 failed_write(written)
             }
@@ -359,7 +355,7 @@ fn write_job<R: Threads + Wait + Sync, W: World>(
 
 /// No output could be created, or there was no memory for its buffer.
 fn uncreated<W: World>(refused: Refused<W>) -> Left<W, Report>
-    ensures { IsNotCreated result.outcome (is_some result.output) }
+    ensures { IsNotCreated result.outcome result.rest }
 {
     if refused.cause.kind() == ErrorKind::OutOfMemory {
         return stopped(ImposeFault::no_memory(), refused.world);
@@ -375,15 +371,15 @@ fn uncreated<W: World>(refused: Refused<W>) -> Left<W, Report>
 fn broken_off<W: World>(error: RunError, output: Created<W::Output>) -> Left<W, Report>
     requires { IsNoRefusal error }
     ensures fault { MatchResult result.outcome (λ report. ⊥) (IsSaidOf error output.written) }
-    ensures output { result.output ≡ output.output }
+    ensures rest { result.rest ≡ rests.Output output.output }
 {
     match error {
         RunError::NoMemory { .. } => {
             let written = output.written;
-            closed(
-                Err(ImposeFault::Run(RunError::NoMemory { written })),
-                output.output,
-            )
+            Left {
+                outcome: Err(ImposeFault::Run(RunError::NoMemory { written })),
+                rest: Rest::Output(output.output),
+            }
         }
         _ => failed_write(output),
     }
@@ -391,11 +387,14 @@ fn broken_off<W: World>(error: RunError, output: Created<W::Output>) -> Left<W, 
 
 fn failed_write<W: World>(output: Created<W::Output>) -> Left<W, Report>
     ensures outcome { result.outcome ≡ Err (faults.Write output.written output.cause) }
-    ensures output { result.output ≡ output.output }
+    ensures rest { result.rest ≡ rests.Output output.output }
 {
     let fault = ImposeFault::Write {
         written: output.written,
         cause: output.cause,
     };
-    closed(Err(fault), output.output)
+    Left {
+        outcome: Err(fault),
+        rest: Rest::Output(output.output),
+    }
 }

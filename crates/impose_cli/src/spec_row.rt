@@ -1,7 +1,7 @@
 //! What is imposed by a specification on a row of pages, and how.
-ghost use Rattle.std.specs.Prelude.{IfErr, IfOk, IfSome, IsTrue, is_some, option_and_then, option_map, string_bytes};
+ghost use Rattle.std.specs.Prelude.{IfErr, IfOk, IfSome, IsTrue, option_map, string_bytes};
 ghost use Rattle.sheet_text.specs.Jobs.{is_border};
-ghost use Rattle.impose_cli.specs.Endings.{Comes};
+ghost use Rattle.impose_cli.specs.Endings.{Comes, shown};
 ghost use Rattle.rows.specs.Sewing.{MayBeSewn};
 ghost use Rattle.impose_cli.specs.SpecRows.{ImposesSpecTask, IsSpecRowTask, LaysSpecRow, TakesNamed};
 ghost use Rattle.impose_cli.specs.SpecRows.{RefusesNamed, RefusesSpecRowTask, RefusesSpecTaskRun};
@@ -106,7 +106,7 @@ pub(crate) fn impose_spec_task<R: Threads + Wait + Sync, W: World>(
     requires border { IsTrue (is_border request.now.border) }
     ensures { Comes (RefusesSpecTaskRun request.now task.now) (ImposesSpecTask request.now task.now)
         (option_map string_bytes request.now.outfile) (W.tells world) result.outcome
-        (is_some result.output) (option_and_then W.Output.contents result.output) }
+        world result.rest (shown W.Output.contents result.rest) }
 {
     let document = match Document::read(alloc, task.text.as_slice()) {
         Ok(document) => document,

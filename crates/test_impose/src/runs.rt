@@ -3,7 +3,7 @@ use crate::asked::{Asked, asked_of};
 use crate::cut_off::found_of_cut_offs;
 use crate::made_faults::fault_named;
 use impose_cli::{
-    Done, Ended, ImposeFault, RequestFault, RoomyText, fault_status, impose, read_command,
+    Done, Ended, ImposeFault, RequestFault, Rest, RoomyText, fault_status, impose, read_command,
     text_said,
 };
 use lengths::paper_by_name;
@@ -87,7 +87,7 @@ fn found_at_the_end(
 ) -> Result<Found, AllocError> {
     let mut output = printed(alloc, &ended.outcome)?;
     let mut files = Vec::new(alloc);
-    if let Some(written) = &ended.output {
+    if let Rest::Output(Some(written)) = &ended.rest {
         let bytes = asked.compared(alloc, written.bytes.as_slice())?;
         match &written.name {
             None => output = bytes,

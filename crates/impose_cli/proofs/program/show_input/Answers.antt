@@ -1,16 +1,17 @@
-use Rattle.std.proofs.Common.{inl, is_some, option_and_then, option_map, subst, sym}
+use Rattle.std.proofs.Common.{inl, option_map, subst, sym}
+use Rattle.impose_cli.specs.Endings.{shown}
 use Rattle.impose_cli.specs.Programs.{Shows}
-use Rattle.impose_cli.proofs.Programs.{shown}
+use Rattle.impose_cli.proofs.Programs.{shown_whole}
 use Rattle.impose_cli.proofs.program.show_input.Goals as goal
 
 pub returns-in-Ok : goal.returns-in-Ok
 returns-in-Ok g c =
-    shown c.args.look (option_map (λ n. n.now) c.args.name) c.args.request.now c.args.input.items (g.W.World.tells c.args.world)
-    c.in-Ok.text.items c.write_text.result.outcome (is_some c.write_text.result.output)
-    (option_and_then g.W.Output.Write.contents c.write_text.result.output) c.in-Ok.ensures.told (rw c.as_slice.ensures.value at c.write_text.ensures)
+    shown_whole c.args.look (option_map (λ n. n.now) c.args.name) c.args.request.now c.args.input.items (g.W.World.tells c.args.world)
+    c.in-Ok.text.items c.write_text.result.outcome c.args.world c.write_text.result.rest
+    (shown g.W.Output.Write.contents c.write_text.result.rest) c.in-Ok.ensures.told (rw c.as_slice.ensures.value at c.write_text.ensures)
 
 pub returns-in-Err : goal.returns-in-Err
 returns-in-Err g c =
     subst (λ o. Shows c.args.look (option_map (λ n. n.now) c.args.name) c.args.request.now c.args.input.items (g.W.World.tells c.args.world) o
-    (is_some c.stopped.result.output) (option_and_then g.W.Output.Write.contents c.stopped.result.output)) (sym c.stopped.ensures.outcome)
-    (inl (c.in-Err.ensures.refused, c.stopped.ensures.output))
+    c.args.world c.stopped.result.rest (shown g.W.Output.Write.contents c.stopped.result.rest)) (sym c.stopped.ensures.outcome)
+    (inl (c.in-Err.ensures.refused, c.stopped.ensures.rest))

@@ -1,6 +1,6 @@
-use Rattle.std.proofs.Common.{ap, inl, is_some, option_and_then, option_map, rules}
+use Rattle.std.proofs.Common.{ap, inl, option_map, rules}
 use Rattle.impose_said.specs.declared.fault.ImposeFault.TheVariants as fault
-use Rattle.impose_cli.specs.Endings.{RefusesRowTaskRun}
+use Rattle.impose_cli.specs.Endings.{RefusesRowTaskRun, shown}
 use Rattle.impose_cli.specs.Refusals.{IsRefusedFor}
 use Rattle.impose_cli.specs.RowTasks.{ImposesTask}
 use Rattle.impose_cli.proofs.Coming.{comes_refused}
@@ -11,11 +11,11 @@ pub returns-in-Err : goal.returns-in-Err
 returns-in-Err g c =
     let why : IsRefusedFor c.args.task.now.text.items c.in-Err.error = rw c.as_slice.ensures.value at c.in-Err.ensures.answer in
     comes_refused (RefusesRowTaskRun c.args.request.now c.args.task.now) (ImposesTask c.args.request.now c.args.task.now) _ (g.W.World.tells c.args.world) (fault.Run c.from.result)
-    c.stopped.result.outcome (is_some c.stopped.result.output) (option_and_then g.W.Output.Write.contents c.stopped.result.output) c.stopped.ensures.outcome c.stopped.ensures.output
+    c.stopped.result.outcome c.args.world c.stopped.result.rest (shown g.W.Output.Write.contents c.stopped.result.rest) c.stopped.ensures.outcome c.stopped.ensures.rest
     (inl (c.in-Err.error, ap fault.Run c.from.ensures, why))
 
 pub returns : goal.returns
 returns g c =
     task_comes c.args.request.now c.args.task.now _ (option_map (λ n. n.now) c.name_of.result) _ (g.W.World.tells c.args.world)
-    c.impose_job.result.outcome (is_some c.impose_job.result.output) (option_and_then g.W.Output.Write.contents c.impose_job.result.output)
+    c.impose_job.result.outcome c.args.world c.impose_job.result.rest (shown g.W.Output.Write.contents c.impose_job.result.rest)
     c.impose_job.ensures c.name_of.ensures (search rules)
