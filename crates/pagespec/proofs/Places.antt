@@ -18,6 +18,7 @@ no_longer front (b ∷ tail) n fails low high (more, spec, is) =
     (subst (λ x. IsSpec x spec) (ap (λ x. x ++ more) cut ∙ append_assoc front (b ∷ take k tail) more) is)
 
 pub parts_place : (front back more : List ℕ) (spec : WrittenSpec) → IsSpec (front ++ more) spec → ((b : ℕ) (tail : List ℕ) → back ≡ b ∷ tail → (after : List ℕ) → spec_at (front ++ b ∷ after) ≡ None) → IsPlaceIn (front ++ back) (length front)
+unfolding IsPlaceIn
 parts_place front back more spec is fails = (
   omega (arith, length-append front back),
   subst (λ x. IsBeginning x) (sym (take-append_seam front back)) (more, spec, is),

@@ -8,7 +8,7 @@ abbrev pub IsBeginning : List ℕ → Type 0
 IsBeginning front = (more : List ℕ) × (spec : WrittenSpec) × IsSpec (front ++ more) spec
 
 -- this is the length of the longest beginning of the text with which some text of the grammar begins
-abbrev pub IsPlaceIn : List ℕ → ℕ → Type 0
+unfoldable pub IsPlaceIn : List ℕ → ℕ → Type 0
 IsPlaceIn text at = (at ≤ length text) × IsBeginning (take at text)
     × ((n : ℕ) → at < n → n ≤ length text → IsBeginning (take n text) → ⊥)
 
