@@ -1,4 +1,4 @@
-use Rattle.std.proofs.Common.{rules, arith, sym, ap, length, ◌+◌, ◌≤◌, ◌≡◌, ◌∙◌}
+use Rattle.std.proofs.Common.{rules, arith, sym, ap, length, ◌+◌, ◌≡◌, ◌∙◌}
 use Rattle.std.specs.Prelude.{vec_len, ◌==◌}
 use Rattle.sheet_text.proofs.TextsBehind.{one_alone, one_more, piece_placed, nil_told}
 use Rattle.sheet_text.proofs.texts.neighbours.Goals as goal

@@ -1,4 +1,4 @@
-use Rattle.std.proofs.Common.{rules, ap, sym, ℕ, length, ◌<◌, ◌≡◌, ◌∙◌}
+use Rattle.std.proofs.Common.{rules, ap, sym, ℕ, length, ◌<◌, ◌∙◌}
 use Rattle.std.specs.Prelude.{Some, slice_get}
 use Rattle.std.proofs.lemmas.Option.{same_Some}
 use Rattle.sheet_text.specs.Texts.{sheets_of, texts_in}
