@@ -32,7 +32,6 @@ use Rattle.impose_cli.specs.Refusals.{RefusesTask}
 use Rattle.impose_cli.specs.declared.runs.About.{About}
 use Rattle.impose_cli.proofs.Coming.{comes_as, comes_refused, comes_reported}
 use Rattle.planned_runs.specs.declared.outcome.Report.{Report}
-use Rattle.row_runs.specs.ToldPages.{told_pages}
 use Rattle.impose_cli.specs.Claims.{IsToldBy}
 use Rattle.impose_said.specs.declared.finished.Told.{Told}
 use Rattle.impose_cli.specs.Tasks.{FinishesSpec, IsPlaced, IsSpec, IsTask, asked_by}

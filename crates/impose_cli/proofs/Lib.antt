@@ -13,6 +13,5 @@ pub mod Looking
 pub mod Again
 pub mod Examples
 pub mod Programs
-pub mod Ranges
 pub mod TakenPages
 pub mod ReachingTaken

@@ -1,5 +1,5 @@
 -- What comes of a task with a row, and of a request.
-use Rattle.std.proofs.Common.{◌≡◌, ◌⊎◌, ◌∙◌, ap, sym, subst, refl, inl, inr, Bool, true, ◌∷◌, List, ℕ, Option, Some, None, Result, Ok, Err, ap₂}
+use Rattle.std.proofs.Common.{◌≡◌, ◌⊎◌, ◌∙◌, ap, sym, subst, refl, inl, inr, Bool, true, List, ℕ, Option, Some, None, Result, Ok, Err, ap₂}
 use Rattle.std.specs.Prelude.{IfSome, length, map, option_map, string_bytes}
 use Rattle.std.specs.Io.KnownBytes.{Appends}
 use Rattle.made_sheets.specs.Made.{MadeSheet}
@@ -31,7 +31,6 @@ use Rattle.papers.specs.Names.{paper_named}
 use Rattle.impose_said.specs.Faults.{without_memory}
 use Rattle.dsc.specs.PagesBehind.{pages_behind}
 use Rattle.impose_said.specs.declared.finished.PaperOrigin.{PaperOrigin}
-use Rattle.row_runs.specs.ToldPages.{told_pages}
 use Rattle.impose_cli.specs.Claims.{IsToldBy}
 use Rattle.impose_said.specs.declared.finished.Told.{Told}
 use Rattle.impose_cli.specs.Tasks.{HasBehind, HasPages}

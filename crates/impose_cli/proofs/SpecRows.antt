@@ -1,5 +1,5 @@
 -- What comes of a task by a specification on a row.
-use Rattle.std.proofs.Common.{◌≡◌, ◌∙◌, ap, sym, subst, refl, inl, inr, Bool, List, [], ℕ, Option, None, Result, Err}
+use Rattle.std.proofs.Common.{◌≡◌, ◌∙◌, ap, sym, subst, refl, inl, inr, Bool, List, ℕ, Option, None, Result, Err}
 use Rattle.std.specs.Prelude.{IfSome, option_map, string_bytes}
 use Rattle.made_sheets.specs.Made.{MadeSheet}
 use Rattle.rows.specs.Sewing.{MayBeSewn}
@@ -13,7 +13,6 @@ use Rattle.impose_cli.specs.Abouts.{reported_by}
 use Rattle.impose_cli.specs.Endings.{Comes, IsImposed, RefusesImposing, Runs}
 use Rattle.impose_cli.specs.SpecRows.{FinishesSpecRow, ImposesSpecTask, IsSpecJobOf, IsSpecRowTask, LaysSpecRow, TakesNamed, RefusesSpecRowJob, RefusesSpecRowRun, RefusesSpecRowTask, RefusesSpecTaskRun}
 use Rattle.impose_cli.specs.declared.runs.About.{About}
-use Rattle.row_runs.specs.ToldPages.{told_pages}
 use Rattle.impose_cli.specs.Claims.{IsToldBy}
 use Rattle.impose_said.specs.declared.finished.Told.{Told}
 use Rattle.impose_cli.specs.Tasks.{taken_text}

@@ -4,7 +4,6 @@ use Rattle.std.specs.Prelude.{ℤ, pos, negsuc, int_lt, nat_abs, if◌then◌els
 use Rattle.std.specs.Ordering.{int_eq}
 use Rattle.std.proofs.lemmas.Bool.Decides.{Decides-int_eq}
 use Rattle.rules.specs.Papers.{Paper}
-use Rattle.layouts.specs.Cells.{Grid}
 use Rattle.layouts.specs.Fitted.{setting_of}
 use Rattle.layouts.specs.Grids.{is_better, room_of, rounded_up}
 use Rattle.layouts.proofs.InGrid.{both_true}

@@ -1,4 +1,4 @@
-use Rattle.std.proofs.Common.{rules, ap, inl, inr, refl, Some}
+use Rattle.std.proofs.Common.{rules, inl, inr, refl}
 use Rattle.impose_cli.proofs.claims.kept.Goals as goal
 
 pub returns-in-Ok : goal.returns-in-Ok

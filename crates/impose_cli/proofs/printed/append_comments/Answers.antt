@@ -1,7 +1,6 @@
 use Rattle.std.proofs.Common.{◌≡◌, ◌++◌, OnOk, ℕ, Bool, List, ap, append_assoc, ◌∙◌, subst}
 use Rattle.std.specs.Prelude.{codes}
 use Rattle.command_words.specs.Shell.{text_if}
-use Rattle.impose_cli.specs.Printed.{comments_text, is_border_trimmed}
 use Rattle.impose_cli.proofs.printed.append_comments.Goals as goal
 
 -- a text after what comes after another
