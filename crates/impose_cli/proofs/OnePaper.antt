@@ -13,9 +13,8 @@ use Rattle.impose_said.specs.declared.fault.ImposeFault.{ImposeFault}
 use Rattle.impose_said.specs.declared.fault.ImposeFault.TheVariants as fault
 use Rattle.impose_said.specs.declared.finished.PaperOrigin.{PaperOrigin}
 use Rattle.impose_words.specs.declared.request.ImposeRequest.{ImposeRequest}
-use Rattle.impose_cli.specs.Tasks.{HasPages, page_paper_found, sheet_paper_found}
+use Rattle.impose_cli.specs.Tasks.{HasPages, is_said, page_paper_found, sheet_paper_found}
 use Rattle.impose_cli.specs.RowTasks.{ArePapersOf, IsRowPaper, TellsOnePaper, has_specification, is_of_one_paper, papers_in, row_paper}
-use Rattle.impose_words.specs.Choices.{is_said}
 use Rattle.impose_cli.specs.Refusals.{HasNoFault, HasOnePaper, HasOtherPapers, RefusesDocument, RefusesFor, RefusesTask, are_alike, first_of, why_no_task, why_not_specified}
 
 same_units : (us vs : List NestedUnit) → ◌≡◌ {A = Result (List NestedUnit) DocumentFault} (Ok us) (Ok vs) → us ≡ vs
@@ -77,11 +76,11 @@ pub refused_late : (r : ImposeRequest) (input : List ℕ) (n : ℕ) (f : ImposeF
 refused_late r input n f has spent = inr (has.0, has.1, inl spent)
 
 -- pages are chosen or turned, or marks asked for
-pub refused_part : (r : ImposeRequest) (input : List ℕ) (n : ℕ) (f : ImposeFault) → HasPages input n → is_said r.choice r.turn r.marks ≡ false → f ≡ fault.NoSpecification → RefusesTask r input f
+pub refused_part : (r : ImposeRequest) (input : List ℕ) (n : ℕ) (f : ImposeFault) → HasPages input n → is_said r ≡ false → f ≡ fault.NoSpecification → RefusesTask r input f
 refused_part r input n f has part is =
-    inr (has.0, has.1, inr (fails (is_said r.choice r.turn r.marks) fault.NoSpecification (of_papers r input has.0) part ∙ ap Some (sym is)))
+    inr (has.0, has.1, inr (fails (is_said r) fault.NoSpecification (of_papers r input has.0) part ∙ ap Some (sym is)))
 
-pub refused_check : (r : ImposeRequest) (input : List ℕ) (n : ℕ) (f : ImposeFault) → HasPages input n → is_said r.choice r.turn r.marks ≡ true
+pub refused_check : (r : ImposeRequest) (input : List ℕ) (n : ℕ) (f : ImposeFault) → HasPages input n → is_said r ≡ true
     → RefusesDocument input f ⊎ ((f ≡ without_memory) ⊎ ((f ≡ fault.SeveralPapers) × HasOtherPapers r input (paper_in r input)))
     → RefusesTask r input f
 refused_check r input n f has said (inl refused) = inl refused
@@ -90,22 +89,22 @@ refused_check r input n f has said (inr (inr other)) = inr (
   has.0,
   has.1,
   inr
-      (passes (is_said r.choice r.turn r.marks) fault.NoSpecification (of_papers r input has.0) (Some f) said
+      (passes (is_said r) fault.NoSpecification (of_papers r input has.0) (Some f) said
       (fails (are_alike r input has.0 (paper_in r input)) fault.SeveralPapers (placed_in r input) (unlike r input has.0 (paper_in r input) has.1 other.1) ∙ ap Some (sym other.0))),
 )
 
 -- what is found of the layout is what is found of the request
-found_last : (r : ImposeRequest) (input : List ℕ) (us : List NestedUnit) (found : Option ImposeFault) → document_of input ≡ Ok us → is_said r.choice r.turn r.marks ≡ true → HasOnePaper r input (paper_in r input)
+found_last : (r : ImposeRequest) (input : List ℕ) (us : List NestedUnit) (found : Option ImposeFault) → document_of input ≡ Ok us → is_said r ≡ true → HasOnePaper r input (paper_in r input)
     → placed_in r input ≡ found → why_no_task r input us ≡ found
 found_last r input us found read said one is =
-    passes (is_said r.choice r.turn r.marks) fault.NoSpecification (of_papers r input us) found said
+    passes (is_said r) fault.NoSpecification (of_papers r input us) found said
     (passes (are_alike r input us (paper_in r input)) fault.SeveralPapers (placed_in r input) found (alike r input us (paper_in r input) read one) is)
 
-pub refused_placing : (r : ImposeRequest) (input : List ℕ) (n : ℕ) (f : ImposeFault) → HasPages input n → is_said r.choice r.turn r.marks ≡ true → HasOnePaper r input (paper_in r input)
+pub refused_placing : (r : ImposeRequest) (input : List ℕ) (n : ℕ) (f : ImposeFault) → HasPages input n → is_said r ≡ true → HasOnePaper r input (paper_in r input)
     → RefusesFor (why_not_specified r.layout r.spacing (paper_in r input) (sheet_paper_found r.sheet_paper (paper_in r input))) f → RefusesTask r input f
 refused_placing r input n f has said one (inl spent) = refused_late r input n f has spent
 refused_placing r input n f has said one (inr why) = inr (has.0, has.1, inr (found_last r input has.0 (Some f) has.1 said one why))
 
-pub no_fault : (r : ImposeRequest) (input : List ℕ) (n : ℕ) → HasPages input n → is_said r.choice r.turn r.marks ≡ true → HasOnePaper r input (paper_in r input)
+pub no_fault : (r : ImposeRequest) (input : List ℕ) (n : ℕ) → HasPages input n → is_said r ≡ true → HasOnePaper r input (paper_in r input)
     → why_not_specified r.layout r.spacing (paper_in r input) (sheet_paper_found r.sheet_paper (paper_in r input)) ≡ None → HasNoFault r input
 no_fault r input n has said one none = (has.0, has.1, found_last r input has.0 None has.1 said one none)

@@ -10,9 +10,8 @@ use Rattle.dsc.specs.Faults as dsc
 use Rattle.planned_runs.specs.Outcomes.{of_document as of_read}
 use Rattle.impose_said.specs.Faults.{without_memory}
 use Rattle.impose_said.specs.Inputs.{of_document}
-use Rattle.impose_words.specs.Choices.{is_said}
 use Rattle.impose_cli.specs.RowTasks.{HasOptions, IsRowPaper, TellsOnePaper, has_specification, is_of_one_paper, why_no_row, why_not_laid}
-use Rattle.impose_cli.specs.Tasks.{page_paper_found, sheet_paper_found}
+use Rattle.impose_cli.specs.Tasks.{is_said, page_paper_found, sheet_paper_found}
 use Rattle.impose_words.specs.declared.request.Spacing.{Spacing}
 use Rattle.impose_words.specs.declared.request.Layout.{Layout}
 use Rattle.impose_words.specs.declared.request.Layout.TheVariants as layout
@@ -70,11 +69,11 @@ why_not_specified l s page_paper sheet_paper =
 abbrev pub are_alike : ImposeRequest → (input : List ℕ) → List NestedUnit → Paper → Bool
 are_alike r input us paper = not (has_specification r.layout) || is_of_one_paper r input us paper
 
--- the first reason why no specification says what is asked for of a document: pages are chosen or turned, or marks asked for; or pages
--- have other papers; or the layout has none, or is refused (RULES, 16, steps 8 and 9)
+-- the first reason why no specification says what is asked for of a document: pages are chosen or turned, or marks or one scale asked
+-- for; or pages have other papers; or the layout has none, or is refused (RULES, 16, steps 8 and 9)
 abbrev pub why_no_task : ImposeRequest → (input : List ℕ) → List NestedUnit → Option ImposeFault
 why_no_task r input us = let page_paper = (page_paper_found r.page_paper r.home_paper input).0 in
-    first_of (is_said r.choice r.turn r.marks) fault.NoSpecification
+    first_of (is_said r) fault.NoSpecification
     (first_of (are_alike r input us page_paper) fault.SeveralPapers
     (why_not_specified r.layout r.spacing page_paper (sheet_paper_found r.sheet_paper page_paper)))
 

@@ -1,5 +1,5 @@
 -- What is imposed, and how: a request for a document.
-use Rattle.std.specs.Prelude.{◌≡◌, ℕ, pos, Bool, true, if◌then◌else◌, unwrap_or, List, length, Option}
+use Rattle.std.specs.Prelude.{◌≡◌, ℕ, pos, Bool, true, false, ◌&&◌, ◌||◌, not, if◌then◌else◌, unwrap_or, List, length, Option, is_some}
 use Rattle.std.specs.Prelude.{Some, None, Ok, option_map, string_bytes}
 use Rattle.rules.specs.Papers.{Paper}
 use Rattle.rules.specs.Specification.{Spec, canonical}
@@ -16,6 +16,7 @@ use Rattle.rows.specs.Sewing.{signing_of}
 use Rattle.guard.specs.Guard.{guarded}
 use Rattle.layouts.specs.Grids.{arranged, bound}
 use Rattle.layouts.specs.Laws.{IsArranged, IsBound}
+use Rattle.dressing.specs.declared.strokes.Marks.{Marks}
 use Rattle.std.specs.Io.KnownBytes.{Appends}
 use Rattle.rules.specs.Output.{Frame, framed, output}
 use Rattle.imposer.specs.Runs.{Reports}
@@ -24,7 +25,9 @@ use Rattle.papers.specs.Media.{document_paper}
 use Rattle.papers.specs.declared.media.Comment.{Comment}
 use Rattle.impose_said.specs.declared.finished.PaperOrigin.{PaperOrigin}
 use Rattle.impose_said.specs.declared.finished.PaperOrigin.TheVariants.{Named, ByComment, AtHome}
-use Rattle.impose_words.specs.Choices.{is_said}
+use Rattle.impose_words.specs.Choices.{is_whole}
+use Rattle.pagespec.specs.declared.item.Turn.{Turn}
+use Rattle.pagespec.specs.declared.item.Turn.TheVariants as turned
 use Rattle.sheet_text.specs.Jobs.{is_border}
 use Rattle.impose_words.specs.Spacings.{arrangement_in, binding_in}
 use Rattle.impose_words.specs.declared.request.Spacing.{Spacing}
@@ -85,13 +88,27 @@ IsPlaced (layout.Poster columns rows) s page_paper sheet_paper pages text sides 
 IsPlaced layout.Zine s page_paper sheet_paper pages text sides = ⊥
 IsPlaced layout.Selection s page_paper sheet_paper pages text sides = ⊥
 
+-- no page is turned
+abbrev pub is_unturned : Turn → Bool
+is_unturned turned.None = true
+is_unturned other = false
+
+-- no line is drawn, and no number
+abbrev pub is_unmarked : Marks → Bool
+is_unmarked m = not (m.fold || m.cut || m.ruled || is_some m.numbers)
+
+-- beside the layout a specification says what is asked for: all pages, in their order, unturned, unmarked, and each in its own
+-- scale (RULES, 16, step 8)
+abbrev pub is_said : ImposeRequest → Bool
+is_said r = is_whole r.choice && is_unturned r.turn && is_unmarked r.marks && not r.spacing.same_scale
+
 -- the task is what the request asks for with this document
 pub record IsTask (request : ImposeRequest) (input : List ℕ) (task : Task) : Type 0 where
   pub page_count : ℕ
   pub document : HasPages input page_count
   pub behind : HasBehind input task.counted.behind
   pub reach : HasReachOver request input task.options.paper task.counted.reach
-  pub said : is_said request.choice request.turn request.marks ≡ true
+  pub said : is_said request ≡ true
   pub page_paper : (task.options.paper, task.origin) ≡ page_paper_found request.page_paper request.home_paper input
   pub placed : IsPlaced request.layout request.spacing task.options.paper (sheet_paper_found request.sheet_paper task.options.paper)
       page_count (string_bytes task.spec) task.options.sides
@@ -123,7 +140,7 @@ pub record FinishesSpec (r : ImposeRequest) (input : List ℕ) (old new : Option
   pub page_paper : (done.page_paper, done.origin) ≡ page_paper_found r.page_paper r.home_paper input
   pub text : List ℕ
   pub is_text : IsSpec r.layout text
-  pub said : is_said r.choice r.turn r.marks ≡ true
+  pub said : is_said r ≡ true
   pub border : is_border r.border ≡ true
   pub spec : Spec
   pub takes : Takes most_slots text spec

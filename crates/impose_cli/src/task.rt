@@ -11,10 +11,9 @@ ghost use Rattle.layouts.specs.declared.error.ArrangementError.{ArrangementError
 ghost use Rattle.impose_said.specs.Faults.{without_memory};
 ghost use Rattle.impose_cli.specs.RowTasks.{has_specification as is_made_for};
 ghost use Rattle.impose_cli.specs.Tasks.{HasBehind, HasPages, IsPlaced, IsTask, IsWritten, page_paper_found};
-ghost use Rattle.impose_cli.specs.Tasks.{sheet_paper_found, taken_text};
+ghost use Rattle.impose_cli.specs.Tasks.{is_said as says, sheet_paper_found, taken_text};
 ghost use Rattle.impose_cli.specs.Reaches.{HasReachOver};
 ghost use Rattle.impose_cli.specs.Refusals.{HasNoFault, HasOnePaper, HasOtherPapers, RefusesDocument, RefusesFor, RefusesTask, why_not_specified};
-ghost use Rattle.impose_words.specs.Choices.{is_said as says};
 ghost use Rattle.impose_cli.specs.Unread.{IsPossible, IsSpecification, RefusesSpecification, RefusesUnread, cells_named};
 ghost use Rattle.impose_words.specs.declared.request.Layout.TheVariants as layout;
 ghost use Rattle.impose_said.specs.declared.fault.ImposeFault.TheVariants as faults;
@@ -22,11 +21,10 @@ ghost use Rattle.impose_said.specs.declared.fault.ImposeFault.TheVariants as fau
 use crate::laying::{laying_for, papers_for};
 use crate::reach::reach_over;
 use crate::row_task::has_one_paper;
-use dressing::Marks;
 use dsc::Document;
 use guard::RoomyText;
 use impose_said::{ImposeFault, PaperOrigin, of_document};
-use impose_words::{ImposeRequest, Layout, PageChoice, Spacing};
+use impose_words::{ImposeRequest, Layout, Spacing};
 use imposer::{Options, RunError, Workers};
 use layouts::{Binding, Cells, Papers, arrange, bind};
 use lengths::Paper;
@@ -98,18 +96,21 @@ fn check_spec(alloc: Global, specs: &str) -> Result<(), ImposeFault>
     }
 }
 
-/// Whether a specification says which pages there are, how they are turned, and with which marks.
-fn is_said(choice: &PageChoice, turn: Turn, marks: Marks) -> bool
-    ensures { result ≡ says choice.now turn marks }
+/// Whether a specification says what is asked for beside the layout: which pages there are, how they are turned, with which
+/// marks, and in which scale.
+fn is_said(request: &ImposeRequest) -> bool
+    ensures { result ≡ says request.now }
 {
-    choice.is_whole()
-        && turn == Turn::None
+    let marks = request.marks;
+    request.choice.is_whole()
+        && request.turn == Turn::None
         && !(marks.fold || marks.cut || marks.ruled || marks.numbers.is_some())
+        && !request.spacing.same_scale
 }
 
 /// The specification that says what a request asks for, with what a run by it takes; and the fault if there is none: a
-/// document that is refused, then pages that are chosen or turned, or marks, then pages of other papers than the specification would
-/// have, then a layout that there isn't, or that no specification says.
+/// document that is refused, then pages that are chosen or turned, marks, or one scale, then pages of other papers than the
+/// specification would have, then a layout that there isn't, or that no specification says.
 pub fn task_for(
     alloc: Global,
     request: &ImposeRequest,
@@ -125,7 +126,7 @@ pub fn task_for(
         Ok(counted) => counted,
         Err(fault) => return Err(fault),
     };
-    if !is_said(&request.choice, request.turn, request.marks) {
+    if !is_said(request) {
         return Err(ImposeFault::NoSpecification);
     }
     let sheet_paper = *paper_of_sheets(&request.sheet_paper, &page_paper);
