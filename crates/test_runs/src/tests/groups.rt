@@ -91,7 +91,8 @@ fn finish<'r>(
     ensures { OnOk result (HaveTexts (text_of job.now) finished.new) }
 {
     let mut text = text_with(alloc, job, sheet, body)?;
-    finished.push(sheet, &mut text)
+    finished.push(sheet, &mut text)?;
+    Ok(())
 }
 
 /// These sheets come together.
