@@ -11,7 +11,7 @@ use Rattle.layouts.specs.Placed.{Room}
 use Rattle.layouts.specs.Cells.{Along, Grid, cell, fitting, held_across, held_down, held_width, held_height, left_free, kept, step, wide, high, counted, exact_along, exact_scale, scale_in, size}
 use Rattle.layouts.specs.Grids.{grid, is_better, better, best_of, best_grid, formed, best_formed}
 use Rattle.layouts.specs.Laws.{IsAsGood, BestIsBest, BestHasCells, BestIsLarge, Allows, AllowsAlong, IsNotTiny}
-use Rattle.layouts.proofs.InGrid.{cells, room_in}
+use Rattle.layouts.proofs.InGrid.{cells, room_in, some_each}
 
 -- fewer parts are no smaller
 
@@ -162,11 +162,6 @@ rows_fit n r c some h =
 some_rows : (n c : ℕ) → 0 < n → 0 < c → 0 < (n + (c - 1)) / c
 some_rows n c many some = omega (arith, le-div 1 (n + (c - 1)) c some (omega (arith, many, some)))
 
-sides_of : (r c n : ℕ) → 0 < n → n ≤ r * c → (0 < r) × (0 < c)
-sides_of zero c n some h = absurd (omega (arith, some, h, zero-mul c))
-sides_of (suc r) zero n some h = absurd (omega (arith, some, h))
-sides_of (suc r) (suc c) n some h = (omega arith, omega arith)
-
 -- a grid with no row too many is as good as each of so many columns or more
 as_good : (page : Paper) (room : Room) (n r c d : ℕ) (b : Bool) → 0 < n → 0 < d → d ≤ c → n ≤ r * c → (n + (d - 1)) / d ≤ r → (n + (d - 1)) / d * d ≤ r * c
     → IsAsGood page room (grid b n d) (cells r c b)
@@ -175,7 +170,7 @@ as_good page room n r c d b many some fewer h rows size_ =
 
 among : (page : Paper) (room : Room) (n r c : ℕ) (b : Bool) → 0 < n → n ≤ r * c → IsAsGood page room (best_grid page room n) (cells r c b)
 among page room n r c b many h =
-    let (rows, columns) = sides_of r c n many h in
+    let (rows, columns) = some_each r c (omega (arith, many, h)) in
     let one = best_good page room b n in
     elim (cases_lt n c) [
       | inl wider ↦

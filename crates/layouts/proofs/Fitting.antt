@@ -2,6 +2,7 @@
 use Rattle.std.proofs.Common.{arith, rules, ◌≡◌, ◌≢◌, ℕ, suc, zero, ◌*◌, ◌/◌, ◌%◌, ◌<◌, ◌≤◌, Bool, true, false, List, Option, Some, None, inl, inr, refl, sym, ap, subst, ◌∙◌, [], ◌∷◌}
 use Rattle.std.specs.Prelude.{◌&&◌, ◌==◌, not, nat_le, nat_lt, nat_abs, if◌then◌else◌, is_none, map}
 use Rattle.std.specs.List.{range_with_len}
+use Rattle.std.proofs.lemmas.Bool.{cond-false, cond-true, false_from_ne_true, leb-true}
 use Rattle.lengths.proofs.Numbers.{same_byte}
 use Rattle.rules.specs.Admissible.{most_slots}
 use Rattle.rules.specs.Papers.{Paper}
@@ -24,7 +25,7 @@ use Rattle.layouts.specs.Refusals.{first_of, is_count, is_even, are_lengths, are
 use Rattle.layouts.specs.Laws.{IsArranged, IsBound, IsPaper, HasPlace, IsExact, IsHalfTurnOf, IsInCell, IsInMiddle, cell_at, ComesInRun, ComesInRunBefore, IsNotTiny, Allows, IsChosen}
 use Rattle.layouts.specs.Fitted.{is_whole, past_cell, scale_on, fitted, fitted_back, setting_of, binding_setting_of, why_no_scale_on, why_not_fitted, IsFitted, FittedStands, FittedIsApart, FittedIsInOrder, ArrangedIsFitted, HaveOneFold, halves, BoundIsFitted}
 use Rattle.layouts.proofs.Folds.{fold, in_middle as fold_in_middle, fold_on_sheet, lies_before, lies_behind, turned_behind, turned_before}
-use Rattle.layouts.proofs.InGrid.{fits, cells, room_in, both_true}
+use Rattle.layouts.proofs.InGrid.{fits, cells, room_in, both_true, some_each}
 use Rattle.layouts.proofs.InOrder.{grid_inside, grid_in_order}
 use Rattle.layouts.proofs.Apart.{grid_apart}
 use Rattle.layouts.proofs.Middle.{grid_in_middle}
@@ -32,8 +33,8 @@ use Rattle.layouts.proofs.InCell.{farther, grid_in_cell, past_is}
 use Rattle.layouts.proofs.Backs.{back_inside, back_is_half_turn, half_turned_apart}
 use Rattle.layouts.proofs.BestGrid.{allowed, best_has_cells, best_of_one, one_upright}
 use Rattle.layouts.proofs.Printing.{printed_as_it_is}
-use Rattle.layouts.proofs.LaidOut.{SameSides, same_sides, one_each, itself_in, itself_exact, itself_large_at, some_each, read_best, read_square, is_chosen, enough}
-use Rattle.layouts.proofs.Possible.{at_most, bare_edges, even_room, passed, one_way, either_way, no_scale, good_scale, made, cells_made, cells_laid_out, itself_made, itself_laid_out, is_alone, leaves_laid_out}
+use Rattle.layouts.proofs.LaidOut.{SameSides, same_sides, one_each, itself_in, itself_exact, itself_large_at, read_best, read_square, is_chosen, enough}
+use Rattle.layouts.proofs.Possible.{bare_edges, even_room, passed, no_scale, good_scale, made, cells_made, cells_laid_out, itself_made, itself_laid_out, is_alone, leaves_laid_out}
 use Rattle.layouts.proofs.Writable.{IsMade, grid_writable, itself_writable, leaves_writable}
 
 -- ---- a page on a sheet of its own paper
@@ -91,7 +92,7 @@ whole_fitted t page k is on within h =
     (stands_whole page t.room.paper t.room.gap_across t.room.gap_up t.grid.rows t.grid.columns t.grid.turned t.order k is on whole.same whole.one within) in
     record {
       inside = stands.inside;
-      in_cell = subst (λ n. IsInCell t.room page (cell_at t.room t.grid (row_of t.order t.grid k) (column_of t.order t.grid k)) n (alone k)) (sym (one_way (is_whole t page) 1 (kept t.room.trim 0) h)) stands.in_cell;
+      in_cell = subst (λ n. IsInCell t.room page (cell_at t.room t.grid (row_of t.order t.grid k) (column_of t.order t.grid k)) n (alone k)) (sym (cond-true (is_whole t page) 1 (kept t.room.trim 0) h)) stands.in_cell;
       middle = stands.middle;
       exact = stands.exact;
       scale = 1_000_000_000;
@@ -134,7 +135,7 @@ pub record StandsBack (t : Setting) (page : Paper) (k : ℕ) (item : Item) : Typ
 
 front_turned : (t : Setting) (page : Paper) (k : ℕ) → is_whole t page ≡ false → IsHalfTurnOf page t.room.paper (fitted t page k) (fitted_back t page k)
 front_turned t page k e =
-    subst (λ i. IsHalfTurnOf page t.room.paper i (fitted_back t page k)) (sym (either_way (is_whole t page) (alone k) (item_in page t.room t.grid t.order (scale_on t page) k) e))
+    subst (λ i. IsHalfTurnOf page t.room.paper i (fitted_back t page k)) (sym (cond-false (is_whole t page) (alone k) (item_in page t.room t.grid t.order (scale_on t page) k) e))
     (back_is_half_turn page t.room t.grid t.order (scale_on t page) 0 k)
 
 pub stands_back : (t : Setting) (page : Paper) (k : ℕ) → IsPaper page → IsPaper t.room.paper → k < size t.grid → why_no_scale_on t page ≡ None → StandsBack t page k (fitted_back t page k)
@@ -145,39 +146,35 @@ stands_back t page k is on within h =
       exact = (printed_as_it_is page t.room t.grid t.order s 0 k).1;
     }
 
-by_test : {P : Type 0} (b : Bool) → (b ≡ true → P) → (b ≡ false → P) → P
+pub by_test : {P : Type 0} (b : Bool) → (b ≡ true → P) → (b ≡ false → P) → P
 by_test true f g = f refl
 by_test false f g = g refl
 
 pub fitted_stands : FittedStands
 fitted_stands t page k is on within h =
     by_test (is_whole t page)
-    (λ e. subst (IsFitted t page k) (sym (one_way (is_whole t page) (alone k) (item_in page t.room t.grid t.order (scale_on t page) k) e)) (whole_fitted t page k is on within e))
-    (λ e. subst (IsFitted t page k) (sym (either_way (is_whole t page) (alone k) (item_in page t.room t.grid t.order (scale_on t page) k) e))
-    (cell_fitted t page k is on within (sym (either_way (is_whole t page) None (why_no_scale_on t page) e) ∙ h)))
+    (λ e. subst (IsFitted t page k) (sym (cond-true (is_whole t page) (alone k) (item_in page t.room t.grid t.order (scale_on t page) k) e)) (whole_fitted t page k is on within e))
+    (λ e. subst (IsFitted t page k) (sym (cond-false (is_whole t page) (alone k) (item_in page t.room t.grid t.order (scale_on t page) k) e))
+    (cell_fitted t page k is on within (sym (cond-false (is_whole t page) None (why_no_scale_on t page) e) ∙ h)))
 
 -- ---- two pages
 
-is_false : (b : Bool) → (b ≡ true → ⊥) → b ≡ false
-is_false true h = absurd (h refl)
-is_false false h = refl
-
 not_whole : (t : Setting) (page : Paper) (k l : ℕ) → k < size t.grid → l < size t.grid → k ≢ l → is_whole t page ≡ false
 not_whole t page k l in_k in_l differ =
-    is_false (is_whole t page) (λ h. let one = (whole_page t page h).one in differ (omega (arith, one, in_k, in_l)))
+    false_from_ne_true (is_whole t page) (λ h. let one = (whole_page t page h).one in differ (omega (arith, one, in_k, in_l)))
 
 pub one_of_many : (t : Setting) (page : Paper) → 2 ≤ size t.grid → is_whole t page ≡ false
-one_of_many t page many = is_false (is_whole t page) (λ h. let one = (whole_page t page h).one in omega (arith, one, many))
+one_of_many t page many = false_from_ne_true (is_whole t page) (λ h. let one = (whole_page t page h).one in omega (arith, one, many))
 
 pub scale_of_many : (t : Setting) (page : Paper) → 2 ≤ size t.grid → why_not_fitted t page ≡ None → why_no_scale_on t page ≡ None
-scale_of_many t page many h = sym (either_way (is_whole t page) None (why_no_scale_on t page) (one_of_many t page many)) ∙ h
+scale_of_many t page many h = sym (cond-false (is_whole t page) None (why_no_scale_on t page) (one_of_many t page many)) ∙ h
 
 -- so each stands in its cell
 pub in_cell : (t : Setting) (page : Paper) (k l : ℕ) → is_whole t page ≡ false → why_not_fitted t page ≡ None
     → (fitted t page k ≡ item_in page t.room t.grid t.order (scale_on t page) k) × HasPlace page t.room t.grid (scale_on t page)
 in_cell t page k l not h = (
-  either_way (is_whole t page) (alone k) (item_in page t.room t.grid t.order (scale_on t page) k) not,
-  (has_scale t page (sym (either_way (is_whole t page) None (why_no_scale_on t page) not) ∙ h)).place,
+  cond-false (is_whole t page) (alone k) (item_in page t.room t.grid t.order (scale_on t page) k) not,
+  (has_scale t page (sym (cond-false (is_whole t page) None (why_no_scale_on t page) not) ∙ h)).place,
 )
 
 pub fitted_is_apart : FittedIsApart
@@ -256,7 +253,7 @@ abbrev single : Item → Spec
 single i = record { modulo = 1; groups = (i ∷ []) ∷ [] }
 
 counts : (n : ℕ) → is_count n ≡ true → (1 ≤ n) × (n ≤ 1_024)
-counts n h = let both = both_true (nat_le 1 n) (nat_le n 1_024) h in (at_most 1 n both.0, at_most n 1_024 both.1)
+counts n h = let both = both_true (nat_le 1 n) (nat_le n 1_024) h in (leb-true 1 n both.0, leb-true n 1_024 both.1)
 
 -- what holds where nothing refuses
 record NothingRefuses (page sheet : Paper) (a : Arrangement) : Type 0 where
@@ -289,17 +286,17 @@ ArrangedSo page sheet a = (why_not_fitted (setting_of page sheet a) page ≡ Non
 whole_so : (page sheet : Paper) (a : Arrangement) → is_itself page sheet a ≡ true → is_whole (setting_of page sheet a) page ≡ true → ArrangedSo page sheet a
 whole_so page sheet a e whole =
     let t = setting_of page sheet a in
-    let alone_is : fitted t page 0 ≡ alone 0 = one_way (is_whole t page) (alone 0) _ whole in (
-      one_way (is_whole t page) None _ whole,
+    let alone_is : fitted t page 0 ≡ alone 0 = cond-true (is_whole t page) (alone 0) _ whole in (
+      cond-true (is_whole t page) None _ whole,
       itself_made page sheet a e ∙ (ap single (sym alone_is) ∙ ap (λ n. one_group n (fitted t page)) (sym (is_alone page sheet a e).one)),
     )
 
 cells_so : (page sheet : Paper) (a : Arrangement) → NothingRefuses page sheet a → is_itself page sheet a ≡ false → is_whole (setting_of page sheet a) page ≡ false → ArrangedSo page sheet a
 cells_so page sheet a holds e not =
     let t = setting_of page sheet a in
-    let scaled : why_no_scale t.room (scale_on t page) (scale_in page t.room t.grid) ≡ None = sym (either_way (is_itself page sheet a) None _ e) ∙ holds.behind in
-    let reasons : why_no_scale_on t page ≡ None = one_way (are_reached page && are_reached sheet) _ _ holds.reached ∙ (one_way (is_shown page t.room) _ _ holds.shown ∙ scaled) in (
-      either_way (is_whole t page) None _ not ∙ reasons,
+    let scaled : why_no_scale t.room (scale_on t page) (scale_in page t.room t.grid) ≡ None = sym (cond-false (is_itself page sheet a) None _ e) ∙ holds.behind in
+    let reasons : why_no_scale_on t page ≡ None = cond-true (are_reached page && are_reached sheet) _ _ holds.reached ∙ (cond-true (is_shown page t.room) _ _ holds.shown ∙ scaled) in (
+      cond-false (is_whole t page) None _ not ∙ reasons,
       cells_made page sheet a e
           ∙ ap (λ b. one_group (count_of a.cells) (λ k. if b then alone k else item_in page t.room t.grid t.order (scale_on t page) k)) (sym not),
     )
@@ -363,7 +360,7 @@ arranged_stands page sheet a is on h =
     by_test (is_itself page sheet a)
     (λ e. (subst (IsWritable most_slots) (sym (itself_made page sheet a e)) (itself_writable most_slots (omega arith)), itself_laid_out page sheet a is on e))
     (λ e.
-    let scaled : why_no_scale room s largest ≡ None = sym (either_way (is_itself page sheet a) None _ e) ∙ holds.behind in
+    let scaled : why_no_scale room s largest ≡ None = sym (cond-false (is_itself page sheet a) None _ e) ∙ holds.behind in
     let fit = made page room g s holds.shown (good_scale room s largest scaled) in
     let few = holds.few in (
       subst (IsWritable most_slots) (sym (cells_made page sheet a e))
@@ -384,10 +381,7 @@ one_paper_fits page sheet a t h e = subst (λ u. why_not_fitted u page ≡ None)
 -- where nothing refuses, only memory does
 pub no_fault : (one other : Option ArrangementError) (e : ArrangementError) → one ≡ None → IsFault one e → IsFault other e
 no_fault one other e none (inl h) = inl h
-no_fault one other e none (inr h) = absurd (none_some e (sym none ∙ h))
-  where
-    none_some : (e : ArrangementError) → None ≡ Some e → ⊥
-    none_some e h = cc
+no_fault one other e none (inr h) = let no = sym none ∙ h in absurd (cc (no))
 
 -- ---- leaves
 
@@ -418,7 +412,7 @@ leaves_fit page sheet b h =
     record {
       even = four.0;
       folds = five.0;
-      scaled = one_way (are_reached page && are_reached sheet) _ _ one.0 ∙ (one_way (is_shown page room) _ _ three.0 ∙ five.1);
+      scaled = cond-true (are_reached page && are_reached sheet) _ _ one.0 ∙ (cond-true (is_shown page room) _ _ three.0 ∙ five.1);
     }
 
 -- as much is kept free along their opposite edges

@@ -8,11 +8,11 @@ use Rattle.rules.specs.Specification.{Item, Left}
 use Rattle.layouts.specs.Placed.{IsEven, Room, fine, stands, IsOfPage}
 use Rattle.layouts.specs.Cells.{Along, along_height, cell, kept, step, left_free, whole, item_in, to_right}
 use Rattle.layouts.specs.Grids.{beside, leaf_order}
-use Rattle.layouts.specs.Laws.{IsPaper, HasPlace, IsHalfTurnOf, LiesBefore, LiesBehind, KeepsFold, LeafKeepsFold, RightToLeftIsMirror}
+use Rattle.layouts.specs.Laws.{IsPaper, HasPlace, IsHalfTurnOf, LiesBefore, LiesBehind, LeafKeepsFold, RightToLeftIsMirror}
 use Rattle.layouts.proofs.AlongSide.{moved_back, in_cell, cells_fit}
 use Rattle.layouts.proofs.Sides.{of_sides, placed, point, between}
 use Rattle.layouts.proofs.OnSide.{HasCell, ends, shown, trimmed, from_start}
-use Rattle.layouts.proofs.InGrid.{fits, sides_are}
+use Rattle.layouts.proofs.InGrid.{across_of, fits, sides_are}
 
 -- twice as far up as the fold
 abbrev pub fold : Along → (side : ℕ) → ℕ
@@ -58,9 +58,7 @@ behind_at v u k s a h x has (pos c) e of =
 behind_at v u k s a h x has (negsuc c) e of = absurd (let f = of.left in omega (arith, ints))
 
 pub has_cell : (v u : ℕ) (room : Room) (s : ℕ) → HasPlace (of_sides v u) room (beside true) s → HasCell (along_height room) (nat_abs room.paper.height) 2 v s
-has_cell v u room s place =
-    let f = fits (of_sides v u) room (beside true) s place in
-    record { some = f.some_wide; fits = f.is_wide; left = place.some_wide }
+has_cell v u room s place = across_of v u room 1 2 true s place
 
 -- one page, whatever its paper
 
@@ -121,38 +119,17 @@ pub turned_before : (room : Room) (T : ℕ) (page : Paper) (one other : Item) �
 turned_before room T page one other most h half p of =
     before_turned T (whole (nat_abs room.paper.height)) room.gap_up (stands page one p).y (stands page other p).y most (h p of) (half.up p)
 
-leaf_at : (v u : ℕ) (room : Room) (b : Bool) (s : ℕ) → IsEven room → HasPlace (of_sides v u) room (beside true) s
-    → KeepsFold (of_sides v u) room (item_in (of_sides v u) room (beside true) (leaf_order b) s (if b then 1 else 0)) (item_in (of_sides v u) room (beside true) (leaf_order b) s (if b then 0 else 1))
-leaf_at v u room false s even place =
-    let has = has_cell v u room s place in
-    let h = nat_abs room.paper.height in
-    let middle = in_middle (along_height room) h even.up has.some in
-    record {
-      twice = fold (along_height room) h;
-      no_farther = middle.0;
-      no_nearer = middle.1;
-      before = λ p of. before_at v u 0 s (along_height room) h (to_right (of_sides v u) room (beside true) s 0 0) has p.x p.y of;
-      behind = λ p of. behind_at v u 1 s (along_height room) h (to_right (of_sides v u) room (beside true) s 0 1) has p.x p.y of;
-    }
-leaf_at v u room true s even place =
-    let has = has_cell v u room s place in
-    let h = nat_abs room.paper.height in
-    let middle = in_middle (along_height room) h even.up has.some in
-    record {
-      twice = fold (along_height room) h;
-      no_farther = middle.0;
-      no_nearer = middle.1;
-      before = λ p of. before_at v u 1 s (along_height room) h (to_right (of_sides v u) room (beside true) s 0 0) has p.x p.y of;
-      behind = λ p of. behind_at v u 0 s (along_height room) h (to_right (of_sides v u) room (beside true) s 0 1) has p.x p.y of;
-    }
-
-abbrev FoldIf : (room : Room) (b : Bool) (s : ℕ) → Paper → Type 0
-FoldIf room b s o = HasPlace o room (beside true) s
-    → KeepsFold o room (item_in o room (beside true) (leaf_order b) s (if b then 1 else 0)) (item_in o room (beside true) (leaf_order b) s (if b then 0 else 1))
-
 pub leaf_keeps_fold : LeafKeepsFold
 leaf_keeps_fold page room b s is on even place =
-    subst (FoldIf room b s) (sym (sides_are page is)) (λ here. leaf_at (nat_abs page.width) (nat_abs page.height) room b s even here) place
+    let h = nat_abs room.paper.height in
+    let middle = in_middle (along_height room) h even.up (fits page room (beside true) s place).some_wide in
+    record {
+      twice = fold (along_height room) h;
+      no_farther = middle.0;
+      no_nearer = middle.1;
+      before = lies_before page room b s is place;
+      behind = lies_behind page room b s is place;
+    }
 
 pub mirror : RightToLeftIsMirror
 mirror page room s zero less = refl

@@ -1,55 +1,16 @@
 -- A page stands in its cell.
 use Rattle.std.proofs.Common.{arith, ℕ, ◌+◌, ◌-◌, ◌*◌, ◌≤◌, Bool, true, false, sym, subst}
-use Rattle.std.specs.Prelude.{ℤ, pos, negsuc, ◌≤ℤ◌, ◌+ℤ◌, ◌-ℤ◌, nat_abs, if◌then◌else◌, ◌==◌}
+use Rattle.std.specs.Prelude.{ℤ, pos, ◌≤ℤ◌, ◌+ℤ◌, ◌-ℤ◌, nat_abs, if◌then◌else◌, ◌==◌}
 use Rattle.std.proofs.lemmas.Int.{ints}
 use Rattle.rules.specs.Papers.{Paper}
-use Rattle.rules.specs.Specification.{Upright, Left}
 use Rattle.rules.specs.Placement.{Point}
-use Rattle.layouts.specs.Placed.{Room, fine, stands, IsOfPage}
+use Rattle.layouts.specs.Placed.{Room, fine, stands}
 use Rattle.layouts.specs.Cells.{Along, Grid, along_height, along_width, cell, kept, step, to_right, to_top, item_at, row_of, column_of}
 use Rattle.layouts.specs.Laws.{Cell, HasPlace, LiesInCell, IsInCell, GridIsInCell, cell_at}
 use Rattle.layouts.proofs.AlongSide.{in_cell, moved_back}
-use Rattle.layouts.proofs.Sides.{of_sides, placed, point, far, start, end, between}
+use Rattle.layouts.proofs.Sides.{of_sides, far, start, end, InBox, upright_box, left_box}
 use Rattle.layouts.proofs.OnSide.{HasCell, shown, trimmed, from_start, from_end, ends}
-use Rattle.layouts.proofs.InGrid.{cells, fits, sides_are}
-
--- ---- a page between four lines
-
-record InBox (left right bottom top : ℤ) (p : Point) : Type 0 where
-  pub left_is : left ≤ℤ p.x
-  pub right_is : p.x ≤ℤ right
-  pub bottom_is : bottom ≤ℤ p.y
-  pub top_is : p.y ≤ℤ top
-
-upright_box_at : (v u l k s : ℕ) (x y e f g h : ℤ) → e ≤ℤ (far x +ℤ pos (start l s)) → (far x +ℤ pos (end l v s)) ≤ℤ f → g ≤ℤ (far y +ℤ pos (start l s)) → (far y +ℤ pos (end l u s)) ≤ℤ h
-    → (a b : ℤ) → IsOfPage l (of_sides v u) (point a b) → InBox e f g h (stands (of_sides v u) (placed Upright k s x y) (point a b))
-upright_box_at v u l k s x y e f g h left right bottom top (pos a) (pos b) of =
-    let q = between l v s a (let f = of.left in omega (arith, ints)) (let f = of.right in omega (arith, ints)) in
-    let q' = between l u s b (let f = of.bottom in omega (arith, ints)) (let f = of.top in omega (arith, ints)) in
-    let i = q.start in let j = q.end in let i' = q'.start in let j' = q'.end in
-    record {
-      left_is = omega (arith, ints);
-      right_is = omega (arith, ints);
-      bottom_is = omega (arith, ints);
-      top_is = omega (arith, ints);
-    }
-upright_box_at v u l k s x y e f g h left right bottom top (negsuc a) b of = absurd (let f = of.left in omega (arith, ints))
-upright_box_at v u l k s x y e f g h left right bottom top (pos a) (negsuc b) of = absurd (let f = of.bottom in omega (arith, ints))
-
-left_box_at : (v u l k s : ℕ) (x y e f g h : ℤ) → (e +ℤ pos (end l u s)) ≤ℤ far x → far x ≤ℤ (f +ℤ pos (start l s)) → g ≤ℤ (far y +ℤ pos (start l s)) → (far y +ℤ pos (end l v s)) ≤ℤ h
-    → (a b : ℤ) → IsOfPage l (of_sides v u) (point a b) → InBox e f g h (stands (of_sides v u) (placed Left k s x y) (point a b))
-left_box_at v u l k s x y e f g h left right bottom top (pos a) (pos b) of =
-    let q = between l v s a (let f = of.left in omega (arith, ints)) (let f = of.right in omega (arith, ints)) in
-    let q' = between l u s b (let f = of.bottom in omega (arith, ints)) (let f = of.top in omega (arith, ints)) in
-    let i = q.start in let j = q.end in let i' = q'.start in let j' = q'.end in
-    record {
-      left_is = omega (arith, ints);
-      right_is = omega (arith, ints);
-      bottom_is = omega (arith, ints);
-      top_is = omega (arith, ints);
-    }
-left_box_at v u l k s x y e f g h left right bottom top (negsuc a) b of = absurd (let f = of.left in omega (arith, ints))
-left_box_at v u l k s x y e f g h left right bottom top (pos a) (negsuc b) of = absurd (let f = of.bottom in omega (arith, ints))
+use Rattle.layouts.proofs.InGrid.{across_of, cells, down_of, sides_are}
 
 -- ---- along a side
 
@@ -104,31 +65,29 @@ more_past z y n past h = omega (arith, ints, h)
 in_cell_at : (v u : ℕ) (room : Room) (r c : ℕ) (b : Bool) (s k row column : ℕ) → HasPlace (of_sides v u) room (cells r c b) s
     → IsInCell room (of_sides v u) (cell_at room (cells r c b) row column) (kept room.trim 0) (item_at (of_sides v u) room (cells r c b) s k row column)
 in_cell_at v u room r c false s k row column place p of =
-    let f = fits (of_sides v u) room (cells r c false) s place in
     let w = nat_abs room.paper.width in
     let h = nat_abs room.paper.height in
     let past = kept room.trim 0 in
     let g = cells r c false in
     let at = cell_at room g row column in
-    let across : HasCell (along_width room) w c v s = record { some = f.some_wide; fits = f.is_wide; left = place.some_wide } in
-    let down : HasCell (along_height room) h r u s = record { some = f.some_high; fits = f.is_high; left = place.some_high } in
+    let across : HasCell (along_width room) w c v s = across_of v u room r c false s place in
+    let down : HasCell (along_height room) h r u s = down_of v u room r c false s place in
     in_box at past (stands (of_sides v u) (item_at (of_sides v u) room g s k row column) p)
-    (upright_box_at v u room.trim k s (to_right (of_sides v u) room g s row column) (to_top (of_sides v u) room g s row column)
+    (upright_box v u room.trim k s (to_right (of_sides v u) room g s row column) (to_top (of_sides v u) room g s row column)
     (fine at.left -ℤ fine past) (fine (at.left + at.width + past)) (fine at.bottom -ℤ fine past) (fine (at.bottom + at.height + past))
     (less_past (fine at.left) _ past (starts_in (along_width room) w c v s column across)) (ends_in (along_width room) w c v s column across)
     (less_past (fine at.bottom) _ past (starts_in (along_height room) h r u s (r - (row + 1)) down)) (ends_in (along_height room) h r u s (r - (row + 1)) down)
     p.x p.y of)
 in_cell_at v u room r c true s k row column place p of =
-    let f = fits (of_sides v u) room (cells r c true) s place in
     let w = nat_abs room.paper.width in
     let h = nat_abs room.paper.height in
     let past = kept room.trim 0 in
     let g = cells r c true in
     let at = cell_at room g row column in
-    let across : HasCell (along_height room) h c v s = record { some = f.some_wide; fits = f.is_wide; left = place.some_wide } in
-    let down : HasCell (along_width room) w r u s = record { some = f.some_high; fits = f.is_high; left = place.some_high } in
+    let across : HasCell (along_height room) h c v s = across_of v u room r c true s place in
+    let down : HasCell (along_width room) w r u s = down_of v u room r c true s place in
     in_box at past (stands (of_sides v u) (item_at (of_sides v u) room g s k row column) p)
-    (left_box_at v u room.trim k s (to_right (of_sides v u) room g s row column) (to_top (of_sides v u) room g s row column)
+    (left_box v u room.trim k s (to_right (of_sides v u) room g s row column) (to_top (of_sides v u) room g s row column)
     (fine at.left -ℤ fine past) (fine (at.left + at.width + past)) (fine at.bottom -ℤ fine past) (fine (at.bottom + at.height + past))
     (starts_in_turned (along_width room) w r u s row down) (more_past _ (pos (start room.trim s)) (at.left + at.width) past (ends_in_turned (along_width room) w r u s row down))
     (less_past (fine at.bottom) _ past (starts_in (along_height room) h c v s column across)) (ends_in (along_height room) h c v s column across)

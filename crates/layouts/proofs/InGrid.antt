@@ -1,6 +1,6 @@
 -- Pages in the cells of a grid: where they are. A page has the sides v and u, and its scale is s; the other page's are v',
 -- u' and s'.
-use Rattle.std.proofs.Common.{arith, rules, ◌≡◌, ℕ, ◌+◌, ◌-◌, ◌*◌, ◌<◌, ◌≤◌, Bool, true, false, refl, sym, subst}
+use Rattle.std.proofs.Common.{arith, ◌≡◌, ℕ, zero, suc, ◌+◌, ◌-◌, ◌*◌, ◌<◌, ◌≤◌, Bool, true, false, refl, sym, subst}
 use Rattle.std.specs.Prelude.{ℤ, pos, negsuc, ◌+ℤ◌, ◌*ℤ◌, ◌≤ℤ◌, nat_abs, IsTrue, ◌&&◌}
 use Rattle.std.proofs.Math.Nat.{min-le_left, min-le_right, div-mul-le_self}
 use Rattle.std.proofs.lemmas.Int.{ints}
@@ -10,10 +10,15 @@ use Rattle.layouts.specs.declared.arrangement.Turned.TheVariants as sideways
 use Rattle.layouts.specs.Placed.{Room, fine, stands, IsOfPage, LiesWithin, IsLeftOf, IsAbove}
 use Rattle.layouts.specs.Cells.{Grid, along_height, along_width, held_across, held_down, held_height, held_width, wide, high, counted, fitting, whole, to_right, to_top, item_at}
 use Rattle.layouts.specs.Laws.{IsPaper, HasPlace}
-use Rattle.layouts.specs.Refusals.{is_reached}
 use Rattle.layouts.proofs.AlongSide.{scaled_fits, some_cell}
 use Rattle.layouts.proofs.Sides.{of_sides, LiesIn, within_upright, within_left, left_by_upright, below_by_upright, left_by_left, above_by_left}
 use Rattle.layouts.proofs.OnSide.{HasCell, begins, finishes, comes_before, begins_turned, finishes_turned, comes_before_turned}
+
+-- of a product that isn't 0 neither factor is
+pub some_each : (r c : ℕ) → 0 < r * c → (0 < r) × (0 < c)
+some_each zero c h = absurd (omega (arith, h))
+some_each (suc r) zero h = absurd (omega (arith, h))
+some_each (suc r) (suc c) h = (omega arith, omega arith)
 
 abbrev pub cells : (r c : ℕ) → Bool → Grid
 cells r c turned = record { rows = r; columns = c; turned = turned }
@@ -46,7 +51,7 @@ fits page room g s place =
     }
 
 -- across and down, in a grid that is upright or turned
-across_of : (v u : ℕ) (room : Room) (r c : ℕ) (b : Bool) (s : ℕ) → HasPlace (of_sides v u) room (cells r c b) s
+pub across_of : (v u : ℕ) (room : Room) (r c : ℕ) (b : Bool) (s : ℕ) → HasPlace (of_sides v u) room (cells r c b) s
     → HasCell (held_across b room) (held_width b room.paper) c v s
 across_of v u room r c false s place =
     let f = fits (of_sides v u) room (cells r c false) s place in
@@ -55,7 +60,7 @@ across_of v u room r c true s place =
     let f = fits (of_sides v u) room (cells r c true) s place in
     record { some = f.some_wide; fits = f.is_wide; left = place.some_wide }
 
-down_of : (v u : ℕ) (room : Room) (r c : ℕ) (b : Bool) (s : ℕ) → HasPlace (of_sides v u) room (cells r c b) s
+pub down_of : (v u : ℕ) (room : Room) (r c : ℕ) (b : Bool) (s : ℕ) → HasPlace (of_sides v u) room (cells r c b) s
     → HasCell (held_down b room) (held_height b room.paper) r u s
 down_of v u room r c false s place =
     let f = fits (of_sides v u) room (cells r c false) s place in
@@ -161,34 +166,34 @@ AboveIn g room s s' k k' row column row' column' o o' =
 left_at : (v u v' u' : ℕ) (room : Room) (r c : ℕ) (b : Bool) (s s' k k' row column row' column' : ℕ)
     → HasPlace (of_sides v u) room (cells r c b) s → HasPlace (of_sides v' u') room (cells r c b) s' → column < column'
     → LeftIn (cells r c b) room s s' k k' row column row' column' (of_sides v u) (of_sides v' u')
-left_at v u v' u' room r c false s s' k k' row column row' column' place place' before =
+left_at v u v' u' room r c false s s' k k' row column row' column' place place' before p q of of' =
     let g = cells r c false in
     let o = of_sides v u in
     let o' = of_sides v' u' in
     left_by_upright v u v' u' room.gap_across room.trim k k' s s' (to_right o room g s row column) (to_top o room g s row column) (to_right o' room g s' row' column') (to_top o' room g s' row' column')
-    (comes_before (along_width room) (nat_abs room.paper.width) c v s v' s' column column' (across_of v u room r c false s place) (across_of v' u' room r c false s' place') before)
-left_at v u v' u' room r c true s s' k k' row column row' column' place place' before =
+    (comes_before (along_width room) (nat_abs room.paper.width) c v s v' s' column column' (across_of v u room r c false s place) (across_of v' u' room r c false s' place') before) p.x p.y q.x q.y of of'
+left_at v u v' u' room r c true s s' k k' row column row' column' place place' before p q of of' =
     let g = cells r c true in
     let o = of_sides v u in
     let o' = of_sides v' u' in
     left_by_left v u v' u' room.gap_up room.trim k k' s s' (to_right o room g s row column) (to_top o room g s row column) (to_right o' room g s' row' column') (to_top o' room g s' row' column')
-    (comes_before (along_height room) (nat_abs room.paper.height) c v s v' s' column column' (across_of v u room r c true s place) (across_of v' u' room r c true s' place') before)
+    (comes_before (along_height room) (nat_abs room.paper.height) c v s v' s' column column' (across_of v u room r c true s place) (across_of v' u' room r c true s' place') before) p.x p.y q.x q.y of of'
 
 above_at : (v u v' u' : ℕ) (room : Room) (r c : ℕ) (b : Bool) (s s' k k' row column row' column' : ℕ)
     → HasPlace (of_sides v u) room (cells r c b) s → HasPlace (of_sides v' u') room (cells r c b) s' → row < row' → row' < r
     → AboveIn (cells r c b) room s s' k k' row column row' column' (of_sides v u) (of_sides v' u')
-above_at v u v' u' room r c false s s' k k' row column row' column' place place' before last =
+above_at v u v' u' room r c false s s' k k' row column row' column' place place' before last p q of of' =
     let g = cells r c false in
     let o = of_sides v u in
     let o' = of_sides v' u' in
     below_by_upright v' u' v u room.gap_up room.trim k' k s' s (to_right o' room g s' row' column') (to_top o' room g s' row' column') (to_right o room g s row column) (to_top o room g s row column)
-    (comes_before (along_height room) (nat_abs room.paper.height) r u' s' u s (r - (row' + 1)) (r - (row + 1)) (down_of v' u' room r c false s' place') (down_of v u room r c false s place) (omega (arith, before, last)))
-above_at v u v' u' room r c true s s' k k' row column row' column' place place' before last =
+    (comes_before (along_height room) (nat_abs room.paper.height) r u' s' u s (r - (row' + 1)) (r - (row + 1)) (down_of v' u' room r c false s' place') (down_of v u room r c false s place) (omega (arith, before, last))) p.x p.y q.x q.y of of'
+above_at v u v' u' room r c true s s' k k' row column row' column' place place' before last p q of of' =
     let g = cells r c true in
     let o = of_sides v u in
     let o' = of_sides v' u' in
     above_by_left v u v' u' room.gap_across room.trim k k' s s' (to_right o room g s row column) (to_top o room g s row column) (to_right o' room g s' row' column') (to_top o' room g s' row' column')
-    (comes_before_turned (along_width room) (nat_abs room.paper.width) r u s u' s' row row' (down_of v u room r c true s place) (down_of v' u' room r c true s' place') before)
+    (comes_before_turned (along_width room) (nat_abs room.paper.width) r u s u' s' row row' (down_of v u room r c true s place) (down_of v' u' room r c true s' place') before) p.x p.y q.x q.y of of'
 
 abbrev LeftIf : (room : Room) (g : Grid) (s s' k k' row column row' column' : ℕ) → (o o' : Paper) → Type 0
 LeftIf room g s s' k k' row column row' column' o o' =
@@ -211,8 +216,3 @@ is_above page page' room g s s' k k' row column row' column' is is' place place'
     with_sides (AboveIf room g s s' k k' row column row' column') page page' is is'
     (λ here here'. above_at (nat_abs page.width) (nat_abs page.height) (nat_abs page'.width) (nat_abs page'.height) room g.rows g.columns g.turned s s' k k' row column row' column' here here' before last)
     place place'
-
--- ---- the sides, where offsets reach across
-
-reached : (n : ℕ) → IsTrue (is_reached n) → n < 12_700_000_000_000_000
-reached n h = search (rules, h)

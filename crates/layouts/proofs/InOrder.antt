@@ -1,5 +1,5 @@
 -- The order of pages as one reads the sheet.
-use Rattle.std.proofs.Common.{arith, ℕ, suc, zero, ◌+◌, ◌-◌, ◌*◌, ◌/◌, ◌%◌, ◌<◌, Bool, true, false}
+use Rattle.std.proofs.Common.{arith, ℕ, ◌+◌, ◌-◌, ◌*◌, ◌/◌, ◌%◌, ◌<◌, Bool, true, false}
 use Rattle.std.specs.Prelude.{ℤ, neg_ℤ, nat_abs, ◌≤ℤ◌, ◌+ℤ◌, if◌then◌else◌}
 use Rattle.std.proofs.Math.Nat.{mod-lt, div-lt_iff_lt-mul, mul_comm}
 use Rattle.std.proofs.lemmas.Int.{ints}
@@ -13,22 +13,17 @@ use Rattle.layouts.specs.Placed.{Room, fine, IsLeftOf, IsAbove}
 use Rattle.layouts.specs.Cells.{Grid, size, item_at, read_columns, read_rows, run_in, read_row, nth_column, read_column, held_row, held_column, row_of, column_of}
 use Rattle.layouts.specs.Laws.{IsPaper, HasPlace, IsBeside, ComesInRun, ComesInRunBefore, GridIsInside, GridIsInOrder}
 use Rattle.layouts.proofs.Sides.{abs_neg}
-use Rattle.layouts.proofs.InGrid.{in_whole, on_sheet, is_left, is_above}
+use Rattle.layouts.proofs.InGrid.{in_whole, on_sheet, is_left, is_above, some_each}
 
 -- ---- rows and columns of page k
 
-some_of_both : (r c k : ℕ) → k < r * c → (0 < r) × (0 < c)
-some_of_both zero c k h = absurd (omega (arith, h))
-some_of_both (suc r) zero k h = absurd (omega (arith, h))
-some_of_both (suc r) (suc c) k h = (omega arith, omega arith)
+pub along_rows : (r c k : ℕ) → k < r * c → (k / c < r) × (k % c < c)
+along_rows r c k h = let some = (some_each r c (omega (arith, h))).1 in ((div-lt_iff_lt-mul some).1 h, mod-lt k some)
 
-along_rows : (r c k : ℕ) → k < r * c → (k / c < r) × (k % c < c)
-along_rows r c k h = let some = (some_of_both r c k h).1 in ((div-lt_iff_lt-mul some).1 h, mod-lt k some)
+pub along_columns : (r c k : ℕ) → k < r * c → (k % r < r) × (k / r < c)
+along_columns r c k h = let some = (some_each r c (omega (arith, h))).0 in (mod-lt k some, (div-lt_iff_lt-mul some).1 (omega (arith, h, mul_comm r c)))
 
-along_columns : (r c k : ℕ) → k < r * c → (k % r < r) × (k / r < c)
-along_columns r c k h = let some = (some_of_both r c k h).0 in (mod-lt k some, (div-lt_iff_lt-mul some).1 (omega (arith, h, mul_comm r c)))
-
-read_size : (t : Turned) (g : Grid) (k : ℕ) → k < size g → k < read_rows t g * read_columns t g
+pub read_size : (t : Turned) (g : Grid) (k : ℕ) → k < size g → k < read_rows t g * read_columns t g
 read_size sideways.Upright g k h = h
 read_size sideways.Left g k h = omega (arith, h, mul_comm g.rows g.columns)
 read_size sideways.Right g k h = omega (arith, h, mul_comm g.rows g.columns)

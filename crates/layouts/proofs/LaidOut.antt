@@ -18,7 +18,7 @@ use Rattle.layouts.specs.Cells.{Grid, size, item_in, back_in, in_grid, scale_in,
 use Rattle.layouts.specs.Grids.{formed, best_formed, grid_of, count_of, scale_for, beside, leaf_order, alone, is_same, sides_in}
 use Rattle.layouts.specs.Laws.{IsPaper, HasPlace, IsNotTiny, Allows, EachTwo, IsInOrder, IsLike, IsExact, IsLaidOut, ArePages, IsChosen, IsArrangedIn, AreInMiddle, IsInCell, IsInMiddle, cell_at, AreSidesIn, AreFolded}
 use Rattle.layouts.proofs.Sides.{of_sides}
-use Rattle.layouts.proofs.InGrid.{cells, room_in, both_true, with_sides}
+use Rattle.layouts.proofs.InGrid.{cells, room_in, both_true, some_each, with_sides}
 use Rattle.layouts.proofs.InOrder.{grid_inside, grid_in_order, place_fits}
 use Rattle.layouts.proofs.Apart.{grid_apart, in_run_apart}
 use Rattle.layouts.proofs.Middle.{grid_in_middle}
@@ -65,11 +65,6 @@ turn_is true = inr refl
 turn_is false = inl refl
 
 -- ---- which grid
-
-pub some_each : (columns rows : ℕ) → 0 < columns * rows → (0 < columns) × (0 < rows)
-some_each zero rows h = absurd (omega (arith, h))
-some_each (suc columns) zero h = absurd (omega (arith, h))
-some_each (suc columns) (suc rows) h = (omega arith, omega arith)
 
 pub some_cells : (r c n : ℕ) → 0 < r → 0 < c → n ≡ r * c → 0 < n
 some_cells zero c n some some' e = absurd (omega (arith, some))
@@ -180,9 +175,6 @@ itself_large_at page sheet d d' r c true t same sides some_r some_c allows =
     wide high (inr (ap (λ n. n - 2_540_000 * 0) (sym same.high), ap (λ n. n - 2_540_000 * 0) (sym same.wide))) in
     omega (arith, most)
 
-some_sides : (r c : ℕ) → 1 ≤ r * c → (0 < r) × (0 < c)
-some_sides r c h = let some = some_each r c h in (some.0, some.1)
-
 itself_inside_at : (v u d d' : ℕ) → IsInside (room_in (of_sides v u) d d') (of_sides v u) (alone 0)
 itself_inside_at v u d d' p of = search (rules, of)
 
@@ -280,7 +272,7 @@ one_each (suc (suc c)) (suc (suc r)) e = absurd (omega (arith, e))
 itself_chosen : (page sheet : Paper) (d d' : ℕ) (t : Turned) (c : Cells) → count_of c ≡ 1 → SameSides page sheet → IsChosen page (room_in sheet d d') t c 1_000_000_000 (cells 1 1 false)
 itself_chosen page sheet d d' t (AtLeast n) one same = (
   omega (arith, one),
-  λ h s sides many allows. let some = some_sides h.rows h.columns (omega (arith, many, one)) in itself_large_at page sheet d d' h.rows h.columns h.turned s same sides some.0 some.1 allows,
+  λ h s sides many allows. let some = some_each h.rows h.columns (omega (arith, many, one)) in itself_large_at page sheet d d' h.rows h.columns h.turned s same sides some.0 some.1 allows,
   λ h many large. omega (arith, many, one),
 )
 itself_chosen page sheet d d' t (Exactly columns rows) one same =

@@ -1,6 +1,7 @@
 -- Where nothing refuses, and what follows from that.
 use Rattle.std.proofs.Common.{arith, rules, ◌≡◌, ℕ, suc, zero, ◌+◌, ◌*◌, ◌<◌, ◌≤◌, Bool, true, false, Option, Some, None, refl, sym, ap, subst, ◌∙◌}
 use Rattle.std.specs.Prelude.{ℤ, nat_abs, IsTrue, ◌&&◌, ◌==◌, nat_le, nat_lt, if◌then◌else◌, is_none}
+use Rattle.std.proofs.lemmas.Bool.{cond-false, cond-true, le-leb, leb-true, ltb-true}
 use Rattle.lengths.proofs.Numbers.{same_byte}
 use Rattle.rules.specs.Papers.{Paper}
 use Rattle.layouts.specs.declared.arrangement.Arrangement.{Arrangement}
@@ -54,27 +55,21 @@ pub record IsGoodScale (room : Room) (s largest : ℕ) : Type 0 where
   pub fits : s ≤ largest
   pub near : IsTrue (is_near room s)
 
-pub at_most : (a b : ℕ) → nat_le a b ≡ true → a ≤ b
-at_most a b e = search (rules, e)
-
 pub good_scale : (room : Room) (s largest : ℕ) → why_no_scale room s largest ≡ None → IsGoodScale room s largest
 good_scale room s largest h =
     let one = passed (nat_le 1 largest) why.NoRoom (first_of (is_scale s) why.ScaleOutOfRange (first_of (nat_le s largest) why.ScaleTooLarge (first_of (is_near room s) why.ScaleOutOfRange None))) h in
     let two = passed (is_scale s) why.ScaleOutOfRange (first_of (nat_le s largest) why.ScaleTooLarge (first_of (is_near room s) why.ScaleOutOfRange None)) one.1 in
     let three = passed (nat_le s largest) why.ScaleTooLarge (first_of (is_near room s) why.ScaleOutOfRange None) two.1 in
     let four = passed (is_near room s) why.ScaleOutOfRange None three.1 in
-    record { scale = two.0; fits = at_most s largest three.0; near = four.0 }
-
-less : (a b : ℕ) → IsTrue (nat_lt a b) → a < b
-less a b e = search (rules, e)
+    record { scale = two.0; fits = leb-true s largest three.0; near = four.0 }
 
 -- so each page has its place
 pub place : (page : Paper) (room : Room) (g : Grid) (s : ℕ) → IsTrue (is_shown page room) → IsGoodScale room s (scale_in page room g) → HasPlace page room g s
 place page room g s shown good =
     let sides = both_true (nat_lt (2_540_000 * room.trim) (nat_abs page.width)) (nat_lt (2_540_000 * room.trim) (nat_abs page.height)) shown in
     record {
-      some_wide = less (2_540_000 * room.trim) (nat_abs page.width) sides.0;
-      some_high = less (2_540_000 * room.trim) (nat_abs page.height) sides.1;
+      some_wide = ltb-true (2_540_000 * room.trim) (nat_abs page.width) sides.0;
+      some_high = ltb-true (2_540_000 * room.trim) (nat_abs page.height) sides.1;
       above_zero = (scale_range s good.scale).0;
       fits = good.fits;
     }
@@ -87,14 +82,6 @@ made page room g s shown good = record { place = place page room g s shown good;
 count_passed : (n : ℕ) → 1 ≤ n → n ≤ 1_024 → is_count n ≡ true
 count_passed n some most = search (rules, some, most)
 
-pub either_way : {X : Type 0} (b : Bool) (x y : X) → b ≡ false → (if b then x else y) ≡ y
-either_way true x y e = cc
-either_way false x y e = refl
-
-pub one_way : {X : Type 0} (b : Bool) (x y : X) → b ≡ true → (if b then x else y) ≡ x
-one_way true x y e = refl
-one_way false x y e = cc
-
 -- the reasons behind those of the sheet
 abbrev arranged_reasons : (page sheet : Paper) → Arrangement → Option ArrangementError
 arranged_reasons page sheet a =
@@ -103,7 +90,7 @@ arranged_reasons page sheet a =
     if is_itself page sheet a then None else why_no_scale room (scale_for a.scale largest) largest
 
 counted : (page sheet : Paper) (a : Arrangement) (next : Option ArrangementError) → 1 ≤ count_of a.cells → count_of a.cells ≤ 1_024 → first_of (is_count (count_of a.cells)) why.CellsOutOfRange next ≡ next
-counted page sheet a next some most = one_way (is_count (count_of a.cells)) next (Some why.CellsOutOfRange) (count_passed (count_of a.cells) some most)
+counted page sheet a next some most = cond-true (is_count (count_of a.cells)) next (Some why.CellsOutOfRange) (count_passed (count_of a.cells) some most)
 
 pub sheet_refused : (page sheet : Paper) (a : Arrangement) (e : ArrangementError) → 1 ≤ count_of a.cells → count_of a.cells ≤ 1_024 → why_no_sheet page sheet a.free None ≡ Some e
     → why_not_arranged page sheet a ≡ Some e
@@ -119,7 +106,7 @@ pub cells_reasons : (page sheet : Paper) (a : Arrangement) → 1 ≤ count_of a.
     → (let room = room_of sheet a.free in
     let largest = scale_in page room (grid_of page room a.order.turned a.cells) in
     why_not_arranged page sheet a ≡ why_no_scale room (scale_for a.scale largest) largest)
-cells_reasons page sheet a some most h is = arranged_by page sheet a some most h ∙ either_way (is_itself page sheet a) None _ is
+cells_reasons page sheet a some most h is = arranged_by page sheet a some most h ∙ cond-false (is_itself page sheet a) None _ is
 
 -- why there is no scale is why nothing is arranged
 pub scale_refused : (page sheet : Paper) (a : Arrangement) (room : Room) (grid : Grid) (largest : ℕ) (error : ArrangementError) → 1 ≤ count_of a.cells → count_of a.cells ≤ 1_024
@@ -171,7 +158,7 @@ is_alone page sheet a h =
     }
 
 pub itself_made : (page sheet : Paper) (a : Arrangement) → is_itself page sheet a ≡ true → arranged page sheet a ≡ itself
-itself_made page sheet a is = one_way (is_itself page sheet a) itself _ is
+itself_made page sheet a is = cond-true (is_itself page sheet a) itself _ is
 
 pub itself_laid_out : (page sheet : Paper) (a : Arrangement) → IsPaper page → IsPaper sheet → is_itself page sheet a ≡ true → IsArranged page sheet a (arranged page sheet a)
 itself_laid_out page sheet a is on h =
@@ -183,7 +170,7 @@ itself_laid_out page sheet a is on h =
 
 pub cells_made : (page sheet : Paper) (a : Arrangement) → is_itself page sheet a ≡ false
     → (let room = room_of sheet a.free in arranged page sheet a ≡ in_cells page room (grid_of page room a.order.turned a.cells) a)
-cells_made page sheet a is = either_way (is_itself page sheet a) itself _ is
+cells_made page sheet a is = cond-false (is_itself page sheet a) itself _ is
 
 pub cells_laid_out : (page sheet : Paper) (a : Arrangement) → IsPaper page → IsPaper sheet → 1 ≤ count_of a.cells → is_itself page sheet a ≡ false
     → (let room = room_of sheet a.free in
@@ -210,7 +197,7 @@ pub leaves_possible : (page sheet : Paper) (b : Binding) → why_no_sheet page s
     let largest = scale_in page room (beside true) in
     why_not_bound page sheet b ≡ why_no_scale room largest largest)
 leaves_possible page sheet b h even folds =
-    leaves_reasons page sheet b h ∙ (one_way (is_even (room_of sheet b.free)) _ _ even ∙ one_way (folds_short page (room_of sheet b.free)) _ _ folds)
+    leaves_reasons page sheet b h ∙ (cond-true (is_even (room_of sheet b.free)) _ _ even ∙ cond-true (folds_short page (room_of sheet b.free)) _ _ folds)
 
 -- what is found of a scale is found of leaves
 pub leaf_reason : (page sheet : Paper) (b : Binding) (room : Room) (largest : ℕ) (found : Option ArrangementError) → why_no_sheet page sheet b.free None ≡ None
@@ -225,21 +212,18 @@ leaf_reason page sheet b room largest found good e even folds g h =
 -- and so are margins that aren't even
 pub uneven : (page sheet : Paper) (b : Binding) (room : Room) → why_no_sheet page sheet b.free None ≡ None → room ≡ room_of sheet b.free → is_even room ≡ false → why_not_bound page sheet b ≡ Some why.UnevenMargins
 uneven page sheet b room good e not =
-    leaves_reasons page sheet b good ∙ either_way (is_even (room_of sheet b.free)) _ _ (ap is_even (sym e) ∙ not)
+    leaves_reasons page sheet b good ∙ cond-false (is_even (room_of sheet b.free)) _ _ (ap is_even (sym e) ∙ not)
 
 pub long_fold : (page sheet : Paper) (b : Binding) (room : Room) → why_no_sheet page sheet b.free None ≡ None → room ≡ room_of sheet b.free → is_even room ≡ true → folds_short page room ≡ false
     → why_not_bound page sheet b ≡ Some why.FoldOnLongEdge
 long_fold page sheet b room good e even not =
     leaves_reasons page sheet b good
-    ∙ (one_way (is_even (room_of sheet b.free)) _ _ (ap is_even (sym e) ∙ even) ∙ either_way (folds_short page (room_of sheet b.free)) _ _ (ap (folds_short page) (sym e) ∙ not))
+    ∙ (cond-true (is_even (room_of sheet b.free)) _ _ (ap is_even (sym e) ∙ even) ∙ cond-false (folds_short page (room_of sheet b.free)) _ _ (ap (folds_short page) (sym e) ∙ not))
 
 pub even_room : (room : Room) → is_even room ≡ true → IsEven room
 even_room room h =
     let both = both_true (room.left == room.right) (room.bottom == room.top) h in
     record { across = same_byte room.left room.right both.0; up = same_byte room.bottom room.top both.1 }
-
-no_wider : (w h : ℕ) → IsTrue (nat_le w h) → w ≤ h
-no_wider w h e = search (rules, e)
 
 pub leaves_laid_out : (page sheet : Paper) (b : Binding) → IsPaper page → IsPaper sheet → IsEven (room_of sheet b.free) → IsTrue (folds_short page (room_of sheet b.free))
     → (let room = room_of sheet b.free in HasPlace page room (beside true) (scale_in page room (beside true)))
@@ -248,7 +232,7 @@ leaves_laid_out page sheet b is on even folds has =
     let room = room_of sheet b.free in
     let (high, most) = both_true (nat_le (nat_abs sheet.width) (nat_abs sheet.height)) (nat_le (scale_in page room (beside false)) (scale_in page room (beside true))) folds in
     record {
-      fold = no_wider (nat_abs sheet.width) (nat_abs sheet.height) high;
+      fold = leb-true (nat_abs sheet.width) (nat_abs sheet.height) high;
       scale = scale_in page room (beside true);
       sides = sides_laid_out page room b.right_to_left b.long_edge is on even has;
       folded = λ front more e. sides_folded page room b.right_to_left b.long_edge is on even has front more e;
@@ -256,9 +240,6 @@ leaves_laid_out page sheet b is on even folds has =
     }
 
 -- ---- the fold
-
-no_less : (a b : ℕ) → a ≤ b → nat_le a b ≡ true
-no_less a b h = search (rules, h)
 
 behind_true : (x y z : Bool) → x ≡ true → z ≡ y → z ≡ x && y
 behind_true true y z e f = f
@@ -268,5 +249,5 @@ pub folds_is : (page : Paper) (room : Room) (w h a b : ℕ) → w ≡ nat_abs ro
     → a ≡ scale_in page room (beside false) → b ≡ scale_in page room (beside true) → nat_le a b ≡ folds_short page room
 folds_is page room w h a b wide high most upright turned =
     behind_true (nat_le (nat_abs room.paper.width) (nat_abs room.paper.height)) (nat_le (scale_in page room (beside false)) (scale_in page room (beside true))) (nat_le a b)
-    (no_less (nat_abs room.paper.width) (nat_abs room.paper.height) (omega (arith, wide, high, most)))
+    (le-leb (nat_abs room.paper.width) (nat_abs room.paper.height) (omega (arith, wide, high, most)))
     (ap (λ m. nat_le m b) upright ∙ ap (nat_le (scale_in page room (beside false))) turned)

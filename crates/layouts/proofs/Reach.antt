@@ -1,6 +1,7 @@
 -- How far pages are moved can be printed.
-use Rattle.std.proofs.Common.{arith, rules, ◌≡◌, ℕ, ◌+◌, ◌-◌, ◌<◌, ◌≤◌, Bool, true, false, ap, ◌∙◌}
+use Rattle.std.proofs.Common.{arith, ◌≡◌, ℕ, ◌+◌, ◌-◌, ◌<◌, ◌≤◌, Bool, true, false, ap, ◌∙◌}
 use Rattle.std.specs.Prelude.{ℤ, pos, ◌+ℤ◌, ◌-ℤ◌, nat_abs, IsTrue, nat_lt, if◌then◌else◌}
+use Rattle.std.proofs.lemmas.Bool.{ltb-true}
 use Rattle.std.proofs.lemmas.Int.{ints}
 use Rattle.rules.specs.Papers.{Paper}
 use Rattle.rules.specs.Specification.{Item, Measure, Turn}
@@ -42,9 +43,6 @@ pub record ShiftFits (page : Paper) (room : Room) (g : Grid) (s row column : ℕ
   pub back_across : nat_abs (pos (whole (nat_abs room.paper.width)) -ℤ to_right page room g s row column) ≤ 9_999_999_999
   pub back_up : nat_abs (pos (whole (nat_abs room.paper.height)) -ℤ to_top page room g s row column) ≤ 9_999_999_999
 
-below : (a b : ℕ) → IsTrue (nat_lt a b) → a < b
-below a b h = search (rules, h)
-
 moved_back : (a back most : ℕ) → a ≤ most → most + back < 10_000_000_000 → (nat_abs (pos a -ℤ pos back) ≤ 9_999_999_999) × (nat_abs (pos most -ℤ (pos a -ℤ pos back)) ≤ 9_999_999_999)
 moved_back a back most h near = (omega (arith, ints, h, near), omega (arith, ints, h, near))
 
@@ -69,7 +67,7 @@ shift_fits page room g o s k place near within =
     let (across, up) = both_true (nat_lt (whole (nat_abs room.paper.width) + trimmed room s) 10_000_000_000) (nat_lt (whole (nat_abs room.paper.height) + trimmed room s) 10_000_000_000) near in
     shift_at page room g.rows g.columns g.turned s (row_of o g k) (column_of o g k)
     (corner_fits page room g s (row_of o g k) (column_of o g k) place fit.0 fit.1)
-    (below (whole (nat_abs room.paper.width) + trimmed room s) 10_000_000_000 across) (below (whole (nat_abs room.paper.height) + trimmed room s) 10_000_000_000 up)
+    (ltb-true (whole (nat_abs room.paper.width) + trimmed room s) 10_000_000_000 across) (ltb-true (whole (nat_abs room.paper.height) + trimmed room s) 10_000_000_000 up)
 
 -- how far a page is moved, from its corner
 pub right_is : (page : Paper) (room : Room) (g : Grid) (s row column row' column' x back : ℕ) → x ≡ corner_x page room g s row column → row ≡ row' → column ≡ column' → back ≡ trimmed room s
@@ -83,15 +81,6 @@ pub top_is : (page : Paper) (room : Room) (g : Grid) (s row column row' column' 
 top_is page room g s row column row' column' y back e rows columns f =
     ap (λ m. pos m -ℤ pos back) (e ∙ (ap (λ m. corner_y page room g s m column) rows ∙ ap (λ m. corner_y page room g s row' m) columns))
     ∙ ap (λ b. pos (corner_y page room g s row' column') -ℤ pos b) f
-
--- an item from its parts
-pub item_is : (page : Paper) (room : Room) (g : Grid) (s k row column : ℕ) (t : Turn) (scale : ℤ) (x y : Measure) → t ≡ turn_in g → scale ≡ pos s → x ≡ in_points (to_right page room g s row column) → y ≡ in_points (to_top page room g s row column)
-    → record { page = k; from_end = false; turn = t; scale = scale; x = x; y = y } ≡ item_at page room g s k row column
-item_is page room g s k row column t scale x y turn is right top =
-    ap (λ z. record { page = k; from_end = false; turn = z; scale = scale; x = x; y = y }) turn
-    ∙ (ap (λ z. record { page = k; from_end = false; turn = turn_in g; scale = z; x = x; y = y }) is
-    ∙ (ap (λ z. record { page = k; from_end = false; turn = turn_in g; scale = pos s; x = z; y = y }) right
-    ∙ ap (λ z. record { page = k; from_end = false; turn = turn_in g; scale = pos s; x = in_points (to_right page room g s row column); y = z }) top))
 
 -- an item is one with the same parts
 abbrev parts : (k : ℕ) (t : Turn) (scale : ℤ) (x y : Measure) → Item

@@ -3,6 +3,7 @@ use Rattle.std.proofs.Common.{arith, rules, ◌≡◌, ℕ, suc, zero, ◌+◌, 
 use Rattle.std.specs.Prelude.{map, ℤ, pos, negsuc, ◌*ℤ◌, ◌-ℤ◌, int_le, nat_abs, IsTrue, nat_le, decimal}
 use Rattle.std.specs.List.{range_with_len, AllByRecursion}
 use Rattle.std.proofs.Math.IntN.{*ℤ-negsuc}
+use Rattle.std.proofs.lemmas.Bool.{leb-true}
 use Rattle.std.proofs.lemmas.Int.{ints}
 use Rattle.std.proofs.lemmas.List.FromFn.{length-map-range_with_len, map-range_with_len_more}
 use Rattle.std.proofs.lemmas.List.{map-append, length-append}
@@ -148,10 +149,7 @@ two_sides_writable slots page room g o s few within made =
 pub scale_range : (s : ℕ) → IsTrue (is_scale s) → (0 < s) × (s ≤ 99_999_000_000_000)
 scale_range s h =
     let (some, most) = both_true (nat_le 1 s) (nat_le s 99_999_000_000_000) h in
-    (at_least 1 s some, at_least s 99_999_000_000_000 most)
-  where
-    at_least : (a b : ℕ) → IsTrue (nat_le a b) → a ≤ b
-    at_least a b e = search (rules, e)
+    (leb-true 1 s some, leb-true s 99_999_000_000_000 most)
 
 pub itself_writable : (slots : ℕ) → 1 ≤ slots → IsWritable slots (record { modulo = 1; groups = (alone 0 ∷ []) ∷ [] })
 itself_writable slots some =

@@ -1,8 +1,8 @@
 use Rattle.std.proofs.Common.{rules, ◌≡◌, ap, ◌∙◌}
 use Rattle.std.specs.Prelude.{pos}
 use Rattle.pagespec.specs.Items.{turn_of, measure_of}
-use Rattle.layouts.specs.Cells.{in_points, turn_in, row_of, column_of}
-use Rattle.layouts.proofs.Reach.{item_is}
+use Rattle.layouts.specs.Cells.{in_points, turn_in}
+use Rattle.layouts.proofs.Reach.{parts_are}
 use Rattle.layouts.proofs.item.GridLayout.item_in.Goals.{then-self, else-self}
 use Rattle.layouts.proofs.item.GridLayout.item_in.Goals as goal
 
@@ -13,5 +13,4 @@ returns c =
     let is : c.number.result ≡ pos l.scale = search rules in
     let across : measure_of c.points.result ≡ in_points c.shift-x.result.0 = search rules in
     let up : measure_of c.points-2.result ≡ in_points c.shift-x.result.1 = search rules in
-    item_is l.page l.room l.grid l.scale c.args.k (row_of l.order l.grid c.args.k) (column_of l.order l.grid c.args.k) _ _ _ _ turn is
-    (across ∙ ap in_points c.shift-x.ensures.right) (up ∙ ap in_points c.shift-x.ensures.top)
+    parts_are c.args.k _ _ _ _ _ _ _ _ turn is (across ∙ ap in_points c.shift-x.ensures.right) (up ∙ ap in_points c.shift-x.ensures.top)
