@@ -7,7 +7,7 @@ use Rattle.rules.specs.Papers.{Paper}
 use Rattle.rules.specs.Specification.{Item, Measure, Turn}
 use Rattle.layouts.specs.declared.arrangement.Order.{Order}
 use Rattle.layouts.specs.Placed.{Room}
-use Rattle.layouts.specs.Cells.{Grid, along_height, along_width, counted, size, corner_x, corner_y, to_right, to_top, trimmed, whole, row_of, column_of, in_points, turn_in, item_at}
+use Rattle.layouts.specs.Cells.{Grid, along_height, along_width, counted, size, corner_x, corner_y, to_right, to_top, trimmed, whole, row_of, column_of}
 use Rattle.layouts.specs.Refusals.{is_near}
 use Rattle.layouts.specs.Laws.{HasPlace}
 use Rattle.layouts.proofs.AlongSide.{in_side, in_side_back}

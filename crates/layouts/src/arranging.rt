@@ -93,10 +93,7 @@ fn one_side(
         ≡ map (fitted setting.now page_paper.now) (range_with_len 0 n) ∷ []) }
     ensures refused { IfErr result (IsFault (why_not_fitted setting.now page_paper.now)) }
 {
-    let items = match fronts(alloc, setting, page_paper, n) {
-        Ok(items) => items,
-        Err(error) => return Err(error),
-    };
+    let items = fronts(alloc, setting, page_paper, n)?;
     let mut groups = Vec::new(alloc);
     match groups.push(items) {
         Ok(()) => Ok(groups),
@@ -117,14 +114,8 @@ fn leaf(
     ensures refused { IfErr result (λ error. IsFault (why_not_fitted setting.now page_paper.now) error
         ⊎ IsFault (why_no_scale_on setting.now page_paper.now) error) }
 {
-    let front = match fronts(alloc, setting, page_paper, 2) {
-        Ok(front) => front,
-        Err(error) => return Err(error),
-    };
-    let back = match backs(alloc, setting, page_paper) {
-        Ok(back) => back,
-        Err(error) => return Err(error),
-    };
+    let front = fronts(alloc, setting, page_paper, 2)?;
+    let back = backs(alloc, setting, page_paper)?;
     let mut groups = Vec::new(alloc);
     match groups.push(front) {
         Ok(()) => (),

@@ -120,10 +120,8 @@ impl Setting {
         ensures possible { OnOk result (why_no_scale_on self.now page_paper.now ≡ None) }
         ensures refused { IfErr result (λ error. why_no_scale_on self.now page_paper.now ≡ Some error) }
     {
-        match self.scale_found(page_paper) {
-            Ok(scale) => Ok(number(scale)),
-            Err(error) => Err(error),
-        }
+        let scale = self.scale_found(page_paper)?;
+        Ok(number(scale))
     }
 
     /// What a page of this paper leaves free of the width of its cell at each end, in 10^-5 of a point.
@@ -133,10 +131,7 @@ impl Setting {
         ensures possible { OnOk result (why_no_scale_on self.now page_paper.now ≡ None) }
         ensures refused { IfErr result (λ error. why_no_scale_on self.now page_paper.now ≡ Some error) }
     {
-        let scale = match self.scale_found(page_paper) {
-            Ok(scale) => scale,
-            Err(error) => return Err(error),
-        };
+        let scale = self.scale_found(page_paper)?;
         let (width, _) = cells(&self.room, self.grid);
         let counted = counted(&self.room, page_paper.width());
         Ok(slack(width, counted, scale))
@@ -156,10 +151,7 @@ impl Setting {
         if self.is_whole(page_paper) {
             return Ok(whole_page(cell));
         }
-        let scale = match self.scale_found(page_paper) {
-            Ok(scale) => scale,
-            Err(error) => return Err(error),
-        };
+        let scale = self.scale_found(page_paper)?;
         let layout = GridLayout {
             page: *page_paper,
             room: self.room,
@@ -184,10 +176,7 @@ impl Setting {
         ensures possible { OnOk result (why_no_scale_on self.now page_paper.now ≡ None) }
         ensures refused { IfErr result (λ error. why_no_scale_on self.now page_paper.now ≡ Some error) }
     {
-        let scale = match self.scale_found(page_paper) {
-            Ok(scale) => scale,
-            Err(error) => return Err(error),
-        };
+        let scale = self.scale_found(page_paper)?;
         let layout = GridLayout {
             page: *page_paper,
             room: self.room,

@@ -7,19 +7,19 @@ pub returns-clause-inside : goal.returns-clause-inside
 returns-clause-inside c =
     let t = c.args.self.now in
     let page = c.args.page_paper.now in
-    let is = c.back_in.ensures ∙ ap (λ s. back_in page t.room t.grid t.order s 0 c.args.cell) c.in-Ok.ensures.value in
-    (subst (StandsBack t page c.args.cell) (sym is) (stands_back t page c.args.cell c.scale_found.ensures.page c.scale_found.ensures.sheet c.requires c.in-Ok.ensures.possible)).inside
+    let is = c.back_in.ensures ∙ ap (λ s. back_in page t.room t.grid t.order s 0 c.args.cell) c.in_ok-scale.ensures.value in
+    (subst (StandsBack t page c.args.cell) (sym is) (stands_back t page c.args.cell c.scale_found.ensures.page c.scale_found.ensures.sheet c.requires c.in_ok-scale.ensures.possible)).inside
 
 pub returns-clause-turned : goal.returns-clause-turned
 returns-clause-turned c =
     let t = c.args.self.now in
     let page = c.args.page_paper.now in
-    let is = c.back_in.ensures ∙ ap (λ s. back_in page t.room t.grid t.order s 0 c.args.cell) c.in-Ok.ensures.value in
-    (subst (StandsBack t page c.args.cell) (sym is) (stands_back t page c.args.cell c.scale_found.ensures.page c.scale_found.ensures.sheet c.requires c.in-Ok.ensures.possible)).turned
+    let is = c.back_in.ensures ∙ ap (λ s. back_in page t.room t.grid t.order s 0 c.args.cell) c.in_ok-scale.ensures.value in
+    (subst (StandsBack t page c.args.cell) (sym is) (stands_back t page c.args.cell c.scale_found.ensures.page c.scale_found.ensures.sheet c.requires c.in_ok-scale.ensures.possible)).turned
 
 pub returns-clause-exact : goal.returns-clause-exact
 returns-clause-exact c =
     let t = c.args.self.now in
     let page = c.args.page_paper.now in
-    let is = c.back_in.ensures ∙ ap (λ s. back_in page t.room t.grid t.order s 0 c.args.cell) c.in-Ok.ensures.value in
-    (subst (StandsBack t page c.args.cell) (sym is) (stands_back t page c.args.cell c.scale_found.ensures.page c.scale_found.ensures.sheet c.requires c.in-Ok.ensures.possible)).exact
+    let is = c.back_in.ensures ∙ ap (λ s. back_in page t.room t.grid t.order s 0 c.args.cell) c.in_ok-scale.ensures.value in
+    (subst (StandsBack t page c.args.cell) (sym is) (stands_back t page c.args.cell c.scale_found.ensures.page c.scale_found.ensures.sheet c.requires c.in_ok-scale.ensures.possible)).exact

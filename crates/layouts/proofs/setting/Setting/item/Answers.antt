@@ -15,5 +15,5 @@ pub returns-clause-fitted : goal.returns-clause-fitted
 returns-clause-fitted c =
     let t = c.args.self.now in
     let page = c.args.page_paper.now in
-    let is = c.item_in.ensures ∙ ap (λ s. item_in page t.room t.grid t.order s c.args.cell) c.in-Ok.ensures.value in
-    subst (IsFitted t page c.args.cell) (sym is) (cell_fitted t page c.args.cell c.is_whole.ensures.page c.is_whole.ensures.sheet c.requires c.in-Ok.ensures.possible)
+    let is = c.item_in.ensures ∙ ap (λ s. item_in page t.room t.grid t.order s c.args.cell) c.in_ok-scale.ensures.value in
+    subst (IsFitted t page c.args.cell) (sym is) (cell_fitted t page c.args.cell c.is_whole.ensures.page c.is_whole.ensures.sheet c.requires c.in_ok-scale.ensures.possible)
