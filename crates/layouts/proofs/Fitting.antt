@@ -1,5 +1,5 @@
 -- Pages of several papers, each fitted into its cell.
-use Rattle.std.proofs.Common.{arith, rules, ◌≡◌, ◌≢◌, ℕ, suc, zero, ◌*◌, ◌/◌, ◌%◌, ◌<◌, ◌≤◌, Bool, true, false, List, Option, Some, None, inl, inr, refl, sym, ap, subst, ◌∙◌, [], ◌∷◌}
+use Rattle.std.proofs.Common.{arith, rules, ◌≡◌, ◌≢◌, ℕ, suc, zero, ◌*◌, ◌/◌, ◌%◌, ◌<◌, ◌≤◌, Bool, true, false, List, Option, None, inl, inr, refl, sym, ap, subst, ◌∙◌, [], ◌∷◌}
 use Rattle.std.specs.Prelude.{◌&&◌, ◌==◌, not, nat_le, nat_lt, nat_abs, if◌then◌else◌, is_none, map}
 use Rattle.std.specs.List.{range_with_len}
 use Rattle.std.proofs.lemmas.Bool.{cond-false, cond-true, false_from_ne_true, leb-true}

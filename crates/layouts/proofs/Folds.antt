@@ -5,7 +5,7 @@ use Rattle.std.proofs.Math.Nat.{lt-div-mul-add, div-mul-le_self}
 use Rattle.std.proofs.lemmas.Int.{ints}
 use Rattle.rules.specs.Papers.{Paper}
 use Rattle.rules.specs.Specification.{Item, Left}
-use Rattle.layouts.specs.Placed.{IsEven, Room, fine, stands, IsOfPage}
+use Rattle.layouts.specs.Placed.{Room, fine, stands, IsOfPage}
 use Rattle.layouts.specs.Cells.{Along, along_height, cell, kept, step, left_free, whole, item_in, to_right}
 use Rattle.layouts.specs.Grids.{beside, leaf_order}
 use Rattle.layouts.specs.Laws.{IsPaper, HasPlace, IsHalfTurnOf, LiesBefore, LiesBehind, LeafKeepsFold, RightToLeftIsMirror}

@@ -12,8 +12,8 @@ pub mod InCell
 mod Printing
 mod Backs
 pub mod Folds
-mod Writable
+pub mod Writable
 mod LaidOut
-mod Possible
+pub mod Possible
 pub mod Fitting
 mod Examples

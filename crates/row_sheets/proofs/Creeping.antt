@@ -1,7 +1,8 @@
 -- Pages on leaves that creep stay within reach, as long as there is room at the fold.
-use Rattle.std.proofs.Common.{arith, rules, ◌≡◌, ℕ, suc, zero, ◌+◌, ◌*◌, ◌<◌, ◌≤◌, Bool, true, false, Option, None, [], ◌∷◌, sym, ap, subst, ◌∙◌}
-use Rattle.std.specs.Prelude.{ℤ, pos, neg_ℤ, ◌+ℤ◌, ◌-ℤ◌, ◌*ℤ◌, nat_abs, nat_le, nat_lt, IsTrue, map}
+use Rattle.std.proofs.Common.{arith, ◌≡◌, ℕ, suc, zero, ◌+◌, ◌*◌, ◌<◌, ◌≤◌, Bool, true, false, Option, None, [], ◌∷◌, sym, ap, subst, ◌∙◌}
+use Rattle.std.specs.Prelude.{ℤ, pos, neg_ℤ, ◌+ℤ◌, ◌-ℤ◌, ◌*ℤ◌, nat_abs, nat_lt, map}
 use Rattle.std.specs.List.{range_with_len}
+use Rattle.std.proofs.lemmas.Bool.{leb-true, ltb-true}
 use Rattle.std.proofs.lemmas.Int.{ints}
 use Rattle.rules.specs.Numbers.{greatest_number}
 use Rattle.rules.specs.Papers.{Paper}
@@ -74,12 +75,6 @@ halves_many t h = subst (λ g. 2 ≤ size g) (sym h.grid_is) (let two : 2 ≤ si
 pub of_halves : (P : Setting → Type 0) (t : Setting) → AreHalves t → P (halves t.room t.order.right_to_left t.scale) → P t
 of_halves P t h p = subst P (sym (halves_are t h)) p
 
-at_most : (a b : ℕ) → nat_le a b ≡ true → a ≤ b
-at_most a b e = search (rules, e)
-
-below : (a b : ℕ) → IsTrue (nat_lt a b) → a < b
-below a b h = search (rules, h)
-
 -- a page in its half, with room at the fold
 record Creeps (room : Room) (v s creep : ℕ) : Type 0 where
   pub stays : Within (along_height room) (nat_abs room.paper.height) v s creep
@@ -96,8 +91,8 @@ creeps page room b asked creep e may =
     let cell_is : HasCell (along_height room) h 2 (nat_abs page.width) s = record { some = f.some_wide; fits = f.is_wide; left = has.place.some_wide } in
     let near = both_true (nat_lt (whole (nat_abs room.paper.width) + trimmed room s) 10_000_000_000) (nat_lt (whole h + trimmed room s) 10_000_000_000) has.near in
     record {
-      stays = within (along_height room) h (nat_abs page.width) s creep cell_is (at_most (2 * creep) (2 * slack (cell (along_height room) h 2) (counted room page.width) s + room.gap_up) may);
-      near = below (whole h + trimmed room s) 10_000_000_000 near.1;
+      stays = within (along_height room) h (nat_abs page.width) s creep cell_is (leb-true (2 * creep) (2 * slack (cell (along_height room) h 2) (counted room page.width) s + room.gap_up) may);
+      near = ltb-true (whole h + trimmed room s) 10_000_000_000 near.1;
     }
 
 -- how far up it is in the end, in 10^-9 of a point

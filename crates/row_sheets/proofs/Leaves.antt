@@ -1,7 +1,8 @@
 -- Leaves that creep.
-use Rattle.std.proofs.Common.{arith, rules, ◌≡◌, ℕ, ◌+◌, ◌-◌, ◌*◌, ◌/◌, ◌<◌, ◌≤◌, Bool, true, false, refl, sym, ap, subst, ◌∙◌}
+use Rattle.std.proofs.Common.{arith, ◌≡◌, ℕ, ◌+◌, ◌-◌, ◌*◌, ◌/◌, ◌<◌, ◌≤◌, Bool, true, false, refl, sym, ap, subst, ◌∙◌}
 use Rattle.std.specs.Prelude.{ℤ, pos, negsuc, ◌≤ℤ◌, ◌+ℤ◌, ◌-ℤ◌, ◌*ℤ◌, nat_abs, nat_le, if◌then◌else◌}
 use Rattle.std.proofs.Math.Nat.{mul-div_cancel, mul_comm, zero-mul, zero-div, mul-le-mul_right, div-mul-le_self}
+use Rattle.std.proofs.lemmas.Bool.{cond-false, leb-true, lt-leb}
 use Rattle.std.proofs.lemmas.Nat.{le-div}
 use Rattle.std.proofs.lemmas.Int.{ints}
 use Rattle.rules.specs.Papers.{Paper}
@@ -32,14 +33,7 @@ creep_moves page room b s creep k p =
 -- ---- how far
 
 more_leaves : (leaves i creep : ℕ) → 1 < leaves → creep_of creep leaves i ≡ i * creep / (leaves - 1)
-more_leaves leaves i creep h = either (nat_le leaves 1) (i * creep / (leaves - 1)) (above leaves h)
-  where
-    above : (n : ℕ) → 1 < n → nat_le n 1 ≡ false
-    above n h = search (rules, h)
-
-    either : (b : Bool) (x : ℕ) → b ≡ false → (if b then 0 else x) ≡ x
-    either true x e = cc
-    either false x e = refl
+more_leaves leaves i creep h = cond-false (nat_le leaves 1) 0 (i * creep / (leaves - 1)) (lt-leb leaves 1 h)
 
 no_farther : (a b d : ℕ) → 0 < d → a ≤ b → a / d ≤ b / d
 no_farther a b d some h = le-div (a / d) b d some (omega (arith, h, div-mul-le_self a d))
@@ -63,9 +57,6 @@ creep_grows creep leaves i many more =
     )
 
 -- ---- the fold
-
-at_most : (a b : ℕ) → nat_le a b ≡ true → a ≤ b
-at_most a b e = search (rules, e)
 
 before_at : (v u k s : ℕ) (a : Along) (h : ℕ) (x : ℤ) (creep : ℕ) → HasCell a h 2 v s → 2 * creep ≤ 2 * slack (cell a h 2) (shown a v) s + a.gap
     → (c e : ℤ) → IsOfPage a.trim (of_sides v u) (point c e)
@@ -91,7 +82,7 @@ behind_at v u k s a h x creep has may (negsuc c) e of = absurd (let f = of.left 
 
 room_left : (v u : ℕ) (room : Room) (s creep : ℕ) → may_creep (of_sides v u) room s creep ≡ true
     → 2 * creep ≤ 2 * slack (cell (along_height room) (nat_abs room.paper.height) 2) (shown (along_height room) v) s + room.gap_up
-room_left v u room s creep may = at_most (2 * creep) (2 * slack (cell (along_height room) (nat_abs room.paper.height) 2) (shown (along_height room) v) s + room.gap_up) may
+room_left v u room s creep may = leb-true (2 * creep) (2 * slack (cell (along_height room) (nat_abs room.paper.height) 2) (shown (along_height room) v) s + room.gap_up) may
 
 pub before_fold : (v u : ℕ) (room : Room) (b : Bool) (s creep : ℕ) → HasPlace (of_sides v u) room (beside true) s → may_creep (of_sides v u) room s creep ≡ true
     → StaysBefore room (fold (along_height room) (nat_abs room.paper.height)) (of_sides v u) (leaf_item (of_sides v u) room b s creep (if b then 1 else 0))

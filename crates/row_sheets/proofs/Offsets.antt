@@ -1,34 +1,53 @@
 -- Where tiles are can be written.
-use Rattle.std.proofs.Common.{arith, rules, ◌≡◌, ℕ, suc, zero, ◌+◌, ◌-◌, ◌*◌, ◌/◌, ◌%◌, ◌<◌, ◌≤◌, Bool, true, false, Option, Some, None, refl}
+use Rattle.std.proofs.Common.{arith, ◌≡◌, ℕ, ◌+◌, ◌-◌, ◌*◌, ◌/◌, ◌%◌, ◌<◌, ◌≤◌, Bool, true, false, Option, Some, None, refl}
 use Rattle.std.specs.Prelude.{nat_abs, nat_le, nat_lt, ◌&&◌, if◌then◌else◌}
-use Rattle.std.proofs.Math.Nat.{mod-lt, div-lt_iff_lt-mul, div-mul-le_self, mul-le-mul_right}
+use Rattle.std.proofs.Math.Nat.{div-mul-le_self, mul-le-mul_right}
+use Rattle.std.proofs.lemmas.Bool.{leb-true, ltb-true}
 use Rattle.rules.specs.Papers.{Paper}
 use Rattle.layouts.specs.Cells.{slack, whole}
-use Rattle.layouts.specs.Refusals.{is_reached, are_reached, is_scale}
+use Rattle.layouts.specs.Refusals.{are_reached}
 use Rattle.layouts.proofs.InGrid.{both_true}
+use Rattle.layouts.proofs.InOrder.{along_rows}
 use Rattle.row_sheets.specs.declared.poster.Poster.{Poster}
 use Rattle.row_sheets.specs.declared.poster.PosterError.{PosterError}
 use Rattle.row_sheets.specs.declared.poster.PosterError.TheVariants as why
 use Rattle.row_sheets.specs.Posters.{tile, stride, length_of, poster_width, poster_height, poster_scale, why_no_poster, laid_of, IsNear}
 
-some_of_both : (r c k : ℕ) → k < r * c → (0 < r) × (0 < c)
-some_of_both zero c k h = absurd (omega (arith, h))
-some_of_both (suc r) zero k h = absurd (omega (arith, h))
-some_of_both (suc r) (suc c) k h = (omega arith, omega arith)
-
 -- tile n of a poster is one of its tiles
 pub tile_in : (r c n : ℕ) → n < r * c → (n % c < c) × (r - (n / c + 1) < r)
 tile_in r c n h =
-    let some = some_of_both r c n h in
-    let row = (div-lt_iff_lt-mul some.1).1 h in
-    (mod-lt n some.1, omega (arith, row, some.0))
+    let at = along_rows r c n h in
+    (at.1, omega (arith, at.0))
 
-pub passed_if : (b : Bool) (x : Option PosterError) (e : PosterError) → (if b then x else Some e) ≡ None → (b ≡ true) × (x ≡ None)
+passed_if : (b : Bool) (x : Option PosterError) (e : PosterError) → (if b then x else Some e) ≡ None → (b ≡ true) × (x ≡ None)
 passed_if true x e h = (refl, h)
 passed_if false x e h = absurd (cc (h))
 
-pub less : (a b : ℕ) → nat_lt a b ≡ true → a < b
-less a b h = search (rules, h)
+-- what holds of a poster that nothing refuses
+pub record Possible (p : Poster) : Type 0 where
+  pub some : 1 ≤ p.rows * p.columns
+  pub reached : (nat_abs p.sheet.width < 12_700_000_000_000_000) × (nat_abs p.sheet.height < 12_700_000_000_000_000)
+  pub longer : (p.overlap < tile (nat_abs p.sheet.width) p.edge) × (p.overlap < tile (nat_abs p.sheet.height) p.edge)
+  pub short : (poster_width p < 10_000_000_000) × (poster_height p < 10_000_000_000)
+
+both_less : (a b c d : ℕ) → nat_lt a b && nat_lt c d ≡ true → (a < b) × (c < d)
+both_less a b c d h = let both = both_true (nat_lt a b) (nat_lt c d) h in (ltb-true a b both.0, ltb-true c d both.1)
+
+pub possible : (page : Paper) (p : Poster) → why_no_poster page p ≡ None → Possible p
+possible page p h =
+    let w = nat_abs p.sheet.width in
+    let t = nat_abs p.sheet.height in
+    let a = passed_if (nat_le 1 (p.rows * p.columns) && nat_le (p.rows * p.columns) 1_024) _ why.TilesOutOfRange h in
+    let b = passed_if (are_reached p.sheet) _ why.SideTooLong a.1 in
+    let c = passed_if (nat_lt p.overlap (tile w p.edge) && nat_lt p.overlap (tile t p.edge)) _ why.NothingButOverlap b.1 in
+    let d = passed_if (nat_lt (poster_width p) 10_000_000_000 && nat_lt (poster_height p) 10_000_000_000) _ why.SideTooLong c.1 in
+    let count = both_true (nat_le 1 (p.rows * p.columns)) (nat_le (p.rows * p.columns) 1_024) a.0 in
+    record {
+      some = leb-true 1 (p.rows * p.columns) count.0;
+      reached = both_less w 12_700_000_000_000_000 t 12_700_000_000_000_000 b.0;
+      longer = both_less p.overlap (tile w p.edge) p.overlap (tile t p.edge) c.0;
+      short = both_less (poster_width p) 10_000_000_000 (poster_height p) 10_000_000_000 d.0;
+    }
 
 -- along a side
 near_side : (w edge overlap tiles side s column : ℕ) → w < 12_700_000_000_000_000 → overlap < tile w edge → length_of w edge overlap tiles < 10_000_000_000 → column < tiles
@@ -44,19 +63,7 @@ near_side w edge overlap tiles side s column reached some short within =
 
 pub tile_near : (page : Paper) (p : Poster) (column row : ℕ) → why_no_poster page p ≡ None → column < p.columns → row < p.rows → IsNear (laid_of page p) column row
 tile_near page p column row h in_columns in_rows =
-    let w = nat_abs p.sheet.width in
-    let t = nat_abs p.sheet.height in
-    let last : Option PosterError = if is_scale (poster_scale page p) then None else Some why.ScaleOutOfRange in
-    let fourth : Option PosterError = if nat_lt (poster_width p) 10_000_000_000 && nat_lt (poster_height p) 10_000_000_000 then last else Some why.SideTooLong in
-    let third : Option PosterError = if nat_lt p.overlap (tile w p.edge) && nat_lt p.overlap (tile t p.edge) then fourth else Some why.NothingButOverlap in
-    let second : Option PosterError = if are_reached p.sheet then third else Some why.SideTooLong in
-    let a = passed_if (nat_le 1 (p.rows * p.columns) && nat_le (p.rows * p.columns) 1_024) second why.TilesOutOfRange h in
-    let b = passed_if (are_reached p.sheet) third why.SideTooLong a.1 in
-    let c = passed_if (nat_lt p.overlap (tile w p.edge) && nat_lt p.overlap (tile t p.edge)) fourth why.NothingButOverlap b.1 in
-    let d = passed_if (nat_lt (poster_width p) 10_000_000_000 && nat_lt (poster_height p) 10_000_000_000) last why.SideTooLong c.1 in
-    let reached = both_true (is_reached w) (is_reached t) b.0 in
-    let some = both_true (nat_lt p.overlap (tile w p.edge)) (nat_lt p.overlap (tile t p.edge)) c.0 in
-    let short = both_true (nat_lt (poster_width p) 10_000_000_000) (nat_lt (poster_height p) 10_000_000_000) d.0 in
-    let across = near_side w p.edge p.overlap p.columns (nat_abs page.width) (poster_scale page p) column (less w 12_700_000_000_000_000 reached.0) (less p.overlap (tile w p.edge) some.0) (less (poster_width p) 10_000_000_000 short.0) in_columns in
-    let up = near_side t p.edge p.overlap p.rows (nat_abs page.height) (poster_scale page p) row (less t 12_700_000_000_000_000 reached.1) (less p.overlap (tile t p.edge) some.1) (less (poster_height p) 10_000_000_000 short.1) in_rows in
+    let has = possible page p h in
+    let across = near_side (nat_abs p.sheet.width) p.edge p.overlap p.columns (nat_abs page.width) (poster_scale page p) column has.reached.0 has.longer.0 has.short.0 in_columns in
+    let up = near_side (nat_abs p.sheet.height) p.edge p.overlap p.rows (nat_abs page.height) (poster_scale page p) row has.reached.1 has.longer.1 has.short.1 in_rows in
     (across.0, across.1, up.0, up.1)

@@ -1,6 +1,6 @@
 -- Each point of each page of a row of posters is shown on one of its sheets.
-use Rattle.std.proofs.Common.{arith, rules, ◌≡◌, ◌∙◌, ℕ, suc, zero, ◌+◌, ◌-◌, ◌*◌, ◌/◌, ◌%◌, ◌<◌, ◌≤◌, true, List, [], ◌∷◌, ◌++◌, length, Option, Some, None, refl, ap, subst}
-use Rattle.std.specs.Prelude.{nat_abs, nat_le, nat_lt, ◌&&◌, if◌then◌else◌, map, flat_map, slice_get}
+use Rattle.std.proofs.Common.{arith, ◌≡◌, ◌∙◌, ℕ, suc, zero, ◌+◌, ◌-◌, ◌*◌, ◌/◌, ◌%◌, ◌<◌, ◌≤◌, List, [], ◌∷◌, ◌++◌, length, Option, Some, None, refl, ap, subst}
+use Rattle.std.specs.Prelude.{map, flat_map, slice_get}
 use Rattle.std.specs.List.{range_with_len}
 use Rattle.std.proofs.Math.Nat.{mul-le-mul_right, suc-mul}
 use Rattle.std.proofs.lemmas.Nat.{div-mul-add, mod-mul-add}
@@ -10,46 +10,22 @@ use Rattle.rules.specs.Papers.{Paper}
 use Rattle.rules.specs.Signatures.{entry_of}
 use Rattle.made_sheets.specs.Made.{MadeSheet, Blank, Placed}
 use Rattle.made_sheets.specs.Rows.{Row}
-use Rattle.layouts.specs.Refusals.{are_reached, is_scale}
-use Rattle.layouts.proofs.InGrid.{both_true}
+use Rattle.layouts.proofs.InGrid.{some_each}
 use Rattle.row_sheets.specs.declared.poster.Poster.{Poster}
-use Rattle.row_sheets.specs.declared.poster.PosterError.{PosterError}
 use Rattle.row_sheets.specs.declared.poster.PosterError.TheVariants as why
-use Rattle.row_sheets.specs.Posters.{tile, poster_width, poster_height, poster_scale, poster_paper, poster_sheets, entry_tiles, row_tiles, tile_item}
+use Rattle.row_sheets.specs.Posters.{poster_paper, poster_sheets, entry_tiles, row_tiles, tile_item}
 use Rattle.row_sheets.specs.Posters.{PosterHasTiles, RowIsShown, EntryMayBePoster}
-use Rattle.row_sheets.proofs.Offsets.{passed_if, less}
+use Rattle.row_sheets.proofs.Offsets.{possible}
 use Rattle.row_sheets.proofs.Tiles.{poster_covers}
 use Rattle.row_sheets.proofs.Filling.{sheet}
 
 -- ---- a poster that isn't refused has tiles
 
-at_least : (a b : ℕ) → nat_le a b ≡ true → a ≤ b
-at_least a b h = search (rules, h)
-
-some_of_both : (r c : ℕ) → 1 ≤ r * c → (0 < r) × (0 < c)
-some_of_both zero c h = absurd (omega (arith, h))
-some_of_both (suc r) zero h = absurd (omega (arith, h))
-some_of_both (suc r) (suc c) h = (omega arith, omega arith)
-
 pub poster_has_tiles : PosterHasTiles
 poster_has_tiles page p h =
-    let w = nat_abs p.sheet.width in
-    let t = nat_abs p.sheet.height in
-    let last : Option PosterError = if is_scale (poster_scale page p) then None else Some why.ScaleOutOfRange in
-    let fourth : Option PosterError = if nat_lt (poster_width p) 10_000_000_000 && nat_lt (poster_height p) 10_000_000_000 then last else Some why.SideTooLong in
-    let third : Option PosterError = if nat_lt p.overlap (tile w p.edge) && nat_lt p.overlap (tile t p.edge) then fourth else Some why.NothingButOverlap in
-    let second : Option PosterError = if are_reached p.sheet then third else Some why.SideTooLong in
-    let a = passed_if (nat_le 1 (p.rows * p.columns) && nat_le (p.rows * p.columns) 1_024) second why.TilesOutOfRange h in
-    let b = passed_if (are_reached p.sheet) third why.SideTooLong a.1 in
-    let c = passed_if (nat_lt p.overlap (tile w p.edge) && nat_lt p.overlap (tile t p.edge)) fourth why.NothingButOverlap b.1 in
-    let count = both_true (nat_le 1 (p.rows * p.columns)) (nat_le (p.rows * p.columns) 1_024) a.0 in
-    let both = some_of_both p.rows p.columns (at_least 1 (p.rows * p.columns) count.0) in
-    let longer = both_true (nat_lt p.overlap (tile w p.edge)) (nat_lt p.overlap (tile t p.edge)) c.0 in record {
-      some_columns = both.1;
-      some_rows = both.0;
-      wide = less p.overlap (tile w p.edge) longer.0;
-      high = less p.overlap (tile t p.edge) longer.1;
-    }
+    let has = possible page p h in
+    let both = some_each p.rows p.columns has.some in
+    record { some_columns = both.1; some_rows = both.0; wide = has.longer.0; high = has.longer.1 }
 
 -- ---- where the sheets of an entry are
 
