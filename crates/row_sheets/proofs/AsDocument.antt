@@ -2,11 +2,12 @@
 use Rattle.std.specs.Prelude.{ℤ, pos, flat_map, option_map, fold, slice_index_or}
 use Rattle.std.specs.List.{AllByRecursion, range_with_len}
 use Rattle.std.proofs.Common.{arith, ◌≡◌, ◌∙◌, ℕ, zero, suc, ◌+◌, ◌*◌, ◌<◌, Bool, true, false, List, [], ◌∷◌, ◌++◌, Option, Some, None, length, map, get_or, refl, sym, ap, subst}
-use Rattle.std.proofs.lemmas.List.{length-map}
+use Rattle.std.proofs.lemmas.List.{get_or_default, get_or_past, length-map, map-append}
+use Rattle.std.proofs.lemmas.Simd.{map-map}
 use Rattle.rules.specs.Papers.{Paper}
 use Rattle.rules.specs.Sheets.{blocks}
 use Rattle.rules.specs.Signatures.{entry_of, page_in_signature}
-use Rattle.made_sheets.specs.Made.{MadeSheet, MadeSlot, Placed}
+use Rattle.made_sheets.specs.Made.{MadeSlot, Placed}
 use Rattle.made_sheets.specs.Rows.{Row, all_pages, in_order_of, in_signatures}
 use Rattle.layouts.specs.Cells.{size}
 use Rattle.layouts.specs.Fitted.{fitted, fitted_back, scale_on}
@@ -17,7 +18,8 @@ use Rattle.row_sheets.specs.RowSheets.{as_it_is, selected, selected_sheet}
 use Rattle.row_sheets.specs.SameScale.{least_with, lesser}
 use Rattle.row_sheets.specs.Shapes.{filling}
 use Rattle.row_sheets.specs.AsDocument.{AreLaidAlike, RowIsDocument, chosen_page, papers_at, renamed, renamed_slot}
-use Rattle.row_sheets.proofs.Specified.{same_map, twice_mapped}
+use Rattle.row_sheets.proofs.Filling.{sheet as sheet_of}
+use Rattle.row_sheets.proofs.Specified.{same_map}
 
 -- ---- rows
 abbrev with_numbers : (ℕ → ℕ) → Row → Row
@@ -29,15 +31,11 @@ entry_named r [] (suc i) = refl
 entry_named r (x ∷ row) zero = refl
 entry_named r (x ∷ row) (suc i) = entry_named r row i
 
-pub map_joined : {X Y : Type 0} (f : X → Y) (xs ys : List X) → map f (xs ++ ys) ≡ map f xs ++ map f ys
-map_joined f [] ys = refl
-map_joined f (x ∷ xs) ys = ap (λ zs. f x ∷ zs) (map_joined f xs ys)
-
 blocks_named : (r : ℕ → ℕ) (h k : ℕ → Row) → ((b : ℕ) → h b ≡ with_numbers r (k b)) → (bs : List ℕ) → flat_map h bs ≡ with_numbers r (flat_map k bs)
 blocks_named r h k e [] = refl
 blocks_named r h k e (b ∷ bs) =
     ap (λ xs. xs ++ flat_map h bs) (e b) ∙ ap (λ ys. with_numbers r (k b) ++ ys) (blocks_named r h k e bs)
-    ∙ sym (map_joined (option_map r) (k b) (flat_map k bs))
+    ∙ sym (map-append (option_map r) (k b) (flat_map k bs))
 
 signatures_named : (r : ℕ → ℕ) (s : ℕ) (row : Row) → in_signatures s (with_numbers r row) ≡ with_numbers r (in_signatures s row)
 signatures_named r s row =
@@ -47,7 +45,7 @@ signatures_named r s row =
     ap (λ n. flat_map new (range_with_len 0 (blocks s n))) (length-map row (option_map r))
     ∙ blocks_named r new old (λ b.
     same_map (λ i. entry_of (with_numbers r row) (at b i)) (λ i. option_map r (entry_of row (at b i))) (λ i. entry_named r row (at b i)) (range_with_len 0 s)
-    ∙ sym (twice_mapped (λ i. entry_of row (at b i)) (option_map r) (range_with_len 0 s))) (range_with_len 0 (blocks s (length row)))
+    ∙ sym (map-map (option_map r) (λ i. entry_of row (at b i)) (range_with_len 0 s))) (range_with_len 0 (blocks s (length row)))
 
 ordered_named : (sides : Option ℕ) (r : ℕ → ℕ) (row : Row) → in_order_of sides (with_numbers r row) ≡ with_numbers r (in_order_of sides row)
 ordered_named None r row = refl
@@ -64,9 +62,6 @@ slot_named t r papers others same true c None = refl
 slot_named t r papers others same false c (Some k) = ap (λ q. Placed (r k) (fitted t q c) q) (same t.room.paper k)
 slot_named t r papers others same true c (Some k) = ap (λ q. Placed (r k) (fitted_back t q c) q) (same t.room.paper k)
 
-abbrev sheet_of : Paper → List MadeSlot → MadeSheet
-sheet_of paper slots = record { paper = paper; slots = slots }
-
 -- sheets of one paper, slot by slot
 sheets_named : (paper : Paper) (r : ℕ → ℕ) (n m : ℕ) (f g : ℕ → ℕ → MadeSlot) → ((s c : ℕ) → f s c ≡ renamed_slot r (g s c))
     → map (λ s. sheet_of paper (map (f s) (range_with_len 0 m))) (range_with_len 0 n)
@@ -74,9 +69,9 @@ sheets_named : (paper : Paper) (r : ℕ → ℕ) (n m : ℕ) (f g : ℕ → ℕ 
 sheets_named paper r n m f g e =
     let cells : List ℕ = range_with_len 0 m in
     let each : (s : ℕ) → sheet_of paper (map (f s) cells) ≡ renamed r (sheet_of paper (map (g s) cells)) =
-    λ s. ap (sheet_of paper) (same_map (f s) (λ c. renamed_slot r (g s c)) (e s) cells ∙ sym (twice_mapped (g s) (renamed_slot r) cells)) in
+    λ s. ap (sheet_of paper) (same_map (f s) (λ c. renamed_slot r (g s c)) (e s) cells ∙ sym (map-map (renamed_slot r) (g s) cells)) in
     same_map (λ s. sheet_of paper (map (f s) cells)) (λ s. renamed r (sheet_of paper (map (g s) cells))) each (range_with_len 0 n)
-    ∙ sym (twice_mapped (λ s. sheet_of paper (map (g s) cells)) (renamed r) (range_with_len 0 n))
+    ∙ sym (map-map (renamed r) (λ s. sheet_of paper (map (g s) cells)) (range_with_len 0 n))
 
 sides_named : (t : Setting) (r : ℕ → ℕ) (papers others : List Paper) → AreSame r papers others → (n m : ℕ) (new old : ℕ → ℕ → Option ℕ)
     → ((s c : ℕ) → new s c ≡ option_map r (old s c))
@@ -142,9 +137,9 @@ alone_named r papers others same blank (Some k) = ap (λ q. sheet_of q (Placed (
 selected_named : (r : ℕ → ℕ) (papers others : List Paper) → AreSame r papers others → (blank : Paper) (row : Row)
     → selected papers blank (with_numbers r row) ≡ map (renamed r) (selected others blank row)
 selected_named r papers others same blank row =
-    twice_mapped (option_map r) (selected_sheet papers blank) row
+    map-map (selected_sheet papers blank) (option_map r) row
     ∙ same_map (λ e. selected_sheet papers blank (option_map r e)) (λ e. renamed r (selected_sheet others blank e)) (alone_named r papers others same blank) row
-    ∙ sym (twice_mapped (selected_sheet others blank) (renamed r) row)
+    ∙ sym (map-map (renamed r) (selected_sheet others blank) row)
 
 -- ---- one scale for all pages
 least_more : (t : Setting) (r : ℕ → ℕ) (papers others : List Paper) → AreSame r papers others → (least : Option ℤ) (entry : Option ℕ)
@@ -174,20 +169,11 @@ alike t r papers others same row = record {
 }
 
 -- ---- the pages of a row, by their places in it
-past_end : (papers : List Paper) (d : Paper) → get_or papers (length papers) d ≡ d
-past_end [] d = refl
-past_end (p ∷ papers) d = past_end papers d
-
-either_default : (papers : List Paper) (k : ℕ) (d e : Paper) → k < length papers → get_or papers k d ≡ get_or papers k e
-either_default [] k d e lt = absurd (omega (arith, lt))
-either_default (p ∷ papers) zero d e lt = refl
-either_default (p ∷ papers) (suc k) d e lt = either_default papers k d e (omega (arith, lt))
-
 same_papers : (papers : List Paper) (other : Paper) (pages : List ℕ) → AllByRecursion (λ p. p < length papers) pages
     → AreSame (chosen_page papers pages) papers (papers_at papers other pages)
-same_papers papers other [] few d zero = past_end papers d
-same_papers papers other [] few d (suc k) = past_end papers d
-same_papers papers other (p ∷ pages) few d zero = either_default papers p d other few.0
+same_papers papers other [] few d zero = get_or_past papers (length papers) d (omega arith)
+same_papers papers other [] few d (suc k) = get_or_past papers (length papers) d (omega arith)
+same_papers papers other (p ∷ pages) few d zero = get_or_default papers p d other few.0
 same_papers papers other (p ∷ pages) few d (suc k) = same_papers papers other pages few.1 d k
 
 numbered : (f : ℕ → ℕ) (d a : ℕ) (pages : List ℕ) → ((k : ℕ) → k < length pages → f (a + k) ≡ get_or pages k d)
@@ -202,7 +188,7 @@ numbered f d a (p ∷ pages) e =
 all_named : (papers : List Paper) (pages : List ℕ) → with_numbers (chosen_page papers pages) (all_pages (length pages)) ≡ map Some pages
 all_named papers pages =
     let r : ℕ → ℕ = chosen_page papers pages in
-    twice_mapped Some (option_map r) (range_with_len 0 (length pages))
+    map-map (option_map r) Some (range_with_len 0 (length pages))
     ∙ numbered r (length papers) 0 pages (λ k lt. let e : 0 + k ≡ k = omega arith in ap r e)
 
 pub row_is_document : RowIsDocument

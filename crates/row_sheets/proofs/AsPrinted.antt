@@ -1,26 +1,28 @@
 -- What is printed of a layout is what a run makes, if all pages have one paper.
 use Rattle.std.specs.Prelude.{⊤, flat_map, Result, Ok}
 use Rattle.std.specs.List.{AllByRecursion, range_with_len}
-use Rattle.std.proofs.Common.{arith, ◌≡◌, ◌∙◌, ℕ, zero, suc, ◌+◌, ◌*◌, ◌<◌, ◌≤◌, false, List, [], ◌∷◌, ◌++◌, Option, Some, None, length, map, refl, sym, ap}
+use Rattle.std.proofs.Common.{arith, ◌≡◌, ◌∙◌, ℕ, zero, suc, ◌+◌, ◌*◌, ◌<◌, false, List, [], ◌∷◌, ◌++◌, Option, Some, None, length, map, refl, sym, ap}
 use Rattle.rules.specs.Admissible.{Fault, most_slots}
 use Rattle.rules.specs.Papers.{Paper}
 use Rattle.rules.specs.Sheets.{blocks, sheets}
 use Rattle.rules.specs.Signatures.{entry_of, page_in_signature, sheets_in}
 use Rattle.rules.specs.Specification.{Spec}
 use Rattle.rules.proofs.OneFault.{one_answer}
-use Rattle.made_sheets.specs.Made.{MadeSheet, MadeSlot, Placed}
+use Rattle.made_sheets.specs.Made.{Placed}
 use Rattle.made_sheets.specs.Rows.{Row, all_pages, in_signatures}
 use Rattle.made_sheets.proofs.Rows.{sheets_of_all}
 use Rattle.layouts.specs.Fitted.{binding_setting_of, fitted, setting_of}
 use Rattle.layouts.specs.Grids.{arranged, bound, count_of}
 use Rattle.layouts.specs.declared.setting.Setting.{Setting}
 use Rattle.layouts.proofs.Fitting.{leaves_even}
+use Rattle.layouts.proofs.Writable.{all_made}
 use Rattle.row_sheets.specs.BySpec.{made_on}
 use Rattle.row_sheets.specs.Filled.{filled, grid_entry, slot_in}
 use Rattle.row_sheets.specs.Shapes.{filling}
 use Rattle.row_sheets.specs.AsPrinted.{HaveOnePaper, IsReadAs, PrintedBookletIsImposed, PrintedIsImposed}
 use Rattle.row_sheets.specs.Specified.{of_paper}
 use Rattle.row_sheets.proofs.AtRest.{no_creep_is_plain}
+use Rattle.row_sheets.proofs.Filling.{sheet as sheet_of}
 use Rattle.row_sheets.proofs.Specified.{booklet_is_specified, grid_is_specified, same_map}
 
 -- ---- a text is read in one way
@@ -41,16 +43,8 @@ entry_is n [] (suc i) h = tt
 entry_is n (x ∷ row) zero h = h.0
 entry_is n (x ∷ row) (suc i) h = entry_is n row i h.1
 
-pages_are : (n a m : ℕ) → a + m ≤ n → AllByRecursion (IsPage n) (map Some (range_with_len a m))
-pages_are n a zero h = tt
-pages_are n a (suc m) h = (omega (arith, h), pages_are n (a + 1) m (omega (arith, h)))
-
 pub all_are : (n : ℕ) → AllByRecursion (IsPage n) (all_pages n)
-all_are n = pages_are n 0 n (omega arith)
-
-made_of : {X : Type 0} (P : X → Type 0) (f : ℕ → X) (h : (k : ℕ) → P (f k)) (a n : ℕ) → AllByRecursion P (map f (range_with_len a n))
-made_of P f h a zero = tt
-made_of P f h a (suc n) = (h a, made_of P f h (a + 1) n)
+all_are n = all_made (IsPage n) Some 0 n (λ k less. omega (arith, less))
 
 both : {X : Type 0} (P : X → Type 0) (one other : List X) → AllByRecursion P one → AllByRecursion P other → AllByRecursion P (one ++ other)
 both P [] other a b = b
@@ -63,7 +57,7 @@ each P f h a (suc n) = both P (f a) (flat_map f (range_with_len (a + 1) n)) (h a
 pub signed_are : (n s : ℕ) (row : Row) → AllByRecursion (IsPage n) row → AllByRecursion (IsPage n) (in_signatures s row)
 signed_are n s row h =
     each (IsPage n) (λ b. map (λ i. entry_of row (b * s + page_in_signature s i)) (range_with_len 0 s))
-    (λ b. made_of (IsPage n) (λ i. entry_of row (b * s + page_in_signature s i)) (λ i. entry_is n row (b * s + page_in_signature s i) h) 0 s)
+    (λ b. all_made (IsPage n) (λ i. entry_of row (b * s + page_in_signature s i)) 0 s (λ i less. entry_is n row (b * s + page_in_signature s i) h))
     0 (blocks s (length row))
 
 -- ---- cells that are filled with them
@@ -71,9 +65,6 @@ pub slot_same : (t : Setting) (page : Paper) (papers : List Paper) → HaveOnePa
     → slot_in (of_paper t page) c entry ≡ slot_in (filling t papers) c entry
 slot_same t page papers one c None h = refl
 slot_same t page papers one c (Some k) h = ap (λ q. Placed k (fitted t q c) q) (sym (one k t.room.paper h))
-
-abbrev pub sheet_of : Paper → List MadeSlot → MadeSheet
-sheet_of paper slots = record { paper = paper; slots = slots }
 
 filled_same : (t : Setting) (page : Paper) (papers : List Paper) → HaveOnePaper page papers → (n m : ℕ) (entry : ℕ → ℕ → Option ℕ)
     → ((s c : ℕ) → IsPage (length papers) (entry s c)) → filled (of_paper t page) n m entry ≡ filled (filling t papers) n m entry

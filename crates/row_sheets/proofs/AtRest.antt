@@ -1,5 +1,5 @@
 -- Leaves that don't creep.
-use Rattle.std.proofs.Common.{arith, rules, ◌≡◌, ℕ, ◌-◌, ◌*◌, ◌/◌, ◌%◌, Bool, true, false, length, Option, Some, None, List, [], ◌∷◌, refl, sym, ap, ap₂, ◌∙◌}
+use Rattle.std.proofs.Common.{arith, rules, ◌≡◌, ℕ, ◌-◌, ◌*◌, ◌/◌, ◌%◌, Bool, true, false, length, Option, Some, None, List, [], refl, sym, ap, ◌∙◌}
 use Rattle.std.specs.Prelude.{ℤ, pos, neg_ℤ, ◌-ℤ◌, nat_le, if◌then◌else◌, map}
 use Rattle.std.specs.List.{range_with_len}
 use Rattle.std.specs.Option.{option_or}
@@ -21,10 +21,7 @@ use Rattle.row_sheets.specs.Creep.{AreHalves, NoCreepIsPlain, creep_on, creeping
 use Rattle.row_sheets.proofs.Creeping.{halves, of_halves}
 use Rattle.row_sheets.proofs.Filling.{sheet}
 use Rattle.row_sheets.proofs.Refused.{same_fault}
-
-same_maps : {X Y : Type 0} (f g : X → Y) (xs : List X) → ((x : X) → f x ≡ g x) → map f xs ≡ map g xs
-same_maps f g [] h = refl
-same_maps f g (x ∷ xs) h = ap₂ (λ y ys. y ∷ ys) (h x) (same_maps f g xs h)
+use Rattle.row_sheets.proofs.Specified.{same_map}
 
 -- ---- how far
 
@@ -71,10 +68,10 @@ pub sheets_at_rest : (f : Filling) (turned_backs : Bool) (leaves : ℕ) (row : R
     → map (λ s. sheet f.setting.room.paper (map (λ k. creeping_slot f (is_turned turned_backs s) k (creep_on 0 leaves s) (grid_entry 2 row s k)) (range_with_len 0 2))) sheets
     ≡ map (λ s. sheet f.setting.room.paper (map (λ k. slot_on f (is_turned turned_backs s) k (grid_entry 2 row s k)) (range_with_len 0 2))) sheets
 sheets_at_rest f turned_backs leaves row sheets h =
-    same_maps _ _ sheets (λ s. ap (sheet f.setting.room.paper)
-    (same_maps _ _ (range_with_len 0 2) (λ k.
+    same_map _ _ (λ s. ap (sheet f.setting.room.paper)
+    (same_map _ _ (λ k.
     ap (λ n. creeping_slot f (is_turned turned_backs s) k n (grid_entry 2 row s k)) (no_creep leaves s)
-    ∙ slot_at_rest f (is_turned turned_backs s) k (grid_entry 2 row s k) h)))
+    ∙ slot_at_rest f (is_turned turned_backs s) k (grid_entry 2 row s k) h) (range_with_len 0 2))) sheets
 
 or_none : (one : Option ArrangementError) → option_or one None ≡ one
 or_none None = refl

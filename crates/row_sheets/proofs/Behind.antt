@@ -1,6 +1,6 @@
 -- The cell that is behind a cell.
-use Rattle.std.proofs.Common.{arith, ◌≡◌, ℕ, suc, zero, ◌+◌, ◌-◌, ◌*◌, ◌/◌, ◌%◌, ◌<◌, true, false, ap}
-use Rattle.std.proofs.Math.Nat.{mod-lt, div-lt_iff_lt-mul, mul_comm, suc-mul, mul-le-mul_right}
+use Rattle.std.proofs.Common.{arith, ◌≡◌, ℕ, suc, ◌+◌, ◌-◌, ◌*◌, ◌/◌, ◌%◌, ◌<◌, true, false, ap}
+use Rattle.std.proofs.Math.Nat.{mul_comm, suc-mul, mul-le-mul_right}
 use Rattle.std.proofs.lemmas.Nat.{div-mul-add, mod-mul-add, div-add-mod'}
 use Rattle.layouts.specs.declared.arrangement.Run.{Run}
 use Rattle.layouts.specs.declared.arrangement.Run.TheVariants.{Rows, Columns}
@@ -8,12 +8,8 @@ use Rattle.layouts.specs.declared.arrangement.Turned.{Turned}
 use Rattle.layouts.specs.declared.arrangement.Turned.TheVariants as sideways
 use Rattle.layouts.specs.Cells.{Grid, size, read_columns, read_rows}
 use Rattle.layouts.specs.declared.setting.Setting.{Setting}
+use Rattle.layouts.proofs.InOrder.{along_columns, along_rows, read_size}
 use Rattle.row_sheets.specs.Filled.{cell_behind, behind_in, BehindIsMirror}
-
-some_of_both : (r c k : ℕ) → k < r * c → (0 < r) × (0 < c)
-some_of_both zero c k h = absurd (omega (arith, h))
-some_of_both (suc r) zero k h = absurd (omega (arith, h))
-some_of_both (suc r) (suc c) k h = (omega arith, omega arith)
 
 -- in rows of c: its row and its place there
 record InRows (r c k : ℕ) : Type 0 where
@@ -24,9 +20,8 @@ record InRows (r c k : ℕ) : Type 0 where
 
 in_rows : (r c k : ℕ) → k < r * c → InRows r c k
 in_rows r c k h =
-    let some = (some_of_both r c k h).1 in
-    let less = mod-lt k some in
-    let row = (div-lt_iff_lt-mul some).1 h in
+    let at = along_rows r c k h in
+    let row = at.0 in let less = at.1 in
     let small : c - (k % c + 1) < c = omega (arith, less) in
     record {
       within = omega (arith, small, mul-le-mul_right {m = suc (k / c)} {n = r} c (omega (arith, row)), suc-mul (k / c) c);
@@ -44,9 +39,8 @@ record InColumns (r c k : ℕ) : Type 0 where
 
 in_columns : (r c k : ℕ) → k < r * c → InColumns r c k
 in_columns r c k h =
-    let some = (some_of_both r c k h).0 in
-    let less = mod-lt k some in
-    let column = (div-lt_iff_lt-mul some).1 (omega (arith, h, mul_comm r c)) in
+    let at = along_columns r c k h in
+    let less = at.0 in let column = at.1 in
     record {
       within = omega (arith, less, column, mul-le-mul_right {m = suc (c - (k / r + 1))} {n = c} r (omega (arith, column)), suc-mul (c - (k / r + 1)) r, mul_comm r c);
       column = div-mul-add (c - (k / r + 1)) r (k % r) less;
@@ -67,11 +61,6 @@ twice Columns r c k h =
   where
     again : (m c : ℕ) → m < c → c - (c - (m + 1) + 1) ≡ m
     again m c less = omega (arith, less)
-
-read_size : (t : Turned) (g : Grid) (k : ℕ) → k < size g → k < read_rows t g * read_columns t g
-read_size sideways.Upright g k h = h
-read_size sideways.Left g k h = omega (arith, h, mul_comm g.rows g.columns)
-read_size sideways.Right g k h = omega (arith, h, mul_comm g.rows g.columns)
 
 all_cells : (t : Turned) (g : Grid) (k : ℕ) → k < read_rows t g * read_columns t g → k < size g
 all_cells sideways.Upright g k h = h

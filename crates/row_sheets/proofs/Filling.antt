@@ -3,14 +3,9 @@ use Rattle.std.proofs.Common.{arith, ◌≡◌, ℕ, ◌+◌, ◌<◌, ◌⊎◌
 use Rattle.std.specs.Prelude.{map}
 use Rattle.std.specs.List.{range_with_len}
 use Rattle.std.proofs.Math.Nat.{eq-or-lt_of_le}
-use Rattle.std.proofs.lemmas.List.{map-append}
 use Rattle.std.proofs.lemmas.List.FromFn.{map-range_with_len_more}
 use Rattle.rules.specs.Papers.{Paper}
 use Rattle.made_sheets.specs.Made.{MadeSlot, MadeSheet}
-
-pub pushed : {X Y : Type 0} (h : X → Y) (f : ℕ → Y) (xs ys : List X) (x : X) (k : ℕ) → map h xs ≡ map f (range_with_len 0 k) → h x ≡ f k → ys ≡ xs ++ x ∷ [] → map h ys ≡ map f (range_with_len 0 (k + 1))
-pushed h f xs ys x k so_far here e =
-    ap (map h) e ∙ (map-append h xs (x ∷ []) ∙ (ap (λ zs. zs ++ h x ∷ []) so_far ∙ (ap (λ z. map f (range_with_len 0 k) ++ z ∷ []) here ∙ sym (map-range_with_len_more f 0 k k (omega arith)))))
 
 -- one more sheet
 abbrev pub sheet : (paper : Paper) → (slots : List MadeSlot) → MadeSheet

@@ -4,15 +4,16 @@ use Rattle.std.specs.Prelude.{flat_map}
 use Rattle.std.specs.List.{range_with_len}
 use Rattle.std.proofs.lemmas.List.{map-append}
 use Rattle.std.proofs.lemmas.List.Concat.{flat_map-cons}
+use Rattle.std.proofs.lemmas.Simd.{map-map}
 use Rattle.rules.specs.Papers.{Paper}
 use Rattle.rules.specs.Specification.{Item, Spec}
 use Rattle.rules.specs.Sheets.{Slot, blocks, place}
 use Rattle.rules.specs.Signatures.{entry_of}
 use Rattle.made_sheets.specs.Made.{MadeSheet, MadeSlot, made_slot}
 use Rattle.made_sheets.specs.Rows.{Row, sheets_of_row}
-use Rattle.row_sheets.specs.BySpec.{made_on}
+use Rattle.row_sheets.specs.BySpec.{made_on, sheet_by}
 
-map_flat : {X Y : Type 0} (h : X → Y) (f : ℕ → List X) (bs : List ℕ) → map h (flat_map f bs) ≡ flat_map (λ b. map h (f b)) bs
+pub map_flat : {X Y : Type 0} (h : X → Y) (f : ℕ → List X) (bs : List ℕ) → map h (flat_map f bs) ≡ flat_map (λ b. map h (f b)) bs
 map_flat h f [] = refl
 map_flat h f (b ∷ bs) =
     ap (map h) (flat_map-cons f b bs)
@@ -20,20 +21,10 @@ map_flat h f (b ∷ bs) =
     ∙ ap (λ xs. map h (f b) ++ xs) (map_flat h f bs)
     ∙ sym (flat_map-cons (λ c. map h (f c)) b bs)
 
-abbrev slot_on : Paper → Row → (m b : ℕ) → Item → MadeSlot
-slot_on paper row m b item = made_slot paper (entry_of row (place m (length row) b item)) item
-
-abbrev side_on : (sheet paper : Paper) → Row → (m b : ℕ) → List Item → MadeSheet
-side_on sheet paper row m b group = record { paper = sheet; slots = map (slot_on paper row m b) group }
-
 -- ---- the sheets of a specification, group by group
-maps : {X Y Z : Type 0} (f : X → Y) (g : Y → Z) (xs : List X) → map g (map f xs) ≡ map (λ x. g (f x)) xs
-maps f g [] = refl
-maps f g (x ∷ xs) = ap (λ ys. g (f x) ∷ ys) (maps f g xs)
-
-rows_same : {Y : Type 0} (f g : ℕ → List Y) → ((b : ℕ) → f b ≡ g b) → (bs : List ℕ) → flat_map f bs ≡ flat_map g bs
-rows_same f g h [] = refl
-rows_same f g h (b ∷ bs) = flat_map-cons f b bs ∙ ap (λ xs. xs ++ flat_map f bs) (h b) ∙ ap (λ xs. g b ++ xs) (rows_same f g h bs) ∙ sym (flat_map-cons g b bs)
+pub same_flats : {Y : Type 0} (f g : ℕ → List Y) → ((b : ℕ) → f b ≡ g b) → (bs : List ℕ) → flat_map f bs ≡ flat_map g bs
+same_flats f g h [] = refl
+same_flats f g h (b ∷ bs) = flat_map-cons f b bs ∙ ap (λ xs. xs ++ flat_map f bs) (h b) ∙ ap (λ xs. g b ++ xs) (same_flats f g h bs) ∙ sym (flat_map-cons g b bs)
 
 abbrev slot_at : Row → (m b : ℕ) → Item → Slot
 slot_at row m b item = record { page = entry_of row (place m (length row) b item); item = item }
@@ -42,15 +33,15 @@ abbrev made_sheet : (sheet paper : Paper) → List Slot → MadeSheet
 made_sheet sheet paper slots = record { paper = sheet; slots = map (λ slot. made_slot paper slot.page slot.item) slots }
 
 made_groups : (sheet paper : Paper) (row : Row) (m b : ℕ) (groups : List (List Item))
-    → map (made_sheet sheet paper) (map (λ g. map (slot_at row m b) g) groups) ≡ map (side_on sheet paper row m b) groups
+    → map (made_sheet sheet paper) (map (λ g. map (slot_at row m b) g) groups) ≡ map (sheet_by sheet paper row m b) groups
 made_groups sheet paper row m b [] = refl
 made_groups sheet paper row m b (g ∷ gs) =
-    ap (λ (xs : List MadeSlot). record { paper = sheet; slots = xs } ∷ map (made_sheet sheet paper) (map (λ h. map (slot_at row m b) h) gs)) (maps (slot_at row m b) (λ slot. made_slot paper slot.page slot.item) g)
-    ∙ ap (λ (rest : List MadeSheet). side_on sheet paper row m b g ∷ rest) (made_groups sheet paper row m b gs)
+    ap (λ (xs : List MadeSlot). record { paper = sheet; slots = xs } ∷ map (made_sheet sheet paper) (map (λ h. map (slot_at row m b) h) gs)) (map-map (λ slot. made_slot paper slot.page slot.item) (slot_at row m b) g)
+    ∙ ap (λ (rest : List MadeSheet). sheet_by sheet paper row m b g ∷ rest) (made_groups sheet paper row m b gs)
 
 pub made_sheets_are : (sheet paper : Paper) (row : Row) (spec : Spec)
-    → made_on sheet paper (sheets_of_row spec row) ≡ flat_map (λ b. map (side_on sheet paper row spec.modulo b) spec.groups) (range_with_len 0 (blocks spec.modulo (length row)))
+    → made_on sheet paper (sheets_of_row spec row) ≡ flat_map (λ b. map (sheet_by sheet paper row spec.modulo b) spec.groups) (range_with_len 0 (blocks spec.modulo (length row)))
 made_sheets_are sheet paper row spec =
     map_flat (made_sheet sheet paper) (λ b. map (λ g. map (slot_at row spec.modulo b) g) spec.groups) (range_with_len 0 (blocks spec.modulo (length row)))
-    ∙ rows_same (λ b. map (made_sheet sheet paper) (map (λ g. map (slot_at row spec.modulo b) g) spec.groups)) (λ b. map (side_on sheet paper row spec.modulo b) spec.groups)
+    ∙ same_flats (λ b. map (made_sheet sheet paper) (map (λ g. map (slot_at row spec.modulo b) g) spec.groups)) (λ b. map (sheet_by sheet paper row spec.modulo b) spec.groups)
     (λ b. made_groups sheet paper row spec.modulo b spec.groups) (range_with_len 0 (blocks spec.modulo (length row)))

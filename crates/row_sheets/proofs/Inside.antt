@@ -2,12 +2,15 @@
 use Rattle.std.proofs.Common.{◌≡◌, ℕ, ◌-◌, ◌*◌, Bool, true, false, Option, Some, None, sym, subst}
 use Rattle.std.specs.Prelude.{if◌then◌else◌, nat_abs}
 use Rattle.rules.specs.Papers.{Paper}
+use Rattle.rules.specs.Specification.{Item}
+use Rattle.made_sheets.specs.Made.{MadeSlot, Blank, Placed}
 use Rattle.layouts.specs.Cells.{whole}
-use Rattle.layouts.specs.Fitted.{fitted, fitted_back, why_not_fitted, HaveOneFold}
+use Rattle.layouts.specs.Fitted.{why_not_fitted, HaveOneFold}
 use Rattle.layouts.specs.Laws.{IsPaper, LiesBefore, LiesBehind}
 use Rattle.layouts.proofs.Fitting.{one_fold}
 use Rattle.row_sheets.specs.Filled.{Filling, slot_on, HavePlaces, SlotLiesBefore, SlotLiesBehind, BookletFolds}
 use Rattle.row_sheets.specs.Filled.{FilledIsInside, FilledIsApart, SidesAreInside, SidesAreApart, BookletKeepsFold}
+use Rattle.row_sheets.specs.Creep.{in_half}
 use Rattle.row_sheets.specs.Standing.{EntryFits}
 use Rattle.row_sheets.proofs.OnSheets.{not_turned, slot_inside, slots_apart}
 
@@ -33,41 +36,26 @@ sides_are_apart f by_half c d one other on places in_c in_d differ =
 
 -- on leaves
 
-before : (f : Filling) (T c : ℕ) (entry : Option ℕ) → HavePlaces f
-    → ((page : Paper) → IsPaper page → why_not_fitted f.setting page ≡ None → LiesBefore f.setting.room T page (fitted f.setting page c))
-    → SlotLiesBefore f.setting.room T (slot_on f false c entry)
-before f T c None places h = tt
-before f T c (Some page) places h = let p = places page in h (f.paper_of page) p.0 p.1
-
-behind : (f : Filling) (T c : ℕ) (entry : Option ℕ) → HavePlaces f
-    → ((page : Paper) → IsPaper page → why_not_fitted f.setting page ≡ None → LiesBehind f.setting.room T page (fitted f.setting page c))
-    → SlotLiesBehind f.setting.room T (slot_on f false c entry)
-behind f T c None places h = tt
-behind f T c (Some page) places h = let p = places page in h (f.paper_of page) p.0 p.1
-
-turned_before : (f : Filling) (T c : ℕ) (entry : Option ℕ) → HavePlaces f
-    → ((page : Paper) → IsPaper page → why_not_fitted f.setting page ≡ None → LiesBefore f.setting.room T page (fitted_back f.setting page c))
-    → SlotLiesBefore f.setting.room T (slot_on f true c entry)
-turned_before f T c None places h = tt
-turned_before f T c (Some page) places h = let p = places page in h (f.paper_of page) p.0 p.1
-
-turned_behind : (f : Filling) (T c : ℕ) (entry : Option ℕ) → HavePlaces f
-    → ((page : Paper) → IsPaper page → why_not_fitted f.setting page ≡ None → LiesBehind f.setting.room T page (fitted_back f.setting page c))
-    → SlotLiesBehind f.setting.room T (slot_on f true c entry)
-turned_behind f T c None places h = tt
-turned_behind f T c (Some page) places h = let p = places page in h (f.paper_of page) p.0 p.1
+-- what holds of each page in its cell holds of a slot, if it holds of a blank one
+each_page : (f : Filling) (by_half : Bool) (c : ℕ) (entry : Option ℕ) (Q : Paper → Item → Type 0) (S : MadeSlot → Type 0) → S Blank → ((page : ℕ) (item : Item) (paper : Paper) → Q paper item → S (Placed page item paper)) → HavePlaces f
+    → ((paper : Paper) → IsPaper paper → why_not_fitted f.setting paper ≡ None → Q paper (in_half f.setting by_half paper c)) → S (slot_on f by_half c entry)
+each_page f false c None Q S blank placed places h = blank
+each_page f true c None Q S blank placed places h = blank
+each_page f false c (Some page) Q S blank placed places h = let p = places page in placed page _ (f.paper_of page) (h (f.paper_of page) p.0 p.1)
+each_page f true c (Some page) Q S blank placed places h = let p = places page in placed page _ (f.paper_of page) (h (f.paper_of page) p.0 p.1)
 
 folds : (f : Filling) (right_to_left : Bool) → HaveOneFold f.setting right_to_left → HavePlaces f → BookletFolds f right_to_left
 folds f r fold places =
-    let h = whole (nat_abs f.setting.room.paper.height) in
+    let room = f.setting.room in
+    let h = whole (nat_abs room.paper.height) in
     record {
       twice = fold.twice;
       no_farther = fold.no_farther;
       no_nearer = fold.no_nearer;
-      before = λ entry. before f fold.twice (if r then 1 else 0) entry places fold.before;
-      behind = λ entry. behind f fold.twice (if r then 0 else 1) entry places fold.behind;
-      turned_behind = λ entry. turned_behind f (2 * h - fold.twice) (if r then 1 else 0) entry places fold.turned_behind;
-      turned_before = λ entry. turned_before f (2 * h - fold.twice) (if r then 0 else 1) entry places fold.turned_before;
+      before = λ entry. each_page f false (if r then 1 else 0) entry (LiesBefore room fold.twice) (SlotLiesBefore room fold.twice) tt (λ page item paper lies. lies) places fold.before;
+      behind = λ entry. each_page f false (if r then 0 else 1) entry (LiesBehind room fold.twice) (SlotLiesBehind room fold.twice) tt (λ page item paper lies. lies) places fold.behind;
+      turned_behind = λ entry. each_page f true (if r then 1 else 0) entry (LiesBehind room (2 * h - fold.twice)) (SlotLiesBehind room (2 * h - fold.twice)) tt (λ page item paper lies. lies) places fold.turned_behind;
+      turned_before = λ entry. each_page f true (if r then 0 else 1) entry (LiesBefore room (2 * h - fold.twice)) (SlotLiesBefore room (2 * h - fold.twice)) tt (λ page item paper lies. lies) places fold.turned_before;
     }
 
 pub booklet_keeps_fold : BookletKeepsFold

@@ -1,11 +1,11 @@
 -- Sheets of a specification on a row that pass a limit: they are no plan, and the limit is their first fault.
-use Rattle.std.proofs.Common.{arith, cond, ◌≡◌, ℕ, ◌+◌, ◌<◌, ◌≤◌, Bool, true, false, List, [], ◌∷◌, length, map, get_or, suc, refl, sym, ap, subst, ◌∙◌}
+use Rattle.std.proofs.Common.{arith, cond, ◌≡◌, ℕ, ◌+◌, ◌<◌, ◌≤◌, Bool, true, false, List, [], ◌∷◌, length, map, get_or, refl, sym, ap, subst, ◌∙◌}
 use Rattle.std.specs.Prelude.{◌&&◌, All, Err, None, Some, flat_map, nat_le, not, position, sum_by}
 use Rattle.std.specs.List.{position_from, range_with_len}
-use Rattle.std.proofs.lemmas.Bool.Decides.{nat_tests}
+use Rattle.std.proofs.lemmas.Bool.{le-leb}
 use Rattle.std.proofs.lemmas.List.{length-map}
 use Rattle.std.proofs.lemmas.List.Concat.{flat_map-cons}
-use Rattle.std.proofs.lemmas.List.Elements.{All-append, All-map, All-nil}
+use Rattle.std.proofs.lemmas.List.Elements.{All-append, All-map, All-nil, All-tail}
 use Rattle.rules.specs.Admissible.{IsAdmissible, most_slots}
 use Rattle.rules.specs.Papers.{Paper}
 use Rattle.rules.specs.Sheets.{blocks}
@@ -18,19 +18,13 @@ use Rattle.sheet_plan.proofs.Admitted.{bounded, filled}
 use Rattle.row_sheets.specs.BySpec.{by_spec, sheet_by, slot_by}
 use Rattle.row_sheets.proofs.GroupByGroup.{made_sheets_are}
 
-tail_of : {X : Type 0} (P : X → Type 0) (x : X) (xs : List X) → All P (x ∷ xs) → All P xs
-tail_of P x xs h k d less = h (suc k) d (omega (arith, less))
-
 pub none_from : {X : Type 0} (p : X → Bool) (xs : List X) (k : ℕ) → All (λ x. p x ≡ false) xs → position_from p k xs ≡ None
 none_from p [] k h = refl
 none_from p (x ∷ xs) k h =
-    ap (λ b. cond b (Some k) (position_from p (k + 1) xs)) (h 0 x (omega arith)) ∙ none_from p xs (k + 1) (tail_of (λ y. p y ≡ false) x xs h)
-
-is_le : (a b : ℕ) → a ≤ b → nat_le a b ≡ true
-is_le a b le = grind (arith, nat_tests)
+    ap (λ b. cond b (Some k) (position_from p (k + 1) xs)) (h 0 x (omega arith)) ∙ none_from p xs (k + 1) (All-tail (λ y. p y ≡ false) x xs h)
 
 pub even_count : (k : ℕ) → 0 < k → k ≤ 4_096 → not (is_slot_count k) ≡ false
-even_count k some few = ap (λ b. not (b && nat_le k 4_096)) (is_le 1 k (omega (arith, some))) ∙ ap (λ b. not (true && b)) (is_le k 4_096 few)
+even_count k some few = ap (λ b. not (b && nat_le k 4_096)) (le-leb 1 k (omega (arith, some))) ∙ ap (λ b. not (true && b)) (le-leb k 4_096 few)
 
 -- a group has at least one item, and not too many
 even_group : (sheet page : Paper) (row : Row) (m b : ℕ) (g : List Item) → 0 < length g → length g ≤ 4_096 → uneven (sheet_by sheet page row m b g) ≡ false

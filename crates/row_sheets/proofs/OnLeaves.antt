@@ -1,9 +1,10 @@
 -- Leaves whose pages have their places are laid out well, also if they creep.
-use Rattle.std.proofs.Common.{arith, rules, ◌≡◌, ℕ, ◌+◌, ◌-◌, ◌*◌, ◌<◌, ◌≤◌, Bool, true, false, Option, Some, None, [], ◌∷◌, refl, sym, ap, subst}
+use Rattle.std.proofs.Common.{arith, ◌≡◌, ℕ, ◌+◌, ◌-◌, ◌*◌, ◌<◌, ◌≤◌, Bool, true, false, Option, Some, None, [], ◌∷◌, refl, sym, ap, subst}
 use Rattle.std.specs.Option.{option_or}
 use Rattle.std.specs.Prelude.{ℤ, pos, neg_ℤ, ◌≤ℤ◌, ◌+ℤ◌, ◌-ℤ◌, ◌*ℤ◌, nat_abs, nat_lt, if◌then◌else◌}
 use Rattle.std.specs.List.{range_with_len}
 use Rattle.std.proofs.Math.Nat.{div-mul-le_self}
+use Rattle.std.proofs.lemmas.Bool.{cond-true, cond_both, lt-ltb, ltb-true}
 use Rattle.std.proofs.lemmas.Int.{ints}
 use Rattle.rules.specs.Papers.{Paper}
 use Rattle.rules.specs.Specification.{Item, Right}
@@ -23,6 +24,7 @@ use Rattle.layouts.proofs.Sides.{placed}
 use Rattle.layouts.proofs.InGrid.{sides_are}
 use Rattle.layouts.proofs.AlongSide.{cells_fit}
 use Rattle.layouts.proofs.Folds.{fold, kept_little, in_middle, fold_on_sheet, has_cell}
+use Rattle.layouts.proofs.Possible.{passed}
 use Rattle.layouts.proofs.Fitting.{fitted_stands, has_scale, scale_of_many, stands_back, one_of_many, in_cell}
 use Rattle.row_sheets.specs.Filled.{Filling, SlotIsInside, is_turned, grid_entry}
 use Rattle.row_sheets.specs.Creep.{AreHalves, creeping, creeping_slot, creeping_sides, creep_on, leaf_item, may_creep, moved_up, to_fold, StaysBefore, StaysBehind}
@@ -284,10 +286,6 @@ none_both : (one other : Option ArrangementError) → option_or one other ≡ No
 none_both None other h = (refl, h)
 none_both (Some e) other h = absurd (cc (h))
 
-holds : (b : Bool) (e : ArrangementError) → first_of b e None ≡ None → b ≡ true
-holds true e h = refl
-holds false e h = absurd (cc (h))
-
 pub fits_in : (t : Setting) (page : Paper) (creep : ℕ) → FitsOnLeaf t page creep → FitsIn t page
 fits_in t page creep has =
     let free = none_both (why_not_fitted t page) (first_of (may_creep page t.room (scale_on t page) creep) why.CreepOverFold None) has.fits in
@@ -307,7 +305,7 @@ creeps_on page room b asked creep even has =
         page_is = has.page_is;
         sheet_is = has.sheet_is;
         place = (has_scale t page scale).place;
-        may = holds may why.CreepOverFold free.1;
+        may = (passed may why.CreepOverFold None free.1).0;
         inside = λ k less. subst (IsInside room page) (is_in_cell k) (fitted_stands t page k has.page_is has.sheet_is (omega (arith, less)) free.0).inside;
         inside_back = λ k less. (stands_back t page k has.page_is has.sheet_is (omega (arith, less)) scale).inside even;
         turned = λ k less. subst (λ i. IsHalfTurnOf page room.paper i (fitted_back t page k)) (is_in_cell k)
@@ -319,28 +317,10 @@ creeps_on page room b asked creep even has =
 abbrev line : Room → ℕ
 line room = let h = nat_abs room.paper.height in if nat_lt 0 (cell (along_height room) h 2) then fold (along_height room) h else whole h
 
-by_test : {P : Type 0} (b : Bool) → (b ≡ true → P) → (b ≡ false → P) → P
-by_test true p q = p refl
-by_test false p q = q refl
-
-first_one : (b : Bool) (x y : ℕ) → b ≡ true → (if b then x else y) ≡ x
-first_one true x y e = refl
-first_one false x y e = cc
-
-second_one : (b : Bool) (x y : ℕ) → b ≡ false → (if b then x else y) ≡ y
-second_one true x y e = cc
-second_one false x y e = refl
-
-is_below : (n : ℕ) → 0 < n → nat_lt 0 n ≡ true
-is_below n h = search (rules, h)
-
-below_is : (n : ℕ) → nat_lt 0 n ≡ true → 0 < n
-below_is n h = search (rules, h)
-
 line_is : (page : Paper) (room : Room) (b : Bool) (s creep : ℕ) → Creeps page room b s creep → fold (along_height room) (nat_abs room.paper.height) ≡ line room
 line_is page room b s creep c =
     let h = nat_abs room.paper.height in
-    sym (first_one (nat_lt 0 (cell (along_height room) h 2)) (fold (along_height room) h) (whole h) (is_below (cell (along_height room) h 2) (some_cell page room s c.page_is c.place)))
+    sym (cond-true (nat_lt 0 (cell (along_height room) h 2)) (fold (along_height room) h) (whole h) (lt-ltb 0 (cell (along_height room) h 2) (some_cell page room s c.page_is c.place)))
 
 abbrev InMiddle : (T W : ℕ) → Type 0
 InMiddle T W = (T ≤ W + 1) × (W ≤ T + 1)
@@ -348,9 +328,8 @@ InMiddle T W = (T ≤ W + 1) × (W ≤ T + 1)
 line_in_middle : (room : Room) → IsEven room → InMiddle (line room) (whole (nat_abs room.paper.height))
 line_in_middle room even =
     let h = nat_abs room.paper.height in
-    by_test (nat_lt 0 (cell (along_height room) h 2))
-    (λ e. subst (λ T. InMiddle T (whole h)) (sym (first_one (nat_lt 0 (cell (along_height room) h 2)) (fold (along_height room) h) (whole h) e)) (in_middle (along_height room) h even.up (below_is (cell (along_height room) h 2) e)))
-    (λ e. subst (λ T. InMiddle T (whole h)) (sym (second_one (nat_lt 0 (cell (along_height room) h 2)) (fold (along_height room) h) (whole h) e)) (omega arith, omega arith))
+    cond_both (nat_lt 0 (cell (along_height room) h 2)) (fold (along_height room) h) (whole h) (λ T. InMiddle T (whole h))
+    (λ e. in_middle (along_height room) h even.up (ltb-true 0 (cell (along_height room) h 2) e)) (λ e. (omega arith, omega arith))
 
 abbrev on_halves : (room : Room) (b : Bool) (asked : Option ℤ) → (ℕ → Paper) → Filling
 on_halves room b asked paper_of = record { setting = halves room b asked; paper_of = paper_of }
@@ -499,4 +478,4 @@ unfolding leaves_stand
 leaves_fold f turned_backs creep leaves sheets row halved has some =
     let room = f.setting.room in
     let h = nat_abs room.paper.height in
-    first_one (nat_lt 0 (cell (along_height room) h 2)) (fold (along_height room) h) (whole h) (is_below (cell (along_height room) h 2) some)
+    cond-true (nat_lt 0 (cell (along_height room) h 2)) (fold (along_height room) h) (whole h) (lt-ltb 0 (cell (along_height room) h 2) some)

@@ -1,7 +1,8 @@
 -- One scale for all pages of a row.
-use Rattle.std.proofs.Common.{arith, rules, ◌≡◌, ◌⊎◌, ◌∙◌, inl, inr, ℕ, zero, suc, ◌≤◌, [], ◌∷◌, Bool, true, false, Option, Some, None, refl, sym, ap, subst, unwrap_or, min}
+use Rattle.std.proofs.Common.{arith, rules, ◌≡◌, ◌⊎◌, ◌∙◌, inl, inr, ℕ, zero, suc, ◌≤◌, [], ◌∷◌, Bool, true, false, Option, Some, None, refl, sym, ap, subst, min}
 use Rattle.std.specs.Prelude.{pos, nat_le, ◌&&◌, if◌then◌else◌, option_map}
 use Rattle.std.specs.List.{fold}
+use Rattle.std.proofs.lemmas.Option.{none-some, same_Some}
 use Rattle.rules.specs.Signatures.{entry_of}
 use Rattle.made_sheets.specs.Rows.{Row}
 use Rattle.layouts.specs.declared.error.ArrangementError.{ArrangementError}
@@ -10,6 +11,7 @@ use Rattle.layouts.specs.Cells.{scale_in}
 use Rattle.layouts.specs.Placed.{Room}
 use Rattle.layouts.specs.Fitted.{is_whole, scale_on, why_no_scale_on}
 use Rattle.layouts.specs.Refusals.{first_of, are_reached, is_near, is_scale, is_shown, why_no_scale}
+use Rattle.layouts.proofs.Possible.{passed}
 use Rattle.layouts.proofs.Fitting.{fitted_stands}
 use Rattle.row_sheets.specs.Filled.{Filling}
 use Rattle.row_sheets.specs.SameScale.{own_scale, lesser, least_with, least_scale, at_one_scale, HaveOneScale, HaveScales, OneScaleStands}
@@ -38,9 +40,6 @@ counted f (Some s) (Some p ∷ row) = ap (λ z. fold (least_with f) (Some z) row
 
 -- ---- which it is
 
-some_same : {X : Type 0} (a b : X) → Some a ≡ Some b → a ≡ b
-some_same a b e = ap (λ o. unwrap_or o a) e
-
 abbrev IsOf : Filling → Row → ℕ → Type 0
 IsOf f row s = (i : ℕ) × (p : ℕ) × (entry_of row i ≡ Some p) × (own_scale f p ≡ s)
 
@@ -57,7 +56,7 @@ past_none f row s each zero p e = absurd (cc (e))
 past_none f row s each (suc i) p e = each i p e
 
 past_some : (f : Filling) (q : ℕ) (row : Row) (s : ℕ) → s ≤ own_scale f q → ((i p : ℕ) → entry_of row i ≡ Some p → s ≤ own_scale f p) → (i p : ℕ) → entry_of (Some q ∷ row) i ≡ Some p → s ≤ own_scale f p
-past_some f q row s here each zero p e = subst (λ r. s ≤ own_scale f r) (some_same q p e) here
+past_some f q row s here each zero p e = subst (λ r. s ≤ own_scale f r) (same_Some q p e) here
 past_some f q row s here each (suc i) p e = each i p e
 
 of_min : (f : Filling) (t q : ℕ) (row : Row) (s : ℕ) (test : Bool) → nat_le t (own_scale f q) ≡ test → min t (own_scale f q) ≡ s → (Some t ≡ Some s) ⊎ IsOf f (Some q ∷ row) s
@@ -65,10 +64,7 @@ of_min f t q row s true b e = let le : t ≤ own_scale f q = search (rules, b) i
 of_min f t q row s false b e = let le : own_scale f q ≤ t = search (rules, b) in inr (0, q, refl, (let m : own_scale f q ≡ s = omega (arith, le, e) in m))
 
 found : (f : Filling) (so_far : Option ℕ) (row : Row) (s : ℕ) → least f so_far row ≡ Some s → Found f so_far row s
-found f so_far [] s e = record { from = inl e; before = λ t h. (let m : s ≡ t = some_same s t (sym e ∙ h) in omega (arith, m)); each = λ i p h. absurd (none i p h) }
-  where
-    none : (i p : ℕ) → entry_of [] i ≡ Some p → ⊥
-    none i p h = cc
+found f so_far [] s e = record { from = inl e; before = λ t h. (let m : s ≡ t = same_Some s t (sym e ∙ h) in omega (arith, m)); each = λ i p h. absurd (none-some p h) }
 found f None (None ∷ row) s e =
     let r = found f None row s e in
     record { from = elim r.from [ inl h ↦ inl h | inr h ↦ inr (later f None row s h) ]; before = r.before; each = past_none f row s r.each }
@@ -78,20 +74,17 @@ found f (Some t) (None ∷ row) s e =
 found f None (Some q ∷ row) s e =
     let r = found f (Some (own_scale f q)) row s e in
     record {
-      from = elim r.from [ inl h ↦ inr (0, q, refl, some_same (own_scale f q) s h) | inr h ↦ inr (later f (Some q) row s h) ];
-      before = λ t h. absurd (none t h);
+      from = elim r.from [ inl h ↦ inr (0, q, refl, same_Some (own_scale f q) s h) | inr h ↦ inr (later f (Some q) row s h) ];
+      before = λ t h. absurd (none-some t h);
       each = past_some f q row s (r.before (own_scale f q) refl) r.each;
     }
-  where
-    none : (t : ℕ) → None ≡ Some t → ⊥
-    none t h = cc
 found f (Some t) (Some q ∷ row) s e =
     let m = min t (own_scale f q) in
     let r = found f (Some m) row s e in
     let below : s ≤ m = r.before m refl in
     record {
-      from = elim r.from [ inl h ↦ of_min f t q row s (nat_le t (own_scale f q)) refl (some_same m s h) | inr h ↦ inr (later f (Some q) row s h) ];
-      before = λ u h. (let same : t ≡ u = some_same t u h in omega (arith, below, same));
+      from = elim r.from [ inl h ↦ of_min f t q row s (nat_le t (own_scale f q)) refl (same_Some m s h) | inr h ↦ inr (later f (Some q) row s h) ];
+      before = λ u h. (let same : t ≡ u = same_Some t u h in omega (arith, below, same));
       each = past_some f q row s (omega (arith, below)) r.each;
     }
 
@@ -102,10 +95,7 @@ stays_some f t (Some p ∷ row) = stays_some f (min t (own_scale f p)) row
 
 has_some : (f : Filling) (so_far : Option ℕ) (row : Row) (i p : ℕ) → entry_of row i ≡ Some p → (s : ℕ) × (least f so_far row ≡ Some s)
 has_some f (Some t) row i p e = stays_some f t row
-has_some f None [] i p e = absurd (none i p e)
-  where
-    none : (i p : ℕ) → entry_of [] i ≡ Some p → ⊥
-    none i p h = cc
+has_some f None [] i p e = absurd (none-some p e)
 has_some f None (None ∷ row) zero p e = absurd (cc (e))
 has_some f None (None ∷ row) (suc i) p e = has_some f None row i p e
 has_some f None (Some q ∷ row) i p e = stays_some f (own_scale f q) row
@@ -116,7 +106,7 @@ have_one_scale f row i page e =
     let s = some.0 in
     let r = found f None row s some.1 in
     let is : least_scale f row ≡ Some (pos s) = counted f None row ∙ ap (option_map pos) some.1 in
-    let own : IsOf f row s = elim r.from [ inl h ↦ absurd (none s h) | inr h ↦ h ] in (
+    let own : IsOf f row s = elim r.from [ inl h ↦ absurd (none-some s h) | inr h ↦ h ] in (
       s,
       record {
         all = λ paper. ap (λ z. scale_on (record { room = f.setting.room; grid = f.setting.grid; order = f.setting.order; scale = z }) paper) is;
@@ -127,15 +117,8 @@ have_one_scale f row i page e =
         least = r.each;
       },
     )
-  where
-    none : (s : ℕ) → None ≡ Some s → ⊥
-    none s h = cc
 
 -- ---- it fits
-
-holds : (b : Bool) (e : ArrangementError) (x : Option ArrangementError) → first_of b e x ≡ None → (b ≡ true) × (x ≡ None)
-holds true e x h = (refl, h)
-holds false e x h = absurd (cc (h))
 
 passes : (b : Bool) (e : ArrangementError) (x : Option ArrangementError) → b ≡ true → x ≡ None → first_of b e x ≡ None
 passes true e x b h = h
@@ -144,13 +127,13 @@ passes false e x b h = absurd (cc (b))
 -- a scale that some pages may have, which is no larger than the largest one of others, these may have too
 fits_less : (room : Room) (s largest own other : ℕ) → why_no_scale room s largest ≡ None → why_no_scale room own other ≡ None → s ≤ own → why_no_scale room s other ≡ None
 fits_less room s largest own other mine its less =
-    let a = holds (nat_le 1 largest) why.NoRoom _ mine in
-    let b = holds (is_scale s) why.ScaleOutOfRange _ a.1 in
-    let c = holds (nat_le s largest) why.ScaleTooLarge _ b.1 in
-    let d = holds (is_near room s) why.ScaleOutOfRange None c.1 in
-    let a' = holds (nat_le 1 other) why.NoRoom _ its in
-    let b' = holds (is_scale own) why.ScaleOutOfRange _ a'.1 in
-    let c' = holds (nat_le own other) why.ScaleTooLarge _ b'.1 in
+    let a = passed (nat_le 1 largest) why.NoRoom _ mine in
+    let b = passed (is_scale s) why.ScaleOutOfRange _ a.1 in
+    let c = passed (nat_le s largest) why.ScaleTooLarge _ b.1 in
+    let d = passed (is_near room s) why.ScaleOutOfRange None c.1 in
+    let a' = passed (nat_le 1 other) why.NoRoom _ its in
+    let b' = passed (is_scale own) why.ScaleOutOfRange _ a'.1 in
+    let c' = passed (nat_le own other) why.ScaleTooLarge _ b'.1 in
     let le : own ≤ other = search (rules, c'.0) in
     let within : s ≤ other = omega (arith, le, less) in
     let test : nat_le s other ≡ true = search (rules, within) in
@@ -171,10 +154,10 @@ has_place f row i page some e =
     let owner = f.paper_of is.page in
     let mine = some is.place is.page is.is_there in
     let its = some i page e in
-    let a = holds (are_reached owner && are_reached t.room.paper) why.SideTooLong _ mine in
-    let b = holds (is_shown owner t.room) why.NothingLeftOfPage _ a.1 in
-    let a' = holds (are_reached paper && are_reached t.room.paper) why.SideTooLong _ its in
-    let b' = holds (is_shown paper t.room) why.NothingLeftOfPage _ a'.1 in
+    let a = passed (are_reached owner && are_reached t.room.paper) why.SideTooLong _ mine in
+    let b = passed (is_shown owner t.room) why.NothingLeftOfPage _ a.1 in
+    let a' = passed (are_reached paper && are_reached t.room.paper) why.SideTooLong _ its in
+    let b' = passed (is_shown paper t.room) why.NothingLeftOfPage _ a'.1 in
     let scale : why_no_scale t.room s (scale_in owner t.room t.grid) ≡ None = subst (λ n. why_no_scale t.room n (scale_in owner t.room t.grid) ≡ None) is.is_own b.1 in
     let less = fits_less t.room s (scale_in owner t.room t.grid) (own_scale f page) (scale_in paper t.room t.grid) scale b'.1 (is.least i page e) in
     passes (are_reached paper && are_reached t.room.paper) why.SideTooLong _ a'.0

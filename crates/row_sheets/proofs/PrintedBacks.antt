@@ -1,12 +1,13 @@
 -- What is printed of a booklet whose backs are turned is what a run makes.
 use Rattle.std.specs.Prelude.{codes, decimal, flat_map, ◌==◌}
 use Rattle.std.specs.List.{range_with_len}
-use Rattle.std.proofs.Common.{arith, ◌≡◌, ◌∙◌, ℕ, zero, suc, ◌+◌, ◌*◌, ◌%◌, Bool, true, false, List, [], ◌∷◌, ◌++◌, Option, Some, None, length, map, refl, sym, ap}
+use Rattle.std.proofs.Common.{arith, ◌≡◌, ◌∙◌, ℕ, ◌+◌, ◌*◌, ◌%◌, Bool, true, false, List, [], ◌∷◌, ◌++◌, Option, Some, None, length, map, refl, sym, ap}
 use Rattle.std.proofs.lemmas.Bool.{ne_eqb}
+use Rattle.std.proofs.lemmas.Simd.{map-map}
 use Rattle.rules.specs.Bytes.{line}
 use Rattle.rules.specs.Output.{Border}
 use Rattle.rules.specs.Papers.{Paper}
-use Rattle.rules.specs.Sheets.{blocks, place}
+use Rattle.rules.specs.Sheets.{blocks}
 use Rattle.rules.specs.Signatures.{entry_of, sheets_in}
 use Rattle.rules.specs.Specification.{Spec}
 use Rattle.rules.proofs.Signatures.{whole_signatures}
@@ -23,34 +24,14 @@ use Rattle.row_sheets.specs.AsPrinted.{HaveOnePaper, NothingIsWrittenOfNumbers, 
 use Rattle.row_sheets.specs.BySpec.{by_spec, made_on, sheet_by, slot_by}
 use Rattle.row_sheets.specs.Filled.{grid_entry, is_turned, slot_on}
 use Rattle.row_sheets.specs.Shapes.{filling}
-use Rattle.row_sheets.proofs.AsDocument.{map_joined}
-use Rattle.row_sheets.proofs.AsPrinted.{IsPage, all_are, entry_is, read_once, sheet_of, signed_are, slot_same}
+use Rattle.row_sheets.proofs.AsPrinted.{IsPage, all_are, entry_is, read_once, signed_are, slot_same}
 use Rattle.row_sheets.proofs.AtRest.{no_creep_is_plain}
-use Rattle.row_sheets.proofs.GroupByGroup.{made_sheets_are}
-use Rattle.row_sheets.proofs.Specified.{either_item, place_is, slot_is, twice_mapped}
-
--- ---- lists
-mapped_flat : {X Y : Type 0} (u : X → Y) (h : ℕ → List X) (bs : List ℕ) → map u (flat_map h bs) ≡ flat_map (λ b. map u (h b)) bs
-mapped_flat u h [] = refl
-mapped_flat u h (b ∷ bs) = map_joined u (h b) (flat_map h bs) ∙ ap (λ ys. map u (h b) ++ ys) (mapped_flat u h bs)
-
-same_flat : {Y : Type 0} (f g : ℕ → List Y) → ((b : ℕ) → f b ≡ g b) → (bs : List ℕ) → flat_map f bs ≡ flat_map g bs
-same_flat f g e [] = refl
-same_flat f g e (b ∷ bs) = ap (λ xs. xs ++ flat_map f bs) (e b) ∙ ap (λ ys. g b ++ ys) (same_flat f g e bs)
-
--- two by two they are one after the other
-in_pairs : {Y : Type 0} (f : ℕ → Y) (a n : ℕ) → flat_map (λ b. f (2 * b) ∷ f (2 * b + 1) ∷ []) (range_with_len a n) ≡ map f (range_with_len (2 * a) (2 * n))
-in_pairs f a zero = refl
-in_pairs f a (suc n) =
-    let two : suc (suc (2 * n)) ≡ 2 * suc n = omega arith in
-    let next : 2 * (a + 1) ≡ (2 * a + 1) + 1 = omega arith in
-    ap (λ ys. f (2 * a) ∷ f (2 * a + 1) ∷ ys) (in_pairs f (a + 1) n ∙ ap (λ k. map f (range_with_len k (2 * n))) next)
-    ∙ ap (λ k. map f (range_with_len (2 * a) k)) two
+use Rattle.row_sheets.proofs.Filling.{sheet as sheet_of}
+use Rattle.row_sheets.proofs.GroupByGroup.{made_sheets_are, map_flat, same_flats}
+use Rattle.row_sheets.proofs.Runs.{in_pairs}
+use Rattle.row_sheets.proofs.Specified.{either_item, place_is, slot_is}
 
 -- ---- a slot
-back_place : (t : Setting) (page : Paper) (n b k : ℕ) → place 4 n b (back_of t page k) ≡ b * 4 + (2 + k)
-back_place t page n b k = refl
-
 front_slot : (t : Setting) (page : Paper) (papers : List Paper) (row : Row) → HaveOnePaper page papers → ((i : ℕ) → IsPage (length papers) (entry_of row i)) → (b k : ℕ)
     → slot_by page row 4 b (fitted t page k) ≡ slot_on (filling t papers) false k (grid_entry 2 row (2 * b) k)
 front_slot t page papers row one are b k =
@@ -118,12 +99,12 @@ leaves_are t page papers row m leaves one are long =
     ≡ unnumbered (side_at t papers row (2 * b)) ∷ unnumbered (side_at t papers row (2 * b + 1)) ∷ [] =
     λ b. ap (λ x. x ∷ unnumbered (sheet_by t.room.paper page row 4 b (map (back_of t page) (range_with_len 0 2))) ∷ []) (front_is t page papers row one are b)
     ∙ ap (λ y. unnumbered (side_at t papers row (2 * b)) ∷ y ∷ []) (back_is t page papers row one are b) in
-    mapped_flat unnumbered (λ b. map (sheet_by t.room.paper page row 4 b) groups) (range_with_len 0 (blocks 4 (length row)))
-    ∙ same_flat (λ b. map unnumbered (map (sheet_by t.room.paper page row 4 b) groups))
+    map_flat unnumbered (λ b. map (sheet_by t.room.paper page row 4 b) groups) (range_with_len 0 (blocks 4 (length row)))
+    ∙ same_flats (λ b. map unnumbered (map (sheet_by t.room.paper page row 4 b) groups))
     (λ b. unnumbered (side_at t papers row (2 * b)) ∷ unnumbered (side_at t papers row (2 * b + 1)) ∷ []) each (range_with_len 0 (blocks 4 (length row)))
     ∙ ap (λ n. flat_map (λ b. unnumbered (side_at t papers row (2 * b)) ∷ unnumbered (side_at t papers row (2 * b + 1)) ∷ []) (range_with_len 0 n)) fours
     ∙ in_pairs (λ s. unnumbered (side_at t papers row s)) 0 m
-    ∙ sym (twice_mapped (side_at t papers row) unnumbered (range_with_len 0 (2 * m)))
+    ∙ sym (map-map unnumbered (side_at t papers row) (range_with_len 0 (2 * m)))
     ∙ ap (λ n. map unnumbered (map (side_at t papers row) (range_with_len 0 n))) (sym twos)
 
 row_long : (k n : ℕ) → length (in_signatures (4 * k) (all_pages n)) ≡ 4 * (blocks (4 * k) n * k)

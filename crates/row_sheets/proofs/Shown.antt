@@ -12,7 +12,6 @@ use Rattle.made_sheets.specs.Made.{MadeSheet, Blank, Placed}
 use Rattle.made_sheets.specs.Rows.{Row}
 use Rattle.layouts.proofs.InGrid.{some_each}
 use Rattle.row_sheets.specs.declared.poster.Poster.{Poster}
-use Rattle.row_sheets.specs.declared.poster.PosterError.TheVariants as why
 use Rattle.row_sheets.specs.Posters.{poster_paper, poster_sheets, entry_tiles, row_tiles, tile_item}
 use Rattle.row_sheets.specs.Posters.{PosterHasTiles, RowIsShown, EntryMayBePoster}
 use Rattle.row_sheets.proofs.Offsets.{possible}

@@ -1,8 +1,9 @@
 -- With pages of one paper, the sheets of a grid are those of a specification.
 use Rattle.std.proofs.Common.{◌≡◌, ◌∙◌, ℕ, ◌+◌, ◌-◌, ◌*◌, Bool, true, false, List, [], ◌∷◌, Option, Some, None, length, map, refl, ap}
-use Rattle.std.specs.Prelude.{flat_map, if◌then◌else◌}
+use Rattle.std.specs.Prelude.{if◌then◌else◌}
 use Rattle.std.specs.List.{range_with_len}
-use Rattle.std.proofs.lemmas.List.Concat.{flat_map-cons}
+use Rattle.std.proofs.lemmas.List.Concat.{flat_map_single}
+use Rattle.std.proofs.lemmas.Simd.{map-map}
 use Rattle.rules.specs.Papers.{Paper}
 use Rattle.rules.specs.Specification.{Item, Spec}
 use Rattle.rules.specs.Sheets.{blocks, place}
@@ -24,14 +25,6 @@ use Rattle.row_sheets.specs.Specified.{GridIsSpecified, BookletIsSpecified, of_p
 pub same_map : {X Y : Type 0} (f g : X → Y) → ((x : X) → f x ≡ g x) → (xs : List X) → map f xs ≡ map g xs
 same_map f g h [] = refl
 same_map f g h (x ∷ xs) = ap (λ y. y ∷ map f xs) (h x) ∙ ap (λ ys. g x ∷ ys) (same_map f g h xs)
-
-pub twice_mapped : {X Y Z : Type 0} (f : X → Y) (g : Y → Z) (xs : List X) → map g (map f xs) ≡ map (λ x. g (f x)) xs
-twice_mapped f g [] = refl
-twice_mapped f g (x ∷ xs) = ap (λ ys. g (f x) ∷ ys) (twice_mapped f g xs)
-
-one_each : {Y : Type 0} (f : ℕ → Y) (bs : List ℕ) → flat_map (λ b. f b ∷ []) bs ≡ map f bs
-one_each f [] = refl
-one_each f (b ∷ bs) = flat_map-cons (λ k. f k ∷ []) b bs ∙ ap (λ ys. f b ∷ ys) (one_each f bs)
 
 -- ---- an item in its cell
 
@@ -66,7 +59,7 @@ sheet_is : (t : Setting) (page : Paper) (row : Row) (n b : ℕ)
     ≡ record { paper = t.room.paper; slots = map (λ k. slot_in (of_paper t page) k (grid_entry n row b k)) (range_with_len 0 n) }
 sheet_is t page row n b =
     ap (λ (slots : List MadeSlot). record { paper = t.room.paper; slots = slots })
-    (twice_mapped (fitted t page) (slot_by page row n b) (range_with_len 0 n)
+    (map-map (slot_by page row n b) (fitted t page) (range_with_len 0 n)
     ∙ same_map (λ k. slot_by page row n b (fitted t page k)) (λ k. slot_in (of_paper t page) k (grid_entry n row b k)) (in_cell t page row n b) (range_with_len 0 n))
 
 grid_is : (t : Setting) (page : Paper) (row : Row) (n : ℕ) → by_spec (in_groups t page n) t.room.paper page row ≡ grid_sheets (of_paper t page) n row
@@ -74,7 +67,7 @@ grid_is t page row n =
     let group = map (fitted t page) (range_with_len 0 n) in
     let many = blocks n (length row) in
     made_sheets_are t.room.paper page row (in_groups t page n)
-    ∙ (one_each (λ b. sheet_by t.room.paper page row n b group) (range_with_len 0 many)
+    ∙ (flat_map_single (λ b. sheet_by t.room.paper page row n b group) (range_with_len 0 many)
     ∙ same_map (λ b. sheet_by t.room.paper page row n b group)
     (λ b. record { paper = t.room.paper; slots = map (λ k. slot_in (of_paper t page) k (grid_entry n row b k)) (range_with_len 0 n) })
     (sheet_is t page row n) (range_with_len 0 many))

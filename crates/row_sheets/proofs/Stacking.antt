@@ -2,6 +2,7 @@
 use Rattle.std.proofs.Common.{arith, ◌≡◌, ◌∙◌, ℕ, suc, zero, ◌+◌, ◌*◌, ◌<◌, Bool, true, false, [], ◌∷◌, length, map, Option, Some, None, refl, ap}
 use Rattle.std.specs.Prelude.{flat_map}
 use Rattle.std.specs.List.{range_with_len}
+use Rattle.std.proofs.lemmas.Simd.{map-map}
 use Rattle.std.proofs.lemmas.List.FromFn.{get_or-map-range_with_len}
 use Rattle.rules.specs.Sheets.{blocks}
 use Rattle.made_sheets.specs.Made.{MadeSheet, Blank}
@@ -12,6 +13,7 @@ use Rattle.row_sheets.specs.Bound.{shown_in}
 use Rattle.row_sheets.specs.Stacked.{LeavesAreRead, StackIsRead, pile, shown_at, turned_pile}
 use Rattle.row_sheets.proofs.Behind.{behind_is_mirror}
 use Rattle.row_sheets.proofs.Filling.{sheet}
+use Rattle.row_sheets.proofs.Specified.{same_map}
 use Rattle.row_sheets.proofs.Runs.{duplex_runs_on, part_of_leaf, same_each, stack_runs_on}
 
 -- ---- a sheet shows its entries
@@ -33,16 +35,12 @@ sheet_shows f cells entry s c within =
 
 -- ---- piles
 
-mapped : {X Y : Type 0} (g : ℕ → X) (h : X → Y) (k : ℕ → Y) (a n : ℕ) → ((s : ℕ) → h (g s) ≡ k s) → map h (map g (range_with_len a n)) ≡ map k (range_with_len a n)
-mapped g h k a zero e = refl
-mapped g h k a (suc n) e = ap (λ x. x ∷ map h (map g (range_with_len (a + 1) n))) (e a) ∙ ap (λ xs. k a ∷ xs) (mapped g h k (a + 1) n e)
-
 pub stack_is_read : StackIsRead
 stack_is_read f cells row =
     let sheets = blocks cells (length row) in
     same_each (pile (stack_sheets f cells row)) (λ c. map (λ s. stack_entry sheets row s c) (range_with_len 0 sheets)) 0 cells
-    (λ c less. mapped (sheet_in f cells (stack_entry sheets row)) (λ sheet. shown_at sheet c) (λ s. stack_entry sheets row s c) 0 sheets
-    (λ s. sheet_shows f cells (stack_entry sheets row) s c (omega (arith, less))))
+    (λ c less. map-map (λ sheet. shown_at sheet c) (sheet_in f cells (stack_entry sheets row)) (range_with_len 0 sheets)
+    ∙ same_map (λ s. shown_at (sheet_in f cells (stack_entry sheets row) s) c) (λ s. stack_entry sheets row s c) (λ s. sheet_shows f cells (stack_entry sheets row) s c (omega (arith, less))) (range_with_len 0 sheets))
     ∙ stack_runs_on cells sheets row
 
 -- ---- leaves

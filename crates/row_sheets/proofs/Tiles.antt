@@ -80,10 +80,7 @@ poster_covers page p at is has of =
 -- ---- neighbours
 
 next_one : (n d : ℕ) → (n + 1) * d ≡ n * d + d
-next_one n d = omega (arith, ap (λ k. k * d) (plus_one n), suc-mul n d)
-  where
-    plus_one : (n : ℕ) → n + 1 ≡ suc n
-    plus_one n = omega arith
+next_one n d = let one : n + 1 ≡ suc n = omega arith in omega (arith, ap (λ k. k * d) one, suc-mul n d)
 
 pub tiles_overlap : TilesOverlap
 tiles_overlap page p column row at has =

@@ -3,7 +3,7 @@ use Rattle.std.proofs.Common.{arith, ◌≡◌, ◌≢◌, ◌∙◌, inl, inr, 
 use Rattle.std.specs.Prelude.{ℤ, pos, ◌≤ℤ◌, ◌+ℤ◌, ◌-ℤ◌, ◌*ℤ◌, nat_abs, nat_lt, ◌==◌, if◌then◌else◌, flat_map}
 use Rattle.std.specs.List.{range_with_len}
 use Rattle.std.proofs.Math.Nat.{lt-div-mul-add, div-mul-le_self}
-use Rattle.std.proofs.lemmas.Bool.Decides.{nat_tests}
+use Rattle.std.proofs.lemmas.Bool.{ltb-false, ltb-true}
 use Rattle.std.proofs.lemmas.Int.{ints}
 use Rattle.std.proofs.lemmas.List.FromFn.{get_or-map-range_with_len}
 use Rattle.rules.specs.Papers.{Paper}
@@ -177,12 +177,6 @@ still_inside room (Placed page item paper) h =
 abbrev half_cell : Bool → ℕ → ℕ
 half_cell b c = if b then 7 - c else c
 
-is_below : (a b : ℕ) → nat_lt a b ≡ true → a < b
-is_below a b e = grind (arith, nat_tests)
-
-is_not_below : (a b : ℕ) → nat_lt a b ≡ false → b ≤ a
-is_not_below a b e = grind (arith, nat_tests)
-
 apart_by : (b b' : Bool) (f : Filling) (c d : ℕ) (one other : Option ℕ) → AreZineCells f.setting → c < 8 → d < 8 → c ≢ d → nat_lt c 4 ≡ b → nat_lt d 4 ≡ b' → EntryFits f one → EntryFits f other
     → SlotsAreApart (closer f.setting.room) (slot_on f b (half_cell b c) one) (slot_on f b' (half_cell b' d) other)
 apart_by true true f c d one other cells in_c in_d differ e e' has has' =
@@ -192,10 +186,10 @@ apart_by false false f c d one other cells in_c in_d differ e e' has has' =
     let all = eight_cells f.setting cells in
     still_apart f.setting.room _ _ (slots_apart f false c d one other (omega (arith, all, in_c)) (omega (arith, all, in_d)) differ has has')
 apart_by true false f c d one other cells in_c in_d differ e e' has has' =
-    first_and_second f (7 - c) d one other cells (omega (arith, is_below c 4 e)) (omega arith) (is_not_below d 4 e') in_d has has'
+    first_and_second f (7 - c) d one other cells (omega (arith, ltb-true c 4 e)) (omega arith) (ltb-false d 4 e') in_d has has'
 apart_by false true f c d one other cells in_c in_d differ e e' has has' =
     turned_round (closer f.setting.room) (slot_on f false c one) (slot_on f true (7 - d) other)
-    (first_and_second f (7 - d) c other one cells (omega (arith, is_below d 4 e')) (omega arith) (is_not_below c 4 e) in_c has' has)
+    (first_and_second f (7 - d) c other one cells (omega (arith, ltb-true d 4 e')) (omega arith) (ltb-false c 4 e) in_c has' has)
 
 inside_by : (b : Bool) (f : Filling) (c : ℕ) (entry : Option ℕ) → AreZineCells f.setting → c < 8 → EntryFits f entry → SlotIsInside (closer f.setting.room) (slot_on f b (half_cell b c) entry)
 inside_by true f c entry cells in_c has =
