@@ -1,6 +1,6 @@
 //! How sheets are read.
 ghost use Rattle.std.specs.Prelude.{◌≡◌, ◌*◌, ◌<◌, ◌++◌, slice_get, length, OnOk};
-ghost use Rattle.layouts.specs.Cells.{read_columns, read_rows};
+ghost use Rattle.layouts.specs.Cells.{read_columns};
 ghost use Rattle.sheet_plan.specs.OfSheets.{placed_of, slots_at};
 ghost use Rattle.preview.specs.Listing.{bar as bar_of, cell_at, cell_text, cells_in, cells_text, place_text, places_text, slash as slash_of};
 ghost use Rattle.preview.specs.Listing.{tile_name};
@@ -8,7 +8,7 @@ ghost use Rattle.preview.specs.Naming.{each};
 ghost use Rattle.preview.specs.Reading.{column_read, place_at as place_in_cells, row_read};
 
 use crate::naming::{Sides, append_number};
-use layouts::{Grid, Order, Run, Turned};
+use layouts::{Grid, Order, Run, Turned, read_sides};
 use sheet_plan::{MadeSheets, PlacedSlot};
 use std::alloc::AllocError;
 
@@ -127,17 +127,6 @@ fn bar(column: u32) -> &'static [u8]
     ensures { result.now ≡ bar_of column }
 {
     if column == 0 { b"" } else { b" | " }
-}
-
-/// The columns and the rows as one reads the sheet.
-fn read_sides(turned: Turned, grid: Grid) -> (u32, u32)
-    ensures columns { result.0 ≡ read_columns turned grid }
-    ensures rows { result.1 ≡ read_rows turned grid }
-{
-    match turned {
-        Turned::Upright => (grid.columns, grid.rows),
-        Turned::Left | Turned::Right => (grid.rows, grid.columns),
-    }
 }
 
 /// The row and the column of a cell as one reads the sheet.
