@@ -33,10 +33,7 @@ pub fn spec_sheets(alloc: Global, on: &SpecOnRow<'_>) -> Result<MadeSheets, Made
     ensures refused { IfErr result (WhyNoSheets
         (by_spec on.now.spec.now on.now.sheet on.now.page on.now.row.now)) }
 {
-    let blocks = match blocks_in(on) {
-        Ok(blocks) => blocks,
-        Err(error) => return Err(error),
-    };
+    let blocks = blocks_in(on)?;
     let mut made = MadeSheets::new(alloc);
     for block in 0..blocks {
         match push_block(alloc, &mut made, on, block) {

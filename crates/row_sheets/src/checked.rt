@@ -41,10 +41,8 @@ fn check_cell(
         Some(page) => page,
         None => return Ok(()),
     };
-    match setting.item(&paper_or(papers, page, &setting.room.paper), 0) {
-        Ok(_) => Ok(()),
-        Err(error) => Err(error),
-    }
+    setting.item(&paper_or(papers, page, &setting.room.paper), 0)?;
+    Ok(())
 }
 
 /// Whether each page of the row can be such a poster; a page whose paper isn't known has the sheets'. The first page that

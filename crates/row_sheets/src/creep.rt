@@ -59,10 +59,7 @@ pub fn creeping_booklet_sheets(
     ensures refused { IfErr result
         (IsRefusedCreeping (filling setting.now papers.now) creep.innermost creep.leaves row.now) }
 {
-    let sheets = match blocks_of(row, 2) {
-        Ok(sheets) => sheets,
-        Err(error) => return Err(error),
-    };
+    let sheets = blocks_of(row, 2)?;
     let mut made = MadeSheets::new(alloc);
     for s in 0..sheets {
         let by_half = is_turned(turned_backs, s);
@@ -145,10 +142,8 @@ fn creeping_slot(
     if let Some(item) = same_item(before, &paper) {
         return Ok(MadeSlot::Placed { page, item, paper });
     }
-    match creeping_item(setting, &paper, side.by_half, side.creep, cell) {
-        Ok(item) => Ok(MadeSlot::Placed { page, item, paper }),
-        Err(error) => Err(error),
-    }
+    let item = creeping_item(setting, &paper, side.by_half, side.creep, cell)?;
+    Ok(MadeSlot::Placed { page, item, paper })
 }
 
 /// A page of this paper there.
@@ -165,14 +160,8 @@ fn creeping_item(
     ensures fits { OnOk result (FitsOnLeaf setting.now paper.now creep) }
     ensures refused { IfErr result (λ error. why_not_creeping setting.now paper.now creep ≡ Some error) }
 {
-    let item = match half_item(setting, paper, by_half, cell) {
-        Ok(item) => item,
-        Err(error) => return Err(error),
-    };
-    match check_fold(setting, paper, creep) {
-        Ok(()) => (),
-        Err(error) => return Err(error),
-    }
+    let item = half_item(setting, paper, by_half, cell)?;
+    check_fold(setting, paper, creep)?;
     let by = towards_fold(setting.order.right_to_left, by_half, cell, creep);
     Ok(moved_up(item, by))
 }
@@ -191,15 +180,11 @@ fn half_item(
     ensures refused { IfErr result (λ error. why_not_fitted setting.now paper.now ≡ Some error) }
 {
     if by_half {
-        match setting.back_item(paper, cell) {
-            Ok(item) => Ok(item),
-            Err(error) => Err(error),
-        }
+        let item = setting.back_item(paper, cell)?;
+        Ok(item)
     } else {
-        match setting.item(paper, cell) {
-            Ok(item) => Ok(item),
-            Err(error) => Err(error),
-        }
+        let item = setting.item(paper, cell)?;
+        Ok(item)
     }
 }
 
@@ -213,10 +198,7 @@ fn check_fold(setting: &Setting, paper: &Paper, creep: u64) -> Result<(), Arrang
     if creep == 0 {
         return Ok(());
     }
-    let slack = match setting.slack(paper) {
-        Ok(slack) => slack,
-        Err(error) => return Err(error),
-    };
+    let slack = setting.slack(paper)?;
     if has_room(slack, setting.room.gap_up, creep) {
         Ok(())
     } else {

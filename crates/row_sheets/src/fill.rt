@@ -151,19 +151,15 @@ fn in_cells(
     ensures fits { OnOk result (AllFit (filling setting.now papers.now) row.now) }
     ensures refused { IfErr result (IsRefusedFor (filling setting.now papers.now) row.now) }
 {
-    match sheets_for(kind, cells, row) {
-        Ok(sheets) => {
-            let shape = Shape {
-                kind,
-                sheets,
-                cells,
-            };
-            match filled(alloc, setting, papers, row, shape) {
-                Ok(made) => Ok(made),
-                Err(_) => Err(refusal(setting, papers, row)),
-            }
-        }
-        Err(error) => Err(error),
+    let sheets = sheets_for(kind, cells, row)?;
+    let shape = Shape {
+        kind,
+        sheets,
+        cells,
+    };
+    match filled(alloc, setting, papers, row, shape) {
+        Ok(made) => Ok(made),
+        Err(_) => Err(refusal(setting, papers, row)),
     }
 }
 
@@ -188,10 +184,7 @@ fn sheets_for(kind: CellKind, cells: u32, row: &[Option<u32>]) -> Result<u32, Ar
         CellKind::Grid | CellKind::Stack | CellKind::Zine => blocks_of(row, u64::from(cells)),
         CellKind::Cards => blocks_of(row, 1),
         CellKind::Leaves => {
-            let leaves = match blocks_of(row, 2 * u64::from(cells)) {
-                Ok(leaves) => leaves,
-                Err(error) => return Err(error),
-            };
+            let leaves = blocks_of(row, 2 * u64::from(cells))?;
             match leaves.checked_mul(2) {
                 Some(sheets) => Ok(sheets),
                 None => Err(ArrangementError::NoMemory),
@@ -232,10 +225,7 @@ fn filled(
     let mut made = MadeSheets::new(alloc);
     let mut slots = Vec::new(alloc);
     for _ in 0..shape.sheets {
-        match fill_slots(&mut slots, &made, setting, papers, row, shape) {
-            Ok(()) => (),
-            Err(error) => return Err(error),
-        }
+        fill_slots(&mut slots, &made, setting, papers, row, shape)?;
         match made.push(&setting.room.paper, slots.as_slice()) {
             Ok(()) => (),
             Err(_) => return Err(ArrangementError::NoMemory),
@@ -272,10 +262,7 @@ fn fill_slots(
     for c in 0..shape.cells {
         let entry = entry_at(row, place(shape, setting, s, c));
         let before = placed_before(made, s, c);
-        let slot = match slot_by(setting, papers, shape.kind, before, entry, c) {
-            Ok(slot) => slot,
-            Err(error) => return Err(error),
-        };
+        let slot = slot_by(setting, papers, shape.kind, before, entry, c)?;
         match slots.push(slot) {
             Ok(()) => (),
             Err(_) => return Err(ArrangementError::NoMemory),
@@ -350,10 +337,8 @@ fn back_slot_in(
         None => return Ok(MadeSlot::Blank),
     };
     let paper = paper_or(papers, page, &setting.room.paper);
-    match setting.back_item(&paper, cell) {
-        Ok(item) => Ok(MadeSlot::Placed { page, item, paper }),
-        Err(error) => Err(error),
-    }
+    let item = setting.back_item(&paper, cell)?;
+    Ok(MadeSlot::Placed { page, item, paper })
 }
 
 /// An entry of a row in a cell. A page of the same paper as the one that was there before has the same item.
@@ -377,10 +362,8 @@ fn slot_in(
     if let Some(item) = same_item(before, &paper) {
         return Ok(MadeSlot::Placed { page, item, paper });
     }
-    match setting.item(&paper, cell) {
-        Ok(item) => Ok(MadeSlot::Placed { page, item, paper }),
-        Err(error) => Err(error),
-    }
+    let item = setting.item(&paper, cell)?;
+    Ok(MadeSlot::Placed { page, item, paper })
 }
 
 /// Which entry of the row is in this cell of this sheet.

@@ -68,10 +68,8 @@ pub fn check_poster(poster: &Poster, page_paper: &Paper) -> Result<(), PosterErr
     ensures fits { OnOk result (MayBePoster poster.now page_paper.now) }
     ensures refused { IfErr result (λ error. why_no_poster page_paper.now poster.now ≡ Some error) }
 {
-    match laid_on(poster, page_paper) {
-        Ok(_) => Ok(()),
-        Err(error) => Err(error),
-    }
+    laid_on(poster, page_paper)?;
+    Ok(())
 }
 
 /// One page over the sheets of a poster, row by row from the head, and each from the left: as large as they allow, and in
@@ -87,10 +85,8 @@ pub fn poster_sheets(
     ensures refused { IfErr result (IsNoPoster (why_no_poster page_paper.now poster.now)) }
 {
     let mut made = MadeSheets::new(alloc);
-    match push_poster(poster, page_paper, page, &mut made) {
-        Ok(()) => Ok(made),
-        Err(error) => Err(error),
-    }
+    push_poster(poster, page_paper, page, &mut made)?;
+    Ok(made)
 }
 
 /// Adds the sheets of a page.
@@ -105,10 +101,7 @@ pub(crate) fn push_poster(
     ensures fits { OnOk result (MayBePoster poster.now page_paper.now) }
     ensures refused { IfErr result (IsNoPoster (why_no_poster page_paper.now poster.now)) }
 {
-    let laid = match laid_on(poster, page_paper) {
-        Ok(laid) => laid,
-        Err(error) => return Err(error),
-    };
+    let laid = laid_on(poster, page_paper)?;
     for n in 0..poster.rows * poster.columns {
         let (column, row) = (n % poster.columns, poster.rows - (n / poster.columns + 1));
         let slots = [MadeSlot::Placed {

@@ -33,6 +33,6 @@ loop-c-preserved c =
     let k = c.loop-c.c in
     let at = c.entry_at-entry.ensures ∙ (ap (entry_of row) c.place.ensures ∙ ap (λ n. entry_in c.args.shape t row n k) c.len-s.ensures) in
     record {
-      filled = pushed slot_of (λ n. slot_by c.args.shape.kind f n (entry_in c.args.shape t row s n)) c.loop-c.slots.items c.push.new.self.items c.in-Ok.slot k c.loop-c.invariant.filled (c.in-Ok.ensures.made ∙ ap (slot_by c.args.shape.kind f k) at) c.in-Ok-push.ensures.items;
-      fits = one_more (λ n. EntryFits f (entry_in c.args.shape t row s n)) k c.loop-c.invariant.fits (subst (EntryFits f) at c.in-Ok.ensures.fits);
+      filled = pushed slot_of (λ n. slot_by c.args.shape.kind f n (entry_in c.args.shape t row s n)) c.loop-c.slots.items c.push.new.self.items c.in_ok-slot.slot k c.loop-c.invariant.filled (c.in_ok-slot.ensures.made ∙ ap (slot_by c.args.shape.kind f k) at) c.in-Ok.ensures.items;
+      fits = one_more (λ n. EntryFits f (entry_in c.args.shape t row s n)) k c.loop-c.invariant.fits (subst (EntryFits f) at c.in_ok-slot.ensures.fits);
     }

@@ -38,9 +38,9 @@ loop-preserved c =
     let slots = map slot_of c.fill_slots.new.slots.items in
     let many = filled_count c.args.shape.kind f (entry_in c.args.shape t row) c.loop.made cells c.loop.counter c.loop.invariant.made in
     let here : slots ≡ map (λ k. slot_by c.args.shape.kind f k (entry_in c.args.shape t row c.loop.counter k)) (range_with_len 0 cells) =
-    subst (λ n. slots ≡ map (λ k. slot_by c.args.shape.kind f k (entry_in c.args.shape t row n k)) (range_with_len 0 cells)) many c.in-Ok.ensures.made in
+    subst (λ n. slots ≡ map (λ k. slot_by c.args.shape.kind f k (entry_in c.args.shape t row n k)) (range_with_len 0 cells)) many c.in_ok-fill_slots.ensures.made in
     let fit : (k : ℕ) → k < cells → EntryFits f (entry_in c.args.shape t row c.loop.counter k) =
-    subst (λ n. (k : ℕ) → k < cells → EntryFits f (entry_in c.args.shape t row n k)) many c.in-Ok.ensures.fits in
+    subst (λ n. (k : ℕ) → k < cells → EntryFits f (entry_in c.args.shape t row n k)) many c.in_ok-fill_slots.ensures.fits in
     let pushed : c.push.new.self ≡ c.loop.made ++ sheet t.room.paper (map slot_of c.as_slice.result.now) ∷ [] = search rules in
     let e : c.push.new.self ≡ c.loop.made ++ sheet t.room.paper slots ∷ [] = pushed ∙ ap (λ xs. c.loop.made ++ sheet t.room.paper (map slot_of xs) ∷ []) c.as_slice.ensures.value in
     record {
