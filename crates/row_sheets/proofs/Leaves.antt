@@ -8,16 +8,16 @@ use Rattle.std.proofs.lemmas.Int.{ints}
 use Rattle.rules.specs.Papers.{Paper}
 use Rattle.rules.specs.Specification.{Left}
 use Rattle.rules.specs.Placement.{Point}
-use Rattle.layouts.specs.Placed.{IsEven, Room, fine, stands, IsOfPage}
+use Rattle.layouts.specs.Placed.{Room, fine, stands, IsOfPage}
 use Rattle.layouts.specs.Cells.{Along, along_height, cell, slack, to_right, to_top, row_of, column_of}
 use Rattle.layouts.specs.Grids.{beside, leaf_order}
-use Rattle.layouts.specs.Laws.{HasPlace}
+use Rattle.layouts.specs.Laws.{HasPlace, IsPaper}
 use Rattle.layouts.proofs.AlongSide.{moved_back, in_cell}
 use Rattle.layouts.proofs.Sides.{of_sides, placed, point, between}
 use Rattle.layouts.proofs.OnSide.{HasCell, ends, shown, trimmed, from_start}
-use Rattle.layouts.proofs.InGrid.{sides_are}
+use Rattle.layouts.proofs.InGrid.{fits, sides_are}
 use Rattle.layouts.proofs.Folds.{fold, kept_little, in_middle, has_cell}
-use Rattle.row_sheets.specs.Creep.{creep_of, moved_up, to_fold, leaf_item, may_creep, KeepsSides, StaysBefore, StaysBehind, CreepMoves, CreepGrows, CreepKeepsSides}
+use Rattle.row_sheets.specs.Creep.{creep_of, moved_up, to_fold, leaf_item, may_creep, StaysBefore, StaysBehind, CreepMoves, CreepGrows, CreepKeepsSides}
 
 moved_at : (page : Paper) (k s : ℕ) (x y by : ℤ) (p : Point)
     → ((stands page (moved_up by (placed Left k s x y)) p).x ≡ (stands page (placed Left k s x y) p).x)
@@ -84,37 +84,48 @@ room_left : (v u : ℕ) (room : Room) (s creep : ℕ) → may_creep (of_sides v 
     → 2 * creep ≤ 2 * slack (cell (along_height room) (nat_abs room.paper.height) 2) (shown (along_height room) v) s + room.gap_up
 room_left v u room s creep may = leb-true (2 * creep) (2 * slack (cell (along_height room) (nat_abs room.paper.height) 2) (shown (along_height room) v) s + room.gap_up) may
 
-pub before_fold : (v u : ℕ) (room : Room) (b : Bool) (s creep : ℕ) → HasPlace (of_sides v u) room (beside true) s → may_creep (of_sides v u) room s creep ≡ true
+before_fold : (v u : ℕ) (room : Room) (b : Bool) (s creep : ℕ) → HasPlace (of_sides v u) room (beside true) s → may_creep (of_sides v u) room s creep ≡ true
     → StaysBefore room (fold (along_height room) (nat_abs room.paper.height)) (of_sides v u) (leaf_item (of_sides v u) room b s creep (if b then 1 else 0))
 before_fold v u room false s creep place may p of =
     before_at v u 0 s (along_height room) (nat_abs room.paper.height) (to_right (of_sides v u) room (beside true) s 0 0) creep (has_cell v u room s place) (room_left v u room s creep may) p.x p.y of
 before_fold v u room true s creep place may p of =
     before_at v u 1 s (along_height room) (nat_abs room.paper.height) (to_right (of_sides v u) room (beside true) s 0 0) creep (has_cell v u room s place) (room_left v u room s creep may) p.x p.y of
 
-pub behind_fold : (v u : ℕ) (room : Room) (b : Bool) (s creep : ℕ) → HasPlace (of_sides v u) room (beside true) s → may_creep (of_sides v u) room s creep ≡ true
+behind_fold : (v u : ℕ) (room : Room) (b : Bool) (s creep : ℕ) → HasPlace (of_sides v u) room (beside true) s → may_creep (of_sides v u) room s creep ≡ true
     → StaysBehind room (fold (along_height room) (nat_abs room.paper.height)) (of_sides v u) (leaf_item (of_sides v u) room b s creep (if b then 0 else 1))
 behind_fold v u room false s creep place may p of =
     behind_at v u 1 s (along_height room) (nat_abs room.paper.height) (to_right (of_sides v u) room (beside true) s 0 1) creep (has_cell v u room s place) (room_left v u room s creep may) p.x p.y of
 behind_fold v u room true s creep place may p of =
     behind_at v u 0 s (along_height room) (nat_abs room.paper.height) (to_right (of_sides v u) room (beside true) s 0 1) creep (has_cell v u room s place) (room_left v u room s creep may) p.x p.y of
 
-keeps_at : (v u : ℕ) (room : Room) (b : Bool) (s creep : ℕ) → IsEven room → HasPlace (of_sides v u) room (beside true) s → may_creep (of_sides v u) room s creep ≡ true
-    → KeepsSides (of_sides v u) room (leaf_item (of_sides v u) room b s creep (if b then 1 else 0)) (leaf_item (of_sides v u) room b s creep (if b then 0 else 1))
-keeps_at v u room b s creep even place may =
+-- of any page
+
+abbrev BeforeIf : (room : Room) (b : Bool) (s creep : ℕ) → Paper → Type 0
+BeforeIf room b s creep o = HasPlace o room (beside true) s → may_creep o room s creep ≡ true
+    → StaysBefore room (fold (along_height room) (nat_abs room.paper.height)) o (leaf_item o room b s creep (if b then 1 else 0))
+
+pub stays_before : (page : Paper) (room : Room) (b : Bool) (s creep : ℕ) → IsPaper page → HasPlace page room (beside true) s → may_creep page room s creep ≡ true
+    → StaysBefore room (fold (along_height room) (nat_abs room.paper.height)) page (leaf_item page room b s creep (if b then 1 else 0))
+stays_before page room b s creep is place may =
+    subst (BeforeIf room b s creep) (sym (sides_are page is)) (λ here may. before_fold (nat_abs page.width) (nat_abs page.height) room b s creep here may) place may
+
+abbrev BehindIf : (room : Room) (b : Bool) (s creep : ℕ) → Paper → Type 0
+BehindIf room b s creep o = HasPlace o room (beside true) s → may_creep o room s creep ≡ true
+    → StaysBehind room (fold (along_height room) (nat_abs room.paper.height)) o (leaf_item o room b s creep (if b then 0 else 1))
+
+pub stays_behind : (page : Paper) (room : Room) (b : Bool) (s creep : ℕ) → IsPaper page → HasPlace page room (beside true) s → may_creep page room s creep ≡ true
+    → StaysBehind room (fold (along_height room) (nat_abs room.paper.height)) page (leaf_item page room b s creep (if b then 0 else 1))
+stays_behind page room b s creep is place may =
+    subst (BehindIf room b s creep) (sym (sides_are page is)) (λ here may. behind_fold (nat_abs page.width) (nat_abs page.height) room b s creep here may) place may
+
+pub creep_keeps_sides : CreepKeepsSides
+creep_keeps_sides page room b s creep is even place may =
     let h = nat_abs room.paper.height in
-    let middle = in_middle (along_height room) h even.up (has_cell v u room s place).some in
+    let middle = in_middle (along_height room) h even.up (fits page room (beside true) s place).some_wide in
     record {
       twice = fold (along_height room) h;
       no_farther = middle.0;
       no_nearer = middle.1;
-      before = before_fold v u room b s creep place may;
-      behind = behind_fold v u room b s creep place may;
+      before = stays_before page room b s creep is place may;
+      behind = stays_behind page room b s creep is place may;
     }
-
-abbrev KeepsIf : (room : Room) (b : Bool) (s creep : ℕ) → Paper → Type 0
-KeepsIf room b s creep o = HasPlace o room (beside true) s → may_creep o room s creep ≡ true
-    → KeepsSides o room (leaf_item o room b s creep (if b then 1 else 0)) (leaf_item o room b s creep (if b then 0 else 1))
-
-pub creep_keeps_sides : CreepKeepsSides
-creep_keeps_sides page room b s creep is even place may =
-    subst (KeepsIf room b s creep) (sym (sides_are page is)) (λ here here'. keeps_at (nat_abs page.width) (nat_abs page.height) room b s creep even here here') place may

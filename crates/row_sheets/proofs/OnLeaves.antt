@@ -1,7 +1,7 @@
 -- Leaves whose pages have their places are laid out well, also if they creep.
 use Rattle.std.proofs.Common.{arith, ◌≡◌, ℕ, ◌+◌, ◌-◌, ◌*◌, ◌<◌, ◌≤◌, Bool, true, false, Option, Some, None, [], ◌∷◌, refl, sym, ap, subst}
 use Rattle.std.specs.Option.{option_or}
-use Rattle.std.specs.Prelude.{ℤ, pos, neg_ℤ, ◌≤ℤ◌, ◌+ℤ◌, ◌-ℤ◌, ◌*ℤ◌, nat_abs, nat_lt, if◌then◌else◌}
+use Rattle.std.specs.Prelude.{ℤ, pos, neg_ℤ, ◌≤ℤ◌, ◌+ℤ◌, ◌-ℤ◌, ◌*ℤ◌, nat_abs, nat_lt, not, if◌then◌else◌}
 use Rattle.std.specs.List.{range_with_len}
 use Rattle.std.proofs.Math.Nat.{div-mul-le_self}
 use Rattle.std.proofs.lemmas.Bool.{cond-true, cond_both, lt-ltb, ltb-true}
@@ -9,7 +9,7 @@ use Rattle.std.proofs.lemmas.Int.{ints}
 use Rattle.rules.specs.Papers.{Paper}
 use Rattle.rules.specs.Specification.{Item, Right}
 use Rattle.rules.specs.Placement.{Point}
-use Rattle.made_sheets.specs.Made.{MadeSlot, MadeSheet}
+use Rattle.made_sheets.specs.Made.{MadeSlot, Blank, Placed, MadeSheet}
 use Rattle.made_sheets.specs.Rows.{Row}
 use Rattle.layouts.specs.declared.error.ArrangementError.{ArrangementError}
 use Rattle.layouts.specs.declared.error.ArrangementError.TheVariants as why
@@ -21,9 +21,9 @@ use Rattle.layouts.specs.Laws.{IsPaper, HasPlace, IsHalfTurnOf}
 use Rattle.layouts.specs.Refusals.{first_of}
 use Rattle.layouts.specs.Fitted.{fitted, fitted_back, scale_on, why_not_fitted}
 use Rattle.layouts.proofs.Sides.{placed}
-use Rattle.layouts.proofs.InGrid.{sides_are}
+use Rattle.layouts.proofs.InGrid.{fits, sides_are}
 use Rattle.layouts.proofs.AlongSide.{cells_fit}
-use Rattle.layouts.proofs.Folds.{fold, kept_little, in_middle, fold_on_sheet, has_cell}
+use Rattle.layouts.proofs.Folds.{fold, kept_little, in_middle, fold_on_sheet}
 use Rattle.layouts.proofs.Possible.{passed}
 use Rattle.layouts.proofs.Fitting.{fitted_stands, has_scale, scale_of_many, stands_back, one_of_many, in_cell}
 use Rattle.row_sheets.specs.Filled.{Filling, SlotIsInside, is_turned, grid_entry}
@@ -32,18 +32,10 @@ use Rattle.row_sheets.specs.Standing.{AllStand, EntryCreeps, EntryFits, FitsIn, 
 use Rattle.row_sheets.proofs.AtRest.{sheets_at_rest}
 use Rattle.row_sheets.proofs.Creeping.{halves, of_halves}
 use Rattle.row_sheets.proofs.Filling.{sheet}
-use Rattle.row_sheets.proofs.Leaves.{creep_moves, before_fold, behind_fold}
+use Rattle.row_sheets.proofs.Leaves.{creep_moves, stays_before, stays_behind}
 use Rattle.row_sheets.proofs.OnSheets.{numbered, sides_stand}
 
 -- ---- one page, whatever its paper, on a side that isn't turned
-
-abbrev BeforeIf : (room : Room) (b : Bool) (s creep : ℕ) → Paper → Type 0
-BeforeIf room b s creep o = HasPlace o room (beside true) s → may_creep o room s creep ≡ true
-    → StaysBefore room (fold (along_height room) (nat_abs room.paper.height)) o (leaf_item o room b s creep (if b then 1 else 0))
-
-abbrev BehindIf : (room : Room) (b : Bool) (s creep : ℕ) → Paper → Type 0
-BehindIf room b s creep o = HasPlace o room (beside true) s → may_creep o room s creep ≡ true
-    → StaysBehind room (fold (along_height room) (nat_abs room.paper.height)) o (leaf_item o room b s creep (if b then 0 else 1))
 
 -- a page that has room to creep so far, and lies well where it doesn't
 record Creeps (page : Paper) (room : Room) (b : Bool) (s creep : ℕ) : Type 0 where
@@ -56,24 +48,24 @@ record Creeps (page : Paper) (room : Room) (b : Bool) (s creep : ℕ) : Type 0 w
   pub inside_back : (k : ℕ) → k < 2 → IsInside room page (back_in page room (beside true) (leaf_order b) s 0 k)
   pub turned : (k : ℕ) → k < 2 → IsHalfTurnOf page room.paper (item_in page room (beside true) (leaf_order b) s k) (back_in page room (beside true) (leaf_order b) s 0 k)
 
-stays_before : (page : Paper) (room : Room) (b : Bool) (s creep : ℕ) → Creeps page room b s creep
-    → StaysBefore room (fold (along_height room) (nat_abs room.paper.height)) page (leaf_item page room b s creep (if b then 1 else 0))
-stays_before page room b s creep c =
-    subst (BeforeIf room b s creep) (sym (sides_are page c.page_is)) (λ here may. before_fold (nat_abs page.width) (nat_abs page.height) room b s creep here may) c.place c.may
+-- before a line across the sheet, or beyond it; and which of the two slots of a front is there
+abbrev Stays : (before : Bool) → Room → (twice : ℕ) → (page : Paper) → Item → Type 0
+Stays true room T page item = StaysBefore room T page item
+Stays false room T page item = StaysBehind room T page item
 
-stays_behind : (page : Paper) (room : Room) (b : Bool) (s creep : ℕ) → Creeps page room b s creep
-    → StaysBehind room (fold (along_height room) (nat_abs room.paper.height)) page (leaf_item page room b s creep (if b then 0 else 1))
-stays_behind page room b s creep c =
-    subst (BehindIf room b s creep) (sym (sides_are page c.page_is)) (λ here may. behind_fold (nat_abs page.width) (nat_abs page.height) room b s creep here may) c.place c.may
+abbrev slot_there : (b before : Bool) → ℕ
+slot_there b true = if b then 1 else 0
+slot_there b false = if b then 0 else 1
+
+front_stays : (before : Bool) (page : Paper) (room : Room) (b : Bool) (s creep : ℕ) → Creeps page room b s creep
+    → Stays before room (fold (along_height room) (nat_abs room.paper.height)) page (leaf_item page room b s creep (slot_there b before))
+front_stays true page room b s creep c = stays_before page room b s creep c.page_is c.place c.may
+front_stays false page room b s creep c = stays_behind page room b s creep c.page_is c.place c.may
 
 -- ---- the fold
 
-abbrev CellIf : Room → (s : ℕ) → Paper → Type 0
-CellIf room s o = HasPlace o room (beside true) s → 0 < cell (along_height room) (nat_abs room.paper.height) 2
-
-some_cell : (page : Paper) (room : Room) (s : ℕ) → IsPaper page → HasPlace page room (beside true) s → 0 < cell (along_height room) (nat_abs room.paper.height) 2
-some_cell page room s is place =
-    subst (CellIf room s) (sym (sides_are page is)) (λ here. (has_cell (nat_abs page.width) (nat_abs page.height) room s here).some) place
+some_cell : (page : Paper) (room : Room) (s : ℕ) → HasPlace page room (beside true) s → 0 < cell (along_height room) (nat_abs room.paper.height) 2
+some_cell page room s place = (fits page room (beside true) s place).some_wide
 
 -- it lies within the margins
 record OnSheet (room : Room) (T W : ℕ) : Type 0 where
@@ -115,30 +107,39 @@ upper y z a b p q = omega (arith, ints, p, q)
 height_is : (sheet : Paper) → IsPaper sheet → sheet.height ≡ pos (nat_abs sheet.height)
 height_is sheet is = ap (λ p. p.height) (sides_are sheet is)
 
--- a page that is moved up, but not across the fold, and one that is moved down
-moved_up_inside : (page : Paper) (room : Room) (item item' : Item) (T : ℕ) → IsPaper room.paper → OnSheet room T (whole (nat_abs room.paper.height)) → IsInside room page item
-    → ((p : Point) → (stands page item' p).x ≡ (stands page item p).x) → ((p : Point) → (stands page item p).y ≤ℤ (stands page item' p).y) → StaysBefore room T page item'
-    → IsInside room page item'
-moved_up_inside page room item item' T is on inside across up stays p of =
+-- before the fold a page is moved up, and beyond it down
+abbrev IsTowards : (before : Bool) → ℤ → Type 0
+IsTowards true by = pos 0 ≤ℤ by
+IsTowards false by = by ≤ℤ pos 0
+
+abbrev IsMoved : (page : Paper) → (item item' : Item) → (by : ℤ) → Type 0
+IsMoved page item item' by = (p : Point) → ((stands page item' p).x ≡ (stands page item p).x) × ((stands page item' p).y ≡ (stands page item p).y +ℤ (pos 1_270_000_000_000_000 *ℤ by))
+
+up_by : (y z by : ℤ) → pos 0 ≤ℤ by → z ≡ y +ℤ (pos 1_270_000_000_000_000 *ℤ by) → y ≤ℤ z
+up_by y z by h e = omega (arith, ints, h, e)
+
+down_by : (y z by : ℤ) → by ≤ℤ pos 0 → z ≡ y +ℤ (pos 1_270_000_000_000_000 *ℤ by) → z ≤ℤ y
+down_by y z by h e = omega (arith, ints, h, e)
+
+-- but not across it
+moved_inside : (before : Bool) (page : Paper) (room : Room) (item item' : Item) (by : ℤ) (T : ℕ) → IsPaper room.paper → OnSheet room T (whole (nat_abs room.paper.height)) → IsInside room page item
+    → IsTowards before by → IsMoved page item item' by → Stays before room T page item' → IsInside room page item'
+moved_inside true page room item item' by T is on inside way moved stays p of =
     let at = inside p of in
     let h = nat_abs room.paper.height in
     record {
-      left = subst (λ x. fine room.left ≤ℤ x) (sym (across p)) at.left;
-      right = subst (λ x. (x +ℤ fine room.right) ≤ℤ (pos 1_000_000_000 *ℤ room.paper.width)) (sym (across p)) at.right;
-      bottom = lower (fine room.bottom) (stands page item p).y (stands page item' p).y at.bottom (up p);
+      left = subst (λ x. fine room.left ≤ℤ x) (sym (moved p).0) at.left;
+      right = subst (λ x. (x +ℤ fine room.right) ≤ℤ (pos 1_000_000_000 *ℤ room.paper.width)) (sym (moved p).0) at.right;
+      bottom = lower (fine room.bottom) (stands page item p).y (stands page item' p).y at.bottom (up_by (stands page item p).y (stands page item' p).y by way (moved p).1);
       top = top_at (stands page item' p).y room.paper.height T room.top (whole h) h (height_is room.paper is) (div-mul-le_self h 1_270_000) on.most (stays p of);
     }
-
-moved_down_inside : (page : Paper) (room : Room) (item item' : Item) (T : ℕ) → OnSheet room T (whole (nat_abs room.paper.height)) → IsInside room page item
-    → ((p : Point) → (stands page item' p).x ≡ (stands page item p).x) → ((p : Point) → (stands page item' p).y ≤ℤ (stands page item p).y) → StaysBehind room T page item'
-    → IsInside room page item'
-moved_down_inside page room item item' T on inside across down stays p of =
+moved_inside false page room item item' by T is on inside way moved stays p of =
     let at = inside p of in
     record {
-      left = subst (λ x. fine room.left ≤ℤ x) (sym (across p)) at.left;
-      right = subst (λ x. (x +ℤ fine room.right) ≤ℤ (pos 1_000_000_000 *ℤ room.paper.width)) (sym (across p)) at.right;
+      left = subst (λ x. fine room.left ≤ℤ x) (sym (moved p).0) at.left;
+      right = subst (λ x. (x +ℤ fine room.right) ≤ℤ (pos 1_000_000_000 *ℤ room.paper.width)) (sym (moved p).0) at.right;
       bottom = bottom_at (stands page item' p).y T room.bottom on.least (stays p of);
-      top = upper (stands page item' p).y (stands page item p).y (fine room.top) (pos 1_000_000_000 *ℤ room.paper.height) at.top (down p);
+      top = upper (stands page item' p).y (stands page item p).y (fine room.top) (pos 1_000_000_000 *ℤ room.paper.height) at.top (down_by (stands page item p).y (stands page item' p).y by way (moved p).1);
     }
 
 -- ---- sides that are turned by half
@@ -152,9 +153,8 @@ back_moved_at : (page : Paper) (k s : ℕ) (x y by : ℤ) (p : Point)
     × ((stands page (moved_up by (placed Right k s x y)) p).y ≡ (stands page (placed Right k s x y) p).y +ℤ (pos 1_270_000_000_000_000 *ℤ by))
 back_moved_at page k s x y by p = (refl, omega (arith, ints))
 
-back_moves : (page : Paper) (room : Room) (b : Bool) (s creep k : ℕ) (p : Point)
-    → ((stands page (back_item page room b s creep k) p).x ≡ (stands page (back_in page room (beside true) (leaf_order b) s 0 k) p).x)
-    × ((stands page (back_item page room b s creep k) p).y ≡ (stands page (back_in page room (beside true) (leaf_order b) s 0 k) p).y +ℤ (pos 1_270_000_000_000_000 *ℤ neg_ℤ (to_fold b k creep)))
+back_moves : (page : Paper) (room : Room) (b : Bool) (s creep k : ℕ)
+    → IsMoved page (back_in page room (beside true) (leaf_order b) s 0 k) (back_item page room b s creep k) (neg_ℤ (to_fold b k creep))
 back_moves page room b s creep k p =
     let row = row_of (leaf_order b) (beside true) k in
     let column = column_of (leaf_order b) (beside true) k in
@@ -180,103 +180,63 @@ before_turned T W y z most h e = omega (arith, ints, most, h, e)
 
 -- ---- a page in its half
 
-record Before (room : Room) (T : ℕ) (page : Paper) (item : Item) : Type 0 where
+record Lies (before : Bool) (room : Room) (T : ℕ) (page : Paper) (item : Item) : Type 0 where
   pub inside : IsInside room page item
-  pub stays : StaysBefore room T page item
+  pub stays : Stays before room T page item
 
-record Behind (room : Room) (T : ℕ) (page : Paper) (item : Item) : Type 0 where
-  pub inside : IsInside room page item
-  pub stays : StaysBehind room T page item
+front_way : (b before : Bool) (creep : ℕ) → IsTowards before (to_fold b (slot_there b before) creep)
+front_way true true creep = let up : pos 0 ≤ℤ pos creep = omega (arith, ints) in up
+front_way false true creep = let up : pos 0 ≤ℤ pos creep = omega (arith, ints) in up
+front_way true false creep = let down : (pos 0 -ℤ pos creep) ≤ℤ pos 0 = omega (arith, ints) in down
+front_way false false creep = let down : (pos 0 -ℤ pos creep) ≤ℤ pos 0 = omega (arith, ints) in down
 
-up_by : (y z by : ℤ) → pos 0 ≤ℤ by → z ≡ y +ℤ (pos 1_270_000_000_000_000 *ℤ by) → y ≤ℤ z
-up_by y z by h e = omega (arith, ints, h, e)
+-- if the side is turned by half it is the other way
+back_way : (front : Bool) (z : ℤ) → IsTowards front z → IsTowards (not front) (neg_ℤ z)
+back_way true z h = let up : pos 0 ≤ℤ z = h in let down : neg_ℤ z ≤ℤ pos 0 = omega (arith, ints, up) in down
+back_way false z h = let down : z ≤ℤ pos 0 = h in let up : pos 0 ≤ℤ neg_ℤ z = omega (arith, ints, down) in up
 
-down_by : (y z by : ℤ) → by ≤ℤ pos 0 → z ≡ y +ℤ (pos 1_270_000_000_000_000 *ℤ by) → z ≤ℤ y
-down_by y z by h e = omega (arith, ints, h, e)
-
--- before the fold a page is moved up, and beyond it down; if the side is turned by half it is the other way
-front_up : (b : Bool) (creep : ℕ) → pos 0 ≤ℤ to_fold b (if b then 1 else 0) creep
-front_up true creep = let up : pos 0 ≤ℤ pos creep = omega (arith, ints) in up
-front_up false creep = let up : pos 0 ≤ℤ pos creep = omega (arith, ints) in up
-
-front_down : (b : Bool) (creep : ℕ) → to_fold b (if b then 0 else 1) creep ≤ℤ pos 0
-front_down true creep = let down : (pos 0 -ℤ pos creep) ≤ℤ pos 0 = omega (arith, ints) in down
-front_down false creep = let down : (pos 0 -ℤ pos creep) ≤ℤ pos 0 = omega (arith, ints) in down
-
-back_up : (z : ℤ) → z ≤ℤ pos 0 → pos 0 ≤ℤ neg_ℤ z
-back_up z h = omega (arith, ints, h)
-
-back_down : (z : ℤ) → pos 0 ≤ℤ z → neg_ℤ z ≤ℤ pos 0
-back_down z h = omega (arith, ints, h)
-
-one_of_two : (b : Bool) → (if b then 1 else 0) < 2
-one_of_two true = omega arith
-one_of_two false = omega arith
-
-other_of_two : (b : Bool) → (if b then 0 else 1) < 2
-other_of_two true = omega arith
-other_of_two false = omega arith
+one_of_two : (b before : Bool) → slot_there b before < 2
+one_of_two true true = let less : 1 < 2 = omega arith in less
+one_of_two true false = let less : 0 < 2 = omega arith in less
+one_of_two false true = let less : 0 < 2 = omega arith in less
+one_of_two false false = let less : 1 < 2 = omega arith in less
 
 fold_here : (page : Paper) (room : Room) (b : Bool) (s creep : ℕ) → Creeps page room b s creep → OnSheet room (fold (along_height room) (nat_abs room.paper.height)) (whole (nat_abs room.paper.height))
-fold_here page room b s creep c = fold_within room (nat_abs room.paper.height) c.even (some_cell page room s c.page_is c.place)
+fold_here page room b s creep c = fold_within room (nat_abs room.paper.height) c.even (some_cell page room s c.place)
 
-front_before : (page : Paper) (room : Room) (b : Bool) (s creep : ℕ) → Creeps page room b s creep
-    → Before room (fold (along_height room) (nat_abs room.paper.height)) page (leaf_item page room b s creep (if b then 1 else 0))
-front_before page room b s creep c =
-    let k = if b then 1 else 0 in
-    let stays = stays_before page room b s creep c in record {
-      inside = moved_up_inside page room (item_in page room (beside true) (leaf_order b) s k) (leaf_item page room b s creep k) (fold (along_height room) (nat_abs room.paper.height)) c.sheet_is (fold_here page room b s creep c)
-          (c.inside k (one_of_two b)) (λ p. (creep_moves page room b s creep k p).0) (λ p. up_by _ _ _ (front_up b creep) (creep_moves page room b s creep k p).1) stays;
-      stays = stays;
-    }
-
-front_behind : (page : Paper) (room : Room) (b : Bool) (s creep : ℕ) → Creeps page room b s creep
-    → Behind room (fold (along_height room) (nat_abs room.paper.height)) page (leaf_item page room b s creep (if b then 0 else 1))
-front_behind page room b s creep c =
-    let k = if b then 0 else 1 in
-    let stays = stays_behind page room b s creep c in record {
-      inside = moved_down_inside page room (item_in page room (beside true) (leaf_order b) s k) (leaf_item page room b s creep k) (fold (along_height room) (nat_abs room.paper.height)) (fold_here page room b s creep c)
-          (c.inside k (other_of_two b)) (λ p. (creep_moves page room b s creep k p).0) (λ p. down_by _ _ _ (front_down b creep) (creep_moves page room b s creep k p).1) stays;
+front_lies : (before : Bool) (page : Paper) (room : Room) (b : Bool) (s creep : ℕ) → Creeps page room b s creep
+    → Lies before room (fold (along_height room) (nat_abs room.paper.height)) page (leaf_item page room b s creep (slot_there b before))
+front_lies before page room b s creep c =
+    let k = slot_there b before in
+    let stays = front_stays before page room b s creep c in record {
+      inside = moved_inside before page room (item_in page room (beside true) (leaf_order b) s k) (leaf_item page room b s creep k) (to_fold b k creep) (fold (along_height room) (nat_abs room.paper.height)) c.sheet_is (fold_here page room b s creep c)
+          (c.inside k (one_of_two b before)) (front_way b before creep) (creep_moves page room b s creep k) stays;
       stays = stays;
     }
 
 no_higher : (page : Paper) (room : Room) (b : Bool) (s creep : ℕ) → Creeps page room b s creep → fold (along_height room) (nat_abs room.paper.height) ≤ 2 * whole (nat_abs room.paper.height)
-no_higher page room b s creep c = fold_on_sheet (along_height room) (nat_abs room.paper.height) c.even.up (some_cell page room s c.page_is c.place)
+no_higher page room b s creep c = fold_on_sheet (along_height room) (nat_abs room.paper.height) c.even.up (some_cell page room s c.place)
 
-back_stays_behind : (page : Paper) (room : Room) (b : Bool) (s creep : ℕ) → Creeps page room b s creep
-    → StaysBehind room (2 * whole (nat_abs room.paper.height) - fold (along_height room) (nat_abs room.paper.height)) page (back_item page room b s creep (if b then 1 else 0))
-back_stays_behind page room b s creep c p of =
-    let k = if b then 1 else 0 in
+back_stays : (front : Bool) (page : Paper) (room : Room) (b : Bool) (s creep : ℕ) → Creeps page room b s creep
+    → Stays (not front) room (2 * whole (nat_abs room.paper.height) - fold (along_height room) (nat_abs room.paper.height)) page (back_item page room b s creep (slot_there b front))
+back_stays true page room b s creep c p of =
+    let k = slot_there b true in
     behind_turned (fold (along_height room) (nat_abs room.paper.height)) (whole (nat_abs room.paper.height)) (stands page (leaf_item page room b s creep k) p).y (stands page (back_item page room b s creep k) p).y
-    (no_higher page room b s creep c) (stays_before page room b s creep c p of) (back_turned page room b s creep k p (c.turned k (one_of_two b)))
-
-back_stays_before : (page : Paper) (room : Room) (b : Bool) (s creep : ℕ) → Creeps page room b s creep
-    → StaysBefore room (2 * whole (nat_abs room.paper.height) - fold (along_height room) (nat_abs room.paper.height)) page (back_item page room b s creep (if b then 0 else 1))
-back_stays_before page room b s creep c p of =
-    let k = if b then 0 else 1 in
+    (no_higher page room b s creep c) (front_stays true page room b s creep c p of) (back_turned page room b s creep k p (c.turned k (one_of_two b true)))
+back_stays false page room b s creep c p of =
+    let k = slot_there b false in
     before_turned (fold (along_height room) (nat_abs room.paper.height)) (whole (nat_abs room.paper.height)) (stands page (leaf_item page room b s creep k) p).y (stands page (back_item page room b s creep k) p).y
-    (no_higher page room b s creep c) (stays_behind page room b s creep c p of) (back_turned page room b s creep k p (c.turned k (other_of_two b)))
+    (no_higher page room b s creep c) (front_stays false page room b s creep c p of) (back_turned page room b s creep k p (c.turned k (one_of_two b false)))
 
-fold_back : (page : Paper) (room : Room) (b : Bool) (s creep : ℕ) → Creeps page room b s creep → OnSheet room (2 * whole (nat_abs room.paper.height) - fold (along_height room) (nat_abs room.paper.height)) (whole (nat_abs room.paper.height))
-fold_back page room b s creep c = turned_within room (fold (along_height room) (nat_abs room.paper.height)) (whole (nat_abs room.paper.height)) c.even (fold_here page room b s creep c)
-
-back_behind : (page : Paper) (room : Room) (b : Bool) (s creep : ℕ) → Creeps page room b s creep
-    → Behind room (2 * whole (nat_abs room.paper.height) - fold (along_height room) (nat_abs room.paper.height)) page (back_item page room b s creep (if b then 1 else 0))
-back_behind page room b s creep c =
-    let k = if b then 1 else 0 in
-    let stays = back_stays_behind page room b s creep c in record {
-      inside = moved_down_inside page room (back_in page room (beside true) (leaf_order b) s 0 k) (back_item page room b s creep k) (2 * whole (nat_abs room.paper.height) - fold (along_height room) (nat_abs room.paper.height)) (fold_back page room b s creep c)
-          (c.inside_back k (one_of_two b)) (λ p. (back_moves page room b s creep k p).0) (λ p. down_by _ _ _ (back_down _ (front_up b creep)) (back_moves page room b s creep k p).1) stays;
-      stays = stays;
-    }
-
-back_before : (page : Paper) (room : Room) (b : Bool) (s creep : ℕ) → Creeps page room b s creep
-    → Before room (2 * whole (nat_abs room.paper.height) - fold (along_height room) (nat_abs room.paper.height)) page (back_item page room b s creep (if b then 0 else 1))
-back_before page room b s creep c =
-    let k = if b then 0 else 1 in
-    let stays = back_stays_before page room b s creep c in record {
-      inside = moved_up_inside page room (back_in page room (beside true) (leaf_order b) s 0 k) (back_item page room b s creep k) (2 * whole (nat_abs room.paper.height) - fold (along_height room) (nat_abs room.paper.height)) c.sheet_is (fold_back page room b s creep c)
-          (c.inside_back k (other_of_two b)) (λ p. (back_moves page room b s creep k p).0) (λ p. up_by _ _ _ (back_up _ (front_down b creep)) (back_moves page room b s creep k p).1) stays;
+back_lies : (front : Bool) (page : Paper) (room : Room) (b : Bool) (s creep : ℕ) → Creeps page room b s creep
+    → Lies (not front) room (2 * whole (nat_abs room.paper.height) - fold (along_height room) (nat_abs room.paper.height)) page (back_item page room b s creep (slot_there b front))
+back_lies front page room b s creep c =
+    let k = slot_there b front in
+    let T = 2 * whole (nat_abs room.paper.height) - fold (along_height room) (nat_abs room.paper.height) in
+    let on = turned_within room (fold (along_height room) (nat_abs room.paper.height)) (whole (nat_abs room.paper.height)) c.even (fold_here page room b s creep c) in
+    let stays = back_stays front page room b s creep c in record {
+      inside = moved_inside (not front) page room (back_in page room (beside true) (leaf_order b) s 0 k) (back_item page room b s creep k) (neg_ℤ (to_fold b k creep)) T c.sheet_is on
+          (c.inside_back k (one_of_two b front)) (back_way front (to_fold b k creep) (front_way b front creep)) (back_moves page room b s creep k) stays;
       stays = stays;
     }
 
@@ -320,7 +280,7 @@ line room = let h = nat_abs room.paper.height in if nat_lt 0 (cell (along_height
 line_is : (page : Paper) (room : Room) (b : Bool) (s creep : ℕ) → Creeps page room b s creep → fold (along_height room) (nat_abs room.paper.height) ≡ line room
 line_is page room b s creep c =
     let h = nat_abs room.paper.height in
-    sym (cond-true (nat_lt 0 (cell (along_height room) h 2)) (fold (along_height room) h) (whole h) (lt-ltb 0 (cell (along_height room) h 2) (some_cell page room s c.page_is c.place)))
+    sym (cond-true (nat_lt 0 (cell (along_height room) h 2)) (fold (along_height room) h) (whole h) (lt-ltb 0 (cell (along_height room) h 2) (some_cell page room s c.place)))
 
 abbrev InMiddle : (T W : ℕ) → Type 0
 InMiddle T W = (T ≤ W + 1) × (W ≤ T + 1)
@@ -341,60 +301,45 @@ front_is page room b asked k creep free =
     let t = halves room b asked in
     ap (moved_up (to_fold b k creep)) (sym (in_cell t page k k (one_of_many t page (omega arith)) free).0)
 
-abbrev SlotBefore : Room → (T : ℕ) → MadeSlot → Type 0
-SlotBefore room T slot = SlotIsInside room slot × SlotStaysBefore room T slot
+abbrev SlotStays : (before : Bool) → Room → (T : ℕ) → MadeSlot → Type 0
+SlotStays true room T slot = SlotStaysBefore room T slot
+SlotStays false room T slot = SlotStaysBehind room T slot
 
-abbrev SlotBehind : Room → (T : ℕ) → MadeSlot → Type 0
-SlotBehind room T slot = SlotIsInside room slot × SlotStaysBehind room T slot
+blank_stays : (before : Bool) (room : Room) (T : ℕ) → SlotStays before room T Blank
+blank_stays true room T = tt
+blank_stays false room T = tt
 
-front_slot_before : (room : Room) (b : Bool) (asked : Option ℤ) (paper_of : ℕ → Paper) (creep : ℕ) (entry : Option ℕ) → (let f = on_halves room b asked paper_of in
-    IsEven room → EntryCreeps f creep entry → SlotBefore room (line room) (creeping_slot f false (if b then 1 else 0) creep entry))
-front_slot_before room b asked paper_of creep None even has = (tt, tt)
-front_slot_before room b asked paper_of creep (Some page) even has =
+page_stays : (before : Bool) (room : Room) (T page : ℕ) (item : Item) (paper : Paper) → Stays before room T paper item → SlotStays before room T (Placed page item paper)
+page_stays true room T page item paper h = h
+page_stays false room T page item paper h = h
+
+front_slot : (before : Bool) (room : Room) (b : Bool) (asked : Option ℤ) (paper_of : ℕ → Paper) (creep : ℕ) (entry : Option ℕ) → (let f = on_halves room b asked paper_of in
+    let slot = creeping_slot f false (slot_there b before) creep entry in
+    IsEven room → EntryCreeps f creep entry → SlotIsInside room slot × SlotStays before room (line room) slot)
+front_slot before room b asked paper_of creep None even has = (tt, blank_stays before room (line room))
+front_slot before room b asked paper_of creep (Some page) even has =
     let paper = paper_of page in
     let t = halves room b asked in
     let c = creeps_on paper room b asked creep even has in
-    let is = front_is paper room b asked (if b then 1 else 0) creep c.0 in
-    let at = front_before paper room b (scale_on t paper) creep c.1 in (
+    let is = front_is paper room b asked (slot_there b before) creep c.0 in
+    let at = front_lies before paper room b (scale_on t paper) creep c.1 in (
       subst (IsInside room paper) is at.inside,
-      subst (StaysBefore room (line room) paper) is (subst (λ T. StaysBefore room T paper (leaf_item paper room b (scale_on t paper) creep (if b then 1 else 0))) (line_is paper room b (scale_on t paper) creep c.1) at.stays),
+      page_stays before room (line room) page (creeping t false paper (slot_there b before) creep) paper (subst (Stays before room (line room) paper) is
+          (subst (λ T. Stays before room T paper (leaf_item paper room b (scale_on t paper) creep (slot_there b before))) (line_is paper room b (scale_on t paper) creep c.1) at.stays)),
     )
 
-front_slot_behind : (room : Room) (b : Bool) (asked : Option ℤ) (paper_of : ℕ → Paper) (creep : ℕ) (entry : Option ℕ) → (let f = on_halves room b asked paper_of in
-    IsEven room → EntryCreeps f creep entry → SlotBehind room (line room) (creeping_slot f false (if b then 0 else 1) creep entry))
-front_slot_behind room b asked paper_of creep None even has = (tt, tt)
-front_slot_behind room b asked paper_of creep (Some page) even has =
-    let paper = paper_of page in
-    let t = halves room b asked in
-    let c = creeps_on paper room b asked creep even has in
-    let is = front_is paper room b asked (if b then 0 else 1) creep c.0 in
-    let at = front_behind paper room b (scale_on t paper) creep c.1 in (
-      subst (IsInside room paper) is at.inside,
-      subst (StaysBehind room (line room) paper) is (subst (λ T. StaysBehind room T paper (leaf_item paper room b (scale_on t paper) creep (if b then 0 else 1))) (line_is paper room b (scale_on t paper) creep c.1) at.stays),
-    )
-
-back_slot_behind : (room : Room) (b : Bool) (asked : Option ℤ) (paper_of : ℕ → Paper) (creep : ℕ) (entry : Option ℕ) → (let f = on_halves room b asked paper_of in
-    IsEven room → EntryCreeps f creep entry → SlotBehind room (2 * whole (nat_abs room.paper.height) - line room) (creeping_slot f true (if b then 1 else 0) creep entry))
-back_slot_behind room b asked paper_of creep None even has = (tt, tt)
-back_slot_behind room b asked paper_of creep (Some page) even has =
+back_slot : (front : Bool) (room : Room) (b : Bool) (asked : Option ℤ) (paper_of : ℕ → Paper) (creep : ℕ) (entry : Option ℕ) → (let f = on_halves room b asked paper_of in
+    let slot = creeping_slot f true (slot_there b front) creep entry in
+    IsEven room → EntryCreeps f creep entry → SlotIsInside room slot × SlotStays (not front) room (2 * whole (nat_abs room.paper.height) - line room) slot)
+back_slot front room b asked paper_of creep None even has = (tt, blank_stays (not front) room (2 * whole (nat_abs room.paper.height) - line room))
+back_slot front room b asked paper_of creep (Some page) even has =
     let paper = paper_of page in
     let s = scale_on (halves room b asked) paper in
     let c = creeps_on paper room b asked creep even has in
-    let at = back_behind paper room b s creep c.1 in (
+    let at = back_lies front paper room b s creep c.1 in (
       at.inside,
-      subst (λ T. StaysBehind room (2 * whole (nat_abs room.paper.height) - T) paper (back_item paper room b s creep (if b then 1 else 0))) (line_is paper room b s creep c.1) at.stays,
-    )
-
-back_slot_before : (room : Room) (b : Bool) (asked : Option ℤ) (paper_of : ℕ → Paper) (creep : ℕ) (entry : Option ℕ) → (let f = on_halves room b asked paper_of in
-    IsEven room → EntryCreeps f creep entry → SlotBefore room (2 * whole (nat_abs room.paper.height) - line room) (creeping_slot f true (if b then 0 else 1) creep entry))
-back_slot_before room b asked paper_of creep None even has = (tt, tt)
-back_slot_before room b asked paper_of creep (Some page) even has =
-    let paper = paper_of page in
-    let s = scale_on (halves room b asked) paper in
-    let c = creeps_on paper room b asked creep even has in
-    let at = back_before paper room b s creep c.1 in (
-      at.inside,
-      subst (λ T. StaysBefore room (2 * whole (nat_abs room.paper.height) - T) paper (back_item paper room b s creep (if b then 0 else 1))) (line_is paper room b s creep c.1) at.stays,
+      page_stays (not front) room (2 * whole (nat_abs room.paper.height) - line room) page (back_item paper room b s creep (slot_there b front)) paper
+          (subst (λ T. Stays (not front) room (2 * whole (nat_abs room.paper.height) - T) paper (back_item paper room b s creep (slot_there b front))) (line_is paper room b s creep c.1) at.stays),
     )
 
 -- ---- a side
@@ -406,20 +351,20 @@ side f by_half creep one other =
 side_on_halves : (room : Room) (b : Bool) (asked : Option ℤ) (paper_of : ℕ → Paper) (by_half : Bool) (creep : ℕ) (one other : Option ℕ) → (let f = on_halves room b asked paper_of in
     IsEven room → EntryCreeps f creep one → EntryCreeps f creep other → StandsOnLeaf room (fold_on room by_half (line room)) (is_first_before b by_half) (side f by_half creep one other))
 side_on_halves room false asked paper_of false creep one other even has has' =
-    let at = front_slot_before room false asked paper_of creep one even has in
-    let at' = front_slot_behind room false asked paper_of creep other even has' in
+    let at = front_slot true room false asked paper_of creep one even has in
+    let at' = front_slot false room false asked paper_of creep other even has' in
     record { paper = refl; first = _; second = _; slots = refl; first_inside = at.0; second_inside = at'.0; before = at.1; behind = at'.1 }
 side_on_halves room true asked paper_of false creep one other even has has' =
-    let at = front_slot_behind room true asked paper_of creep one even has in
-    let at' = front_slot_before room true asked paper_of creep other even has' in
+    let at = front_slot false room true asked paper_of creep one even has in
+    let at' = front_slot true room true asked paper_of creep other even has' in
     record { paper = refl; first = _; second = _; slots = refl; first_inside = at.0; second_inside = at'.0; before = at'.1; behind = at.1 }
 side_on_halves room false asked paper_of true creep one other even has has' =
-    let at = back_slot_behind room false asked paper_of creep one even has in
-    let at' = back_slot_before room false asked paper_of creep other even has' in
+    let at = back_slot true room false asked paper_of creep one even has in
+    let at' = back_slot false room false asked paper_of creep other even has' in
     record { paper = refl; first = _; second = _; slots = refl; first_inside = at.0; second_inside = at'.0; before = at'.1; behind = at.1 }
 side_on_halves room true asked paper_of true creep one other even has has' =
-    let at = back_slot_before room true asked paper_of creep one even has in
-    let at' = back_slot_behind room true asked paper_of creep other even has' in
+    let at = back_slot false room true asked paper_of creep one even has in
+    let at' = back_slot true room true asked paper_of creep other even has' in
     record { paper = refl; first = _; second = _; slots = refl; first_inside = at.0; second_inside = at'.0; before = at.1; behind = at'.1 }
 
 abbrev SideStands : Bool → (creep : ℕ) → (one other : Option ℕ) → (ℕ → Paper) → Setting → Type 0
