@@ -120,8 +120,8 @@ impl Setting {
         ensures possible { OnOk result (why_no_scale_on self.now page_paper.now ≡ None) }
         ensures refused { IfErr result (λ error. why_no_scale_on self.now page_paper.now ≡ Some error) }
     {
-        let scale = self.scale_found(page_paper)?;
-        Ok(number(scale))
+        let found = self.scale_found(page_paper)?;
+        Ok(number(found))
     }
 
     /// What a page of this paper leaves free of the width of its cell at each end, in 10^-5 of a point.
