@@ -267,10 +267,11 @@ within_exact page room g t sides rows columns allows =
 
 pub best_is_large : BestIsLarge
 best_is_large page room n g t sides many h allows =
-    let (rows, columns) = sides_of g.rows g.columns n many h in
+    let (rows, columns) = some_each g.rows g.columns (omega (arith, many, h)) in
     let here = within_exact page room g t sides rows columns allows in
     let best : exact_scale page room g ≤ exact_scale page room (best_grid page room n) = (best_is_best page room n g many h).large in
-    let (rows', columns') = sides_of (best_grid page room n).rows (best_grid page room n).columns n many (best_has_cells page room n many) in
+    let enough : n ≤ (best_grid page room n).rows * (best_grid page room n).columns = best_has_cells page room n many in
+    let (rows', columns') = some_each (best_grid page room n).rows (best_grid page room n).columns (omega (arith, many, enough)) in
     let near = near_exact page room (best_grid page room n) sides rows' columns' in
     omega (arith, here, best, near)
 

@@ -10,7 +10,7 @@ use Rattle.layouts.specs.Laws.{HasPlace, IsMean, IsInMiddle, GridIsInMiddle, cel
 use Rattle.layouts.proofs.AlongSide.{in_cell, in_middle, moved_back, counted_and}
 use Rattle.layouts.proofs.Sides.{of_sides, far, start}
 use Rattle.layouts.proofs.OnSide.{HasCell, shown, trimmed, from_start, from_end}
-use Rattle.layouts.proofs.InGrid.{cells, fits, sides_are}
+use Rattle.layouts.proofs.InGrid.{across_of, cells, down_of, sides_are}
 
 -- the whole side, of which something is trimmed at both ends
 both_ends : (s v t : ℕ) → 2 * t < v → s * v ≡ s * (v - 2 * t) + 2 * (s * t)
@@ -52,21 +52,19 @@ from_end_middle a w c v s j h =
 middle_at : (v u : ℕ) (room : Room) (r c : ℕ) (b : Bool) (s k row column : ℕ) → HasPlace (of_sides v u) room (cells r c b) s
     → IsInMiddle (of_sides v u) (cell_at room (cells r c b) row column) (item_at (of_sides v u) room (cells r c b) s k row column)
 middle_at v u room r c false s k row column place =
-    let f = fits (of_sides v u) room (cells r c false) s place in
     let w = nat_abs room.paper.width in
     let h = nat_abs room.paper.height in
-    let a = from_start_middle (along_width room) w c v s column (record { some = f.some_wide; fits = f.is_wide; left = place.some_wide }) in
-    let d = from_start_middle (along_height room) h r u s (r - (row + 1)) (record { some = f.some_high; fits = f.is_high; left = place.some_high }) in
+    let a = from_start_middle (along_width room) w c v s column (across_of v u room r c false s place) in
+    let d = from_start_middle (along_height room) h r u s (r - (row + 1)) (down_of v u room r c false s place) in
     record {
       across = (omega (arith, ints, a.0), omega (arith, ints, a.1));
       up = (omega (arith, ints, d.0), omega (arith, ints, d.1));
     }
 middle_at v u room r c true s k row column place =
-    let f = fits (of_sides v u) room (cells r c true) s place in
     let w = nat_abs room.paper.width in
     let h = nat_abs room.paper.height in
-    let a = from_start_middle (along_height room) h c v s column (record { some = f.some_wide; fits = f.is_wide; left = place.some_wide }) in
-    let d = from_end_middle (along_width room) w r u s row (record { some = f.some_high; fits = f.is_high; left = place.some_high }) in
+    let a = from_start_middle (along_height room) h c v s column (across_of v u room r c true s place) in
+    let d = from_end_middle (along_width room) w r u s row (down_of v u room r c true s place) in
     record {
       across = (omega (arith, ints, d.0), omega (arith, ints, d.1));
       up = (omega (arith, ints, a.0), omega (arith, ints, a.1));
