@@ -54,12 +54,7 @@ impl Grid {
                 columns,
                 turned,
             },
-            Turned::Left => Grid {
-                rows: columns,
-                columns: rows,
-                turned,
-            },
-            Turned::Right => Grid {
+            Turned::Left | Turned::Right => Grid {
                 rows: columns,
                 columns: rows,
                 turned,

@@ -13,10 +13,10 @@ use Rattle.layouts.specs.Cells.{size}
 use Rattle.layouts.specs.Fitted.{fitted, fitted_back, scale_on}
 use Rattle.layouts.specs.declared.setting.Setting.{Setting}
 use Rattle.row_sheets.specs.Creep.{creep_on, creeping, creeping_sheets, creeping_sides, creeping_slot}
-use Rattle.row_sheets.specs.Filled.{behind_in, card_entry, card_sheets, duplex_entry, duplex_sheets, filled, grid_entry, grid_sheets, is_turned, sides, slot_on, stack_entry, stack_sheets}
+use Rattle.row_sheets.specs.Filled.{filled, grid_entry, is_turned, sides, slot_on}
 use Rattle.row_sheets.specs.RowSheets.{as_it_is, selected, selected_sheet}
 use Rattle.row_sheets.specs.SameScale.{least_with, lesser}
-use Rattle.row_sheets.specs.Shapes.{filling}
+use Rattle.row_sheets.specs.Shapes.{cell_on, filling}
 use Rattle.row_sheets.specs.AsDocument.{AreLaidAlike, RowIsDocument, chosen_page, papers_at, renamed, renamed_slot}
 use Rattle.row_sheets.proofs.Filling.{sheet as sheet_of}
 use Rattle.row_sheets.proofs.Specified.{same_map}
@@ -80,37 +80,15 @@ sides_named t r papers others same n m new old e =
     sheets_named t.room.paper r n m (λ s c. slot_on (filling t papers) false c (new s c)) (λ s c. slot_on (filling t others) false c (old s c))
     (λ s c. ap (slot_on (filling t papers) false c) (e s c) ∙ slot_named t r papers others same false c (old s c))
 
-grid_named : (t : Setting) (r : ℕ → ℕ) (papers others : List Paper) → AreSame r papers others → (cells : ℕ) (row : Row)
-    → grid_sheets (filling t papers) cells (with_numbers r row) ≡ map (renamed r) (grid_sheets (filling t others) cells row)
-grid_named t r papers others same cells row =
+-- in cells, with so many sheets and these places for so many entries
+cells_named : (t : Setting) (r : ℕ → ℕ) (papers others : List Paper) → AreSame r papers others → (row : Row) (count : ℕ → ℕ) (cells : ℕ) (place : (n s c : ℕ) → ℕ)
+    → filled (filling t papers) (count (length (with_numbers r row))) cells (λ s c. entry_of (with_numbers r row) (place (length (with_numbers r row)) s c))
+    ≡ map (renamed r) (filled (filling t others) (count (length row)) cells (λ s c. entry_of row (place (length row) s c)))
+cells_named t r papers others same row count cells place =
     let new : Row = with_numbers r row in
-    ap (λ n. filled (filling t papers) (blocks cells n) cells (grid_entry cells new)) (length-map row (option_map r))
-    ∙ sides_named t r papers others same (blocks cells (length row)) cells (grid_entry cells new) (grid_entry cells row) (λ s c. entry_named r row (s * cells + c))
-
-cards_named : (t : Setting) (r : ℕ → ℕ) (papers others : List Paper) → AreSame r papers others → (cells : ℕ) (row : Row)
-    → card_sheets (filling t papers) cells (with_numbers r row) ≡ map (renamed r) (card_sheets (filling t others) cells row)
-cards_named t r papers others same cells row =
-    let new : Row = with_numbers r row in
-    ap (λ n. filled (filling t papers) n cells (card_entry new)) (length-map row (option_map r))
-    ∙ sides_named t r papers others same (length row) cells (card_entry new) (card_entry row) (λ s c. entry_named r row s)
-
-stack_named : (t : Setting) (r : ℕ → ℕ) (papers others : List Paper) → AreSame r papers others → (cells : ℕ) (row : Row)
-    → stack_sheets (filling t papers) cells (with_numbers r row) ≡ map (renamed r) (stack_sheets (filling t others) cells row)
-stack_named t r papers others same cells row =
-    let new : Row = with_numbers r row in
-    let sheets : ℕ = blocks cells (length row) in
-    ap (λ n. filled (filling t papers) (blocks cells n) cells (stack_entry (blocks cells n) new)) (length-map row (option_map r))
-    ∙ sides_named t r papers others same sheets cells (stack_entry sheets new) (stack_entry sheets row) (λ s c. entry_named r row (c * sheets + s))
-
-leaves_filled : (t : Setting) (r : ℕ → ℕ) (papers others : List Paper) → AreSame r papers others → (row : Row)
-    → duplex_sheets (filling t papers) (with_numbers r row) ≡ map (renamed r) (duplex_sheets (filling t others) row)
-leaves_filled t r papers others same row =
-    let new : Row = with_numbers r row in
-    let cells : ℕ = size t.grid in
-    let leaves : ℕ = blocks (2 * cells) (length row) in
-    ap (λ n. filled (filling t papers) (2 * blocks (2 * cells) n) cells (duplex_entry (blocks (2 * cells) n) (behind_in t) new)) (length-map row (option_map r))
-    ∙ sides_named t r papers others same (2 * leaves) cells (duplex_entry leaves (behind_in t) new) (duplex_entry leaves (behind_in t) row)
-    (λ s c. entry_named r row _)
+    ap (λ n. filled (filling t papers) (count n) cells (λ s c. entry_of new (place n s c))) (length-map row (option_map r))
+    ∙ sides_named t r papers others same (count (length row)) cells (λ s c. entry_of new (place (length row) s c)) (λ s c. entry_of row (place (length row) s c))
+    (λ s c. entry_named r row (place (length row) s c))
 
 half_named : (t : Setting) (r : ℕ → ℕ) (papers others : List Paper) → AreSame r papers others → (by_half : Bool) (k creep : ℕ) (entry : Option ℕ)
     → creeping_slot (filling t papers) by_half k creep (option_map r entry) ≡ renamed_slot r (creeping_slot (filling t others) by_half k creep entry)
@@ -159,10 +137,10 @@ least_named t r papers others same least (e ∷ row) =
 alike : (t : Setting) (r : ℕ → ℕ) (papers others : List Paper) → AreSame r papers others → (row : Row)
     → AreLaidAlike r t papers others (with_numbers r row) row
 alike t r papers others same row = record {
-  grid = λ cells. grid_named t r papers others same cells row;
-  cards = λ cells. cards_named t r papers others same cells row;
-  stack = λ cells. stack_named t r papers others same cells row;
-  leaves = leaves_filled t r papers others same row;
+  grid = λ cells. cells_named t r papers others same row (blocks cells) cells (λ n s c. s * cells + c);
+  cards = λ cells. cells_named t r papers others same row (λ n. n) cells (λ n s c. s);
+  stack = λ cells. cells_named t r papers others same row (blocks cells) cells (λ n s c. c * blocks cells n + s);
+  leaves = cells_named t r papers others same row (λ n. 2 * blocks (2 * size t.grid) n) (size t.grid) (λ n s c. cell_on t s c * (2 * blocks (2 * size t.grid) n) + s);
   booklet = λ turned_backs creep leaves. booklet_named t r papers others same turned_backs creep leaves row;
   alone = λ blank. selected_named r papers others same blank row;
   one_scale = ap (λ z. record { room = t.room; grid = t.grid; order = t.order; scale = z }) (least_named t r papers others same None row);
