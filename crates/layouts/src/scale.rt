@@ -2,7 +2,7 @@
 ghost use Rattle.std.specs.Prelude.{◌≡◌, ◌-◌, ◌*◌, ◌<◌, ◌≤◌, nat_abs, IsTrue};
 ghost use Rattle.rules.specs.Papers.{is_side, longest_side};
 ghost use Rattle.layouts.specs.Refusals.{is_scale as may_be_scale, is_shown};
-ghost use Rattle.layouts.specs.Cells.{kept as kept_of, left_free as left_free_of, part as part_of, step as step_of};
+ghost use Rattle.layouts.specs.Cells.{kept as kept_of, left_free as left_free_of, step as step_of};
 ghost use Rattle.layouts.specs.Cells.{step_across, step_down, wide, high};
 ghost use Rattle.layouts.specs.Cells.{counted as counted_of, fitting as fits, scale_in as scale_of};
 ghost use Rattle.layouts.specs.Cells.{exact_along as along_exactly, exact_scale as exact_scale_of};
@@ -42,24 +42,14 @@ fn left_free(along: &Along, side: u64) -> u64
     )
 }
 
-/// One of so many equal parts of a side, in 10^-5 of a point.
-fn part(side: u64, parts: u32) -> u64
-    requires { 0 < parts }
-    ensures { result ≡ part_of side parts }
-{
-    side / (1_270_000 * u64::from(parts))
-}
-
 /// From where a cell begins to where the next one begins, if a side is cut into so many.
 fn step(along: &Along, side: u64, parts: u32) -> u64
     requires some { 0 < parts }
     requires in_range { side ≤ longest_side }
     ensures { result ≡ step_of along.now side parts }
 {
-    part(
-        left_free(along, side) + 1_270_000 * kept(along.trim, along.gap),
-        parts,
-    )
+    let free = left_free(along, side) + 1_270_000 * kept(along.trim, along.gap);
+    free / (1_270_000 * u64::from(parts))
 }
 
 /// From where a cell begins to where the next one begins, across and down, as one holds the sheet for its pages to be
