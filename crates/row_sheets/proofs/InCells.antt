@@ -1,13 +1,12 @@
 -- Pages that have their places lie in their cells, and read in order.
-use Rattle.std.proofs.Common.{arith, ℕ, ◌<◌, Option, Some, None, length, subst, sym}
-use Rattle.std.specs.Prelude.{map, slice_index_or}
+use Rattle.std.proofs.Common.{arith, ℕ, ◌<◌, Option, Some, None}
+use Rattle.std.specs.Prelude.{map}
 use Rattle.std.specs.List.{range_with_len}
-use Rattle.std.proofs.lemmas.List.FromFn.{get_or-map-range_with_len, length-map-range_with_len}
 use Rattle.layouts.specs.Cells.{size}
 use Rattle.layouts.proofs.Fitting.{fitted_stands, fitted_is_in_order}
 use Rattle.row_sheets.specs.Filled.{Filling, slot_in}
 use Rattle.row_sheets.specs.Standing.{EntryFits, FilledStandsInCells, SlotIsFitted, SlotsAreInOrder, StandsInCells}
-use Rattle.row_sheets.proofs.OnSheets.{each_of, numbered}
+use Rattle.row_sheets.proofs.OnSheets.{each_of, numbered, two_numbered}
 
 slot_fitted : (f : Filling) (c : ℕ) (entry : Option ℕ) → c < size f.setting.grid → EntryFits f entry → SlotIsFitted f.setting c (slot_in f c entry)
 slot_fitted f c None within has = tt
@@ -19,17 +18,6 @@ slots_in_order f c d None other in_c in_d has has' = tt
 slots_in_order f c d (Some page) None in_c in_d has has' = tt
 slots_in_order f c d (Some page) (Some page') in_c in_d has has' =
     fitted_is_in_order f.setting (f.paper_of page) (f.paper_of page') c d has.page_is has'.page_is has.sheet_is has.fits has'.fits in_c in_d
-
--- each two of what is numbered in turn
-two_numbered : {X : Type 0} (R : ℕ → ℕ → X → X → Type 0) (f : ℕ → X) (n : ℕ) → ((i j : ℕ) → i < n → j < n → R i j (f i) (f j))
-    → (i j : ℕ) (d : X) → i < length (map f (range_with_len 0 n)) → j < length (map f (range_with_len 0 n))
-    → R i j (slice_index_or (map f (range_with_len 0 n)) i d) (slice_index_or (map f (range_with_len 0 n)) j d)
-two_numbered R f n h i j d in_i in_j =
-    let many = length-map-range_with_len f 0 n in
-    let first : i < n = omega (arith, in_i, many) in
-    let second : j < n = omega (arith, in_j, many) in
-    subst (λ x. R i j x (slice_index_or (map f (range_with_len 0 n)) j d)) (sym (get_or-map-range_with_len f 0 n i i d first (omega arith)))
-    (subst (R i j (f i)) (sym (get_or-map-range_with_len f 0 n j j d second (omega arith))) (h i j first second))
 
 pub filled_stands_in_cells : FilledStandsInCells
 filled_stands_in_cells f sheets cells entry enough fits =

@@ -22,14 +22,20 @@ numbered P f n h k d less =
 pub each_of : {X : Type 0} (P : X → Type 0) (f : ℕ → X) (n : ℕ) → ((k : ℕ) → k < n → P (f k)) → All P (map f (range_with_len 0 n))
 each_of P f n h = numbered (λ k. P) f n h
 
+-- each two of what is numbered in turn
+pub two_numbered : {X : Type 0} (R : ℕ → ℕ → X → X → Type 0) (f : ℕ → X) (n : ℕ) → ((i j : ℕ) → i < n → j < n → R i j (f i) (f j))
+    → (i j : ℕ) (d : X) → i < length (map f (range_with_len 0 n)) → j < length (map f (range_with_len 0 n))
+    → R i j (slice_index_or (map f (range_with_len 0 n)) i d) (slice_index_or (map f (range_with_len 0 n)) j d)
+two_numbered R f n h i j d in_i in_j =
+    let many = length-map-range_with_len f 0 n in
+    let first : i < n = omega (arith, in_i, many) in
+    let second : j < n = omega (arith, in_j, many) in
+    subst (λ x. R i j x (slice_index_or (map f (range_with_len 0 n)) j d)) (sym (get_or-map-range_with_len f 0 n i i d first (omega arith)))
+    (subst (R i j (f i)) (sym (get_or-map-range_with_len f 0 n j j d second (omega arith))) (h i j first second))
+
 pub each_two_of : {X : Type 0} (R : X → X → Type 0) (f : ℕ → X) (n : ℕ) → ((i j : ℕ) → i < n → j < n → i ≢ j → R (f i) (f j)) → AllPairs R (map f (range_with_len 0 n))
 each_two_of R f n h i j d before less =
-    let many = length-map-range_with_len f 0 n in
-    let second : j < n = omega (arith, less, many) in
-    let first : i < n = omega (arith, before, second) in
-    let differ : i ≢ j = λ e. omega (arith, before, e) in
-    subst (λ x. R x (slice_index_or (map f (range_with_len 0 n)) j d)) (sym (get_or-map-range_with_len f 0 n i i d first (omega arith)))
-    (subst (R (f i)) (sym (get_or-map-range_with_len f 0 n j j d second (omega arith))) (h i j first second differ))
+    two_numbered (λ i j x y. i ≢ j → R x y) f n h i j d (omega (arith, before, less)) less (λ e. omega (arith, before, e))
 
 -- ---- a sheet
 
