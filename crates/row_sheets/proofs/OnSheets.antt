@@ -27,11 +27,8 @@ pub two_numbered : {X : Type 0} (R : ℕ → ℕ → X → X → Type 0) (f : �
     → (i j : ℕ) (d : X) → i < length (map f (range_with_len 0 n)) → j < length (map f (range_with_len 0 n))
     → R i j (slice_index_or (map f (range_with_len 0 n)) i d) (slice_index_or (map f (range_with_len 0 n)) j d)
 two_numbered R f n h i j d in_i in_j =
-    let many = length-map-range_with_len f 0 n in
-    let first : i < n = omega (arith, in_i, many) in
-    let second : j < n = omega (arith, in_j, many) in
-    subst (λ x. R i j x (slice_index_or (map f (range_with_len 0 n)) j d)) (sym (get_or-map-range_with_len f 0 n i i d first (omega arith)))
-    (subst (R i j (f i)) (sym (get_or-map-range_with_len f 0 n j j d second (omega arith))) (h i j first second))
+    numbered (λ k x. R k j x (slice_index_or (map f (range_with_len 0 n)) j d)) f n
+    (λ k less. numbered (λ l y. R k l (f k) y) f n (λ l below. h k l less below) j d in_j) i d in_i
 
 pub each_two_of : {X : Type 0} (R : X → X → Type 0) (f : ℕ → X) (n : ℕ) → ((i j : ℕ) → i < n → j < n → i ≢ j → R (f i) (f j)) → AllPairs R (map f (range_with_len 0 n))
 each_two_of R f n h i j d before less =
