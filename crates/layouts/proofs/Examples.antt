@@ -12,15 +12,8 @@ use Rattle.layouts.specs.declared.arrangement.Turned.TheVariants as sideways
 use Rattle.layouts.specs.declared.arrangement.Order.{Order}
 use Rattle.layouts.specs.declared.error.ArrangementError.TheVariants as why
 use Rattle.layouts.specs.Placed.{bare}
-use Rattle.layouts.specs.Cells.{scale_in}
 use Rattle.layouts.specs.Grids.{best_grid, best_formed, arranged, bound, nothing_free, plain, plain_binding, plain_order}
 use Rattle.layouts.specs.Refusals.{is_count, is_reached, is_scale, is_length, why_no_scale, why_not_arranged, why_not_bound}
-
-two_on_a4 : best_grid (points 595 842) (bare (points 595 842)) 2 ≡ record { rows = 1; columns = 2; turned = true }
-two_on_a4 = refl
-
-two_on_a4_scale : scale_in (points 595 842) (bare (points 595 842)) (best_grid (points 595 842) (bare (points 595 842)) 2) ≡ 706_650_831
-two_on_a4_scale = refl
 
 four_on_letter : best_grid (points 612 792) (bare (points 612 792)) 4 ≡ record { rows = 2; columns = 2; turned = false }
 four_on_letter = refl
@@ -52,9 +45,6 @@ three_in_a_column = refl
 -- numbers that columns don't divide have as much room as the next good grid
 three_on_a4 : best_grid (points 595 842) (bare (points 595 842)) 3 ≡ record { rows = 2; columns = 2; turned = false }
 three_on_a4 = refl
-
-five_on_a4 : best_grid (points 595 842) (bare (points 595 842)) 5 ≡ record { rows = 2; columns = 3; turned = true }
-five_on_a4 = refl
 
 seven_on_a4 : best_grid (points 595 842) (bare (points 595 842)) 7 ≡ record { rows = 2; columns = 4; turned = true }
 seven_on_a4 = refl
