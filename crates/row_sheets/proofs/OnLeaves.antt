@@ -15,7 +15,7 @@ use Rattle.layouts.specs.declared.error.ArrangementError.{ArrangementError}
 use Rattle.layouts.specs.declared.error.ArrangementError.TheVariants as why
 use Rattle.layouts.specs.declared.setting.Setting.{Setting}
 use Rattle.layouts.specs.Placed.{IsEven, Room, fine, stands, IsInside}
-use Rattle.layouts.specs.Cells.{along_height, cell, kept, item_in, back_in, whole, to_right, to_top, row_of, column_of, size}
+use Rattle.layouts.specs.Cells.{along_height, cell, kept, item_in, back_in, whole, to_right, to_top, row_of, column_of}
 use Rattle.layouts.specs.Grids.{beside, leaf_order}
 use Rattle.layouts.specs.Laws.{IsPaper, HasPlace, IsHalfTurnOf}
 use Rattle.layouts.specs.Refusals.{first_of}
@@ -30,7 +30,7 @@ use Rattle.row_sheets.specs.Filled.{Filling, SlotIsInside, is_turned, grid_entry
 use Rattle.row_sheets.specs.Creep.{AreHalves, creeping, creeping_slot, creeping_sides, creep_on, leaf_item, may_creep, moved_up, to_fold, StaysBefore, StaysBehind}
 use Rattle.row_sheets.specs.Standing.{AllStand, EntryCreeps, EntryFits, FitsIn, FitsOnLeaf, LeavesStand, SlotStaysBefore, SlotStaysBehind, StandsOnLeaf, fold_on, is_first_before}
 use Rattle.row_sheets.proofs.AtRest.{sheets_at_rest}
-use Rattle.row_sheets.proofs.Creeping.{halves, of_halves}
+use Rattle.row_sheets.proofs.Creeping.{halves, halves_many, of_halves}
 use Rattle.row_sheets.proofs.Filling.{sheet}
 use Rattle.row_sheets.proofs.Leaves.{creep_moves, stays_before, stays_behind}
 use Rattle.row_sheets.proofs.OnSheets.{numbered, sides_stand}
@@ -384,16 +384,13 @@ entry_fits : (f : Filling) (creep : ℕ) (entry : Option ℕ) → EntryCreeps f 
 entry_fits f creep None has = tt
 entry_fits f creep (Some page) has = fits_in f.setting (f.paper_of page) creep has
 
-enough : (t : Setting) → AreHalves t → 2 ≤ size t.grid
-enough t halved = subst (λ g. 2 ≤ size g) (sym halved.grid_is) (omega arith)
-
 abbrev AllCreep : Filling → (creep leaves sheets : ℕ) → Row → Type 0
 AllCreep f creep leaves sheets row = (s k : ℕ) → s < sheets → k < 2 → EntryCreeps f (creep_on creep leaves s) (grid_entry 2 row s k)
 
 plain_stand : (f : Filling) (turned_backs : Bool) (creep leaves sheets : ℕ) (row : Row) → AreHalves f.setting → AllCreep f creep leaves sheets row → creep ≡ 0
     → AllStand f.setting.room (creeping_sides f turned_backs creep leaves sheets row)
 plain_stand f turned_backs creep leaves sheets row halved has none =
-    let many = enough f.setting halved in
+    let many = halves_many f.setting halved in
     let all = sides_stand f turned_backs sheets 2 (grid_entry 2 row) many (λ e. record { many = many; even = halved.even })
     (λ s k in_s in_k. entry_fits f (creep_on creep leaves s) (grid_entry 2 row s k) (has s k in_s in_k)) in
     subst (λ n. AllStand f.setting.room (creeping_sides f turned_backs n leaves sheets row)) (sym none)
