@@ -219,11 +219,11 @@ no_higher page room b s creep c = fold_on_sheet (along_height room) (nat_abs roo
 
 back_stays : (front : Bool) (page : Paper) (room : Room) (b : Bool) (s creep : ℕ) → Creeps page room b s creep
     → Stays (not front) room (2 * whole (nat_abs room.paper.height) - fold (along_height room) (nat_abs room.paper.height)) page (back_item page room b s creep (slot_there b front))
-back_stays true page room b s creep c p of =
+back_stays true page room b s creep c = λ p of.
     let k = slot_there b true in
     behind_turned (fold (along_height room) (nat_abs room.paper.height)) (whole (nat_abs room.paper.height)) (stands page (leaf_item page room b s creep k) p).y (stands page (back_item page room b s creep k) p).y
     (no_higher page room b s creep c) (front_stays true page room b s creep c p of) (back_turned page room b s creep k p (c.turned k (one_of_two b true)))
-back_stays false page room b s creep c p of =
+back_stays false page room b s creep c = λ p of.
     let k = slot_there b false in
     before_turned (fold (along_height room) (nat_abs room.paper.height)) (whole (nat_abs room.paper.height)) (stands page (leaf_item page room b s creep k) p).y (stands page (back_item page room b s creep k) p).y
     (no_higher page room b s creep c) (front_stays false page room b s creep c p of) (back_turned page room b s creep k p (c.turned k (one_of_two b false)))
