@@ -2,7 +2,8 @@
 -- a fault's message is no word here says, nor what is said of words that the command doesn't take.
 use Rattle.std.specs.Prelude.{⊤, ◌≡◌, ◌==◌, ◌⊎◌, ◌++◌, if◌then◌else◌, ℕ, List, [], Bool, true, false, Option, Some, None, Result, Ok, Err}
 use Rattle.std.specs.Prelude.{◌+◌, ◌-◌, ◌*◌, ◌/◌, ℤ, pos, int_le, codes, decimal, nat_eq, nat_le, nat_lt, ◌||◌, ◌&&◌, option_map, string_bytes}
-use Rattle.std.specs.Prelude.{length, map, min, take}
+use Rattle.std.specs.Prelude.{String, length, map, min, take}
+use Rattle.std.specs.declared.alloc.Global.{Global}
 use Rattle.std.specs.List.{ends_with}
 use Rattle.std.specs.IoError.{error_kind}
 use Rattle.std.specs.declared.io.ErrorKind.{ErrorKind}
@@ -106,22 +107,19 @@ front_of name = take (min (length name) 100) name
 
 -- a name as it is shown, with two dots if there is more
 abbrev pub shown_name : (name : List ℕ) → List ℕ
-shown_name name = map shown_byte (front_of name) ++ (if nat_lt 100 (length name) then codes ".." else [])
+shown_name name = if nat_lt 100 (length name) then map shown_byte (front_of name) ++ codes ".." else map shown_byte (front_of name)
 
 -- of a document whose paper has a name that isn't known
 abbrev pub unknown_text : (name : Option (List ℕ)) → Option (List ℕ)
 unknown_text None = None
 unknown_text (Some name) = Some (codes "the document names an unknown paper, " ++ shown_name name)
 
-abbrev pub some_pages_text : (pages first last : ℕ) → List ℕ
-some_pages_text pages first last = decimal pages ++ (codes " pages from " ++ (decimal first ++ (codes " to " ++ decimal last)))
-
 -- the pages that are cut, counted from 1: one, all from the first to the last, or some of these
 abbrev pub cut_pages_text : Cut → List ℕ
 cut_pages_text cut = if cut.pages == 1 then codes "page " ++ decimal (cut.first + 1)
     else (if cut.first + cut.pages == cut.last + 1
     then codes "pages " ++ (decimal (cut.first + 1) ++ (codes "-" ++ decimal (cut.last + 1)))
-    else some_pages_text cut.pages (cut.first + 1) (cut.last + 1))
+    else decimal cut.pages ++ (codes " pages from " ++ (decimal (cut.first + 1) ++ (codes " to " ++ decimal (cut.last + 1)))))
 
 -- the size of one that is cut, and how far several reach
 abbrev pub cut_size_text : Cut → List ℕ
@@ -198,31 +196,32 @@ IsLineOf (Some message) text = (text ≡ []) ⊎ (text ≡ said message)
 abbrev pub MaySay : (Option (List ℕ) → Type 0) → (text : List ℕ) → Type 0
 MaySay Holds text = (text ≡ []) ⊎ ((message : List ℕ) × Holds (Some message) × (text ≡ said message))
 
--- the line of this message, if there is one, comes after what was said before
-abbrev pub AddsLine : (message : Option (List ℕ)) → (before after : List ℕ) → Type 0
-AddsLine message before after = (text : List ℕ) × IsLineOf message text × (after ≡ before ++ text)
+-- the line of a message that was to be made: without memory for it there is nothing
+abbrev pub IsMadeLine : {E : Type 0} → Result (Option (String Global)) E → (text : List ℕ) → Type 0
+IsMadeLine (Ok message) text = IsLineOf (option_map string_bytes message) text
+IsMadeLine (Err e) text = text ≡ []
+
+-- a text of which this holds comes after what was said before
+abbrev pub Adds : (List ℕ → Type 0) → (before after : List ℕ) → Type 0
+Adds Holds before after = (text : List ℕ) × Holds text × (after ≡ before ++ text)
+
+-- a text is one of which this holds, and after it one of which that holds
+abbrev pub Then : (This That : List ℕ → Type 0) → (text : List ℕ) → Type 0
+Then This That text = (first rest : List ℕ) × This first × That rest × (text ≡ first ++ rest)
 
 -- ---- all of it
 
 -- Of a finished run seven lines are said, in this order: the report, then that the document names an unknown paper, that pages
 -- are cut, that pages reach beyond their papers, that pages follow the trailer, that not as many were found as the document
 -- says, and that the output is no PDF.
-pub record SaysLines (finished : Finished) (r : ImposeRequest) (text : List ℕ) : Type 0 where
-  pub report : List ℕ
-  pub unknown : List ℕ
-  pub cut : List ℕ
-  pub reach : List ℕ
-  pub behind : List ℕ
-  pub told : List ℕ
-  pub note : List ℕ
-  pub reports : IsLineOf (Some (report_text finished r)) report
-  pub names_unknown : IsLineOf (unknown_text (option_map (λ name. name.items) finished.told.unknown)) unknown
-  pub cuts : IsLineOf (cut_text finished.cut finished.page_paper) cut
-  pub reaches : IsLineOf (reach_text finished.reach) reach
-  pub tells_behind : IsLineOf (behind_text finished.behind) behind
-  pub tells_count : IsLineOf (told_text finished.told.pages finished.report.pages) told
-  pub notes : MaySay (IsNote (option_map string_bytes r.outfile)) note
-  pub in_order : text ≡ report ++ (unknown ++ (cut ++ (reach ++ (behind ++ (told ++ note)))))
+abbrev pub SaysLines : Finished → ImposeRequest → (text : List ℕ) → Type 0
+SaysLines finished r =
+    Then (IsLineOf (Some (report_text finished r)))
+    (Then (IsLineOf (unknown_text (option_map (λ name. name.items) finished.told.unknown)))
+    (Then (IsLineOf (cut_text finished.cut finished.page_paper))
+    (Then (IsLineOf (reach_text finished.reach))
+    (Then (IsLineOf (behind_text finished.behind))
+    (Then (IsLineOf (told_text finished.told.pages finished.report.pages)) (MaySay (IsNote (option_map string_bytes r.outfile))))))))
 
 -- a quiet request says nothing
 abbrev pub SaysUnless : (quiet : Bool) → Finished → ImposeRequest → (text : List ℕ) → Type 0
