@@ -1,5 +1,5 @@
 -- What is said on standard error, and with which exit status the program ends.
-use Rattle.std.specs.Prelude.{◌++◌, ℕ, List, codes, decimal, encode_utf8}
+use Rattle.std.specs.Prelude.{◌++◌, ◌==◌, ℕ, List, codes, decimal, encode_utf8, if◌then◌else◌}
 use Rattle.rules.specs.Bytes.{line}
 use Rattle.pagespec.specs.declared.error.SpecError.{SpecError}
 use Rattle.pagespec.specs.declared.error.SpecError.TheVariants as spec
@@ -13,6 +13,7 @@ use Rattle.planned_runs.specs.declared.outcome.Report.{Report}
 use Rattle.world.specs.declared.read.ReadFault.{ReadFault}
 use Rattle.world.specs.declared.read.ReadFault.TheVariants as read
 use Rattle.imposer.specs.Statuses.{run_status}
+use Rattle.pstops_cli.specs.Values.{letter_p}
 use Rattle.pstops_cli.specs.declared.command.CommandFault.{CommandFault}
 use Rattle.pstops_cli.specs.declared.command.CommandFault.TheVariants as command
 use Rattle.pstops_cli.specs.declared.messages.Fault.{Fault}
@@ -32,8 +33,8 @@ cannot_write = codes "cannot write output"
 
 abbrev pub command_text : CommandFault → List ℕ
 command_text command.BadWords = codes "bad command line"
-command_text command.UnknownPaper = codes "unknown paper"
-command_text (command.BadLength letter) = codes "bad length after -" ++ encode_utf8 letter
+command_text (command.BadValue letter) =
+    if letter == letter_p then codes "unknown paper" else codes "bad length after -" ++ encode_utf8 letter
 command_text command.NoMemory = out_of_memory
 
 abbrev pub read_text : ReadFault → List ℕ

@@ -84,8 +84,8 @@ fn command_text(alloc: Global, fault: CommandFault) -> Result<String, AllocError
 {
     match fault {
         CommandFault::BadWords => String::from_str(alloc, "bad command line"),
-        CommandFault::UnknownPaper => String::from_str(alloc, "unknown paper"),
-        CommandFault::BadLength(letter) => format!(in alloc; "bad length after -{letter}"),
+        CommandFault::BadValue('p') => String::from_str(alloc, "unknown paper"),
+        CommandFault::BadValue(letter) => format!(in alloc; "bad length after -{letter}"),
         CommandFault::NoMemory => String::from_str(alloc, "out of memory"),
     }
 }

@@ -82,8 +82,8 @@ fn refusal_of(name: &str) -> Option<RunError> {
 fn fault_of(name: &str) -> Fault {
     match name {
         "bad words" => Fault::Command(CommandFault::BadWords),
-        "paper" => Fault::Command(CommandFault::UnknownPaper),
-        "length" => Fault::Command(CommandFault::BadLength('w')),
+        "paper" => Fault::Command(CommandFault::BadValue('p')),
+        "length" => Fault::Command(CommandFault::BadValue('w')),
         "words" => Fault::Command(CommandFault::NoMemory),
         "reading" => Fault::Read(ReadFault::NoMemory),
         "device" => Fault::Read(ReadFault::Device),
