@@ -42,14 +42,8 @@ AreInRange (Some n) = (4 ≤ n) × (n ≤ most_sides)
 abbrev pub workers_named : (preparers imposers : Option (List ℕ)) → Workers
 workers_named preparers imposers = record { preparers = count_named preparers; imposers = count_named imposers }
 
--- ---- paper and border
+-- ---- the letters of the options that take a value
 
--- what is named, for the next value; if it is nothing, the letter of its option
-abbrev pub or_letter : {T U : Type 0} → Option T → (letter : ℕ) → (T → Result U ℕ) → Result U ℕ
-or_letter None letter next = Err letter
-or_letter (Some x) letter next = next x
-
--- the letters of the options that take a value
 abbrev pub letter_p : ℕ
 letter_p = 112
 
@@ -70,6 +64,13 @@ letter_k = 107
 
 abbrev pub letter_s : ℕ
 letter_s = 115
+
+-- ---- paper and border
+
+-- what is named, for the next value; if it is nothing, the letter of its option
+abbrev pub or_letter : {T U : Type 0} → Option T → (letter : ℕ) → (T → Result U ℕ) → Result U ℕ
+or_letter None letter next = Err letter
+or_letter (Some x) letter next = next x
 
 -- the paper and the border that the values of -p, -w, -h and -d name, or the letter of the first, in this order, that names
 -- no paper or no length that its option takes

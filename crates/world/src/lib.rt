@@ -15,7 +15,7 @@ pub use host::{Host, HostInput, HostOutput};
 pub use keeping_reader::KeepingReader;
 pub use opened::Opened;
 pub use output::Created;
-pub use read::{MOST_BYTES, ReadFault, read_input, read_input_behind};
+pub use read::{MOST_BYTES, ReadFault, read_input};
 pub use sink::{Buffered, abandon, buffered, created, write_out};
 pub use source::{ReadSource, Source, SourceFault};
 pub use told::tell;

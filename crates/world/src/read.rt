@@ -48,27 +48,13 @@ impl From<SourceFault> for ReadFault {
     }
 }
 
-/// The bytes of the source to its end, or the first [`MOST_BYTES`] of them if it has more.
+/// The bytes of the source to its end, or the first [`MOST_BYTES`] of them if it has more, after `room` bytes that are 0: room
+/// for what whoever reads may want to put before the input.
 ///
 /// They are read straight into the vector, whose length grows by a piece at a time as it fills. From a megabyte on it has
 /// room for the longest input, if there is address space for it, until all is read. After a fault the bytes that were
 /// read are lost.
-pub fn read_input<S: Source>(alloc: Global, source: &mut S) -> Result<Vec<u8>, ReadFault>
-    requires countable { (S.seen source.old).failures < u64.MAX }
-    ensures within { IfOk result (λ bytes. vec_len bytes ≤ most_bytes) }
-    ensures read { IfOk result (λ bytes. IsFirst most_bytes (S.seen source.old).bytes bytes.items) }
-    ensures rest { IfOk result (λ bytes. Consumes (S.seen source.old).bytes (S.seen source.new).bytes bytes.items) }
-    // It ends after that many bytes, whatever comes of it.
-    ensures most { ConsumesAtMost most_bytes (S.seen source.old).bytes (S.seen source.new).bytes }
-    // It is Device if the source failed in the call, and only then.
-    ensures steady { OnOk result ((S.seen source.new).failures ≡ (S.seen source.old).failures) }
-    ensures refused { IfErr result (IsFaultOf (S.seen source.old).failures (S.seen source.new).failures) }
-{
-    read_input_behind(alloc, 0, source)
-}
-
-/// The same after `room` bytes, which are 0: room for what whoever reads may want to put before the input.
-pub fn read_input_behind<S: Source>(
+pub fn read_input<S: Source>(
     alloc: Global,
     room: u32,
     source: &mut S,
