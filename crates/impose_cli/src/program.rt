@@ -10,7 +10,7 @@ ghost use Rattle.impose_cli.specs.Programs.{Prints, Shows, Writes, most_home_byt
 ghost use Rattle.impose_cli.specs.RowTasks.{LaysRows};
 ghost use Rattle.impose_said.specs.declared.fault.ImposeFault.TheVariants as faults;
 
-use crate::left::{Left, Rest, stopped};
+use crate::left::{Left, stopped};
 use crate::look::{Overview, look_text};
 use crate::printed::printed_task;
 use crate::runs::run_request;
@@ -27,7 +27,7 @@ use std::io;
 use std::io::{ErrorKind, Read, Write};
 use std::sync::Wait;
 use std::thread::Threads;
-use world::{KeepingReader, ReadFault, ReadSource, World, read_input};
+use world::{KeepingReader, ReadFault, ReadSource, Rest, World, read_input};
 
 /// How the program ended.
 #[derive(Drop)]

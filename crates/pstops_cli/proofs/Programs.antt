@@ -12,7 +12,8 @@ use Rattle.world.specs.Outputs.{IsFrontOf, told_if}
 use Rattle.pstops_cli.specs.Messages.{fault_status}
 use Rattle.sheet_writer.specs.Sinks.{SinkView}
 use Rattle.pstops_cli.specs.RequestRuns.{Ends, IsSaidOf, asked_by, outcome_status}
-use Rattle.pstops_cli.specs.Programs.{CreatesAndRuns, IsCreating, IsSaid, Ran, RunsInto}
+use Rattle.world.specs.declared.rest.Rest.{Rest}
+use Rattle.pstops_cli.specs.Programs.{CreatesAndRuns, IsCreating, IsSaid, Ran}
 use Rattle.pstops_cli.specs.declared.command.Request.{Request}
 use Rattle.pstops_cli.specs.declared.messages.Fault.{Fault}
 use Rattle.pstops_cli.specs.declared.messages.Fault.TheVariants as fault
@@ -75,20 +76,12 @@ ran_carried r input tells written status line zero h (inl of_run) = carried r in
 ran_carried r input tells written status line zero h (inr cut_off) =
     absurd (not_zero status (three_is_said (fault.Run (run.Write 0)) status line refl cut_off.1) zero)
 
-runs_into : (r : Request) (input : List ℕ) (tells : Bool) (written : Option (List ℕ)) (status : ℕ) (line : List ℕ)
-    → status ≡ 0 → RunsInto r input tells written status line
-    → Accepted (asked_by r input) (λ spec us. Appends (told_if tells (option_map string_bytes r.outfile) []) written
-    (output (frame_of r.options) r.options.sides spec us))
-runs_into r input tells written status line zero (inl none) =
-    absurd (not_zero status (three_is_said (fault.Run (run.NoMemory 0)) status line refl none.1) zero)
-runs_into r input tells written status line zero (inr ran) = ran_carried r input tells written status line zero ran ran.said
-
 -- at status 0 the request was carried out
-pub carries_out : (r : Request) (input : List ℕ) (tells has_world has_output : Bool) (written : Option (List ℕ))
+pub carries_out : {W O : Type 0} (r : Request) (input : List ℕ) (tells : Bool) (rest : Rest W O) (written : Option (List ℕ))
     (status : ℕ) (line : List ℕ) → status ≡ 0
-    → CreatesAndRuns r input tells has_world has_output written status line
+    → CreatesAndRuns r input tells rest written status line
     → Accepted (asked_by r input) (λ spec us. Appends (told_if tells (option_map string_bytes r.outfile) []) written
     (output (frame_of r.options) r.options.sides spec us))
-carries_out r input tells hw ho written status line zero (inl h) =
+carries_out r input tells rest written status line zero (inl h) =
     absurd (not_zero status (three_is_said h.0 status line (creating_is_three h.0 h.1) h.2) zero)
-carries_out r input tells hw ho written status line zero (inr h) = runs_into r input tells written status line zero h.1
+carries_out r input tells rest written status line zero (inr h) = ran_carried r input tells written status line zero h.1 h.1.said

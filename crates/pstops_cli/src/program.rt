@@ -1,22 +1,24 @@
 //! The whole program, over the files and standard streams around it.
-ghost use Rattle.std.specs.Prelude.{◌≡◌, [], Bool, false, is_some, map, option_and_then, option_map, string_bytes};
+ghost use Rattle.std.specs.Prelude.{◌≡◌, [], Bool, map, option_map, string_bytes, true};
 ghost use Rattle.std.specs.Prelude.{IfOk, IfErr};
 ghost use Rattle.world.specs.Outputs.{told_if};
 ghost use Rattle.pstops_cli.specs.Programs.{CarriesOut, CreatesAndRuns, EndsProgram, HasRead, IsCreating, IsSaid};
-ghost use Rattle.pstops_cli.specs.Programs.{RunsInto, StopsBefore};
+ghost use Rattle.pstops_cli.specs.Programs.{Ran, StopsBefore};
 ghost use Rattle.world.specs.Input.{IsFirst, most_bytes};
+ghost use Rattle.world.specs.Rests.{has_output, shown};
 
 use crate::command::{Request, read_command};
 use crate::messages::{Fault, fault_line};
 use crate::request_runs::run_request;
 use command_words::name_of;
-use imposer::RunError;
+use imposer::{RunError, Sink};
+use sheet_writer::WriteSink;
 use std::alloc::Global;
 use std::io;
-use std::io::ErrorKind;
+use std::io::{BufWriter, ErrorKind};
 use std::sync::Wait;
 use std::thread::Threads;
-use world::{ReadFault, ReadSource, World, buffered, read_input, write_out};
+use world::{Buffered, Created, ReadFault, ReadSource, Rest, World, created, read_input, write_out};
 
 /// How the program ended.
 #[derive(Drop)]
@@ -25,10 +27,8 @@ pub struct ExitReport<W: World> {
     pub status: u8,
     /// The line for standard error, empty if there is none.
     pub line: Vec<u8>,
-    /// What is left of the world, if no output was created in it.
-    pub world: Option<W>,
-    /// The output, if one was created.
-    pub output: Option<W::Output>,
+    /// The world, if no output was created in it, or the output.
+    pub rest: Rest<W, W::Output>,
 }
 
 /// The program: it reads the words after its name, then its input whole, creates its output, runs, and flushes.
@@ -42,15 +42,15 @@ pub fn pstops<R: Threads + Wait + Sync, W: World>(
     world: W,
 ) -> ExitReport<W>
     // It stopped before anything was created; or one output was created, and the request that the words make was run.
-    ensures ended { EndsProgram (map string_bytes words.now) (W.gives world) (W.tells world) (is_some result.world)
-        (is_some result.output) (option_and_then W.Output.contents result.output) result.status result.line.items }
+    ensures ended { EndsProgram (map string_bytes words.now) (W.gives world) (W.tells world) world result.rest
+        (shown W.Output.contents result.rest) result.status result.line.items }
     // Status 0 comes only if exactly the output was written.
     ensures finished { result.status ≡ 0 → CarriesOut (map string_bytes words.now) (W.gives world) (W.tells world)
-        (option_and_then W.Output.contents result.output) }
+        (shown W.Output.contents result.rest) }
 {
     match read(alloc, words, &world) {
         Ok((request, input)) => run_in(rt, alloc, &request, input.as_slice(), world),
-        Err(fault) => stop(alloc, &fault, Some(world), None),
+        Err(fault) => stop(alloc, &fault, Rest::World(world)),
     }
 }
 
@@ -85,28 +85,20 @@ fn input_of<W: World>(alloc: Global, name: Option<&str>, world: &W) -> Result<Ve
 }
 
 /// Ends with a fault.
-fn stop<W: World>(
-    alloc: Global,
-    fault: &Fault,
-    world: Option<W>,
-    output: Option<W::Output>,
-) -> ExitReport<W>
+fn stop<W: World>(alloc: Global, fault: &Fault, rest: Rest<W, W::Output>) -> ExitReport<W>
     ensures said { IsSaid fault.now result.status result.line.items }
-    ensures world { result.world ≡ world }
-    ensures output { result.output ≡ output }
+    ensures rest { result.rest ≡ rest }
 {
     let (status, line) = match fault_line(alloc, fault) {
         Ok(ending) => ending,
         // Not even the line found memory.
         Err(_) => (3, Vec::new(alloc)),
     };
-    ExitReport {
-        status,
-        line,
-        world,
-        output,
-    }
+    ExitReport { status, line, rest }
 }
+
+/// How much of the output is written at once, in bytes, if sheets are smaller.
+const WRITTEN_AT_ONCE: usize = 16_384;
 
 /// Creates the output and runs the request into it.
 fn run_in<R: Threads + Wait + Sync, W: World>(
@@ -116,14 +108,19 @@ fn run_in<R: Threads + Wait + Sync, W: World>(
     input: &[u8],
     world: W,
 ) -> ExitReport<W>
-    ensures ended { CreatesAndRuns request.now input.now (W.tells world) (is_some result.world) (is_some result.output)
-        (option_and_then W.Output.contents result.output) result.status result.line.items }
+    ensures ended { CreatesAndRuns request.now input.now (W.tells world) result.rest (shown W.Output.contents result.rest)
+        result.status result.line.items }
 {
-    match world.create(name_of(&request.outfile)) {
-        Ok(output) => run_into(rt, alloc, request, input, output),
+    match created(
+        alloc,
+        WRITTEN_AT_ONCE,
+        name_of(&request.outfile),
+        world,
+    ) {
+        Ok(sink) => run_into(rt, alloc, request, input, sink),
         Err(refused) => {
             let fault = fault_of_creating(&refused.cause);
-            stop(alloc, &fault, Some(refused.world), None)
+            stop(alloc, &fault, Rest::World(refused.world))
         }
     }
 }
@@ -139,41 +136,28 @@ fn fault_of_creating(cause: &io::Error) -> Fault
     }
 }
 
-/// How much of the output is written at once, in bytes, if sheets are smaller.
-const WRITTEN_AT_ONCE: usize = 16_384;
-
 /// Runs the request into an output that was just created, and flushes what it wrote.
 fn run_into<R: Threads + Wait + Sync, W: World>(
     rt: &R,
     alloc: Global,
     request: &Request,
     input: &[u8],
-    output: W::Output,
+    sink: Buffered<Created<W::Output>>,
 ) -> ExitReport<W>
-    ensures created { is_some result.world ≡ false }
+    requires fresh { (⟦<WriteSink<BufWriter<Created<W::Output>>> as Sink>⟧.seen sink).failures ≡ 0 }
+    ensures created { has_output result.rest ≡ true }
     ensures ran { (tells : Bool)
-        → W.Output.contents output ≡ told_if tells (option_map string_bytes request.now.outfile) []
-        → RunsInto request.now input.now tells (option_and_then W.Output.contents result.output) result.status
-        result.line.items }
+        → (⟦<WriteSink<BufWriter<Created<W::Output>>> as Sink>⟧.seen sink).bytes ≡ told_if tells (option_map string_bytes request.now.outfile) []
+        → Ran request.now input.now tells (shown W.Output.contents result.rest) result.status result.line.items }
 {
-    let mut sink = match buffered(alloc, WRITTEN_AT_ONCE, output) {
-        Ok(sink) => sink,
-        Err(output) => {
-            let fault = Fault::Run(RunError::NoMemory { written: 0 });
-            return stop(alloc, &fault, None, Some(output));
-        }
-    };
+    let mut sink = sink;
     let (status, line) = run_request(rt, alloc, request, input, &mut sink);
-    let (is_whole, opened) = write_out(sink);
+    let (is_whole, created) = write_out(sink);
+    let rest = Rest::Output(created.output);
     if status == 0 && !is_whole {
         // A failed flush is a failed write, whose line doesn't say how much was written.
         let fault = Fault::Run(RunError::Write { written: 0 });
-        return stop(alloc, &fault, None, opened.output);
+        return stop(alloc, &fault, rest);
     }
-    ExitReport {
-        status,
-        line,
-        world: None,
-        output: opened.output,
-    }
+    ExitReport { status, line, rest }
 }
