@@ -1,14 +1,15 @@
 -- What the whole program's ending says.
 use Rattle.std.proofs.Common.{◌≡◌, ◌∙◌, ℕ, List, [], Bool, Option, Result, Ok, Err, arith, inl, inr, refl, subst, sym, ap}
 use Rattle.std.specs.Prelude.{◌⊎◌, IsOk, option_map, string_bytes}
-use Rattle.std.specs.Io.KnownBytes.{Appends}
+use Rattle.std.specs.Io.KnownBytes.{Appends, Keeps}
 use Rattle.std.proofs.KnownBytes.{Appends-kept}
 use Rattle.rules.specs.Output.{output}
 use Rattle.imposer.specs.Runs.{Accepted, frame_of}
 use Rattle.planned_runs.specs.declared.outcome.Report.{Report}
 use Rattle.planned_runs.specs.declared.outcome.RunError.{RunError}
 use Rattle.planned_runs.specs.declared.outcome.RunError.TheVariants as run
-use Rattle.world.specs.Outputs.{IsFrontOf, told_if}
+use Rattle.world.specs.Outputs.{IsFrontOf, counted, told_if}
+use Rattle.world.proofs.Counting.{uncounted_front, uncounted_kept}
 use Rattle.pstops_cli.specs.Messages.{fault_status}
 use Rattle.sheet_writer.specs.Sinks.{SinkView}
 use Rattle.pstops_cli.specs.RequestRuns.{Ends, IsSaidOf, asked_by, outcome_status}
@@ -42,21 +43,34 @@ ok_at_zero : (ended : Result Report RunError) → outcome_status ended ≡ 0 →
 ok_at_zero (Ok report) zero = refl
 ok_at_zero (Err e) zero = let above = run_status-above e in absurd (omega (arith, above, zero))
 
--- the run finished, and the output's last bytes couldn't be written
-pub cut : (r : Request) (input : List ℕ) (tells : Bool) (start sink : SinkView) (written : Option (List ℕ))
-    (ended : Result Report RunError) (answered status : ℕ) (line line' : List ℕ)
+-- the run ended, and its output, whose bytes are counted, has what was written out
+pub ran : (r : Request) (input : List ℕ) (tells : Bool) (start sink : SinkView) (n : ℕ) (written : Option (List ℕ))
+    (ended : Result Report RunError) (status : ℕ) (line : List ℕ)
     → start.bytes ≡ told_if tells (option_map string_bytes r.outfile) [] → start.failures ≡ 0
-    → Ends (asked_by r input) start sink ended → IsSaidOf r.quiet ended answered line → answered ≡ 0
-    → IsFrontOf written sink.bytes → IsSaid (fault.Run (run.Write 0)) status line'
-    → Ran r input tells written status line'
-cut r input tells start sink written ended answered status line line' began fresh ends of_run zero part said = record {
+    → Ends (asked_by r input) start sink ended → IsFrontOf (counted n written) sink.bytes
+    → (status ≡ 0 → Keeps sink.bytes (counted n written))
+    → IsSaidOf r.quiet ended status line ⊎ (IsOk ended × IsSaid (fault.Run (run.Write 0)) status line)
+    → Ran r input tells written status line
+ran r input tells start sink n written ended status line began fresh ends part whole said = record {
   ended = ended;
   sink = sink;
   ends = subst (λ (s : SinkView). Ends (asked_by r input) s sink ended) (λ i. record { bytes = began i; failures = fresh i }) ends;
-  part = part;
-  whole = λ none. absurd (not_zero status (three_is_said (fault.Run (run.Write 0)) status line' refl said) none);
-  said = inr (ok_at_zero ended (said_zero r.quiet ended answered line zero of_run), said);
+  part = uncounted_front n sink.bytes written part;
+  whole = λ zero. uncounted_kept n sink.bytes written (whole zero);
+  said = said;
 }
+
+-- the run finished, and the output's last bytes couldn't be written
+pub cut : (r : Request) (input : List ℕ) (tells : Bool) (start sink : SinkView) (n : ℕ) (written : Option (List ℕ))
+    (ended : Result Report RunError) (answered status : ℕ) (line line' : List ℕ)
+    → start.bytes ≡ told_if tells (option_map string_bytes r.outfile) [] → start.failures ≡ 0
+    → Ends (asked_by r input) start sink ended → IsSaidOf r.quiet ended answered line → answered ≡ 0
+    → IsFrontOf (counted n written) sink.bytes → IsSaid (fault.Run (run.Write 0)) status line'
+    → Ran r input tells written status line'
+cut r input tells start sink n written ended answered status line line' began fresh ends of_run zero part said =
+    ran r input tells start sink n written ended status line' began fresh ends part
+    (λ none. absurd (not_zero status (three_is_said (fault.Run (run.Write 0)) status line' refl said) none))
+    (inr (ok_at_zero ended (said_zero r.quiet ended answered line zero of_run), said))
 
 carried : (r : Request) (input : List ℕ) (tells : Bool) (written : Option (List ℕ)) (status : ℕ) (line : List ℕ)
     → status ≡ 0 → (h : Ran r input tells written status line)

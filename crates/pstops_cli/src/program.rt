@@ -152,8 +152,8 @@ fn run_into<R: Threads + Wait + Sync, W: World>(
 {
     let mut sink = sink;
     let (status, line) = run_request(rt, alloc, request, input, &mut sink);
-    let (is_whole, created) = write_out(sink);
-    let rest = Rest::Output(created.output);
+    let (is_whole, written) = write_out(sink);
+    let rest = Rest::Output(written.output);
     if status == 0 && !is_whole {
         // A failed flush is a failed write, whose line doesn't say how much was written.
         let fault = Fault::Run(RunError::Write { written: 0 });

@@ -11,5 +11,5 @@ returns-in-Ok-clause-finished g c zero = (
   c.in-Ok.request,
   c.in-Ok.input.items,
   c.in-Ok.ensures.read,
-  carries_out c.in-Ok.request c.in-Ok.input.items _ _ _ _ _ _ zero (rw c.as_slice.ensures.value at c.run_in.ensures.ended),
+  carries_out c.in-Ok.request c.in-Ok.input.items _ _ _ _ _ zero (rw c.as_slice.ensures.value at c.run_in.ensures.ended),
 )
