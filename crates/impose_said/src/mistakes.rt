@@ -30,10 +30,7 @@ fn with_shown(alloc: Global, text: String, word: &str) -> Result<String, AllocEr
 fn value_in(word: &str) -> &str {
     match word.split_once("=") {
         Some((_, value)) => value,
-        None => match word.strip_prefix("-p") {
-            Some(value) => value,
-            None => word,
-        },
+        None => word.strip_prefix("-p").unwrap_or(word),
     }
 }
 
@@ -70,30 +67,17 @@ fn is_likeness(line: &str) -> bool {
 fn leads_astray(text: &str, has_tip: bool) -> bool {
     for line in text.lines() {
         if is_likeness(line) {
-            return has_tip || first_letter(quoted_in(line)) != first_letter(quoted_in(text));
+            return has_tip || first_letter(line) != first_letter(text);
         }
     }
     false
 }
 
-/// The first word of a text that is in quotes.
-fn quoted_in(text: &str) -> &str {
-    match text.split_once("'") {
-        None => "",
-        Some((_, behind)) => match behind.split_once("'") {
-            None => "",
-            Some((word, _)) => word,
-        },
-    }
-}
-
-/// The first letter of an option or a command.
-fn first_letter(word: &str) -> Option<char> {
-    let word = match word.strip_prefix("--") {
-        Some(word) => word,
-        None => word,
-    };
-    let mut letters = word.chars();
+/// The first letter of the option or command in a text: of the first word in quotes.
+fn first_letter(text: &str) -> Option<char> {
+    let (_, behind) = text.split_once("'")?;
+    let (word, _) = behind.split_once("'")?;
+    let mut letters = word.strip_prefix("--").unwrap_or(word).chars();
     letters.next()
 }
 
