@@ -50,16 +50,10 @@ pub fn range_place(text: &str, start: usize) -> usize {
 
 /// What comes after the place, or the blank page, that a text begins with.
 fn behind_place(text: &str) -> &str {
-    if let Some(behind) = text.strip_prefix("last") {
+    if let Some(behind) = text.strip_prefix("last").or(text.strip_prefix("blank")) {
         return behind;
     }
-    if let Some(behind) = text.strip_prefix("blank") {
-        return behind;
-    }
-    let digits = match text.strip_prefix("_") {
-        Some(digits) => digits,
-        None => text,
-    };
+    let digits = text.strip_prefix("_").unwrap_or(text);
     digits.trim_start_matches(|letter: char| letter.is_ascii_digit())
 }
 
