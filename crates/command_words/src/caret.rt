@@ -50,10 +50,16 @@ pub fn range_place(text: &str, start: usize) -> usize {
 
 /// What comes after the place, or the blank page, that a text begins with.
 fn behind_place(text: &str) -> &str {
-    if let Some(behind) = text.strip_prefix("last").or(text.strip_prefix("blank")) {
+    if let Some(behind) = text.strip_prefix("last") {
         return behind;
     }
-    let digits = text.strip_prefix("_").unwrap_or(text);
+    if let Some(behind) = text.strip_prefix("blank") {
+        return behind;
+    }
+    let digits = match text.strip_prefix("_") {
+        Some(digits) => digits,
+        None => text,
+    };
     digits.trim_start_matches(|letter: char| letter.is_ascii_digit())
 }
 
