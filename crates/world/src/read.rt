@@ -111,7 +111,8 @@ fn fill_more<S: Source>(
     ensures refused { IfErr result (IsFaultOf (S.seen source.old).failures (S.seen source.new).failures) }
 {
     make_room(bytes, filled, most)?;
-    Ok(fill_behind(source, bytes.as_mut_slice(), filled)?)
+    let buffer = bytes.as_mut_slice();
+    Ok(source.fill(&mut buffer[filled..])?)
 }
 
 /// Sees to room after the first `filled` bytes, of a piece more or of as much as may still be read.
@@ -178,20 +179,4 @@ fn give_back_room(bytes: &mut Vec<u8>)
     if bytes.len() >= LARGE {
         bytes.shrink_to_fit();
     }
-}
-
-/// Fills what is after the first `filled` bytes.
-fn fill_behind<S: Source>(
-    source: &mut S,
-    buffer: &mut [u8],
-    filled: usize,
-) -> Result<usize, SourceFault>
-    requires room { filled < length buffer.old }
-    requires countable { (S.seen source.old).failures < u64.MAX }
-    ensures front { take filled buffer.new ≡ take filled buffer.old }
-    ensures within { IfOk result (λ k. filled + k ≤ length buffer.new) }
-    ensures moved { Fills (S.seen source.old).bytes (S.seen source.new).bytes result (drop filled buffer.new) }
-    ensures counted { Counts (S.seen source.old).failures (S.seen source.new).failures result }
-{
-    source.fill(&mut buffer[filled..])
 }
