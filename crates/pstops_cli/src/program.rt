@@ -1,24 +1,21 @@
 //! The whole program, over the files and standard streams around it.
-ghost use Rattle.std.specs.Prelude.{◌≡◌, [], Bool, map, option_map, string_bytes, true};
-ghost use Rattle.std.specs.Prelude.{IfOk, IfErr};
-ghost use Rattle.world.specs.Outputs.{told_if};
+ghost use Rattle.std.specs.Prelude.{◌≡◌, IfOk, IfErr, map, option_map, string_bytes};
 ghost use Rattle.pstops_cli.specs.Programs.{CarriesOut, CreatesAndRuns, EndsProgram, HasRead, IsCreating, IsSaid};
-ghost use Rattle.pstops_cli.specs.Programs.{Ran, StopsBefore};
+ghost use Rattle.pstops_cli.specs.Programs.{StopsBefore};
 ghost use Rattle.world.specs.Input.{IsFirst, most_bytes};
-ghost use Rattle.world.specs.Rests.{has_output, shown};
+ghost use Rattle.world.specs.Rests.{shown};
 
 use crate::command::{Request, read_command};
 use crate::messages::{Fault, fault_line};
 use crate::request_runs::run_request;
 use command_words::name_of;
-use imposer::{RunError, Sink};
-use sheet_writer::WriteSink;
+use imposer::RunError;
 use std::alloc::Global;
 use std::io;
-use std::io::{BufWriter, ErrorKind};
+use std::io::ErrorKind;
 use std::sync::Wait;
 use std::thread::Threads;
-use world::{Buffered, Created, ReadFault, ReadSource, Rest, World, created, read_input, write_out};
+use world::{ReadFault, ReadSource, Rest, World, created, read_input, write_out};
 
 /// How the program ended.
 #[derive(Drop)]
@@ -100,7 +97,7 @@ fn stop<W: World>(alloc: Global, fault: &Fault, rest: Rest<W, W::Output>) -> Exi
 /// How much of the output is written at once, in bytes, if sheets are smaller.
 const WRITTEN_AT_ONCE: usize = 16_384;
 
-/// Creates the output and runs the request into it.
+/// Creates the output, runs the request into it, and flushes what it wrote.
 fn run_in<R: Threads + Wait + Sync, W: World>(
     rt: &R,
     alloc: Global,
@@ -111,18 +108,23 @@ fn run_in<R: Threads + Wait + Sync, W: World>(
     ensures ended { CreatesAndRuns request.now input.now (W.tells world) result.rest (shown W.Output.contents result.rest)
         result.status result.line.items }
 {
-    match created(
-        alloc,
-        WRITTEN_AT_ONCE,
-        name_of(&request.outfile),
-        world,
-    ) {
-        Ok(sink) => run_into(rt, alloc, request, input, sink),
+    let name = name_of(&request.outfile);
+    let mut sink = match created(alloc, WRITTEN_AT_ONCE, name, world) {
+        Ok(sink) => sink,
         Err(refused) => {
             let fault = fault_of_creating(&refused.cause);
-            stop(alloc, &fault, Rest::World(refused.world))
+            return stop(alloc, &fault, Rest::World(refused.world));
         }
+    };
+    let (status, line) = run_request(rt, alloc, request, input, &mut sink);
+    let (is_whole, written) = write_out(sink);
+    let rest = Rest::Output(written.output);
+    if status == 0 && !is_whole {
+        // A failed flush is a failed write, whose line doesn't say how much was written.
+        let fault = Fault::Run(RunError::Write { written: 0 });
+        return stop(alloc, &fault, rest);
     }
+    ExitReport { status, line, rest }
 }
 
 /// Why an output couldn't be created.
@@ -134,30 +136,4 @@ fn fault_of_creating(cause: &io::Error) -> Fault
     } else {
         Fault::Create
     }
-}
-
-/// Runs the request into an output that was just created, and flushes what it wrote.
-fn run_into<R: Threads + Wait + Sync, W: World>(
-    rt: &R,
-    alloc: Global,
-    request: &Request,
-    input: &[u8],
-    sink: Buffered<Created<W::Output>>,
-) -> ExitReport<W>
-    requires fresh { (⟦<WriteSink<BufWriter<Created<W::Output>>> as Sink>⟧.seen sink).failures ≡ 0 }
-    ensures created { has_output result.rest ≡ true }
-    ensures ran { (tells : Bool)
-        → (⟦<WriteSink<BufWriter<Created<W::Output>>> as Sink>⟧.seen sink).bytes ≡ told_if tells (option_map string_bytes request.now.outfile) []
-        → Ran request.now input.now tells (shown W.Output.contents result.rest) result.status result.line.items }
-{
-    let mut sink = sink;
-    let (status, line) = run_request(rt, alloc, request, input, &mut sink);
-    let (is_whole, written) = write_out(sink);
-    let rest = Rest::Output(written.output);
-    if status == 0 && !is_whole {
-        // A failed flush is a failed write, whose line doesn't say how much was written.
-        let fault = Fault::Run(RunError::Write { written: 0 });
-        return stop(alloc, &fault, rest);
-    }
-    ExitReport { status, line, rest }
 }
