@@ -73,8 +73,12 @@ are_sides (layout.Booklet signing long_edge) = true
 are_sides (layout.Stack cells duplex) = duplex
 are_sides other = false
 
+-- so many of something: a text of its own for one, or else the number with these texts before and after it
+abbrev pub counted : (count : ℕ) → (one before behind : List ℕ) → List ℕ
+counted count one before behind = if count == 1 then one else before ++ (decimal count ++ behind)
+
 abbrev pub leaves_text : (leaves : ℕ) → List ℕ
-leaves_text leaves = if leaves == 1 then codes " (1 leaf)" else codes " (" ++ (decimal leaves ++ codes " leaves)")
+leaves_text leaves = counted leaves (codes " (1 leaf)") (codes " (") (codes " leaves)")
 
 -- how many pages, sheets and bytes there are; after the pages the blanks, and after the sheets the leaves
 abbrev pub counts_text : Report → ImposeRequest → List ℕ
@@ -134,8 +138,7 @@ cut_text (Some cut) named =
 -- how many more pages reach beyond their papers
 abbrev pub others_text : (pages : ℕ) → List ℕ
 others_text pages = if pages == 0 then []
-    else (if pages == 1 then codes ", and 1 other page beyond its own"
-    else codes ", and " ++ (decimal pages ++ codes " other pages beyond theirs"))
+    else counted pages (codes ", and 1 other page beyond its own") (codes ", and ") (codes " other pages beyond theirs")
 
 -- how far a page reaches: to its upper right corner, and from its lower left one if that is before 0
 abbrev pub edges_text : Edges → List ℕ
@@ -151,20 +154,15 @@ reach_text (Some reach) = Some (codes "page " ++ (decimal (reach.first + 1) ++ (
 -- of pages that follow the document's trailer, if there are some
 abbrev pub behind_text : (pages : ℕ) → Option (List ℕ)
 behind_text pages = if pages == 0 then None
-    else (if pages == 1 then Some (codes "1 page follows %%Trailer or %%EOF and is not imposed")
-    else Some (decimal pages ++ codes " pages follow %%Trailer or %%EOF and are not imposed"))
-
-abbrev pub pages_text : (pages : ℕ) → List ℕ
-pages_text pages = if pages == 1 then codes "1 page" else decimal pages ++ codes " pages"
-
-abbrev pub found_text : (pages : ℕ) → List ℕ
-found_text pages = if pages == 1 then codes "1 was found" else decimal pages ++ codes " were found"
+    else Some (counted pages (codes "1 page follows %%Trailer or %%EOF and is not imposed") (codes "")
+    (codes " pages follow %%Trailer or %%EOF and are not imposed"))
 
 -- of a document that says another number of its pages than were found
 abbrev pub told_text : (told : Option ℕ) → (found : ℕ) → Option (List ℕ)
 told_text None found = None
 told_text (Some told) found = if told == found then None else Some (codes "the document says "
-    ++ (pages_text told ++ (codes ", " ++ (found_text found ++ codes ": is it complete?"))))
+    ++ (counted told (codes "1 page") (codes "") (codes " pages") ++ (codes ", "
+    ++ (counted found (codes "1 was found") (codes "") (codes " were found") ++ codes ": is it complete?"))))
 
 -- a file is named as a PDF
 abbrev pub is_pdf_name : (name : List ℕ) → Bool

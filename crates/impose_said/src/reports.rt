@@ -8,7 +8,7 @@ ghost use Rattle.impose_said.specs.Said.{cut_pages_text as text_of_cut_pages, cu
 ghost use Rattle.impose_said.specs.Said.{edges_text as text_of_edges, others_text as text_of_others, reach_text as text_of_reach};
 ghost use Rattle.impose_said.specs.Said.{is_same as are_same, report_text as text_of_report, sheets_text as text_of_sheets};
 ghost use Rattle.impose_said.specs.Said.{sides_text as text_of_sides, size_text as text_of_size};
-ghost use Rattle.impose_said.specs.Said.{found_text as text_of_found, pages_text as text_of_pages, told_text as text_of_told};
+ghost use Rattle.impose_said.specs.Said.{counted as text_of_counted, told_text as text_of_told};
 ghost use Rattle.impose_said.specs.Said.{is_pdf_name as names_pdf, origin_text as text_of_origin};
 ghost use Rattle.impose_said.specs.Said.{shown_byte as byte_shown, shown_name as text_of_name, unknown_text as text_of_unknown};
 
@@ -116,9 +116,22 @@ fn leaves_text(alloc: Global, layout: &Layout, sheets: u32) -> Result<String, Al
         return Ok(String::new(alloc));
     }
     let leaves = (u64::from(sheets) + 1) / 2;
-    match leaves {
-        1 => String::from_str(alloc, " (1 leaf)"),
-        _ => format!(in alloc; " ({leaves} leaves)"),
+    counted_text(alloc, leaves, " (1 leaf)", " (", " leaves)")
+}
+
+/// So many of something: a text of its own for one, or else the number with these texts before and after it.
+fn counted_text(
+    alloc: Global,
+    count: u64,
+    one: &str,
+    before: &str,
+    behind: &str,
+) -> Result<String, AllocError>
+    ensures { IfOk result (λ text. string_bytes text ≡ text_of_counted count one.now before.now behind.now) }
+{
+    match count {
+        1 => String::from_str(alloc, one),
+        _ => format!(in alloc; "{before}{count}{behind}"),
     }
 }
 
@@ -291,8 +304,13 @@ fn others_text(alloc: Global, pages: usize) -> Result<String, AllocError>
 {
     match pages {
         0 => Ok(String::new(alloc)),
-        1 => String::from_str(alloc, ", and 1 other page beyond its own"),
-        _ => format!(in alloc; ", and {pages} other pages beyond theirs"),
+        _ => counted_text(
+            alloc,
+            pages as u64,
+            ", and 1 other page beyond its own",
+            ", and ",
+            " other pages beyond theirs",
+        ),
     }
 }
 
@@ -300,15 +318,14 @@ fn others_text(alloc: Global, pages: usize) -> Result<String, AllocError>
 pub fn behind_text(alloc: Global, done: &Finished) -> Result<Option<String>, AllocError>
     ensures { IfOk result (λ text. option_map string_bytes text ≡ text_of_behind done.now.behind) }
 {
-    let pages = done.behind;
-    match pages {
+    match done.behind {
         0 => Ok(None),
-        1 => Ok(Some(String::from_str(
+        pages => Ok(Some(counted_text(
             alloc,
+            pages as u64,
             "1 page follows %%Trailer or %%EOF and is not imposed",
-        )?)),
-        _ => Ok(Some(format!(in alloc;
-            "{pages} pages follow %%Trailer or %%EOF and are not imposed"
+            "",
+            " pages follow %%Trailer or %%EOF and are not imposed",
         )?)),
     }
 }
@@ -324,27 +341,9 @@ pub fn told_text(alloc: Global, done: &Finished) -> Result<Option<String>, Alloc
     if told == found {
         return Ok(None);
     }
-    let told = pages_text(alloc, told)?;
-    let found = found_text(alloc, found)?;
+    let told = counted_text(alloc, told as u64, "1 page", "", " pages")?;
+    let found = counted_text(alloc, found as u64, "1 was found", "", " were found")?;
     Ok(Some(format!(in alloc; "the document says {told}, {found}: is it complete?")?))
-}
-
-fn pages_text(alloc: Global, pages: usize) -> Result<String, AllocError>
-    ensures { IfOk result (λ text. string_bytes text ≡ text_of_pages pages) }
-{
-    match pages {
-        1 => String::from_str(alloc, "1 page"),
-        _ => format!(in alloc; "{pages} pages"),
-    }
-}
-
-fn found_text(alloc: Global, pages: usize) -> Result<String, AllocError>
-    ensures { IfOk result (λ text. string_bytes text ≡ text_of_found pages) }
-{
-    match pages {
-        1 => String::from_str(alloc, "1 was found"),
-        _ => format!(in alloc; "{pages} were found"),
-    }
 }
 
 /// What else is said of a finished run, if there is something: that a file named as a PDF isn't one.
