@@ -76,11 +76,7 @@ seven_lines finished r report unknown cut reach behind told note first none one 
 pub reach_told : (has : Option Reach) (reach : Reach) (page : ℕ) (reaching placed others text : List ℕ) → has ≡ Some reach → page ≡ reach.first + 1
     → reaching ≡ edges_text reach.edges → placed ≡ size_text reach.paper → others ≡ others_text (reach.pages - 1)
     → text ≡ codes "page " ++ (decimal page ++ (codes " reaches " ++ (reaching ++ (codes " on " ++ (placed ++ others))))) → Some text ≡ reach_text has
-reach_told has reach page reaching placed others text is first edges size more e = rw is (ap Some (e
-    ∙ (ap (λ n. codes "page " ++ (decimal n ++ (codes " reaches " ++ (reaching ++ (codes " on " ++ (placed ++ others)))))) first
-    ∙ (ap (λ t. codes "page " ++ (decimal (reach.first + 1) ++ (codes " reaches " ++ (t ++ (codes " on " ++ (placed ++ others)))))) edges
-    ∙ (ap (λ t. codes "page " ++ (decimal (reach.first + 1) ++ (codes " reaches " ++ (edges_text reach.edges ++ (codes " on " ++ (t ++ others)))))) size
-    ∙ ap (λ t. codes "page " ++ (decimal (reach.first + 1) ++ (codes " reaches " ++ (edges_text reach.edges ++ (codes " on " ++ (size_text reach.paper ++ t)))))) more)))))
+reach_told has reach page reaching placed others text is first edges size more e = rw is (ap Some (rw (first, edges, size, more) at e))
 
 pub note_told : (outfile : Option (String Global)) (name : String Global) (shown text : List ℕ) → outfile ≡ Some name
     → is_pdf_name (string_bytes name) ≡ true

@@ -118,12 +118,15 @@ abbrev pub unknown_text : (name : Option (List ℕ)) → Option (List ℕ)
 unknown_text None = None
 unknown_text (Some name) = Some (codes "the document names an unknown paper, " ++ shown_name name)
 
+abbrev pub some_pages_text : (pages first last : ℕ) → List ℕ
+some_pages_text pages first last = decimal pages ++ (codes " pages from " ++ (decimal first ++ (codes " to " ++ decimal last)))
+
 -- the pages that are cut, counted from 1: one, all from the first to the last, or some of these
 abbrev pub cut_pages_text : Cut → List ℕ
 cut_pages_text cut = if cut.pages == 1 then codes "page " ++ decimal (cut.first + 1)
     else (if cut.first + cut.pages == cut.last + 1
     then codes "pages " ++ (decimal (cut.first + 1) ++ (codes "-" ++ decimal (cut.last + 1)))
-    else decimal cut.pages ++ (codes " pages from " ++ (decimal (cut.first + 1) ++ (codes " to " ++ decimal (cut.last + 1)))))
+    else some_pages_text cut.pages (cut.first + 1) (cut.last + 1))
 
 -- the size of one that is cut, and how far several reach
 abbrev pub cut_size_text : Cut → List ℕ

@@ -75,37 +75,31 @@ fn idle_message(option: IdleOption) -> &'static str {
             "select leaves each page on a sheet of its own size, so --sheet does nothing: for another paper use \
             impose nup 1 --sheet a4 --pages 1-3 in.ps out.ps"
         }
-        IdleOption::CutMarks => {
-            "--marks cut draws nothing without room outside the pages: give a --margin of half the --gap at least, as --margin 5mm"
-        }
+        IdleOption::CutMarks =>
+            "--marks cut draws nothing without room outside the pages: give a --margin of half the --gap at least, as --margin 5mm",
     }
 }
 
 /// What is said of an input that isn't read as a document, after its name.
 fn unread_message(fault: &ImposeFault) -> &'static str {
     match fault {
-        ImposeFault::NoInput => {
-            " is empty; name a file with a PostScript document, or pipe one in"
-        }
-        ImposeFault::Pdf => {
-            " is a PDF, not PostScript; use: impose-pdf .. in.pdf out.pdf, or pdftops in.pdf - | impose .. -"
-        }
+        ImposeFault::NoInput => " is empty; name a file with a PostScript document, or pipe one in",
+        ImposeFault::Pdf =>
+            " is a PDF, not PostScript; use: impose-pdf .. in.pdf out.pdf, or pdftops in.pdf - | impose .. -",
         ImposeFault::Compressed(packing) => match packing {
             Packing::Gzip => " is compressed, not PostScript; use: zcat in.ps.gz | impose .. -",
             Packing::Bzip2 => " is compressed, not PostScript; use: bzcat in.ps.bz2 | impose .. -",
             Packing::Xz => " is compressed, not PostScript; use: xzcat in.ps.xz | impose .. -",
             Packing::Zip => " is compressed, not PostScript; use: unzip -p in.zip | impose .. -",
         },
-        ImposeFault::DosEps => {
-            " is an EPS with a preview before it, as DOS had them; use: ps2ps in.eps - | impose .. -"
-        }
+        ImposeFault::DosEps =>
+            " is an EPS with a preview before it, as DOS had them; use: ps2ps in.eps - | impose .. -",
         ImposeFault::Utf16 => {
             " is a text of two bytes a letter (UTF-16), not PostScript; use: iconv -f UTF-16 -t ISO-8859-1 in.ps | \
             impose .. -"
         }
-        ImposeFault::JobLanguage => {
-            " begins with a printer's job language, not with %!; cut that off: sed -n '/^%!/,$p' in.ps | impose .. -"
-        }
+        ImposeFault::JobLanguage =>
+            " begins with a printer's job language, not with %!; cut that off: sed -n '/^%!/,$p' in.ps | impose .. -",
         _ => " is longer than 1,073,741,824 bytes; split it first",
     }
 }
@@ -272,30 +266,24 @@ fn layout_text(
 ) -> Result<String, AllocError> {
     let message = match error {
         ArrangementError::CellsOutOfRange => "a sheet takes from 1 to 1,024 pages",
-        ArrangementError::SideTooLong => {
-            "a side of a paper is 100,000 points or more: name a smaller paper"
-        }
-        ArrangementError::LengthOutOfRange => {
-            "a margin, a gap, a trim, a creep or an overlap is below 0, or 100,000 points or more"
-        }
+        ArrangementError::SideTooLong =>
+            "a side of a paper is 100,000 points or more: name a smaller paper",
+        ArrangementError::LengthOutOfRange =>
+            "a margin, a gap, a trim, a creep or an overlap is below 0, or 100,000 points or more",
         ArrangementError::NothingLeftOfPage =>
             "nothing is left of a page that is trimmed so: trim less",
-        ArrangementError::UnevenMargins => {
-            "margins are alike along opposite edges of what is folded or printed on both sides, and along all edges of a poster"
-        }
+        ArrangementError::UnevenMargins =>
+            "margins are alike along opposite edges of what is folded or printed on both sides, and along all edges of a poster",
         ArrangementError::FoldOnLongEdge => return fold_text(alloc, request),
         ArrangementError::NoRoom => "margins and gaps leave no room for pages: take smaller ones",
-        ArrangementError::ScaleOutOfRange if is_scaled(request) => {
-            "the scale is 0 or below, or too large: give one as --scale 0.7"
-        }
-        ArrangementError::ScaleOutOfRange => {
-            "the pages would be too small or too large on the sheet: name other papers by --paper and --sheet"
-        }
+        ArrangementError::ScaleOutOfRange if is_scaled(request) =>
+            "the scale is 0 or below, or too large: give one as --scale 0.7",
+        ArrangementError::ScaleOutOfRange =>
+            "the pages would be too small or too large on the sheet: name other papers by --paper and --sheet",
         ArrangementError::ScaleTooLarge =>
             "pages of this scale are larger than their cells: take a smaller one",
-        ArrangementError::CreepOverFold => {
-            "there is no room at the fold for leaves to creep so far: take a smaller --creep or a larger --gap"
-        }
+        ArrangementError::CreepOverFold =>
+            "there is no room at the fold for leaves to creep so far: take a smaller --creep or a larger --gap",
         ArrangementError::NoMemory => OUT_OF_MEMORY,
     };
     String::from_str(alloc, message)
@@ -312,9 +300,8 @@ fn is_scaled(request: Option<&ImposeRequest>) -> bool {
 /// either the document names them.
 fn fold_text(alloc: Global, request: Option<&ImposeRequest>) -> Result<String, AllocError> {
     let reason = match named_sheet(request) {
-        None => {
-            "the sheet is wider than high, or upright pages side by side would be larger on it, and it"
-        }
+        None =>
+            "the sheet is wider than high, or upright pages side by side would be larger on it, and it",
         Some(sheet) if sheet.width() > sheet.height() => "the sheet is wider than high, and",
         Some(_) => "upright pages side by side would be larger on this sheet, and it",
     };
@@ -333,18 +320,14 @@ fn named_sheet(request: Option<&ImposeRequest>) -> Option<Paper> {
 /// What is said of pages that can't be such a poster.
 fn poster_message(error: &PosterError) -> &'static str {
     match error {
-        PosterError::TilesOutOfRange => {
-            "a poster has from 1 to 1,024 sheets: give other columns and rows"
-        }
-        PosterError::SideTooLong => {
-            "a side of a sheet or of the whole poster is 100,000 points or more: take fewer or smaller sheets"
-        }
-        PosterError::NothingButOverlap => {
-            "margins and overlap leave nothing of a sheet: take a smaller --margin or --overlap, or a larger --sheet"
-        }
-        PosterError::ScaleOutOfRange => {
-            "the page would be too small or too large on the poster: name other papers by --paper and --sheet"
-        }
+        PosterError::TilesOutOfRange =>
+            "a poster has from 1 to 1,024 sheets: give other columns and rows",
+        PosterError::SideTooLong =>
+            "a side of a sheet or of the whole poster is 100,000 points or more: take fewer or smaller sheets",
+        PosterError::NothingButOverlap =>
+            "margins and overlap leave nothing of a sheet: take a smaller --margin or --overlap, or a larger --sheet",
+        PosterError::ScaleOutOfRange =>
+            "the page would be too small or too large on the poster: name other papers by --paper and --sheet",
         PosterError::NoMemory => OUT_OF_MEMORY,
     }
 }
@@ -353,13 +336,11 @@ fn poster_message(error: &PosterError) -> &'static str {
 fn sheets_message(error: &MadeError) -> &'static str {
     match error {
         MadeError::TooManyPages => "the document has more than 1,000,000 pages: split it first",
-        MadeError::TooManySheets => {
-            "the output would have more than 1,000,000 sheets: impose in several runs"
-        }
+        MadeError::TooManySheets =>
+            "the output would have more than 1,000,000 sheets: impose in several runs",
         MadeError::SlotsOutOfRange(_) => "a sheet takes at most 4,096 pages",
-        MadeError::TooManyPlaces => {
-            "more than 4,000,000 pages would be placed: impose in several runs"
-        }
+        MadeError::TooManyPlaces =>
+            "more than 4,000,000 pages would be placed: impose in several runs",
         MadeError::NoSuchPage(_) => "a sheet has a page that the document doesn't have",
         MadeError::NoMemory => OUT_OF_MEMORY,
     }
@@ -386,15 +367,12 @@ fn run_text(
 
 fn plan_message(error: &PlanError) -> &'static str {
     match error {
-        PlanError::TooManyPages => {
-            "more than 1,000,000 pages with the blank ones of the last signature: take a smaller signature"
-        }
-        PlanError::TooManySheets => {
-            "the output would have more than 1,000,000 sheets: split the document first"
-        }
-        PlanError::TooManyPlaces => {
-            "more than 4,000,000 pages would be placed: split the document first"
-        }
+        PlanError::TooManyPages =>
+            "more than 1,000,000 pages with the blank ones of the last signature: take a smaller signature",
+        PlanError::TooManySheets =>
+            "the output would have more than 1,000,000 sheets: split the document first",
+        PlanError::TooManyPlaces =>
+            "more than 4,000,000 pages would be placed: split the document first",
         PlanError::NoMemory => OUT_OF_MEMORY,
     }
 }
@@ -406,9 +384,8 @@ fn document_text(
     request: Option<&ImposeRequest>,
 ) -> Result<String, AllocError> {
     let behind = match error {
-        DscError::TooLong => {
-            " is longer than 1,073,741,824 bytes with its guard; split it first, or leave the guard out by --unguarded"
-        }
+        DscError::TooLong =>
+            " is longer than 1,073,741,824 bytes with its guard; split it first, or leave the guard out by --unguarded",
         DscError::NotPostScript => {
             " is not PostScript: it doesn't begin with %!; cut off what is before that, or if it is plain text \
             use: enscript -p - in.txt | impose .. -"
@@ -426,9 +403,8 @@ fn document_text(
             return input_text(alloc, "", request, behind.as_str());
         }
         DscError::TooManyPages => " has more than 1,000,000 pages; split it first",
-        DscError::NoPages => {
-            " has no %%Page: comments; for plain PostScript run it through ps2ps first"
-        }
+        DscError::NoPages =>
+            " has no %%Page: comments; for plain PostScript run it through ps2ps first",
         DscError::NoMemory => return String::from_str(alloc, OUT_OF_MEMORY),
     };
     input_text(alloc, "", request, behind)
@@ -461,20 +437,15 @@ fn spec_text(alloc: Global, error: &SpecError, spec: &str) -> Result<String, All
 fn spec_message(error: &SpecError, spec: &str) -> &'static str {
     match error {
         SpecError::TooLong => "longer than 65,536 bytes; impose in several runs",
-        SpecError::Syntax(_) if looks_like_file(spec) => {
-            "it comes before the file: impose spec 0,0 in.ps out.ps"
-        }
+        SpecError::Syntax(_) if looks_like_file(spec) =>
+            "it comes before the file: impose spec 0,0 in.ps out.ps",
         SpecError::Syntax(_) => "incomplete; more has to follow at the caret",
         SpecError::TooLarge => "a number is over 99,999; take a smaller one",
-        SpecError::ModuloZero => {
-            "the modulo is zero; for single pages leave it and its colon out"
-        }
-        SpecError::PageOutOfBlock(_) => {
-            "the page number is not below the modulo; pages are counted from 0 in each block"
-        }
-        SpecError::ScaleZero(_) => {
-            "the scale is not above zero; for pages of their own size leave it out"
-        }
+        SpecError::ModuloZero => "the modulo is zero; for single pages leave it and its colon out",
+        SpecError::PageOutOfBlock(_) =>
+            "the page number is not below the modulo; pages are counted from 0 in each block",
+        SpecError::ScaleZero(_) =>
+            "the scale is not above zero; for pages of their own size leave it out",
         SpecError::Repeated(_) => "a second scale or offset; leave one out",
         SpecError::TooManySlots(_) => "a sheet takes at most 4,096 pages",
         SpecError::TooManyGroups => "more than 10,000 sheets; impose in several runs",

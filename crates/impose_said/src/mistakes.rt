@@ -158,7 +158,11 @@ fn tip_on_word(command: &str, before: &str, word: &str) -> Option<&'static str> 
             in.ps out.ps",
         )
     } else if begins_with_minus_and_number(word) {
-        let first = if before.starts_with("-") { before } else { command };
+        let first = if before.starts_with("-") {
+            before
+        } else {
+            command
+        };
         tip_in(SIGNS.as_slice(), first).or(tip_in(SIGNS.as_slice(), command))
     } else if word.starts_with("-") && looks_like_file(word) {
         Some("a file whose name begins with a minus is written with its folder: ./-in.ps")

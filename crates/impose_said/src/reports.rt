@@ -5,6 +5,7 @@ ghost use Rattle.impose_said.specs.Said.{IsNote, behind_text as text_of_behind};
 ghost use Rattle.impose_said.specs.Said.{blanks_of as blanks_in, blanks_text as text_of_blanks, counts_text as text_of_counts};
 ghost use Rattle.impose_said.specs.Said.{are_sides as are_sides_of, leaves_text as text_of_leaves, places_on as places_in};
 ghost use Rattle.impose_said.specs.Said.{cut_pages_text as text_of_cut_pages, cut_size_text as text_of_cut_size, cut_text as text_of_cut};
+ghost use Rattle.impose_said.specs.Said.{some_pages_text as text_of_some_pages};
 ghost use Rattle.impose_said.specs.Said.{edges_text as text_of_edges, others_text as text_of_others, reach_text as text_of_reach};
 ghost use Rattle.impose_said.specs.Said.{is_same as are_same, report_text as text_of_report, sheets_text as text_of_sheets};
 ghost use Rattle.impose_said.specs.Said.{sides_text as text_of_sides, size_text as text_of_size};
@@ -249,9 +250,20 @@ fn cut_pages_text(alloc: Global, cut: &Cut) -> Result<String, AllocError>
     } else if cut.first as u128 + cut.pages as u128 == last {
         format!(in alloc; "pages {first}-{last}")
     } else {
-        let pages = cut.pages;
-        format!(in alloc; "{pages} pages from {first} to {last}")
+        some_pages_text(alloc, cut.pages, first, last)
     }
+}
+
+/// So many of the pages from the first to the last.
+fn some_pages_text(
+    alloc: Global,
+    pages: usize,
+    first: u128,
+    last: u128,
+) -> Result<String, AllocError>
+    ensures { IfOk result (λ text. string_bytes text ≡ text_of_some_pages pages first last) }
+{
+    format!(in alloc; "{pages} pages from {first} to {last}")
 }
 
 /// A page that is counted from 0, counted from 1.

@@ -1,6 +1,6 @@
 //! What is said of values that options and arguments don't take.
 use crate::mistakes::looks_like_file;
-use crate::shown::{joined, shown_word};
+use crate::shown::{joined, push_all, shown_word};
 use impose_words::{GridCommand, Opt, lacks_unit, number_in};
 use papers::{PaperError, name_list, read_paper};
 use std::alloc::{AllocError, Global};
@@ -78,13 +78,22 @@ fn refusal(option: Opt) -> (&'static str, &'static str) {
 fn unit_text(alloc: Global, option: Opt, text: &str) -> Result<String, AllocError> {
     let text = shown_word(alloc, text)?;
     let text = text.as_str();
-    let (what, lack, first, unit) = match option {
-        Opt::Paper | Opt::Sheet => ("size '", " has no unit at its end: write ", "", ""),
-        _ => ("length '", " has no unit: write ", text, "cm, "),
-    };
-    let option = option.id();
-    let said = joined(alloc, &[what, text, "' after --", option, lack, first, unit])?;
-    joined(alloc, &[said.as_str(), text, "mm, ", text, "in or ", text, "pt"])
+    let (what, end) = without_unit(option);
+    let mut said = joined(alloc, &[what, text, "' after --", option.id()])?;
+    push_all(&mut said, &[" has no unit", end, ": write "])?;
+    if end.is_empty() {
+        push_all(&mut said, &[text, "cm, "])?;
+    }
+    push_all(&mut said, &[text, "mm, ", text, "in or ", text, "pt"])?;
+    Ok(said)
+}
+
+/// What a value without a unit is, and where its unit is to be, if it has several numbers.
+fn without_unit(option: Opt) -> (&'static str, &'static str) {
+    match option {
+        Opt::Paper | Opt::Sheet => ("size '", " at its end"),
+        _ => ("length '", ""),
+    }
 }
 
 /// What is said of a text that means no paper.
@@ -117,7 +126,8 @@ fn may_have_unit(alloc: Global, text: &str) -> Result<bool, AllocError> {
 fn outfile_text(alloc: Global, text: &str) -> Result<String, AllocError> {
     let text = shown_word(alloc, text)?;
     let text = text.as_str();
-    let advice = "' begins with a minus, as options do: options come before --, and a file of this name is written ./";
+    let advice =
+        "' begins with a minus, as options do: options come before --, and a file of this name is written ./";
     joined(alloc, &["OUTFILE '", text, advice, text])
 }
 
@@ -129,7 +139,10 @@ fn cut_marks_text(alloc: Global, text: &str) -> Result<String, AllocError> {
         return refused_text(alloc, Opt::CutMarks, text);
     }
     let reason = "only a booklet is folded, so --marks ";
-    joined(alloc, &[reason, shown, " asks too much here: give --marks cut"])
+    joined(
+        alloc,
+        &[reason, shown, " asks too much here: give --marks cut"],
+    )
 }
 
 /// What is said of a text that names no signature.
@@ -158,23 +171,28 @@ fn cells_text(alloc: Global, command: GridCommand, text: &str) -> Result<String,
             &[what, " '", shown, "' after ", name, ": give ", advice],
         );
     }
-    let (missing, place) = match command {
-        GridCommand::Poster => ("columns and rows of sheets are", "': they come after "),
-        _ => ("the number of pages is", "': it comes after "),
-    };
-    let said = joined(alloc, &[missing, " missing before '", shown, place, name])?;
-    let said = said.as_str();
-    joined(alloc, &[said, ", as in: impose ", name, " ", example, " in.ps out.ps"])
+    let (missing, place) = missing_cells(command);
+    let mut said = joined(alloc, &[missing, " missing before '", shown, place, name])?;
+    push_all(&mut said, &[", as in: impose ", example, " in.ps out.ps"])?;
+    Ok(said)
 }
 
-/// The command's name, and what may come after it.
+/// What is missing after a command, and that it comes there.
+fn missing_cells(command: GridCommand) -> (&'static str, &'static str) {
+    match command {
+        GridCommand::Poster => ("columns and rows of sheets are", "': they come after "),
+        _ => ("the number of pages is", "': it comes after "),
+    }
+}
+
+/// The command's name, and how it begins.
 fn named(command: GridCommand) -> (&'static str, &'static str) {
     match command {
-        GridCommand::NUp => ("nup", "2"),
-        GridCommand::Cards => ("cards", "8"),
-        GridCommand::Stack => ("stack", "2"),
-        GridCommand::Notes => ("notes", "3"),
-        GridCommand::Poster => ("poster", "2x2"),
+        GridCommand::NUp => ("nup", "nup 2"),
+        GridCommand::Cards => ("cards", "cards 8"),
+        GridCommand::Stack => ("stack", "stack 2"),
+        GridCommand::Notes => ("notes", "notes 3"),
+        GridCommand::Poster => ("poster", "poster 2x2"),
     }
 }
 

@@ -54,11 +54,7 @@ impl From<SourceFault> for ReadFault {
 /// They are read straight into the vector, whose length grows by a piece at a time as it fills. From a megabyte on it has
 /// room for the longest input, if there is address space for it, until all is read. After a fault the bytes that were
 /// read are lost.
-pub fn read_input<S: Source>(
-    alloc: Global,
-    room: u32,
-    source: &mut S,
-) -> Result<Vec<u8>, ReadFault>
+pub fn read_input<S: Source>(alloc: Global, room: u32, source: &mut S) -> Result<Vec<u8>, ReadFault>
     requires countable { (S.seen source.old).failures < u64.MAX }
     ensures room { IfOk result (λ bytes. take room bytes.items ≡ replicate room 0) }
     ensures within { IfOk result (λ bytes. vec_len bytes ≤ room + most_bytes) }

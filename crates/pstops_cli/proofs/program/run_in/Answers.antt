@@ -11,6 +11,9 @@ returns-then-not-is_whole g c =
     let tells = g.W.World.tells c.args.world in
     subst (λ o. CreatesAndRuns c.args.request.now c.args.input.now tells o (shown g.W.Output.Write.contents o) c.stop-then-not-is_whole.result.status c.stop-then-not-is_whole.result.line.items)
     (sym c.stop-then-not-is_whole.ensures.rest)
-    (inr (refl, cut c.args.request.now c.args.input.now tells _ _ c.write_out-is_whole.result.1.written _ h.0 _ _ _ _
-    (c.in-Ok.ensures.told ∙ ap (λ n. told_if tells n []) c.name_of-name.ensures) c.in-Ok.ensures.fresh
-    h.1 h.2 c.if-status-eq0.true c.write_out-is_whole.ensures.part c.stop-then-not-is_whole.ensures.said))
+    (inr (
+      refl,
+      cut c.args.request.now c.args.input.now tells _ _ c.write_out-is_whole.result.1.written _ h.0 _ _ _ _
+          (c.in-Ok.ensures.told ∙ ap (λ n. told_if tells n []) c.name_of-name.ensures) c.in-Ok.ensures.fresh
+          h.1 h.2 c.if-status-eq0.true c.write_out-is_whole.ensures.part c.stop-then-not-is_whole.ensures.said,
+    ))
