@@ -77,22 +77,14 @@ fn refusal(option: Opt) -> (&'static str, &'static str) {
 /// What is said of a length or a size without a unit.
 fn unit_text(alloc: Global, option: Opt, text: &str) -> Result<String, AllocError> {
     let text = shown_word(alloc, text)?;
-    let text = text.as_str();
-    let (what, end) = without_unit(option);
-    let mut said = joined(alloc, &[what, text, "' after --", option.id()])?;
-    push_all(&mut said, &[" has no unit", end, ": write "])?;
-    if end.is_empty() {
-        push_all(&mut said, &[text, "cm, "])?;
-    }
-    push_all(&mut said, &[text, "mm, ", text, "in or ", text, "pt"])?;
-    Ok(said)
-}
-
-/// What a value without a unit is, and where its unit is to be, if it has several numbers.
-fn without_unit(option: Opt) -> (&'static str, &'static str) {
+    let id = option.id();
     match option {
-        Opt::Paper | Opt::Sheet => ("size '", " at its end"),
-        _ => ("length '", ""),
+        Opt::Paper | Opt::Sheet => format!(in alloc;
+            "size '{text}' after --{id} has no unit at its end: write {text}mm, {text}in or {text}pt"
+        ),
+        _ => format!(in alloc;
+            "length '{text}' after --{id} has no unit: write {text}cm, {text}mm, {text}in or {text}pt"
+        ),
     }
 }
 
