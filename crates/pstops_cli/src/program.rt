@@ -105,7 +105,7 @@ fn run_in<R: Threads + Wait + Sync, W: World>(
     input: &[u8],
     world: W,
 ) -> ExitReport<W>
-    ensures ended { CreatesAndRuns request.now input.now (W.tells world) result.rest (shown W.Output.contents result.rest)
+    ensures { CreatesAndRuns request.now input.now (W.tells world) result.rest (shown W.Output.contents result.rest)
         result.status result.line.items }
 {
     let name = name_of(&request.outfile);
