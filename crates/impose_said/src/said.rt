@@ -1,5 +1,5 @@
 //! What is said on standard error of how the program ended.
-ghost use Rattle.std.specs.Prelude.{◌≡◌, IfOk, option_map, string_bytes};
+ghost use Rattle.std.specs.Prelude.{◌≡◌, option_map, string_bytes};
 ghost use Rattle.impose_said.specs.Said.{Adds, IsMadeLine, Says, SaysFault, SaysRun, SaysWords, is_broken_pipe};
 
 use crate::fault::ImposeFault;

@@ -1,8 +1,8 @@
 //! Reading a whole input.
 ghost use Rattle.std.specs.Prelude.{◌≡◌, ◌+◌, ◌<◌, ◌≤◌, IfOk, IfErr, OnOk, OnErr, vec_len};
-ghost use Rattle.std.specs.Prelude.{length, take, drop, max, replicate};
+ghost use Rattle.std.specs.Prelude.{take, drop, max, replicate};
 ghost use Rattle.std.specs.Io.KnownBytes.{Consumes, IsAtEnd, Keeps};
-ghost use Rattle.world.specs.Input.{ConsumesAtMost, Counts, Fills, IsFaultOf, IsFirst, most_bytes};
+ghost use Rattle.world.specs.Input.{ConsumesAtMost, IsFaultOf, IsFirst, most_bytes};
 ghost use Rattle.world.specs.declared.read.ReadFault.TheVariants.{Device, NoMemory};
 
 use crate::source::{Source, SourceFault};

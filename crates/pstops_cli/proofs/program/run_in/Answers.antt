@@ -1,4 +1,4 @@
-use Rattle.std.proofs.Common.{◌≡◌, ◌∙◌, [], ap, inl, inr, refl, rules, subst, sym}
+use Rattle.std.proofs.Common.{◌∙◌, [], ap, inl, inr, refl, rules, subst, sym}
 use Rattle.world.specs.Outputs.{told_if}
 use Rattle.world.specs.Rests.{shown}
 use Rattle.pstops_cli.specs.Programs.{CreatesAndRuns}
