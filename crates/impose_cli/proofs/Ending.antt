@@ -35,8 +35,8 @@ use Rattle.planned_runs.specs.declared.outcome.Report.{Report}
 use Rattle.impose_cli.specs.Claims.{IsToldBy}
 use Rattle.impose_said.specs.declared.finished.Told.{Told}
 use Rattle.impose_cli.specs.Tasks.{FinishesSpec, IsPlaced, IsSpec, IsTask, asked_by}
-use Rattle.impose_cli.specs.declared.left.Rest.{Rest}
-use Rattle.impose_cli.specs.declared.left.Rest.TheVariants.{World}
+use Rattle.world.specs.declared.rest.Rest.{Rest}
+use Rattle.world.specs.declared.rest.Rest.TheVariants.{World}
 use Rattle.impose_words.specs.declared.request.Spacing.{Spacing}
 use Rattle.impose_words.specs.declared.request.Layout.{Layout}
 use Rattle.impose_words.specs.declared.request.Layout.TheVariants as layout

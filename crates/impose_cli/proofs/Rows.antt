@@ -38,8 +38,8 @@ use Rattle.impose_cli.specs.Refusals.{RefusesDocument, RefusesFor, RefusesOption
 use Rattle.impose_cli.specs.Reaches.{HasReachOver, reach_in, reach_over}
 use Rattle.papers.specs.declared.reach.Reach.{Reach}
 use Rattle.impose_cli.specs.RowTasks.{ArePapersOf, cut_in, papers_in, placed_in, row_paper, text_for, why_no_row, FinishesRow, ImposesTask, IsJobOf, IsRowJob, IsRowPaper, IsRowTask, LaysRows, HasReach, cells_paper, counted_in, own_in, row_in, row_papers}
-use Rattle.impose_cli.specs.declared.left.Rest.{Rest}
-use Rattle.impose_cli.specs.declared.left.Rest.TheVariants.{World}
+use Rattle.world.specs.declared.rest.Rest.{Rest}
+use Rattle.world.specs.declared.rest.Rest.TheVariants.{World}
 use Rattle.impose_said.specs.declared.fault.ImposeFault.{ImposeFault}
 use Rattle.impose_words.specs.declared.request.Layout.{Layout}
 use Rattle.impose_words.specs.declared.request.Layout.TheVariants as layout

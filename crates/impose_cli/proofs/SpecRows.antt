@@ -16,8 +16,8 @@ use Rattle.impose_cli.specs.declared.runs.About.{About}
 use Rattle.impose_cli.specs.Claims.{IsToldBy}
 use Rattle.impose_said.specs.declared.finished.Told.{Told}
 use Rattle.impose_cli.specs.Tasks.{taken_text}
-use Rattle.impose_cli.specs.declared.left.Rest.{Rest}
-use Rattle.impose_cli.specs.declared.left.Rest.TheVariants.{World}
+use Rattle.world.specs.declared.rest.Rest.{Rest}
+use Rattle.world.specs.declared.rest.Rest.TheVariants.{World}
 use Rattle.impose_said.specs.declared.fault.ImposeFault.{ImposeFault}
 use Rattle.impose_words.specs.declared.request.Layout.{Layout}
 use Rattle.impose_words.specs.declared.request.Layout.TheVariants as layout

@@ -1,12 +1,13 @@
 -- How a request ends that is to be imposed: it is refused, and the world is back; or there is something to write, and it was
 -- written, or its first bytes were, or no output could be created.
-use Rattle.std.specs.Prelude.{◌≡◌, ◌⊎◌, ℕ, ◌≤◌, ◌++◌, List, [], length, take, Bool, true, false, Option, None, Some, Result, Ok, Err, IfSome, option_and_then, option_map, string_bytes}
+use Rattle.std.specs.Prelude.{◌≡◌, ◌⊎◌, ℕ, ◌≤◌, ◌++◌, List, [], length, take, Bool, false, Option, Some, Result, Ok, Err, IfSome, option_map, string_bytes}
 use Rattle.std.specs.Io.KnownBytes.{Appends}
 use Rattle.rules.specs.Parts.{pages}
 use Rattle.rules.specs.Output.{output}
 use Rattle.made_sheets.specs.MadePlans.{made_plan_of}
 use Rattle.sheet_text.specs.Jobs.{JobView, output_of}
 use Rattle.world.specs.Outputs.{told_if}
+pub use Rattle.world.specs.Rests.{has_output, shown}
 use Rattle.planned_runs.specs.Gathering.{ReportsOf}
 use Rattle.imposer.specs.Runs.{Accepted, IsRefusal, IsUnwritten, Reports, frame_of}
 use Rattle.planned_runs.specs.declared.outcome.Report.{Report}
@@ -23,8 +24,8 @@ use Rattle.impose_cli.specs.Tasks.{FinishesSpec, IsTask, asked_by}
 use Rattle.impose_cli.specs.RowTasks.{FinishesRow, IsJobOf, IsRowTask}
 use Rattle.impose_cli.specs.SpecRows.{FinishesSpecRow, RefusesSpecRowRun}
 use Rattle.impose_cli.specs.Refusals.{RefusesRowTask, RefusesTask, RefusesText}
-use Rattle.impose_cli.specs.declared.left.Rest.{Rest}
-use Rattle.impose_cli.specs.declared.left.Rest.TheVariants.{World, Output}
+use Rattle.world.specs.declared.rest.Rest.{Rest}
+use Rattle.world.specs.declared.rest.Rest.TheVariants.{World}
 use Rattle.impose_cli.specs.declared.row_task.RowTask.{RowTask}
 use Rattle.impose_cli.specs.declared.task.Task.{Task}
 use Rattle.impose_words.specs.declared.request.Layout.{Layout}
@@ -35,18 +36,6 @@ use Rattle.impose_said.specs.declared.fault.ImposeFault.TheVariants as fault
 use Rattle.impose_said.specs.declared.finished.Done.{Done}
 use Rattle.impose_said.specs.declared.finished.Done.TheVariants as done
 use Rattle.impose_said.specs.declared.finished.Finished.{Finished}
-
--- ---- what is left of the world
-
--- an output was created in it
-abbrev pub has_output : {W O : Type 0} → Rest W O → Bool
-has_output (World world) = false
-has_output (Output output) = true
-
--- what that output reports
-abbrev pub shown : {W O : Type 0} → (contents : O → Option (List ℕ)) → Rest W O → Option (List ℕ)
-shown contents (World world) = None
-shown contents (Output output) = option_and_then contents output
 
 -- ---- what is written
 

@@ -21,8 +21,8 @@ use Rattle.impose_said.specs.declared.fault.ImposeFault.{ImposeFault}
 use Rattle.impose_said.specs.declared.fault.ImposeFault.TheVariants as fault
 use Rattle.impose_said.specs.declared.finished.Done.{Done}
 use Rattle.impose_said.specs.declared.finished.Done.TheVariants as done
-use Rattle.impose_cli.specs.declared.left.Rest.{Rest}
-use Rattle.impose_cli.specs.declared.left.Rest.TheVariants.{World}
+use Rattle.world.specs.declared.rest.Rest.{Rest}
+use Rattle.world.specs.declared.rest.Rest.TheVariants.{World}
 use Rattle.impose_cli.specs.declared.look.Overview.{Overview}
 use Rattle.impose_cli.specs.declared.look.Overview.TheVariants as look
 use Rattle.impose_words.specs.declared.request.Product.{Product}

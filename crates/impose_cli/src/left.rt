@@ -1,18 +1,9 @@
-//! What is left of the world.
+//! What came of something that is to be written, and what is left of the world.
 ghost use Rattle.std.specs.Prelude.{◌≡◌, Err};
-ghost use Rattle.impose_cli.specs.declared.left.Rest.TheVariants as rests;
+ghost use Rattle.world.specs.declared.rest.Rest.TheVariants as rests;
 
 use impose_said::ImposeFault;
-use world::World;
-
-/// What is left of the world.
-#[derive(Drop)]
-pub enum Rest<W, O> {
-    /// No output was created: the world is there again.
-    World(W),
-    /// An output was created, which is there. By its type alone it may not: a buffer is made before its output.
-    Output(Option<O>),
-}
+use world::{Rest, World};
 
 /// What came of something that is to be written, with what is left of the world.
 #[derive(Drop)]

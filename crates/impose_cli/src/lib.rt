@@ -26,9 +26,9 @@ pub use impose_words::{
     Spacing, cells_named, exact_cells, noted_cells, number_alone, read_command, run_named,
     signing_named, size_named, turned_named,
 };
-pub use left::Rest;
 pub use look::{Overview, look_text};
 pub use printed::printed_task;
 pub use program::{Ended, impose};
 pub use task::{Task, check_layout, task_for};
 pub use unread::check_request;
+pub use world::Rest;

@@ -10,7 +10,7 @@ ghost use Rattle.impose_cli.specs.Programs.{Prints, Shows, Writes, most_home_byt
 ghost use Rattle.impose_cli.specs.RowTasks.{LaysRows};
 ghost use Rattle.impose_said.specs.declared.fault.ImposeFault.TheVariants as faults;
 
-use crate::left::{Left, Rest, stopped};
+use crate::left::{Left, stopped};
 use crate::look::{Overview, look_text};
 use crate::printed::printed_task;
 use crate::runs::run_request;
@@ -27,7 +27,7 @@ use std::io;
 use std::io::{ErrorKind, Read, Write};
 use std::sync::Wait;
 use std::thread::Threads;
-use world::{KeepingReader, ReadFault, ReadSource, World, read_input, read_input_behind};
+use world::{KeepingReader, ReadFault, ReadSource, Rest, World, read_input};
 
 /// How the program ended.
 #[derive(Drop)]
@@ -127,7 +127,7 @@ fn read_head<I: Read + Drop>(alloc: Global, file: I) -> Result<Vec<u8>, ReadFaul
     ensures { IfOk result (λ head. IsFirst most_home_bytes (I.remaining file) head.items) }
 {
     let mut source = ReadSource::new(file.take(HOME_BYTES));
-    match read_input(alloc, &mut source) {
+    match read_input(alloc, 0, &mut source) {
         Ok(head) => Ok(head),
         Err(fault) => Err(fault),
     }
@@ -209,7 +209,7 @@ fn read_from<I: Read + Drop>(alloc: Global, input: I) -> Result<RoomyText, Impos
 {
     let mut reader = KeepingReader::new(input);
     let mut source = ReadSource::new(&mut reader);
-    let read = read_input_behind(alloc, ROOM, &mut source);
+    let read = read_input(alloc, ROOM, &mut source);
     drop(source);
     match read {
         Ok(bytes) => Ok(RoomyText::behind(ROOM as usize, bytes)),

@@ -18,11 +18,11 @@ ghost use Rattle.impose_cli.specs.Endings.{Comes, IsNotCreated, RefusesPlan, Ref
 ghost use Rattle.impose_cli.specs.Endings.{IsSaidOf, WritesJob, WritesSheets, WritesTask};
 ghost use Rattle.impose_cli.specs.Abouts.{reported_by};
 ghost use Rattle.impose_said.specs.declared.fault.ImposeFault.TheVariants as faults;
-ghost use Rattle.impose_cli.specs.declared.left.Rest.TheVariants as rests;
+ghost use Rattle.world.specs.declared.rest.Rest.TheVariants as rests;
 
 use crate::claims::told_by;
 use crate::laying::is_drawn;
-use crate::left::{Left, Rest, stopped};
+use crate::left::{Left, stopped};
 use crate::row_task::{asked_fault_of, impose_task, row_task};
 use crate::spec_row::{impose_spec_task, spec_row_task};
 use crate::task::{Task, WORKERS, task_for};
@@ -41,7 +41,7 @@ use std::alloc::Global;
 use std::io::ErrorKind;
 use std::sync::Wait;
 use std::thread::Threads;
-use world::{Created, Refused, World, abandon, created, write_out};
+use world::{Created, Refused, Rest, World, abandon, created, write_out};
 
 /// Carries a request out for this document: a document that is refused is refused first, then a layout that there isn't, then
 /// what its run refuses. The output that the request names is created once all of it is checked: what is refused has none.

@@ -8,7 +8,7 @@ use Rattle.impose_said.specs.declared.fault.ImposeFault.TheVariants as fault
 use Rattle.impose_said.specs.declared.fault.Packing.TheVariants.{Gzip}
 use Rattle.impose_said.specs.declared.fault.IdleOption.TheVariants.{CutMarks}
 use Rattle.impose_words.specs.declared.fault.RequestFault.TheVariants as command
-use Rattle.impose_said.specs.Statuses.{words_status, command_status, layout_status, fault_status}
+use Rattle.impose_said.specs.Statuses.{fault_status, words_status}
 use Rattle.impose_said.specs.Said.{behind_text, blanks_text, cut_pages_text, edges_text, is_pdf_name, leaves_text, size_text, told_text, unknown_text}
 use Rattle.rules.specs.Papers.{points}
 
@@ -17,10 +17,10 @@ use Rattle.rules.specs.Papers.{points}
 help_and_version : map words_status (DisplayHelp ∷ DisplayVersion ∷ UnknownArgument ∷ []) ≡ 0 ∷ 0 ∷ 2 ∷ []
 help_and_version = refl
 
-commands : map command_status (command.NoText ∷ command.Lacking ∷ command.OddAndEven ∷ command.NoMemory ∷ []) ≡ 2 ∷ 2 ∷ 2 ∷ 3 ∷ []
+commands : map (λ f. fault_status (fault.Command f)) (command.NoText ∷ command.Lacking ∷ command.OddAndEven ∷ command.NoMemory ∷ []) ≡ 2 ∷ 2 ∷ 2 ∷ 3 ∷ []
 commands = refl
 
-layouts : map layout_status (layout.CellsOutOfRange ∷ layout.NoRoom ∷ layout.FoldOnLongEdge ∷ layout.NoMemory ∷ []) ≡ 1 ∷ 1 ∷ 1 ∷ 3 ∷ []
+layouts : map (λ e. fault_status (fault.Layout e)) (layout.CellsOutOfRange ∷ layout.NoRoom ∷ layout.FoldOnLongEdge ∷ layout.NoMemory ∷ []) ≡ 1 ∷ 1 ∷ 1 ∷ 3 ∷ []
 layouts = refl
 
 faults : map fault_status (fault.NoSuchPage 1 2 ∷ fault.NoSpecification ∷ fault.NoInput ∷ fault.Pdf ∷ fault.Compressed Gzip ∷ fault.JobLanguage ∷ fault.DosEps ∷ fault.Utf16 ∷ fault.TooLong ∷ fault.SeveralPapers ∷ fault.Idle CutMarks ∷ fault.Read None ∷ fault.Write 0 None ∷ []) ≡ 1 ∷ 1 ∷ 1 ∷ 1 ∷ 1 ∷ 1 ∷ 1 ∷ 1 ∷ 1 ∷ 1 ∷ 2 ∷ 3 ∷ 3 ∷ []

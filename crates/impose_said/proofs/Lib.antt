@@ -1,5 +1,3 @@
 pub mod Lines
-pub mod Points
-pub mod Names
 pub mod Examples
 mod InputExamples

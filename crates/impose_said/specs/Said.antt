@@ -2,7 +2,8 @@
 -- a fault's message is no word here says, nor what is said of words that the command doesn't take.
 use Rattle.std.specs.Prelude.{⊤, ◌≡◌, ◌==◌, ◌⊎◌, ◌++◌, if◌then◌else◌, ℕ, List, [], Bool, true, false, Option, Some, None, Result, Ok, Err}
 use Rattle.std.specs.Prelude.{◌+◌, ◌-◌, ◌*◌, ◌/◌, ℤ, pos, int_le, codes, decimal, nat_eq, nat_le, nat_lt, ◌||◌, ◌&&◌, option_map, string_bytes}
-use Rattle.std.specs.Prelude.{length, map, min, take}
+use Rattle.std.specs.Prelude.{String, length, map, min, take}
+use Rattle.std.specs.declared.alloc.Global.{Global}
 use Rattle.std.specs.List.{ends_with}
 use Rattle.std.specs.IoError.{error_kind}
 use Rattle.std.specs.declared.io.ErrorKind.{ErrorKind}
@@ -72,8 +73,12 @@ are_sides (layout.Booklet signing long_edge) = true
 are_sides (layout.Stack cells duplex) = duplex
 are_sides other = false
 
+-- so many of something: a text of its own for one, or else the number with these texts before and after it
+abbrev pub counted : (count : ℕ) → (one before behind : List ℕ) → List ℕ
+counted count one before behind = if count == 1 then one else before ++ (decimal count ++ behind)
+
 abbrev pub leaves_text : (leaves : ℕ) → List ℕ
-leaves_text leaves = if leaves == 1 then codes " (1 leaf)" else codes " (" ++ (decimal leaves ++ codes " leaves)")
+leaves_text leaves = counted leaves (codes " (1 leaf)") (codes " (") (codes " leaves)")
 
 -- how many pages, sheets and bytes there are; after the pages the blanks, and after the sheets the leaves
 abbrev pub counts_text : Report → ImposeRequest → List ℕ
@@ -106,7 +111,7 @@ front_of name = take (min (length name) 100) name
 
 -- a name as it is shown, with two dots if there is more
 abbrev pub shown_name : (name : List ℕ) → List ℕ
-shown_name name = map shown_byte (front_of name) ++ (if nat_lt 100 (length name) then codes ".." else [])
+shown_name name = if nat_lt 100 (length name) then map shown_byte (front_of name) ++ codes ".." else map shown_byte (front_of name)
 
 -- of a document whose paper has a name that isn't known
 abbrev pub unknown_text : (name : Option (List ℕ)) → Option (List ℕ)
@@ -136,8 +141,7 @@ cut_text (Some cut) named =
 -- how many more pages reach beyond their papers
 abbrev pub others_text : (pages : ℕ) → List ℕ
 others_text pages = if pages == 0 then []
-    else (if pages == 1 then codes ", and 1 other page beyond its own"
-    else codes ", and " ++ (decimal pages ++ codes " other pages beyond theirs"))
+    else counted pages (codes ", and 1 other page beyond its own") (codes ", and ") (codes " other pages beyond theirs")
 
 -- how far a page reaches: to its upper right corner, and from its lower left one if that is before 0
 abbrev pub edges_text : Edges → List ℕ
@@ -153,20 +157,15 @@ reach_text (Some reach) = Some (codes "page " ++ (decimal (reach.first + 1) ++ (
 -- of pages that follow the document's trailer, if there are some
 abbrev pub behind_text : (pages : ℕ) → Option (List ℕ)
 behind_text pages = if pages == 0 then None
-    else (if pages == 1 then Some (codes "1 page follows %%Trailer or %%EOF and is not imposed")
-    else Some (decimal pages ++ codes " pages follow %%Trailer or %%EOF and are not imposed"))
-
-abbrev pub pages_text : (pages : ℕ) → List ℕ
-pages_text pages = if pages == 1 then codes "1 page" else decimal pages ++ codes " pages"
-
-abbrev pub found_text : (pages : ℕ) → List ℕ
-found_text pages = if pages == 1 then codes "1 was found" else decimal pages ++ codes " were found"
+    else Some (counted pages (codes "1 page follows %%Trailer or %%EOF and is not imposed") (codes "")
+    (codes " pages follow %%Trailer or %%EOF and are not imposed"))
 
 -- of a document that says another number of its pages than were found
 abbrev pub told_text : (told : Option ℕ) → (found : ℕ) → Option (List ℕ)
 told_text None found = None
 told_text (Some told) found = if told == found then None else Some (codes "the document says "
-    ++ (pages_text told ++ (codes ", " ++ (found_text found ++ codes ": is it complete?"))))
+    ++ (counted told (codes "1 page") (codes "") (codes " pages") ++ (codes ", "
+    ++ (counted found (codes "1 was found") (codes "") (codes " were found") ++ codes ": is it complete?"))))
 
 -- a file is named as a PDF
 abbrev pub is_pdf_name : (name : List ℕ) → Bool
@@ -198,31 +197,32 @@ IsLineOf (Some message) text = (text ≡ []) ⊎ (text ≡ said message)
 abbrev pub MaySay : (Option (List ℕ) → Type 0) → (text : List ℕ) → Type 0
 MaySay Holds text = (text ≡ []) ⊎ ((message : List ℕ) × Holds (Some message) × (text ≡ said message))
 
--- the line of this message, if there is one, comes after what was said before
-abbrev pub AddsLine : (message : Option (List ℕ)) → (before after : List ℕ) → Type 0
-AddsLine message before after = (text : List ℕ) × IsLineOf message text × (after ≡ before ++ text)
+-- the line of a message that was to be made: without memory for it there is nothing
+abbrev pub IsMadeLine : {E : Type 0} → Result (Option (String Global)) E → (text : List ℕ) → Type 0
+IsMadeLine (Ok message) text = IsLineOf (option_map string_bytes message) text
+IsMadeLine (Err e) text = text ≡ []
+
+-- a text of which this holds comes after what was said before
+abbrev pub Adds : (List ℕ → Type 0) → (before after : List ℕ) → Type 0
+Adds Holds before after = (text : List ℕ) × Holds text × (after ≡ before ++ text)
+
+-- a text is one of which this holds, and after it one of which that holds
+abbrev pub Then : (This That : List ℕ → Type 0) → (text : List ℕ) → Type 0
+Then This That text = (first rest : List ℕ) × This first × That rest × (text ≡ first ++ rest)
 
 -- ---- all of it
 
 -- Of a finished run seven lines are said, in this order: the report, then that the document names an unknown paper, that pages
 -- are cut, that pages reach beyond their papers, that pages follow the trailer, that not as many were found as the document
 -- says, and that the output is no PDF.
-pub record SaysLines (finished : Finished) (r : ImposeRequest) (text : List ℕ) : Type 0 where
-  pub report : List ℕ
-  pub unknown : List ℕ
-  pub cut : List ℕ
-  pub reach : List ℕ
-  pub behind : List ℕ
-  pub told : List ℕ
-  pub note : List ℕ
-  pub reports : IsLineOf (Some (report_text finished r)) report
-  pub names_unknown : IsLineOf (unknown_text (option_map (λ name. name.items) finished.told.unknown)) unknown
-  pub cuts : IsLineOf (cut_text finished.cut finished.page_paper) cut
-  pub reaches : IsLineOf (reach_text finished.reach) reach
-  pub tells_behind : IsLineOf (behind_text finished.behind) behind
-  pub tells_count : IsLineOf (told_text finished.told.pages finished.report.pages) told
-  pub notes : MaySay (IsNote (option_map string_bytes r.outfile)) note
-  pub in_order : text ≡ report ++ (unknown ++ (cut ++ (reach ++ (behind ++ (told ++ note)))))
+abbrev pub SaysLines : Finished → ImposeRequest → (text : List ℕ) → Type 0
+SaysLines finished r =
+    Then (IsLineOf (Some (report_text finished r)))
+    (Then (IsLineOf (unknown_text (option_map (λ name. name.items) finished.told.unknown)))
+    (Then (IsLineOf (cut_text finished.cut finished.page_paper))
+    (Then (IsLineOf (reach_text finished.reach))
+    (Then (IsLineOf (behind_text finished.behind))
+    (Then (IsLineOf (told_text finished.told.pages finished.report.pages)) (MaySay (IsNote (option_map string_bytes r.outfile))))))))
 
 -- a quiet request says nothing
 abbrev pub SaysUnless : (quiet : Bool) → Finished → ImposeRequest → (text : List ℕ) → Type 0

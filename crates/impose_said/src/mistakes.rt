@@ -30,10 +30,7 @@ fn with_shown(alloc: Global, text: String, word: &str) -> Result<String, AllocEr
 fn value_in(word: &str) -> &str {
     match word.split_once("=") {
         Some((_, value)) => value,
-        None => match word.strip_prefix("-p") {
-            Some(value) => value,
-            None => word,
-        },
+        None => word.strip_prefix("-p").unwrap_or(word),
     }
 }
 
@@ -70,30 +67,17 @@ fn is_likeness(line: &str) -> bool {
 fn leads_astray(text: &str, has_tip: bool) -> bool {
     for line in text.lines() {
         if is_likeness(line) {
-            return has_tip || first_letter(quoted_in(line)) != first_letter(quoted_in(text));
+            return has_tip || first_letter(line) != first_letter(text);
         }
     }
     false
 }
 
-/// The first word of a text that is in quotes.
-fn quoted_in(text: &str) -> &str {
-    match text.split_once("'") {
-        None => "",
-        Some((_, behind)) => match behind.split_once("'") {
-            None => "",
-            Some((word, _)) => word,
-        },
-    }
-}
-
-/// The first letter of an option or a command.
-fn first_letter(word: &str) -> Option<char> {
-    let word = match word.strip_prefix("--") {
-        Some(word) => word,
-        None => word,
-    };
-    let mut letters = word.chars();
+/// The first letter of the option or command in a text: of the first word in quotes.
+fn first_letter(text: &str) -> Option<char> {
+    let (_, behind) = text.split_once("'")?;
+    let (word, _) = behind.split_once("'")?;
+    let mut letters = word.strip_prefix("--").unwrap_or(word).chars();
     letters.next()
 }
 
@@ -122,7 +106,7 @@ fn tip(kind: ErrorKind, words: &[String]) -> Option<&'static str> {
     }
     match kind {
         ErrorKind::UnknownArgument => tip_on_unknown(command, behind),
-        ErrorKind::MissingRequiredArgument => Some(tip_on_argument(command)),
+        ErrorKind::MissingRequiredArgument => tip_in(ARGUMENTS.as_slice(), command),
         _ => None,
     }
 }
@@ -143,39 +127,7 @@ fn tip_on_command(word: &str) -> Option<&'static str> {
     } else if word.starts_with(|letter: char| letter.is_ascii_digit()) {
         Some("a command comes before its number, as in: impose nup 2 in.ps out.ps")
     } else {
-        tip_on_wish(word)
-    }
-}
-
-/// What other programs have a command for.
-fn tip_on_wish(word: &str) -> Option<&'static str> {
-    match word {
-        "rotate" | "turn" => Some(TIP_ON_TURNS),
-        "split" | "cut" => Some(
-            "some of the pages are taken by: impose select 1-3 in.ps out.ps; each page is put over several sheets by: \
-            impose poster 2x1 in.ps out.ps",
-        ),
-        "scale" | "resize" => {
-            Some("pages are scaled to another paper by: impose nup 1 --sheet a5 in.ps out.ps")
-        }
-        _ => None,
-    }
-}
-
-/// The argument that the command begins with is missing.
-fn tip_on_argument(command: &str) -> &'static str {
-    match command {
-        "nup" => "the number of pages comes after nup, as in: impose nup 2 in.ps out.ps",
-        "cards" => "the number of pages comes after cards, as in: impose cards 8 in.ps out.ps",
-        "stack" => "the number of pages comes after stack, as in: impose stack 2 in.ps out.ps",
-        "notes" => "the number of pages comes after notes, as in: impose notes 3 in.ps out.ps",
-        "poster" => {
-            "columns and rows of sheets come after poster, as in: impose poster 2x2 in.ps out.ps"
-        }
-        "select" => {
-            "the pages come after select, and 1- are all: impose select 1- --odd in.ps out.ps"
-        }
-        _ => "the specification comes after spec, as in: impose spec 0,0 in.ps out.ps",
+        tip_in(OTHERS.as_slice(), word)
     }
 }
 
@@ -206,7 +158,12 @@ fn tip_on_word(command: &str, before: &str, word: &str) -> Option<&'static str> 
             in.ps out.ps",
         )
     } else if begins_with_minus_and_number(word) {
-        Some(tip_on_negative(command, before))
+        let first = if before.starts_with("-") {
+            before
+        } else {
+            command
+        };
+        tip_in(SIGNS.as_slice(), first).or(tip_in(SIGNS.as_slice(), command))
     } else if word.starts_with("-") && looks_like_file(word) {
         Some("a file whose name begins with a minus is written with its folder: ./-in.ps")
     } else {
@@ -214,51 +171,14 @@ fn tip_on_word(command: &str, before: &str, word: &str) -> Option<&'static str> 
     }
 }
 
-/// What other programs have an option for, or other commands.
+/// What other programs have an option for, or only some of the commands.
 fn tip_on_option(command: &str, word: &str) -> Option<&'static str> {
-    match word {
-        "--short-edge" => Some(
-            "without an option a booklet is for printers that flip on the short edge: leave it out",
-        ),
-        "--copies" | "--repeat" => Some(
-            "each page is on a sheet several times by: impose cards 2 in.ps out.ps; and the document several times after \
-            itself by --pages 1-,1-",
-        ),
-        "--blank" => { Some("a blank page is named among the others, as in: --pages 1,blank,2-") }
-        "--verbose" | "-v" => {
-            Some("there is no longer report; --plan prints which page is where")
-        }
-        "--dry-run" | "-n" => {
-            Some("--plan prints which page is where on each sheet, and imposes nothing")
-        }
-        "--landscape" => Some("a sheet on its side is named so, as in: --sheet a4-landscape"),
-        "--rotate" => Some(TIP_ON_TURNS),
-        "--version" => Some("the version is printed without a command: impose --version"),
-        _ => tip_on_order(command, word),
-    }
-}
-
-const TIP_ON_TURNS: &str =
-    "pages are turned by --turn, as to the left by: impose select 1- --turn left in.ps out.ps";
-
-/// What only some of the commands have.
-fn tip_on_order(command: &str, word: &str) -> Option<&'static str> {
     match word {
         "--order" if command == "booklet" => Some(
             "the order of a booklet is that in which one reads it; one that is bound at the right takes --rtl",
         ),
-        "--order" => Some(
-            "nup, cards and stack have an order, as in: impose nup 4 --order down-right in.ps out.ps",
-        ),
-        "--marks" => Some(
-            "nup, cards, stack and booklet have marks, as in: impose cards 8 --marks cut in.ps out.ps",
-        ),
-        "--turn" => Some(
-            "a specification turns pages itself, as to the left by: impose spec 'L(1h,0)' --sheet a4-landscape in.ps out.ps",
-        ),
-        "--numbers" if matches!(command, "poster" | "spec") => Some(
-            "pages of posters and of specifications have no numbers; the others have, as in: impose nup 2 --numbers 10pt",
-        ),
+        "--numbers" if !matches!(command, "poster" | "spec") => None,
+        _ if word.starts_with("-") => tip_in(OTHERS.as_slice(), word),
         _ => None,
     }
 }
@@ -270,40 +190,6 @@ fn begins_with_minus_and_number(word: &str) -> bool {
     }
 }
 
-/// A value with a minus comes after this word.
-fn tip_on_negative(command: &str, before: &str) -> &'static str {
-    match before {
-        "--margin" | "--gap" | "--trim" | "--creep" | "--border" | "--overlap" | "--numbers" => {
-            "a length is not below 0, as in: --gap 5mm"
-        }
-        "-p" | "--paper" | "--sheet" => {
-            "the sides of a paper are above 0, as in: --paper 210x297mm"
-        }
-        "--scale" => "a scale is above 0, as in: --scale 0.7",
-        "--pages" => TIP_ON_RANGES,
-        "--numbers-from" => "the first number has no sign, as in: --numbers 10pt --numbers-from 3",
-        _ => tip_on_sign(command),
-    }
-}
-
-/// What comes first after this command has a minus.
-fn tip_on_sign(command: &str) -> &'static str {
-    match command {
-        "nup" => "the number of pages has no sign, as in: impose nup 2 in.ps out.ps",
-        "cards" => "the number of pages has no sign, as in: impose cards 8 in.ps out.ps",
-        "stack" => "the number of pages has no sign, as in: impose stack 2 in.ps out.ps",
-        "notes" => "the number of pages has no sign, as in: impose notes 3 in.ps out.ps",
-        "poster" => {
-            "the columns and rows of sheets have no sign, as in: impose poster 2x2 in.ps out.ps"
-        }
-        "spec" => "a specification that begins with a minus is written with its modulo: 1:-0",
-        _ => TIP_ON_RANGES,
-    }
-}
-
-const TIP_ON_RANGES: &str =
-    "a range begins with the number of a page: 1-3 are the first three, and _3- the last three";
-
 /// Whether a word is more likely the name of a file than anything else.
 pub(crate) fn looks_like_file(word: &str) -> bool {
     word.ends_with(".ps")
@@ -312,3 +198,60 @@ pub(crate) fn looks_like_file(word: &str) -> bool {
         || word.ends_with(".gz")
         || word.contains("/")
 }
+
+/// The tip on a word in a table, whose rows have the words that they are for, and after a colon the tip.
+fn tip_in(rows: &[&'static str], word: &str) -> Option<&'static str> {
+    for row in rows {
+        let row = *row;
+        if let Some((words, tip)) = row.split_once(": ") {
+            if words.split_whitespace().any(|known| known == word) {
+                return Some(tip);
+            }
+        }
+    }
+    None
+}
+
+/// The argument that a command begins with is missing.
+const ARGUMENTS: [&str; 7] = [
+    "nup: the number of pages comes after nup, as in: impose nup 2 in.ps out.ps",
+    "cards: the number of pages comes after cards, as in: impose cards 8 in.ps out.ps",
+    "stack: the number of pages comes after stack, as in: impose stack 2 in.ps out.ps",
+    "notes: the number of pages comes after notes, as in: impose notes 3 in.ps out.ps",
+    "poster: columns and rows of sheets come after poster, as in: impose poster 2x2 in.ps out.ps",
+    "select: the pages come after select, and 1- are all: impose select 1- --odd in.ps out.ps",
+    "spec: the specification comes after spec, as in: impose spec 0,0 in.ps out.ps",
+];
+
+/// What other programs have a command or an option for, or only some of the commands.
+const OTHERS: [&str; 14] = [
+    "rotate turn --rotate: pages are turned by --turn, as to the left by: impose select 1- --turn left in.ps out.ps",
+    "split cut: some of the pages are taken by: impose select 1-3 in.ps out.ps; each page is put over several sheets by: impose poster 2x1 in.ps out.ps",
+    "scale resize: pages are scaled to another paper by: impose nup 1 --sheet a5 in.ps out.ps",
+    "--short-edge: without an option a booklet is for printers that flip on the short edge: leave it out",
+    "--copies --repeat: each page is on a sheet several times by: impose cards 2 in.ps out.ps; and the document several times after itself by --pages 1-,1-",
+    "--blank: a blank page is named among the others, as in: --pages 1,blank,2-",
+    "--verbose -v: there is no longer report; --plan prints which page is where",
+    "--dry-run -n: --plan prints which page is where on each sheet, and imposes nothing",
+    "--landscape: a sheet on its side is named so, as in: --sheet a4-landscape",
+    "--version: the version is printed without a command: impose --version",
+    "--order: nup, cards and stack have an order, as in: impose nup 4 --order down-right in.ps out.ps",
+    "--marks: nup, cards, stack and booklet have marks, as in: impose cards 8 --marks cut in.ps out.ps",
+    "--turn: a specification turns pages itself, as to the left by: impose spec 'L(1h,0)' --sheet a4-landscape in.ps out.ps",
+    "--numbers: pages of posters and of specifications have no numbers; the others have, as in: impose nup 2 --numbers 10pt",
+];
+
+/// A value with a minus comes after an option, or what comes first after a command has a minus.
+const SIGNS: [&str; 11] = [
+    "--margin --gap --trim --creep --border --overlap --numbers: a length is not below 0, as in: --gap 5mm",
+    "-p --paper --sheet: the sides of a paper are above 0, as in: --paper 210x297mm",
+    "--scale: a scale is above 0, as in: --scale 0.7",
+    "--numbers-from: the first number has no sign, as in: --numbers 10pt --numbers-from 3",
+    "nup: the number of pages has no sign, as in: impose nup 2 in.ps out.ps",
+    "cards: the number of pages has no sign, as in: impose cards 8 in.ps out.ps",
+    "stack: the number of pages has no sign, as in: impose stack 2 in.ps out.ps",
+    "notes: the number of pages has no sign, as in: impose notes 3 in.ps out.ps",
+    "poster: the columns and rows of sheets have no sign, as in: impose poster 2x2 in.ps out.ps",
+    "spec: a specification that begins with a minus is written with its modulo: 1:-0",
+    "--pages booklet zine select: a range begins with the number of a page: 1-3 are the first three, and _3- the last three",
+];

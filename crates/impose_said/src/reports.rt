@@ -1,6 +1,5 @@
 //! What is said of a finished run.
-ghost use Rattle.std.specs.Prelude.{◌≡◌, ◌+◌, ◌/◌, IfOk, if◌then◌else◌, [], codes, length, map, nat_lt, option_map, string_bytes};
-ghost use Rattle.std.specs.Str.{IsAscii};
+ghost use Rattle.std.specs.Prelude.{◌≡◌, ◌+◌, ◌/◌, IfOk, if◌then◌else◌, [], map, option_map, string_bytes};
 ghost use Rattle.rules.specs.Numbers.{points_text as text_of_points};
 ghost use Rattle.impose_said.specs.Said.{IsNote, behind_text as text_of_behind};
 ghost use Rattle.impose_said.specs.Said.{blanks_of as blanks_in, blanks_text as text_of_blanks, counts_text as text_of_counts};
@@ -10,15 +9,15 @@ ghost use Rattle.impose_said.specs.Said.{some_pages_text as text_of_some_pages};
 ghost use Rattle.impose_said.specs.Said.{edges_text as text_of_edges, others_text as text_of_others, reach_text as text_of_reach};
 ghost use Rattle.impose_said.specs.Said.{is_same as are_same, report_text as text_of_report, sheets_text as text_of_sheets};
 ghost use Rattle.impose_said.specs.Said.{sides_text as text_of_sides, size_text as text_of_size};
-ghost use Rattle.impose_said.specs.Said.{found_text as text_of_found, pages_text as text_of_pages, told_text as text_of_told};
+ghost use Rattle.impose_said.specs.Said.{counted as text_of_counted, told_text as text_of_told};
 ghost use Rattle.impose_said.specs.Said.{is_pdf_name as names_pdf, origin_text as text_of_origin};
-ghost use Rattle.impose_said.specs.Said.{front_of as front, shown_byte as byte_shown, shown_name as text_of_name, unknown_text as text_of_unknown};
+ghost use Rattle.impose_said.specs.Said.{shown_byte as byte_shown, shown_name as text_of_name, unknown_text as text_of_unknown};
 
 use crate::finished::{Finished, PaperOrigin};
 use crate::shown::shown_word;
 use impose_words::{ImposeRequest, Layout};
 use imposer::Report;
-use lengths::{Grains, Paper, print_grains};
+use lengths::{Grains, Paper, print_points};
 use papers::{Comment, Cut, Edges};
 use std::alloc::{AllocError, Global};
 
@@ -31,12 +30,9 @@ pub fn report_text(
     ensures { IfOk result (λ text. string_bytes text ≡ text_of_report done.now request.now) }
 {
     let counts = counts_text(alloc, &done.report, request)?;
-    let counts = counts.as_str();
     let size = size_text(alloc, &done.page_paper)?;
-    let size = size.as_str();
     let origin = origin_text(done.origin);
     let sheets = sheets_text(alloc, &request.sheet_paper, &done.page_paper)?;
-    let sheets = sheets.as_str();
     format!(in alloc; "{counts}; pages of {size} pt, {origin}{sheets}")
 }
 
@@ -51,7 +47,6 @@ fn sheets_text(
     match named {
         Some(sheet) if !is_same(sheet, page_paper) => {
             let size = size_text(alloc, sheet)?;
-            let size = size.as_str();
             format!(in alloc; "; sheets of {size} pt")
         }
         _ => Ok(String::new(alloc)),
@@ -76,9 +71,7 @@ fn counts_text(
     let sheets = report.sheets;
     let bytes = report.bytes;
     let blanks = blanks_text(alloc, blanks_of(request, report))?;
-    let blanks = blanks.as_str();
     let leaves = leaves_text(alloc, &request.layout, sheets)?;
-    let leaves = leaves.as_str();
     format!(in alloc; "pages {pages}{blanks}, sheets {sheets}{leaves}, bytes {bytes}")
 }
 
@@ -124,9 +117,22 @@ fn leaves_text(alloc: Global, layout: &Layout, sheets: u32) -> Result<String, Al
         return Ok(String::new(alloc));
     }
     let leaves = (u64::from(sheets) + 1) / 2;
-    match leaves {
-        1 => String::from_str(alloc, " (1 leaf)"),
-        _ => format!(in alloc; " ({leaves} leaves)"),
+    counted_text(alloc, leaves, " (1 leaf)", " (", " leaves)")
+}
+
+/// So many of something: a text of its own for one, or else the number with these texts before and after it.
+fn counted_text(
+    alloc: Global,
+    count: u64,
+    one: &str,
+    before: &str,
+    behind: &str,
+) -> Result<String, AllocError>
+    ensures { IfOk result (λ text. string_bytes text ≡ text_of_counted count one.now before.now behind.now) }
+{
+    match count {
+        1 => String::from_str(alloc, one),
+        _ => format!(in alloc; "{before}{count}{behind}"),
     }
 }
 
@@ -152,9 +158,7 @@ fn sides_text(alloc: Global, width: Grains, height: Grains) -> Result<String, Al
     ensures { IfOk result (λ text. string_bytes text ≡ text_of_sides width height) }
 {
     let width = points_text(alloc, width)?;
-    let width = width.as_str();
     let height = points_text(alloc, height)?;
-    let height = height.as_str();
     format!(in alloc; "{width} x {height}")
 }
 
@@ -162,18 +166,17 @@ fn points_text(alloc: Global, length: Grains) -> Result<String, AllocError>
     ensures { IfOk result (λ text. string_bytes text ≡ text_of_points length) }
 {
     let mut text = Vec::new(alloc);
-    print_grains(length.get(), &mut text)?;
-    Ok(ascii_text(text))
+    print_points(length, &mut text)?;
+    ascii_text(text)
 }
 
-/// These bytes as a text.
-fn ascii_text(bytes: Vec<u8>) -> String
-    requires { IsAscii bytes.items }
-    ensures { string_bytes result ≡ bytes.items }
+/// These bytes as a text. They are ASCII: of others nothing is said, as without memory.
+fn ascii_text(bytes: Vec<u8>) -> Result<String, AllocError>
+    ensures { IfOk result (λ text. string_bytes text ≡ bytes.items) }
 {
     match String::from_utf8(bytes) {
-        Ok(text) => text,
-        Err(_) => unreachable!(),
+        Ok(text) => Ok(text),
+        Err(_) => Err(AllocError),
     }
 }
 
@@ -186,7 +189,6 @@ pub fn unknown_text(alloc: Global, done: &Finished) -> Result<Option<String>, Al
         return Ok(None);
     };
     let name = shown_name(alloc, name.as_slice())?;
-    let name = name.as_str();
     Ok(Some(format!(in alloc; "the document names an unknown paper, {name}")?))
 }
 
@@ -197,10 +199,13 @@ const MOST_OF_A_NAME: usize = 100;
 fn shown_name(alloc: Global, name: &[u8]) -> Result<String, AllocError>
     ensures { IfOk result (λ text. string_bytes text ≡ text_of_name name.now) }
 {
-    let front = printable_text(alloc, front_of(name))?;
-    let front = front.as_str();
-    let dots = dots_after(name);
-    format!(in alloc; "{front}{dots}")
+    let (front, _) = name.split_at(name.len().min(MOST_OF_A_NAME));
+    let shown = printable_text(alloc, front)?;
+    if name.len() > MOST_OF_A_NAME {
+        format!(in alloc; "{shown}..")
+    } else {
+        Ok(shown)
+    }
 }
 
 /// These bytes, with a question mark for each that isn't a printable one of ASCII.
@@ -211,26 +216,7 @@ fn printable_text(alloc: Global, bytes: &[u8]) -> Result<String, AllocError>
     for b in bytes {
         shown.push(shown_byte(*b))?;
     }
-    Ok(ascii_text(shown))
-}
-
-/// As much of a name as is shown.
-fn front_of(name: &[u8]) -> &[u8]
-    ensures { result.now ≡ front name.now }
-{
-    let (front, _) = name.split_at(name.len().min(MOST_OF_A_NAME));
-    front
-}
-
-/// Two dots, if a name has more than is shown.
-fn dots_after(name: &[u8]) -> &'static str
-    ensures { result.now ≡ (if nat_lt 100 (length name.now) then codes ".." else []) }
-{
-    if name.len() > MOST_OF_A_NAME {
-        ".."
-    } else {
-        ""
-    }
+    ascii_text(shown)
 }
 
 /// A byte of a name: what isn't a printable one of ASCII is a question mark.
@@ -248,11 +234,8 @@ pub fn cut_text(alloc: Global, done: &Finished) -> Result<Option<String>, AllocE
         return Ok(None);
     };
     let pages = cut_pages_text(alloc, &cut)?;
-    let pages = pages.as_str();
     let own = cut_size_text(alloc, &cut)?;
-    let own = own.as_str();
     let named = size_text(alloc, &done.page_paper)?;
-    let named = named.as_str();
     Ok(Some(format!(in alloc; "--paper cuts {pages}: {own} on {named}")?))
 }
 
@@ -298,7 +281,6 @@ fn cut_size_text(alloc: Global, cut: &Cut) -> Result<String, AllocError>
     if cut.pages == 1 {
         return Ok(size);
     }
-    let size = size.as_str();
     format!(in alloc; "up to {size}")
 }
 
@@ -311,11 +293,8 @@ pub fn reach_text(alloc: Global, done: &Finished) -> Result<Option<String>, Allo
     };
     let page = page_number(reach.first);
     let edges = edges_text(alloc, &reach.edges)?;
-    let edges = edges.as_str();
     let placed = size_text(alloc, &reach.paper)?;
-    let placed = placed.as_str();
     let others = others_text(alloc, reach.pages.saturating_sub(1))?;
-    let others = others.as_str();
     Ok(Some(format!(in alloc; "page {page} reaches {edges} on {placed}{others}")?))
 }
 
@@ -324,12 +303,10 @@ fn edges_text(alloc: Global, edges: &Edges) -> Result<String, AllocError>
     ensures { IfOk result (λ text. string_bytes text ≡ text_of_edges edges.now) }
 {
     let upper = sides_text(alloc, edges.right, edges.top)?;
-    let upper = upper.as_str();
     if edges.left.get() >= 0 && edges.bottom.get() >= 0 {
         return format!(in alloc; "to {upper}");
     }
     let lower = sides_text(alloc, edges.left, edges.bottom)?;
-    let lower = lower.as_str();
     format!(in alloc; "from {lower} to {upper}")
 }
 
@@ -339,8 +316,13 @@ fn others_text(alloc: Global, pages: usize) -> Result<String, AllocError>
 {
     match pages {
         0 => Ok(String::new(alloc)),
-        1 => String::from_str(alloc, ", and 1 other page beyond its own"),
-        _ => format!(in alloc; ", and {pages} other pages beyond theirs"),
+        _ => counted_text(
+            alloc,
+            pages as u64,
+            ", and 1 other page beyond its own",
+            ", and ",
+            " other pages beyond theirs",
+        ),
     }
 }
 
@@ -348,15 +330,14 @@ fn others_text(alloc: Global, pages: usize) -> Result<String, AllocError>
 pub fn behind_text(alloc: Global, done: &Finished) -> Result<Option<String>, AllocError>
     ensures { IfOk result (λ text. option_map string_bytes text ≡ text_of_behind done.now.behind) }
 {
-    let pages = done.behind;
-    match pages {
+    match done.behind {
         0 => Ok(None),
-        1 => Ok(Some(String::from_str(
+        pages => Ok(Some(counted_text(
             alloc,
+            pages as u64,
             "1 page follows %%Trailer or %%EOF and is not imposed",
-        )?)),
-        _ => Ok(Some(format!(in alloc;
-            "{pages} pages follow %%Trailer or %%EOF and are not imposed"
+            "",
+            " pages follow %%Trailer or %%EOF and are not imposed",
         )?)),
     }
 }
@@ -372,29 +353,9 @@ pub fn told_text(alloc: Global, done: &Finished) -> Result<Option<String>, Alloc
     if told == found {
         return Ok(None);
     }
-    let told = pages_text(alloc, told)?;
-    let told = told.as_str();
-    let found = found_text(alloc, found)?;
-    let found = found.as_str();
+    let told = counted_text(alloc, told as u64, "1 page", "", " pages")?;
+    let found = counted_text(alloc, found as u64, "1 was found", "", " were found")?;
     Ok(Some(format!(in alloc; "the document says {told}, {found}: is it complete?")?))
-}
-
-fn pages_text(alloc: Global, pages: usize) -> Result<String, AllocError>
-    ensures { IfOk result (λ text. string_bytes text ≡ text_of_pages pages) }
-{
-    match pages {
-        1 => String::from_str(alloc, "1 page"),
-        _ => format!(in alloc; "{pages} pages"),
-    }
-}
-
-fn found_text(alloc: Global, pages: usize) -> Result<String, AllocError>
-    ensures { IfOk result (λ text. string_bytes text ≡ text_of_found pages) }
-{
-    match pages {
-        1 => String::from_str(alloc, "1 was found"),
-        _ => format!(in alloc; "{pages} were found"),
-    }
 }
 
 /// What else is said of a finished run, if there is something: that a file named as a PDF isn't one.

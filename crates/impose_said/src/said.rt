@@ -1,6 +1,6 @@
 //! What is said on standard error of how the program ended.
-ghost use Rattle.std.specs.Prelude.{◌≡◌, IfOk, option_map, string_bytes};
-ghost use Rattle.impose_said.specs.Said.{AddsLine, Says, SaysFault, SaysRun, SaysWords, is_broken_pipe};
+ghost use Rattle.std.specs.Prelude.{◌≡◌, option_map, string_bytes};
+ghost use Rattle.impose_said.specs.Said.{Adds, IsMadeLine, Says, SaysFault, SaysRun, SaysWords, is_broken_pipe};
 
 use crate::fault::ImposeFault;
 use crate::finished::{Done, Finished};
@@ -11,7 +11,7 @@ use crate::reports::{
 };
 use clap::Error as WordsError;
 use impose_words::{ImposeRequest, RequestFault};
-use std::alloc::Global;
+use std::alloc::{AllocError, Global};
 use std::io::ErrorKind;
 
 /// What is said on standard error of how the program ended with these words: of sheets the report, and after it what else
@@ -45,13 +45,13 @@ fn text_of_run(alloc: Global, done: &Finished, request: &ImposeRequest) -> Strin
     if request.is_quiet {
         return said;
     }
-    add_line(alloc, &mut said, report_text(alloc, done, request).ok());
-    add_line(alloc, &mut said, unknown_text(alloc, done).unwrap_or(None));
-    add_line(alloc, &mut said, cut_text(alloc, done).unwrap_or(None));
-    add_line(alloc, &mut said, reach_text(alloc, done).unwrap_or(None));
-    add_line(alloc, &mut said, behind_text(alloc, done).unwrap_or(None));
-    add_line(alloc, &mut said, told_text(alloc, done).unwrap_or(None));
-    add_line(alloc, &mut said, note_text(alloc, request).unwrap_or(None));
+    add_line(alloc, &mut said, Ok(report_text(alloc, done, request).ok()));
+    add_line(alloc, &mut said, unknown_text(alloc, done));
+    add_line(alloc, &mut said, cut_text(alloc, done));
+    add_line(alloc, &mut said, reach_text(alloc, done));
+    add_line(alloc, &mut said, behind_text(alloc, done));
+    add_line(alloc, &mut said, told_text(alloc, done));
+    add_line(alloc, &mut said, note_text(alloc, request));
     said
 }
 
@@ -69,7 +69,7 @@ fn text_of_fault(
     }
     let mut said = String::new(alloc);
     if !is_broken_pipe(fault) {
-        add_line(alloc, &mut said, fault_text(alloc, fault, request).ok());
+        add_line(alloc, &mut said, Ok(fault_text(alloc, fault, request).ok()));
     }
     said
 }
@@ -98,12 +98,11 @@ fn is_broken_pipe(fault: &ImposeFault) -> bool
     }
 }
 
-/// Adds a line with this message, if there is one and memory for the line.
-fn add_line(alloc: Global, said: &mut String, message: Option<String>)
-    ensures { AddsLine (option_map string_bytes message) (string_bytes said.old) (string_bytes said.new) }
+/// Adds a line with this message, if there is one and memory for it and for the line.
+fn add_line(alloc: Global, said: &mut String, message: Result<Option<String>, AllocError>)
+    ensures { Adds (IsMadeLine message) (string_bytes said.old) (string_bytes said.new) }
 {
-    if let Some(message) = message {
-        let message = message.as_str();
+    if let Ok(Some(message)) = message {
         if let Ok(line) = format!(in alloc; "impose: {message}\n") {
             let _ = said.push_str(line.as_str());
         }

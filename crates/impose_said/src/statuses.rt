@@ -18,25 +18,15 @@ pub fn fault_status(fault: &ImposeFault) -> u8
     ensures { result ≡ status_of_fault fault.now }
 {
     match fault {
-        ImposeFault::Command(RequestFault::NoMemory) => 3,
         ImposeFault::Command(RequestFault::Words(error)) => words_status(error.kind()),
-        ImposeFault::Command(_) => 2,
+        ImposeFault::Command(RequestFault::NoMemory) => 3,
         ImposeFault::Layout(ArrangementError::NoMemory)
         | ImposeFault::Poster(PosterError::NoMemory) => 3,
         ImposeFault::Row(RowError::NoMemory) | ImposeFault::Sheets(MadeError::NoMemory) => 3,
-        ImposeFault::Layout(_)
-        | ImposeFault::Poster(_)
-        | ImposeFault::Row(_)
-        | ImposeFault::Sheets(_) => 1,
-        ImposeFault::NoSuchPage { .. } | ImposeFault::NoSpecification | ImposeFault::NoInput => 1,
-        ImposeFault::SeveralPapers
-        | ImposeFault::Pdf
-        | ImposeFault::Compressed(_)
-        | ImposeFault::JobLanguage => 1,
-        ImposeFault::DosEps | ImposeFault::Utf16 | ImposeFault::TooLong => 1,
-        ImposeFault::Idle(_) | ImposeFault::OverInput => 2,
         ImposeFault::Read(_) | ImposeFault::Write { .. } => 3,
         ImposeFault::Run(error) => run_status(error),
+        ImposeFault::Command(_) | ImposeFault::Idle(_) | ImposeFault::OverInput => 2,
+        _ => 1,
     }
 }
 

@@ -1,18 +1,20 @@
 -- What the whole program's ending says.
 use Rattle.std.proofs.Common.{◌≡◌, ◌∙◌, ℕ, List, [], Bool, Option, Result, Ok, Err, arith, inl, inr, refl, subst, sym, ap}
 use Rattle.std.specs.Prelude.{◌⊎◌, IsOk, option_map, string_bytes}
-use Rattle.std.specs.Io.KnownBytes.{Appends}
+use Rattle.std.specs.Io.KnownBytes.{Appends, Keeps}
 use Rattle.std.proofs.KnownBytes.{Appends-kept}
 use Rattle.rules.specs.Output.{output}
 use Rattle.imposer.specs.Runs.{Accepted, frame_of}
 use Rattle.planned_runs.specs.declared.outcome.Report.{Report}
 use Rattle.planned_runs.specs.declared.outcome.RunError.{RunError}
 use Rattle.planned_runs.specs.declared.outcome.RunError.TheVariants as run
-use Rattle.world.specs.Outputs.{IsFrontOf, told_if}
+use Rattle.world.specs.Outputs.{IsFrontOf, counted, told_if}
+use Rattle.world.proofs.Counting.{uncounted_front, uncounted_kept}
 use Rattle.pstops_cli.specs.Messages.{fault_status}
 use Rattle.sheet_writer.specs.Sinks.{SinkView}
 use Rattle.pstops_cli.specs.RequestRuns.{Ends, IsSaidOf, asked_by, outcome_status}
-use Rattle.pstops_cli.specs.Programs.{CreatesAndRuns, IsCreating, IsSaid, Ran, RunsInto}
+use Rattle.world.specs.declared.rest.Rest.{Rest}
+use Rattle.pstops_cli.specs.Programs.{CreatesAndRuns, IsCreating, IsSaid, Ran}
 use Rattle.pstops_cli.specs.declared.command.Request.{Request}
 use Rattle.pstops_cli.specs.declared.messages.Fault.{Fault}
 use Rattle.pstops_cli.specs.declared.messages.Fault.TheVariants as fault
@@ -41,21 +43,34 @@ ok_at_zero : (ended : Result Report RunError) → outcome_status ended ≡ 0 →
 ok_at_zero (Ok report) zero = refl
 ok_at_zero (Err e) zero = let above = run_status-above e in absurd (omega (arith, above, zero))
 
--- the run finished, and the output's last bytes couldn't be written
-pub cut : (r : Request) (input : List ℕ) (tells : Bool) (start sink : SinkView) (written : Option (List ℕ))
-    (ended : Result Report RunError) (answered status : ℕ) (line line' : List ℕ)
+-- the run ended, and its output, whose bytes are counted, has what was written out
+pub ran : (r : Request) (input : List ℕ) (tells : Bool) (start sink : SinkView) (n : ℕ) (written : Option (List ℕ))
+    (ended : Result Report RunError) (status : ℕ) (line : List ℕ)
     → start.bytes ≡ told_if tells (option_map string_bytes r.outfile) [] → start.failures ≡ 0
-    → Ends (asked_by r input) start sink ended → IsSaidOf r.quiet ended answered line → answered ≡ 0
-    → IsFrontOf written sink.bytes → IsSaid (fault.Run (run.Write 0)) status line'
-    → Ran r input tells written status line'
-cut r input tells start sink written ended answered status line line' began fresh ends of_run zero part said = record {
+    → Ends (asked_by r input) start sink ended → IsFrontOf (counted n written) sink.bytes
+    → (status ≡ 0 → Keeps sink.bytes (counted n written))
+    → IsSaidOf r.quiet ended status line ⊎ (IsOk ended × IsSaid (fault.Run (run.Write 0)) status line)
+    → Ran r input tells written status line
+ran r input tells start sink n written ended status line began fresh ends part whole said = record {
   ended = ended;
   sink = sink;
   ends = subst (λ (s : SinkView). Ends (asked_by r input) s sink ended) (λ i. record { bytes = began i; failures = fresh i }) ends;
-  part = part;
-  whole = λ none. absurd (not_zero status (three_is_said (fault.Run (run.Write 0)) status line' refl said) none);
-  said = inr (ok_at_zero ended (said_zero r.quiet ended answered line zero of_run), said);
+  part = uncounted_front n sink.bytes written part;
+  whole = λ zero. uncounted_kept n sink.bytes written (whole zero);
+  said = said;
 }
+
+-- the run finished, and the output's last bytes couldn't be written
+pub cut : (r : Request) (input : List ℕ) (tells : Bool) (start sink : SinkView) (n : ℕ) (written : Option (List ℕ))
+    (ended : Result Report RunError) (answered status : ℕ) (line line' : List ℕ)
+    → start.bytes ≡ told_if tells (option_map string_bytes r.outfile) [] → start.failures ≡ 0
+    → Ends (asked_by r input) start sink ended → IsSaidOf r.quiet ended answered line → answered ≡ 0
+    → IsFrontOf (counted n written) sink.bytes → IsSaid (fault.Run (run.Write 0)) status line'
+    → Ran r input tells written status line'
+cut r input tells start sink n written ended answered status line line' began fresh ends of_run zero part said =
+    ran r input tells start sink n written ended status line' began fresh ends part
+    (λ none. absurd (not_zero status (three_is_said (fault.Run (run.Write 0)) status line' refl said) none))
+    (inr (ok_at_zero ended (said_zero r.quiet ended answered line zero of_run), said))
 
 carried : (r : Request) (input : List ℕ) (tells : Bool) (written : Option (List ℕ)) (status : ℕ) (line : List ℕ)
     → status ≡ 0 → (h : Ran r input tells written status line)
@@ -75,20 +90,12 @@ ran_carried r input tells written status line zero h (inl of_run) = carried r in
 ran_carried r input tells written status line zero h (inr cut_off) =
     absurd (not_zero status (three_is_said (fault.Run (run.Write 0)) status line refl cut_off.1) zero)
 
-runs_into : (r : Request) (input : List ℕ) (tells : Bool) (written : Option (List ℕ)) (status : ℕ) (line : List ℕ)
-    → status ≡ 0 → RunsInto r input tells written status line
-    → Accepted (asked_by r input) (λ spec us. Appends (told_if tells (option_map string_bytes r.outfile) []) written
-    (output (frame_of r.options) r.options.sides spec us))
-runs_into r input tells written status line zero (inl none) =
-    absurd (not_zero status (three_is_said (fault.Run (run.NoMemory 0)) status line refl none.1) zero)
-runs_into r input tells written status line zero (inr ran) = ran_carried r input tells written status line zero ran ran.said
-
 -- at status 0 the request was carried out
-pub carries_out : (r : Request) (input : List ℕ) (tells has_world has_output : Bool) (written : Option (List ℕ))
+pub carries_out : {W O : Type 0} (r : Request) (input : List ℕ) (tells : Bool) (rest : Rest W O) (written : Option (List ℕ))
     (status : ℕ) (line : List ℕ) → status ≡ 0
-    → CreatesAndRuns r input tells has_world has_output written status line
+    → CreatesAndRuns r input tells rest written status line
     → Accepted (asked_by r input) (λ spec us. Appends (told_if tells (option_map string_bytes r.outfile) []) written
     (output (frame_of r.options) r.options.sides spec us))
-carries_out r input tells hw ho written status line zero (inl h) =
+carries_out r input tells rest written status line zero (inl h) =
     absurd (not_zero status (three_is_said h.0 status line (creating_is_three h.0 h.1) h.2) zero)
-carries_out r input tells hw ho written status line zero (inr h) = runs_into r input tells written status line zero h.1
+carries_out r input tells rest written status line zero (inr h) = ran_carried r input tells written status line zero h.1 h.1.said

@@ -11,6 +11,9 @@ use Rattle.planned_runs.specs.declared.outcome.RunError.TheVariants as run
 use Rattle.sheet_writer.specs.Sinks.{SinkView, fresh_sink}
 use Rattle.world.specs.Outputs.{IsFrontOf, told_if}
 use Rattle.world.specs.Input.{IsFirst, most_bytes}
+use Rattle.world.specs.Rests.{has_output}
+use Rattle.world.specs.declared.rest.Rest.{Rest}
+use Rattle.world.specs.declared.rest.Rest.TheVariants.{World}
 use Rattle.pstops_cli.specs.Command.{Reads, Refuses, Takes, pstops}
 use Rattle.pstops_cli.specs.Messages.{fault_status, fault_text, said}
 use Rattle.pstops_cli.specs.RequestRuns.{Ends, IsSaidOf, asked_by}
@@ -64,35 +67,22 @@ pub record Ran (r : Request) (input : List ℕ) (tells : Bool) (written : Option
   pub said : IsSaidOf r.quiet ended status line
       ⊎ (IsOk ended × IsSaid (fault.Run (run.Write 0)) status line)
 
--- there was no memory for the output's buffer: the output is empty
-abbrev pub FindsNoBuffer : Request → (tells : Bool) → (written : Option (List ℕ)) → (status : ℕ) → (line : List ℕ)
-    → Type 0
-FindsNoBuffer r tells written status line =
-    (written ≡ told_if tells (option_map string_bytes r.outfile) []) × IsSaid (fault.Run (run.NoMemory 0)) status line
-
--- what comes of a request whose output was created
-abbrev pub RunsInto : Request → (input : List ℕ) → (tells : Bool) → (written : Option (List ℕ)) → (status : ℕ)
-    → (line : List ℕ) → Type 0
-RunsInto r input tells written status line =
-    FindsNoBuffer r tells written status line ⊎ Ran r input tells written status line
-
--- the output couldn't be created; or it was, and the request was run
-abbrev pub CreatesAndRuns : Request → (input : List ℕ) → (tells has_world has_output : Bool)
+-- no output could be created, with its buffer; or one was, and the request was run into it
+abbrev pub CreatesAndRuns : {W O : Type 0} → Request → (input : List ℕ) → (tells : Bool) → (rest : Rest W O)
     → (written : Option (List ℕ)) → (status : ℕ) → (line : List ℕ) → Type 0
-CreatesAndRuns r input tells has_world has_output written status line =
-    ((f : Fault) × IsCreating f × IsSaid f status line × (has_world ≡ true) × (has_output ≡ false))
-    ⊎ ((has_world ≡ false) × RunsInto r input tells written status line)
+CreatesAndRuns r input tells rest written status line =
+    ((f : Fault) × IsCreating f × IsSaid f status line × (has_output rest ≡ false))
+    ⊎ ((has_output rest ≡ true) × Ran r input tells written status line)
 
 -- ---- all of it
 
--- How the program ends. It stopped before anything was created, and what was left of the world came back; or it read a
--- request and its input, and either its output couldn't be created, or one was and the request was run.
-abbrev pub EndsProgram : (words : List Text) → Gives → (tells has_world has_output : Bool) → (written : Option (List ℕ))
-    → (status : ℕ) → (line : List ℕ) → Type 0
-EndsProgram words gives tells has_world has_output written status line =
-    ((f : Fault) × StopsBefore words f × IsSaid f status line × (has_world ≡ true) × (has_output ≡ false))
-    ⊎ ((r : Request) × (input : List ℕ) × HasRead words gives r input
-    × CreatesAndRuns r input tells has_world has_output written status line)
+-- How the program ends. It stopped before anything was created, and this very world is back; or it read a request and its
+-- input, and either its output couldn't be created, or one was and the request was run.
+abbrev pub EndsProgram : {W O : Type 0} → (words : List Text) → Gives → (tells : Bool) → (world : W) → (rest : Rest W O)
+    → (written : Option (List ℕ)) → (status : ℕ) → (line : List ℕ) → Type 0
+EndsProgram words gives tells world rest written status line =
+    ((f : Fault) × StopsBefore words f × IsSaid f status line × (rest ≡ World world))
+    ⊎ ((r : Request) × (input : List ℕ) × HasRead words gives r input × CreatesAndRuns r input tells rest written status line)
 
 -- The request that the words make was carried out: the output reports its name and exactly the output defined for the
 -- input.

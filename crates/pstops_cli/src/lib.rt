@@ -13,4 +13,4 @@ pub use messages::{Fault, fault_line};
 pub use program::{ExitReport, pstops};
 pub use request_runs::run_request;
 pub use std::alloc::AllocError as NoMemory;
-pub use world::{MOST_BYTES, ReadFault, ReadSource, Source, SourceFault, read_input};
+pub use world::{MOST_BYTES, ReadFault, ReadSource, Rest, Source, SourceFault, read_input};

@@ -1,10 +1,9 @@
 //! The whole program, over the files and standard streams around it.
-ghost use Rattle.std.specs.Prelude.{◌≡◌, [], Bool, false, is_some, map, option_and_then, option_map, string_bytes};
-ghost use Rattle.std.specs.Prelude.{IfOk, IfErr};
-ghost use Rattle.world.specs.Outputs.{told_if};
+ghost use Rattle.std.specs.Prelude.{◌≡◌, IfOk, IfErr, map, option_map, string_bytes};
 ghost use Rattle.pstops_cli.specs.Programs.{CarriesOut, CreatesAndRuns, EndsProgram, HasRead, IsCreating, IsSaid};
-ghost use Rattle.pstops_cli.specs.Programs.{RunsInto, StopsBefore};
+ghost use Rattle.pstops_cli.specs.Programs.{StopsBefore};
 ghost use Rattle.world.specs.Input.{IsFirst, most_bytes};
+ghost use Rattle.world.specs.Rests.{shown};
 
 use crate::command::{Request, read_command};
 use crate::messages::{Fault, fault_line};
@@ -16,7 +15,7 @@ use std::io;
 use std::io::ErrorKind;
 use std::sync::Wait;
 use std::thread::Threads;
-use world::{ReadFault, ReadSource, World, buffered, read_input, write_out};
+use world::{ReadFault, ReadSource, Rest, World, created, read_input, write_out};
 
 /// How the program ended.
 #[derive(Drop)]
@@ -25,10 +24,8 @@ pub struct ExitReport<W: World> {
     pub status: u8,
     /// The line for standard error, empty if there is none.
     pub line: Vec<u8>,
-    /// What is left of the world, if no output was created in it.
-    pub world: Option<W>,
-    /// The output, if one was created.
-    pub output: Option<W::Output>,
+    /// The world, if no output was created in it, or the output.
+    pub rest: Rest<W, W::Output>,
 }
 
 /// The program: it reads the words after its name, then its input whole, creates its output, runs, and flushes.
@@ -42,15 +39,15 @@ pub fn pstops<R: Threads + Wait + Sync, W: World>(
     world: W,
 ) -> ExitReport<W>
     // It stopped before anything was created; or one output was created, and the request that the words make was run.
-    ensures ended { EndsProgram (map string_bytes words.now) (W.gives world) (W.tells world) (is_some result.world)
-        (is_some result.output) (option_and_then W.Output.contents result.output) result.status result.line.items }
+    ensures ended { EndsProgram (map string_bytes words.now) (W.gives world) (W.tells world) world result.rest
+        (shown W.Output.contents result.rest) result.status result.line.items }
     // Status 0 comes only if exactly the output was written.
     ensures finished { result.status ≡ 0 → CarriesOut (map string_bytes words.now) (W.gives world) (W.tells world)
-        (option_and_then W.Output.contents result.output) }
+        (shown W.Output.contents result.rest) }
 {
     match read(alloc, words, &world) {
         Ok((request, input)) => run_in(rt, alloc, &request, input.as_slice(), world),
-        Err(fault) => stop(alloc, &fault, Some(world), None),
+        Err(fault) => stop(alloc, &fault, Rest::World(world)),
     }
 }
 
@@ -77,7 +74,7 @@ fn input_of<W: World>(alloc: Global, name: Option<&str>, world: &W) -> Result<Ve
     match world.open(name) {
         Ok(input) => {
             let mut source = ReadSource::new(input);
-            read_input(alloc, &mut source)
+            read_input(alloc, 0, &mut source)
         }
         Err(error) if error.kind() == ErrorKind::OutOfMemory => Err(ReadFault::NoMemory),
         Err(_) => Err(ReadFault::Device),
@@ -85,30 +82,22 @@ fn input_of<W: World>(alloc: Global, name: Option<&str>, world: &W) -> Result<Ve
 }
 
 /// Ends with a fault.
-fn stop<W: World>(
-    alloc: Global,
-    fault: &Fault,
-    world: Option<W>,
-    output: Option<W::Output>,
-) -> ExitReport<W>
+fn stop<W: World>(alloc: Global, fault: &Fault, rest: Rest<W, W::Output>) -> ExitReport<W>
     ensures said { IsSaid fault.now result.status result.line.items }
-    ensures world { result.world ≡ world }
-    ensures output { result.output ≡ output }
+    ensures rest { result.rest ≡ rest }
 {
     let (status, line) = match fault_line(alloc, fault) {
         Ok(ending) => ending,
         // Not even the line found memory.
         Err(_) => (3, Vec::new(alloc)),
     };
-    ExitReport {
-        status,
-        line,
-        world,
-        output,
-    }
+    ExitReport { status, line, rest }
 }
 
-/// Creates the output and runs the request into it.
+/// How much of the output is written at once, in bytes, if sheets are smaller.
+const WRITTEN_AT_ONCE: usize = 16_384;
+
+/// Creates the output, runs the request into it, and flushes what it wrote.
 fn run_in<R: Threads + Wait + Sync, W: World>(
     rt: &R,
     alloc: Global,
@@ -116,16 +105,26 @@ fn run_in<R: Threads + Wait + Sync, W: World>(
     input: &[u8],
     world: W,
 ) -> ExitReport<W>
-    ensures ended { CreatesAndRuns request.now input.now (W.tells world) (is_some result.world) (is_some result.output)
-        (option_and_then W.Output.contents result.output) result.status result.line.items }
+    ensures { CreatesAndRuns request.now input.now (W.tells world) result.rest (shown W.Output.contents result.rest)
+        result.status result.line.items }
 {
-    match world.create(name_of(&request.outfile)) {
-        Ok(output) => run_into(rt, alloc, request, input, output),
+    let name = name_of(&request.outfile);
+    let mut sink = match created(alloc, WRITTEN_AT_ONCE, name, world) {
+        Ok(sink) => sink,
         Err(refused) => {
             let fault = fault_of_creating(&refused.cause);
-            stop(alloc, &fault, Some(refused.world), None)
+            return stop(alloc, &fault, Rest::World(refused.world));
         }
+    };
+    let (status, line) = run_request(rt, alloc, request, input, &mut sink);
+    let (is_whole, written) = write_out(sink);
+    let rest = Rest::Output(written.output);
+    if status == 0 && !is_whole {
+        // A failed flush is a failed write, whose line doesn't say how much was written.
+        let fault = Fault::Run(RunError::Write { written: 0 });
+        return stop(alloc, &fault, rest);
     }
+    ExitReport { status, line, rest }
 }
 
 /// Why an output couldn't be created.
@@ -136,44 +135,5 @@ fn fault_of_creating(cause: &io::Error) -> Fault
         Fault::Run(RunError::NoMemory { written: 0 })
     } else {
         Fault::Create
-    }
-}
-
-/// How much of the output is written at once, in bytes, if sheets are smaller.
-const WRITTEN_AT_ONCE: usize = 16_384;
-
-/// Runs the request into an output that was just created, and flushes what it wrote.
-fn run_into<R: Threads + Wait + Sync, W: World>(
-    rt: &R,
-    alloc: Global,
-    request: &Request,
-    input: &[u8],
-    output: W::Output,
-) -> ExitReport<W>
-    ensures created { is_some result.world ≡ false }
-    ensures ran { (tells : Bool)
-        → W.Output.contents output ≡ told_if tells (option_map string_bytes request.now.outfile) []
-        → RunsInto request.now input.now tells (option_and_then W.Output.contents result.output) result.status
-        result.line.items }
-{
-    let mut sink = match buffered(alloc, WRITTEN_AT_ONCE, output) {
-        Ok(sink) => sink,
-        Err(output) => {
-            let fault = Fault::Run(RunError::NoMemory { written: 0 });
-            return stop(alloc, &fault, None, Some(output));
-        }
-    };
-    let (status, line) = run_request(rt, alloc, request, input, &mut sink);
-    let (is_whole, opened) = write_out(sink);
-    if status == 0 && !is_whole {
-        // A failed flush is a failed write, whose line doesn't say how much was written.
-        let fault = Fault::Run(RunError::Write { written: 0 });
-        return stop(alloc, &fault, None, opened.output);
-    }
-    ExitReport {
-        status,
-        line,
-        world: None,
-        output: opened.output,
     }
 }

@@ -1,5 +1,5 @@
 //! Runs of the program over a world in memory, as a case describes it.
-use pstops_cli::pstops;
+use pstops_cli::{Rest, pstops};
 use std::alloc::{AllocError, Global};
 use std::sync::Wait;
 use std::thread::Threads;
@@ -33,7 +33,7 @@ pub(crate) fn ran<R: Threads + Wait + Sync>(
         error: Vec::from_slice(alloc, ended.line.as_slice())?,
         files: Vec::new(alloc),
     };
-    if let Some(output) = &ended.output {
+    if let Rest::Output(Some(output)) = &ended.rest {
         take_output(alloc, &mut found, output)?;
     }
     Ok(Some(found))

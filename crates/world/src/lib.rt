@@ -3,9 +3,9 @@
 
 mod host;
 mod keeping_reader;
-mod opened;
 mod output;
 mod read;
+mod rest;
 mod sink;
 mod source;
 mod told;
@@ -13,10 +13,10 @@ mod world;
 
 pub use host::{Host, HostInput, HostOutput};
 pub use keeping_reader::KeepingReader;
-pub use opened::Opened;
 pub use output::Created;
-pub use read::{MOST_BYTES, ReadFault, read_input, read_input_behind};
-pub use sink::{Buffered, abandon, buffered, created, write_out};
+pub use read::{MOST_BYTES, ReadFault, read_input};
+pub use rest::Rest;
+pub use sink::{Buffered, abandon, created, write_out};
 pub use source::{ReadSource, Source, SourceFault};
 pub use told::tell;
 pub use world::{Refused, World};

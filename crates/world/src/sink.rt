@@ -1,9 +1,8 @@
 //! Where a run writes: an output with a buffer before it.
-ghost use Rattle.std.specs.Prelude.{◌≡◌, [], true, option_map, option_and_then, Some, IfOk, IfErr};
+ghost use Rattle.std.specs.Prelude.{◌≡◌, [], true, option_map, IfOk};
 ghost use Rattle.std.specs.Io.KnownBytes.{Keeps};
 ghost use Rattle.world.specs.Outputs.{IsFrontOf, told_if};
 
-use crate::opened::Opened;
 use crate::output::Created;
 use crate::world::{Refused, World};
 use sheet_writer::{Sink, WriteSink};
@@ -35,25 +34,6 @@ pub fn created<W: World>(
             Ok(WriteSink::new(writer))
         }
         Err(refused) => Err(refused),
-    }
-}
-
-/// An output with a buffer of so many bytes before it. If there is no memory for the buffer it comes back.
-pub fn buffered<O: Write + Drop>(
-    alloc: Global,
-    capacity: usize,
-    output: O,
-) -> Result<Buffered<Opened<O>>, O>
-    ensures told { IfOk result (λ sink. (⟦<WriteSink<BufWriter<Opened<O>>> as Sink>⟧.seen sink).bytes ≡ O.contents output) }
-    ensures fresh { IfOk result (λ sink. (⟦<WriteSink<BufWriter<Opened<O>>> as Sink>⟧.seen sink).failures ≡ 0) }
-    ensures kept { IfErr result (λ back. back ≡ output) }
-{
-    match BufWriter::with_capacity(alloc, capacity, Opened { output: None }) {
-        Ok(mut writer) => {
-            writer.get_mut().output = Some(output);
-            Ok(WriteSink::new(writer))
-        }
-        Err(_) => Err(output),
     }
 }
 

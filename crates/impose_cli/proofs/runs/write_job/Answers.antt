@@ -1,6 +1,6 @@
 use Rattle.std.proofs.Common.{ap, option_and_then, option_map, refl, subst, sym}
 use Rattle.impose_cli.specs.Endings.{TellsCount, shown}
-use Rattle.impose_cli.specs.declared.left.Rest.TheVariants.{Output}
+use Rattle.world.specs.declared.rest.Rest.TheVariants.{Output}
 use Rattle.planned_runs.specs.declared.outcome.Report.{Report}
 use Rattle.impose_cli.proofs.Coming.{job_broken_off, said_count, job_uncreated, job_unwritten, job_written}
 use Rattle.impose_cli.proofs.runs.write_job.Goals as goal

@@ -3,5 +3,5 @@ use Rattle.impose_said.proofs.Lines.{reach_told}
 use Rattle.impose_said.proofs.reports.reach_text.Goals as goal
 
 pub returns : goal.returns
-returns c = reach_told c.args.done.now.reach c.in-Some.reach c.page_number-page.result c.as_str-edges.result.now c.as_str-placed.result.now
-    c.as_str-others.result.now (string_bytes c.in_ok-format.field-0) (search rules) c.page_number-page.ensures (search rules) (search rules) (search rules) (search rules)
+returns c = reach_told c.args.done.now.reach c.in-Some.reach c.page_number-page.result (string_bytes c.in_ok-edges.edges) (string_bytes c.in_ok-placed.placed)
+    (string_bytes c.in_ok-others.others) (string_bytes c.in_ok-format.field-0) (search rules) c.page_number-page.ensures (search rules) (search rules) (search rules) (search rules)

@@ -4,8 +4,8 @@ use Rattle.impose_said.proofs.said.text_of_run.Goals as goal
 
 pub returns : goal.returns
 returns c = seven_lines c.args.done.now c.args.request.now c.report_text.result c.unknown_text.result c.cut_text.result c.reach_text.result c.behind_text.result
-    c.told_text.result c.note_text.result c.ok.result c.unwrap_or.result c.unwrap_or-2.result c.unwrap_or-3.result c.unwrap_or-4.result c.unwrap_or-5.result c.unwrap_or-6.result (string_bytes c.new-said.result)
+    c.told_text.result c.note_text.result c.ok.result (string_bytes c.new-said.result)
     (string_bytes c.add_line.new.said) (string_bytes c.add_line-2.new.said) (string_bytes c.add_line-3.new.said) (string_bytes c.add_line-4.new.said)
     (string_bytes c.add_line-5.new.said) (string_bytes c.add_line-6.new.said) (string_bytes c.add_line-7.new.said) c.if-request.false c.report_text.ensures c.unknown_text.ensures c.cut_text.ensures c.reach_text.ensures
-    c.behind_text.ensures c.told_text.ensures c.note_text.ensures c.ok.ensures.value c.unwrap_or.ensures c.unwrap_or-2.ensures c.unwrap_or-3.ensures c.unwrap_or-4.ensures c.unwrap_or-5.ensures c.unwrap_or-6.ensures
-    c.new-said.ensures.bytes c.add_line.ensures c.add_line-2.ensures c.add_line-3.ensures c.add_line-4.ensures c.add_line-5.ensures c.add_line-6.ensures c.add_line-7.ensures
+    c.behind_text.ensures c.told_text.ensures c.note_text.ensures c.ok.ensures.value c.new-said.ensures.bytes
+    c.add_line.ensures c.add_line-2.ensures c.add_line-3.ensures c.add_line-4.ensures c.add_line-5.ensures c.add_line-6.ensures c.add_line-7.ensures

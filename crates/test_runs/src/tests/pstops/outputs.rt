@@ -1,7 +1,7 @@
 //! The whole program over a world in memory: how many inputs it opens, and outputs that fail at any byte.
 use super::words_of;
 use crate::tests::checks::{assert_bytes, assert_that};
-use pstops_cli::{ExitReport, pstops};
+use pstops_cli::{ExitReport, Rest, pstops};
 use std::alloc::{AllocError, Global};
 use std::io::{self, ErrorKind, Write};
 use std::process::Abort;
@@ -48,7 +48,7 @@ fn assert_stopped<R: Threads + Wait + Abort + Sync>(
     let opened = AtomicU32::new(0);
     let end = ended(rt, alloc, words, ONE_PAGE, AMPLE, &opened)?;
     assert_that(rt, end.status == status && opened.load(SeqCst) == inputs);
-    assert_that(rt, end.world.is_some() && end.output.is_none());
+    assert_that(rt, matches!(end.rest, Rest::World(_)));
     Ok(())
 }
 
@@ -84,7 +84,7 @@ fn assert_status<R: Threads + Wait + Abort + Sync>(
 ) -> Result<(), AllocError> {
     let opened = AtomicU32::new(0);
     let end = ended(rt, alloc, "0 in.ps out.ps", ONE_PAGE, takes, &opened)?;
-    assert_that(rt, end.output.is_some() == (status == 0));
+    assert_that(rt, matches!(end.rest, Rest::Output(_)) == (status == 0));
     let told = tell(&mut Closed {}, end.line.as_slice(), end.status);
     assert_that(rt, told == status);
     Ok(())
@@ -116,9 +116,9 @@ fn assert_cut_off<R: Threads + Wait + Abort + Sync>(
     };
     assert_that(rt, end.status == status);
     assert_bytes(rt, end.line.as_slice(), line.as_bytes());
-    match &end.output {
-        Some(output) => assert_bytes(rt, output.bytes.as_slice(), first),
-        None => assert_that(rt, false),
+    match &end.rest {
+        Rest::Output(Some(output)) => assert_bytes(rt, output.bytes.as_slice(), first),
+        _ => assert_that(rt, false),
     }
     Ok(())
 }
