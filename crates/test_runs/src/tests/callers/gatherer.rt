@@ -5,63 +5,73 @@ ghost use Rattle.gather_table.specs.Shared.{IsSeatOf};
 ghost use Rattle.handover.specs.Passes.{IsPassOf};
 
 use super::tables::mark_checked;
+use crate::tests::table_and_shelf;
 use gather_table::{GatherTable, Published, Reply, Seat};
 use handover::{Full, Pass, Prepared, Ready, Shelf};
 use imposer::{DeliverError, Delivered, ImposeError, Imposed, Job, deliver, impose, sheet_text};
 use run_steps::{Answers, Delivery, is_complete};
 use std::alloc::{AllocError, Global};
 use std::sync::Wait;
+use std::test::Fail;
 
 /// Gathers the pages of a job. The table is one of the job's plan.
 #[derive(Drop)]
 pub(crate) struct Gatherer<'s, 'j, 't, 'd> {
     pub(crate) job: &'s Job<'j, 'd>,
-    pub(crate) table: &'s GatherTable<'t>,
+    table: &'s GatherTable<'t>,
     pub(crate) shelf: &'s Shelf<'d>,
-    pub(crate) ready: &'s Ready,
-    pub(crate) seat: Seat,
-    pub(crate) pass: Pass,
+    ready: &'s Ready,
+    seat: Seat,
+    pass: Pass,
     ghost same_plan: { table.now.layout ≡ layout job.now.plan },
     ghost seated: { IsSeatOf table.now seat },
     ghost passed: { IsPassOf ready.now pass },
 }
 
-/// One with this seat and this pass.
-pub(crate) fn gatherer_of<'s, 'j, 't, 'd>(
-    job: &'s Job<'j, 'd>,
-    table: &'s GatherTable<'t>,
-    shelf: &'s Shelf<'d>,
-    ready: &'s Ready,
-    seat: Seat,
-    pass: Pass,
-) -> Gatherer<'s, 'j, 't, 'd>
-    requires plan { table.now.layout ≡ layout job.now.plan }
-    requires seat { IsSeatOf table.now seat }
-    requires pass { IsPassOf ready.now pass }
-{
-    Gatherer {
+/// What a test does with one who gathers a job, and what it comes to.
+pub(crate) trait Gathers<R, A> {
+    fn gather(
+        &self,
+        rt: &R,
+        alloc: Global,
+        gatherer: Gatherer<'_, '_, '_, '_>,
+    ) -> Result<A, Fail>;
+}
+
+/// Does this with one who gathers this job, with room for so many sheets in the queue.
+pub(crate) fn with_gatherer<A, R, G: Gathers<R, A>>(
+    rt: &R,
+    alloc: Global,
+    job: &Job<'_, '_>,
+    room: u32,
+    test: &G,
+) -> Result<A, Fail> {
+    let (ready, pass) = Ready::new(alloc, room.max(1))?;
+    let (table, seat, shelf) = table_and_shelf(alloc, job)?;
+    let gatherer = Gatherer {
         job,
-        table,
-        shelf,
-        ready,
+        table: &table,
+        shelf: &shelf,
+        ready: &ready,
         seat,
         pass,
-    }
+    };
+    test.gather(rt, alloc, gatherer)
 }
 
 impl<'s, 'j, 't, 'd> Gatherer<'s, 'j, 't, 'd> {
-    /// Delivers a page. None for one that the job doesn't have.
+    /// Delivers a page. Refused also for one that the job doesn't have.
     pub(crate) fn deliver<R: Wait>(
         &mut self,
         rt: &R,
         alloc: Global,
         prepared: Prepared<'d>,
-    ) -> Option<Result<Delivered<'d>, DeliverError<'d>>> {
+    ) -> Result<Delivered<'d>, DeliverError<'d>> {
         let plan = self.job.plan();
         if prepared.page() >= plan.pages() {
-            return None;
+            return Err(DeliverError::NoMemory(prepared));
         }
-        Some(deliver(
+        deliver(
             rt,
             alloc,
             &mut self.seat,
@@ -71,7 +81,7 @@ impl<'s, 'j, 't, 'd> Gatherer<'s, 'j, 't, 'd> {
             self.ready,
             plan,
             prepared,
-        ))
+        )
     }
 
     /// The same with memory for its answers that an earlier delivery leaves.
@@ -80,10 +90,10 @@ impl<'s, 'j, 't, 'd> Gatherer<'s, 'j, 't, 'd> {
         rt: &R,
         prepared: Prepared<'d>,
         answers: Answers,
-    ) -> Option<Result<Delivered<'d>, DeliverError<'d>>> {
+    ) -> Result<Delivered<'d>, DeliverError<'d>> {
         let plan = self.job.plan();
         if prepared.page() >= plan.pages() {
-            return None;
+            return Err(DeliverError::NoMemory(prepared));
         }
         let delivery = Delivery {
             plan,
@@ -92,7 +102,7 @@ impl<'s, 'j, 't, 'd> Gatherer<'s, 'j, 't, 'd> {
             ready: self.ready,
             as_own: false,
         };
-        Some(delivery.deliver(rt, &mut self.seat, &mut self.pass, prepared, answers))
+        delivery.deliver(rt, &mut self.seat, &mut self.pass, prepared, answers)
     }
 
     /// Prepares a page of the document. Refused also for a page that isn't there.
@@ -116,8 +126,8 @@ impl<'s, 'j, 't, 'd> Gatherer<'s, 'j, 't, 'd> {
     ) -> Result<Delivered<'d>, AllocError> {
         let prepared = self.prepare(alloc, page)?;
         match self.deliver(rt, alloc, prepared) {
-            Some(Ok(delivered)) => Ok(delivered),
-            _ => Err(AllocError),
+            Ok(delivered) => Ok(delivered),
+            Err(_) => Err(AllocError),
         }
     }
 

@@ -1,8 +1,9 @@
 //! Whole runs and gatherings, over a sink that was made before.
-ghost use Rattle.std.specs.Prelude.{◌<◌};
-
+use super::refuse_in_threads;
 use crate::tests::checks::assert_that;
-use crate::tests::{Trial, gather_pairs, large_pages, run_into};
+use crate::tests::gatherings::Way;
+use crate::tests::jobs::with_job;
+use crate::tests::{Trial, large_pages, run_into};
 use imposer::{Gate, MemorySink, Open, RunError, Step, Workers};
 use std::alloc::{AllocError, Global};
 use std::process::Abort;
@@ -10,7 +11,9 @@ use std::sync::Wait;
 use std::test::Fail;
 use std::thread;
 use std::thread::Threads;
-use test_tools::{BOOKLET, MOST_GROWTHS, TWO_UP, document_of, has_refused, refuse};
+use test_tools::{
+    BOOKLET, MOST_GROWTHS, Refused, TWO_UP, document_of, has_refused, refuse, two_up_output,
+};
 
 /// More bytes than a run here writes.
 const ROOM: usize = 2_000_000;
@@ -33,7 +36,7 @@ impl Gate for Late {
 
 /// What came of a run or a gathering: how many bytes it says that were written, None if it finished, and whether a growth
 /// was refused.
-#[derive(Clone, Copy, PartialEq, Eq)]
+#[derive(Clone, Copy)]
 struct Ended {
     written: Option<u64>,
     is_refused: bool,
@@ -78,85 +81,60 @@ fn is_right(holds: bool, ended: Ended) -> bool {
     }
 }
 
-/// Runs with the growth of this number refused: whether one was.
-fn refuse_one<R: Threads + Wait + Abort + Sync, G: Gate + Sync>(
-    rt: &R,
-    alloc: Global,
-    number: u32,
-    trial: &Trial<'_>,
-    gate: &G,
-    (output, holds): (&[u8], bool),
-) -> Result<bool, AllocError> {
-    let (sink, ended) = run_refused(rt, alloc, number, trial, gate)?;
-    assert_that(rt, is_written(output, &sink, ended.written));
-    assert_that(rt, is_right(holds, ended));
-    Ok(ended.is_refused)
+/// A run whose output is this one, and whether it holds sheets.
+#[derive(Drop)]
+struct Run<'a, G> {
+    trial: &'a Trial<'a>,
+    gate: &'a G,
+    output: &'a [u8],
+    holds: bool,
 }
 
-/// How many growths after one another weren't refused, with one more, which was or wasn't.
-fn unrefused_after(unrefused: u32, is_refused: bool) -> u32 {
-    if is_refused {
-        0
-    } else {
-        unrefused.saturating_add(1)
+impl<'a, R: Threads + Wait + Abort + Sync, G: Gate + Sync> Refused<R> for Run<'a, G> {
+    fn refuse(&self, rt: &R, alloc: Global, number: u32) -> Result<bool, Fail> {
+        let (sink, ended) = run_refused(rt, alloc, number, self.trial, self.gate)?;
+        assert_that(rt, is_written(self.output, &sink, ended.written));
+        assert_that(rt, is_right(self.holds, ended));
+        Ok(ended.is_refused)
     }
 }
 
-/// Each growth of the run is refused in turn. Threads grow what they grow in any order, so the end is where none of
-/// some numbers after one another was refused.
+/// Each growth of the run is refused in turn.
 fn refuse_each<R: Threads + Wait + Abort + Sync, G: Gate + Sync>(
     rt: &R,
     alloc: Global,
     trial: &Trial<'_>,
     gate: &G,
     holds: bool,
-) -> Result<(), AllocError> {
-    let (output, ended) = run_refused(rt, alloc, MOST_GROWTHS, trial, gate)?;
+) -> Result<(), Fail> {
+    let (sink, ended) = run_refused(rt, alloc, MOST_GROWTHS, trial, gate)?;
     assert_that(rt, !ended.is_refused);
-    let wanted = (output.bytes(), holds);
-    let mut unrefused = 0u32;
-    for number in 1..MOST_GROWTHS {
-        if unrefused < 4 {
-            let is_refused = refuse_one(rt, alloc, number, trial, gate, wanted)?;
-            unrefused = unrefused_after(unrefused, is_refused);
-        }
-    }
-    assert_that(rt, unrefused == 4);
-    Ok(())
-}
-
-/// The same of a run over so many pages.
-fn refuse_pages<R: Threads + Wait + Abort + Sync>(
-    rt: &R,
-    alloc: Global,
-    pages: u32,
-    items: &str,
-    counts: (u32, u32),
-) -> Result<(), AllocError> {
-    let document = document_of(alloc, pages)?;
-    let trial = Trial {
-        document: &document,
-        items,
-        counts,
+    let run = Run {
+        trial,
+        gate,
+        output: sink.bytes(),
+        holds,
     };
-    refuse_each(rt, alloc, &trial, &Open, false)
+    refuse_in_threads(rt, alloc, &run)
 }
 
 #[test]
-fn runs_by_few(rt: HostRuntime) -> Result<(), Fail> {
+fn runs_by_few_and_by_many(rt: HostRuntime) -> Result<(), Fail> {
     for (pages, items, counts) in [
         (2, TWO_UP, (1, 1)),
         (5, BOOKLET, (1, 1)),
         (8, TWO_UP, (2, 3)),
+        (8, TWO_UP, (16, 16)),
     ] {
-        refuse_pages(&rt, rt.alloc(), pages, items, counts)?;
+        let document = document_of(rt.alloc(), pages)?;
+        let trial = Trial {
+            document: &document,
+            items,
+            counts,
+        };
+        refuse_each(&rt, rt.alloc(), &trial, &Open, false)?;
     }
     Ok(())
-}
-
-#[test]
-fn runs_by_many(rt: HostRuntime) -> Result<(), Fail> {
-    Ok(refuse_pages(&rt, rt.alloc(), 8, TWO_UP, (16, 16))?)
 }
 
 // Eight sheets of twelve lie in the window, of those with pages of 90,000 bytes.
@@ -181,7 +159,7 @@ fn refuse_first_last<R: Threads + Wait + Abort + Sync>(
     alloc: Global,
     document: &str,
     late: &[(u32, u32)],
-) -> Result<(), AllocError> {
+) -> Result<(), Fail> {
     let backward = Trial {
         document,
         items: "-0",
@@ -199,65 +177,55 @@ fn refuse_first_last<R: Threads + Wait + Abort + Sync>(
     Ok(())
 }
 
-// Two sheets of six lie in the window.
+// Two sheets of six lie in the window; or seventeen of 24, and an imposer sends two of them together.
 #[test]
 fn runs_whose_first_sheet_comes_last(rt: HostRuntime) -> Result<(), Fail> {
     let huge = large_pages(rt.alloc(), 6, 33_333)?;
     refuse_first_last(&rt, rt.alloc(), &huge, &[(2, 1), (3, 2)])?;
-    Ok(())
-}
-
-// Seventeen sheets of 24 lie in the window, and an imposer sends two of them together.
-#[test]
-fn runs_whose_sheets_go_together(rt: HostRuntime) -> Result<(), Fail> {
     let large = large_pages(rt.alloc(), 24, 5_000)?;
-    refuse_first_last(&rt, rt.alloc(), &large, &[(2, 1)])?;
-    Ok(())
+    refuse_first_last(&rt, rt.alloc(), &large, &[(2, 1)])
 }
 
-/// Gathers the pages of a document with the growth of this number refused: whether one was. What the sink has are the
-/// first bytes of this output, and the tokens come back if all went well.
-fn gather_refused<R: Threads + Wait + Abort + Sync>(
-    rt: &R,
-    alloc: Global,
-    number: u32,
-    text: &str,
-    output: &[u8],
-) -> Result<bool, Fail> {
-    let mut sink = MemorySink::new(alloc, ROOM, ROOM, 1_000)?;
-    let workers = Workers {
-        preparers: 2,
-        imposers: 3,
-    };
-    let gathering = gather_pairs(rt, alloc, text, workers, Some(number), &mut sink)?;
-    let is_refused = has_refused(alloc);
-    let written = match gathering.outcome {
-        Ok(_) => None,
-        Err(RunError::NoMemory { written }) => Some(written),
-        Err(_) => return Err(AllocError)?,
-    };
-    assert_that(rt, is_written(output, &sink, written));
-    assert_that(rt, written.is_some() == is_refused);
-    assert_that(rt, gathering.shares.is_some() == !is_refused);
-    Ok(is_refused)
+/// Gathers the pages of a document, two a sheet. What the sink has are the first bytes of this output, and the tokens come
+/// back if all went well.
+#[derive(Drop)]
+struct Gathered<'a> {
+    text: &'a str,
+    output: &'a [u8],
+}
+
+impl<'a, R: Threads + Wait + Abort + Sync> Refused<R> for Gathered<'a> {
+    fn refuse(&self, rt: &R, alloc: Global, number: u32) -> Result<bool, Fail> {
+        let way = Way {
+            workers: Workers {
+                preparers: 2,
+                imposers: 3,
+            },
+            room: ROOM,
+            puts: None,
+            refused: number,
+        };
+        let gathering = with_job(rt, alloc, self.text, TWO_UP, &way)?;
+        let is_refused = has_refused(alloc);
+        let written = match gathering.outcome {
+            Ok(_) => None,
+            Err(RunError::NoMemory { written }) => Some(written),
+            Err(_) => return Err(AllocError)?,
+        };
+        assert_that(rt, is_written(self.output, &gathering.sink, written));
+        assert_that(rt, written.is_some() == is_refused);
+        assert_that(rt, gathering.shares.is_some() == !is_refused);
+        Ok(is_refused)
+    }
 }
 
 #[test]
 fn gatherings(rt: HostRuntime) -> Result<(), Fail> {
     let text = document_of(rt.alloc(), 8)?;
-    let trial = Trial {
-        document: &text,
-        items: TWO_UP,
-        counts: (1, 1),
+    let output = two_up_output(rt.alloc(), 4)?;
+    let gathered = Gathered {
+        text: &text,
+        output: output.as_bytes(),
     };
-    let (output, _) = run_refused(&rt, rt.alloc(), MOST_GROWTHS, &trial, &Open)?;
-    let mut unrefused = 0u32;
-    for number in 1..MOST_GROWTHS {
-        if unrefused < 4 {
-            let is_refused = gather_refused(&rt, rt.alloc(), number, &text, output.bytes())?;
-            unrefused = unrefused_after(unrefused, is_refused);
-        }
-    }
-    assert_that(&rt, unrefused == 4);
-    Ok(())
+    refuse_in_threads(&rt, rt.alloc(), &gathered)
 }

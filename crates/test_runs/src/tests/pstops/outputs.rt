@@ -125,7 +125,7 @@ fn assert_cut_off<R: Threads + Wait + Abort + Sync>(
 
 #[test]
 fn a_writer_that_fails_at_any_byte(rt: HostRuntime) -> Result<(), Fail> {
-    let output = one_up_output(rt.alloc(), "")?;
+    let output = one_up_output(rt.alloc())?;
     for most in 0..=274usize {
         assert_cut_off(&rt, rt.alloc(), ONE_PAGE, &output, most)?;
     }
@@ -136,7 +136,7 @@ fn a_writer_that_fails_at_any_byte(rt: HostRuntime) -> Result<(), Fail> {
 #[test]
 fn a_writer_that_fails_within_a_long_sheet(rt: HostRuntime) -> Result<(), Fail> {
     let document = with_lines(rt.alloc(), ONE_PAGE, 5_000)?;
-    let sheet = with_lines(rt.alloc(), &one_up_output(rt.alloc(), "")?, 5_000)?;
+    let sheet = with_lines(rt.alloc(), &one_up_output(rt.alloc())?, 5_000)?;
     for most in [0, 1, 16_384, 20_000, 40_264, 40_265] {
         assert_cut_off(&rt, rt.alloc(), &document, &sheet, most)?;
     }
