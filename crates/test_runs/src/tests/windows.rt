@@ -37,9 +37,9 @@ pub(super) fn six_pages(alloc: Global) -> Result<String, AllocError> {
 
 /// What a run's threads show each other here.
 #[derive(Drop)]
-struct Words {
+pub(super) struct Words {
     /// How many bytes the sink took.
-    accepted: AtomicUsize,
+    pub(super) accepted: AtomicUsize,
     /// How many calls the sink refused.
     refused: AtomicUsize,
     /// How many pages were delivered.
@@ -47,13 +47,13 @@ struct Words {
     /// How many sheets are being imposed or were.
     imposed: AtomicUsize,
     /// How many waits ran out.
-    run_out: AtomicUsize,
+    pub(super) run_out: AtomicUsize,
     /// How many sheets were imposed too far before their turn.
     too_early: AtomicUsize,
 }
 
 impl Words {
-    fn new() -> Self {
+    pub(super) fn new() -> Self {
         Words {
             accepted: AtomicUsize::new(0),
             refused: AtomicUsize::new(0),
@@ -65,21 +65,21 @@ impl Words {
     }
 
     /// Waits until the word is so high, or any wait ran out.
-    fn wait_for(&self, word: &AtomicUsize, height: usize) {
+    pub(super) fn wait_for(&self, word: &AtomicUsize, height: usize) {
         wait_for(word, height, &self.run_out);
     }
 }
 
 /// Takes so many bytes and then fails. Others can read how many it took.
 #[derive(Drop)]
-struct LimitedSink<'w> {
+pub(super) struct LimitedSink<'w> {
     words: &'w Words,
     room: usize,
     failures: u64,
 }
 
 impl<'w> LimitedSink<'w> {
-    fn new(words: &'w Words, room: usize) -> Self
+    pub(super) fn new(words: &'w Words, room: usize) -> Self
         ensures { result.failures ≡ 0 }
     {
         LimitedSink {
