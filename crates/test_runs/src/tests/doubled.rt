@@ -26,17 +26,6 @@ struct Sizes {
     places: u32,
 }
 
-/// What is done once: a page is stored, a slot marked, counted over all sheets, a group filled, counted so too, and a sheet
-/// completed and imposed.
-#[derive(Clone, Copy)]
-enum Deed {
-    Stores(u32),
-    Marks(u32),
-    Fills(u32),
-    Completes(u32),
-    Imposes(u32),
-}
-
 impl Sizes {
     fn all_slots(self) -> u32 {
         self.sheets.saturating_mul(self.slots)
@@ -54,25 +43,18 @@ impl Sizes {
             0
         }
     }
-
-    /// The number of a deed among all of them.
-    fn number_of(self, deed: Deed) -> usize {
-        let marks = self.pages();
-        let fills = marks.saturating_add(self.all_slots());
-        let completes = fills.saturating_add(self.groups());
-        let imposes = completes.saturating_add(self.sheets);
-        let number = match deed {
-            Deed::Stores(page) => page,
-            Deed::Marks(slot) => marks.saturating_add(slot),
-            Deed::Fills(group) => fills.saturating_add(group),
-            Deed::Completes(sheet) => completes.saturating_add(sheet),
-            Deed::Imposes(sheet) => imposes.saturating_add(sheet),
-        };
-        number as usize
-    }
 }
 
-/// What is done by all callers, and how often. What goes wrong counts as something that isn't to be done.
+/// From which numbers on deeds are counted: of pages that are stored, of slots that are marked and groups that are filled,
+/// numbered over all sheets, of sheets that are completed and imposed, and what goes wrong.
+const STORED: usize = 0;
+const MARKED: usize = 1_000;
+const FILLED: usize = 2_000;
+const COMPLETED: usize = 3_000;
+const IMPOSED: usize = 4_000;
+const WRONG: usize = 5_000;
+
+/// What is done by all callers, and how often.
 #[derive(Drop)]
 struct Done {
     sizes: Sizes,
@@ -85,37 +67,33 @@ impl Done {
     fn nothing(alloc: Global, sizes: Sizes) -> Result<Done, AllocError> {
         Ok(Done {
             sizes,
-            deeds: Tally::new(alloc, sizes.number_of(Deed::Imposes(sizes.sheets)))?,
+            deeds: Tally::new(alloc, WRONG)?,
             closings: AtomicUsize::new(0),
         })
     }
 
-    fn add(&self, deed: Deed) {
-        self.deeds.add(self.sizes.number_of(deed));
-    }
-
-    fn add_wrong(&self) {
-        self.deeds.add(usize::MAX);
+    fn add(&self, deed: usize, number: u32) {
+        self.deeds.add(deed.saturating_add(number as usize));
     }
 
     /// Adds what a mark of this slot, on this sheet, was answered.
     fn add_reply(&self, slot: u32, sheet: u32, reply: Reply) {
         match reply {
             Reply::Repeated => return,
-            Reply::Completing => self.add(Deed::Completes(sheet)),
+            Reply::Completing => self.add(COMPLETED, sheet),
             Reply::Fills(group) => {
                 let first = sheet.saturating_mul(2);
-                self.add(Deed::Fills(first.saturating_add(u32::from(group))));
+                self.add(FILLED, first.saturating_add(u32::from(group)));
             }
             Reply::Fresh => (),
         }
-        self.add(Deed::Marks(slot));
+        self.add(MARKED, slot);
     }
 
     /// Adds what a delivery of this page was answered.
     fn add_delivery(&self, page: u32, delivered: &Delivered<'_>) {
         if delivered.published == Published::Stored {
-            self.add(Deed::Stores(page));
+            self.add(STORED, page);
         }
         let mut slot = page.saturating_mul(self.sizes.places);
         let sheet = slot.checked_div(self.sizes.slots).unwrap_or(0);
@@ -126,7 +104,7 @@ impl Done {
         for closing in delivered.closings.as_slice() {
             self.closings.fetch_add(1, SeqCst);
             if *closing == Closing::Completing {
-                self.add(Deed::Completes(sheet));
+                self.add(COMPLETED, sheet);
             }
         }
     }
@@ -141,14 +119,14 @@ impl Done {
         page: u32,
     ) {
         let Ok(delivered) = gatherer.deliver_page(rt, alloc, page) else {
-            return self.add_wrong();
+            return self.add(WRONG, page);
         };
         let index = match delivered.published {
             Published::Stored => delivered.receipt.index(),
             Published::Held(index) => index,
         };
         if gatherer.page_at(page) != Some(index) || !delivered.handed_back.is_empty() {
-            self.add_wrong();
+            self.add(WRONG, page);
         }
         self.add_delivery(page, &delivered);
     }
@@ -183,17 +161,31 @@ impl Done {
         for _ in 0..self.sizes.sheets {
             if let Some(sheet) = gatherer.take(rt) {
                 if matches!(outcome_of(alloc, gatherer, sheet), Ok(Outcome::Imposed)) {
-                    self.add(Deed::Imposes(sheet));
+                    self.add(IMPOSED, sheet);
                 }
             }
         }
         gatherer.take(rt).is_none()
     }
 
-    /// Whether each page is stored once, each slot marked, each group filled, each sheet completed and imposed, and as many
-    /// groups are closed as there are.
+    /// Whether each page is stored once, each slot marked, each group filled, each sheet completed and imposed, as many groups
+    /// are closed as there are, and nothing goes wrong.
     fn is_each_once(&self) -> bool {
-        self.deeds.is_each_once() && self.closings.load(SeqCst) == self.sizes.groups() as usize
+        let sizes = self.sizes;
+        let mut all = 0usize;
+        for (deed, count) in [
+            (STORED, sizes.pages()),
+            (MARKED, sizes.all_slots()),
+            (FILLED, sizes.groups()),
+            (COMPLETED, sizes.sheets),
+            (IMPOSED, sizes.sheets),
+        ] {
+            if !self.deeds.are_once(deed, count as usize) {
+                return false;
+            }
+            all = all.saturating_add(count as usize);
+        }
+        self.deeds.all() == all && self.closings.load(SeqCst) == sizes.groups() as usize
     }
 }
 

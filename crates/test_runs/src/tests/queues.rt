@@ -80,9 +80,7 @@ impl<'q> Worker<'q> {
                 break;
             }
             match self.take(rt) {
-                Some(sheet) => {
-                    taken.add(sheet as usize);
-                }
+                Some(sheet) => taken.add(sheet as usize),
                 None => thread::yield_now(),
             }
         }
@@ -132,7 +130,7 @@ fn no_sheet_is_lost_or_doubled(rt: HostRuntime) -> Result<(), Fail> {
         },
     ];
     work_apart(&rt, &mut workers, &taken);
-    assert_that(&rt, taken.is_each_once());
+    assert_that(&rt, taken.are_once(0, 200) && taken.all() == 200);
     assert_that(&rt, ready.take(&rt, &mut pass).is_none());
     Ok(())
 }

@@ -23,12 +23,12 @@ impl Tally {
         })
     }
 
-    /// A number came. Returns how many came before it.
-    pub(super) fn add(&self, number: usize) -> usize {
+    /// A number came.
+    pub(super) fn add(&self, number: usize) {
         if let Some(count) = self.counts.as_slice().get(number) {
             count.fetch_add(1, SeqCst);
         }
-        self.all.fetch_add(1, SeqCst)
+        self.all.fetch_add(1, SeqCst);
     }
 
     /// How many numbers came.
@@ -36,13 +36,14 @@ impl Tally {
         self.all.load(SeqCst)
     }
 
-    /// Whether each number below the end came once, and no other one did.
-    pub(super) fn is_each_once(&self) -> bool {
-        for count in self.counts.as_slice() {
-            if count.load(SeqCst) != 1 {
-                return false;
+    /// Whether of so many numbers from this one on each came once.
+    pub(super) fn are_once(&self, first: usize, count: usize) -> bool {
+        for place in 0..count {
+            match self.counts.as_slice().get(first.saturating_add(place)) {
+                Some(times) if times.load(SeqCst) == 1 => (),
+                _ => return false,
             }
         }
-        self.all() == self.counts.len()
+        true
     }
 }
