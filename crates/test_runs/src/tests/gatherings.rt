@@ -44,10 +44,9 @@ fn queue_for(
     ensures pass { IfOk result (λ made. IsFreshPass made.0 made.1) }
     ensures room { IfOk result (λ made. length job.now.plan.sheets ≤ made.0.capacity) }
 {
-    let sheets = job.sheets().max(1);
     match puts {
-        Some(puts) => Ready::by_right(alloc, puts.max(sheets)),
-        None => Ready::new(alloc, sheets),
+        Some(puts) => Ready::by_right(alloc, puts.max(job.sheets()).max(1)),
+        None => Ready::new(alloc, job.sheets().max(1)),
     }
 }
 
