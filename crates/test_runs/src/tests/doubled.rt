@@ -48,10 +48,15 @@ impl Sizes {
 /// From which numbers on deeds are counted: of pages that are stored, of slots that are marked and groups that are filled,
 /// numbered over all sheets, of sheets that are completed and imposed, and what goes wrong.
 const STORED: usize = 0;
+
 const MARKED: usize = 1_000;
+
 const FILLED: usize = 2_000;
+
 const COMPLETED: usize = 3_000;
+
 const IMPOSED: usize = 4_000;
+
 const WRONG: usize = 5_000;
 
 /// What is done by all callers, and how often.

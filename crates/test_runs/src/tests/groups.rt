@@ -231,7 +231,10 @@ fn two_groups<R: Abort>(
     };
     let counts = write_two_groups(alloc, job, bodies, &mut given_back, &mut sink)?;
     assert_that(rt, counts == [(1, 0), (4, 6)]);
-    assert_that(rt, given_back.sheets.as_slice() == [0, 2, END, 1, 3, END].as_slice());
+    assert_that(
+        rt,
+        given_back.sheets.as_slice() == [0, 2, END, 1, 3, END].as_slice(),
+    );
     assert_that(rt, given_back.bytes == sink.bytes().len());
     Ok(sink)
 }
@@ -251,7 +254,10 @@ fn assert_rest<R: Abort>(
     let rest = write_rest(alloc, job, &mut sink, START, &early, trailer.as_slice());
     assert_that(rt, rest.halted.is_none());
     assert_that(rt, (rest.swept as usize).saturating_add(came.len()) == 4);
-    assert_that(rt, sink.bytes().strip_suffix(b"%%Trailer\n%%EOF\n") == Some(sheets));
+    assert_that(
+        rt,
+        sink.bytes().strip_suffix(b"%%Trailer\n%%EOF\n") == Some(sheets),
+    );
     Ok(())
 }
 

@@ -27,9 +27,15 @@ fn texts_written_out(rt: HostRuntime) -> Result<(), Fail> {
     assert_that(&rt, document_of(rt.alloc(), 2)?.as_str() == TWO_PAGES);
     let long = with_lines(rt.alloc(), ONE_PAGE, 2)?;
     let body = "(0) pop\n(0) pop\nshowpage\n%%Trailer\n%%EOF\n";
-    assert_that(&rt, long.ends_with(body) && long.len() == ONE_PAGE.len() + 8);
+    assert_that(
+        &rt,
+        long.ends_with(body) && long.len() == ONE_PAGE.len() + 8,
+    );
     let pairs = two_up_sheets(rt.alloc(), 2)?;
-    assert_that(&rt, pairs.starts_with(PAIR) && pairs.len() == 2 * PAIR.len());
+    assert_that(
+        &rt,
+        pairs.starts_with(PAIR) && pairs.len() == 2 * PAIR.len(),
+    );
     assert_that(&rt, same_items(rt.alloc(), "0", 3)?.as_str() == "0+0+0");
     assert_that(&rt, same_items(rt.alloc(), "0", 0)?.is_empty());
     Ok(())

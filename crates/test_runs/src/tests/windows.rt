@@ -185,7 +185,10 @@ fn no_sheet_is_imposed_far_before_its_turn(rt: HostRuntime) -> Result<(), Fail> 
                 items,
                 counts: (preparers, imposers),
             };
-            assert_that(&rt, is_in_turn(&rt, rt.alloc(), &trial, first_page, sheets)?);
+            assert_that(
+                &rt,
+                is_in_turn(&rt, rt.alloc(), &trial, first_page, sheets)?,
+            );
         }
     }
     Ok(())

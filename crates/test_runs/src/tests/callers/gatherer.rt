@@ -30,12 +30,7 @@ pub(crate) struct Gatherer<'s, 'j, 't, 'd> {
 
 /// What a test does with one who gathers a job, and what it comes to.
 pub(crate) trait Gathers<R, A> {
-    fn gather(
-        &self,
-        rt: &R,
-        alloc: Global,
-        gatherer: Gatherer<'_, '_, '_, '_>,
-    ) -> Result<A, Fail>;
+    fn gather(&self, rt: &R, alloc: Global, gatherer: Gatherer<'_, '_, '_, '_>) -> Result<A, Fail>;
 }
 
 /// Does this with one who gathers this job, with room for so many sheets in the queue.

@@ -67,7 +67,10 @@ fn deliver<R: Wait>(
         return show_delivery(gatherer.deliver(rt, alloc, prepared), answer);
     }
     let first = gatherer.deliver_page(rt, alloc, page)?;
-    show_delivery(gatherer.deliver_again(rt, prepared, Answers::of(first)), answer)
+    show_delivery(
+        gatherer.deliver_again(rt, prepared, Answers::of(first)),
+        answer,
+    )
 }
 
 /// A page of which the number, the bytes and the body are known.

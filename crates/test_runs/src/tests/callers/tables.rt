@@ -511,7 +511,13 @@ fn two_pages_and_blank_slots(rt: HostRuntime) -> Result<(), Fail> {
     let behind = (behind.as_str(), 1);
     assert_words(&rt, alloc, ("2:0+1", 2), TWO_PAGES, &[6, 4_294_967_296, 3])?;
     assert_words(&rt, alloc, ("2:1+0", 1), PAGE_BESIDE_A_BLANK, &[1, 3])?;
-    assert_words(&rt, alloc, behind, PAGE_AFTER_A_BLANK_GROUP, &[1, 0, 3, u64::MAX, 1])?;
+    assert_words(
+        &rt,
+        alloc,
+        behind,
+        PAGE_AFTER_A_BLANK_GROUP,
+        &[1, 0, 3, u64::MAX, 1],
+    )?;
     assert_words(&rt, alloc, ("2:1+0", 2), SECOND_SLOT, &[6, 0, 2])?;
     assert_words(&rt, alloc, behind, LAST_SLOT, &[6, 0, 1, u64::MAX, 1])
 }

@@ -1,9 +1,7 @@
 //! A run over sheets that were made: pages and sheets with papers of their own, and lines in the header and on each sheet.
 use crate::tests::checks::{assert_bytes, assert_that};
 use dsc::Document;
-use imposer::{
-    Dress, Job, Lines, MemorySink, Nobody, Numbers, Open, Report, Workers, run_plan,
-};
+use imposer::{Dress, Job, Lines, MemorySink, Nobody, Numbers, Open, Report, Workers, run_plan};
 use lengths::{Grains, Number, Paper, a4, paper_by_name};
 use pagespec::{Item, Measure, Turn};
 use sheet_plan::{MadeSheets, MadeSlot, Plan};

@@ -163,8 +163,7 @@ impl<'a, R: Threads + Wait + Abort + Sync> Refused<R> for Run<'a> {
     fn refuse(&self, rt: &R, alloc: Global, number: u32) -> Result<bool, Fail> {
         let mut sink = MemorySink::new(alloc, 1_000, 1_000, 1_000)?;
         refuse(alloc, number);
-        let (status, line) =
-            run_request(rt, alloc, self.request, ONE_PAGE.as_bytes(), &mut sink);
+        let (status, line) = run_request(rt, alloc, self.request, ONE_PAGE.as_bytes(), &mut sink);
         let is_refused = has_refused(alloc);
         let said = line.as_slice();
         if is_refused {
