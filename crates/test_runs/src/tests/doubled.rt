@@ -2,12 +2,17 @@
 //! once.
 ghost use Rattle.std.specs.Prelude.{◌<◌};
 
-use super::callers::gatherer::{Gatherer, Gathers, Outcome, outcome_of, with_gatherer};
-use super::jobs::{Task, with_job};
+use super::callers::gatherer::{Gatherer, Outcome, gatherer_of, outcome_of};
+use super::table_and_shelf;
 use super::tally::Tally;
 use crate::tests::checks::assert_that;
+use dsc::Document;
 use gather_table::{Closing, Published, Reply};
+use handover::Ready;
+use lengths::a4;
+use pagespec::read_spec;
 use run_steps::Delivered;
+use sheet_plan::Plan;
 use sheet_text::Job;
 use std::alloc::{AllocError, Global};
 use std::process::Abort;
@@ -238,30 +243,48 @@ impl Repeats {
         );
         Ok(())
     }
-}
 
-/// What was done is right, and the queue gives each sheet once.
-impl<R: Threads + Wait + Sync + Abort> Gathers<R, ()> for Repeats {
-    fn gather(
+    /// What is done is right, and the queue gives each sheet once.
+    fn look<R: Threads + Wait + Sync + Abort>(
         &self,
         rt: &R,
         alloc: Global,
-        gatherer: Gatherer<'_, '_, '_, '_>,
+        gatherer: &mut Gatherer<'_, '_, '_, '_>,
     ) -> Result<(), Fail> {
-        let mut gatherer = gatherer;
         let done = Done::nothing(alloc, self.sizes)?;
-        self.deliver(rt, alloc, &mut gatherer, &done)?;
-        assert_that(rt, done.take_all(rt, alloc, &mut gatherer));
+        self.deliver(rt, alloc, gatherer, &done)?;
+        assert_that(rt, done.take_all(rt, alloc, gatherer));
         assert_that(rt, done.is_each_once());
         Ok(())
     }
-}
 
-/// There is room in the queue for each sheet once.
-impl<R: Threads + Wait + Sync + Abort> Task<R, ()> for Repeats {
-    fn go(&self, rt: &R, alloc: Global, job: &Job<'_, '_>) -> Result<(), Fail> {
+    /// The same of a job, with room in the queue for each sheet once.
+    fn look_at_job<R: Threads + Wait + Sync + Abort>(
+        &self,
+        rt: &R,
+        alloc: Global,
+        job: &Job<'_, '_>,
+    ) -> Result<(), Fail> {
         assert_that(rt, job.sheets() == self.sizes.sheets);
-        with_gatherer(rt, alloc, job, self.sizes.sheets, self)
+        let (ready, pass) = Ready::new(alloc, job.sheets().max(1))?;
+        let (table, seat, shelf) = table_and_shelf(alloc, job)?;
+        let mut gatherer = gatherer_of(job, &table, &shelf, &ready, seat, pass);
+        self.look(rt, alloc, &mut gatherer)
+    }
+
+    /// The same of a document.
+    fn look_at_document<R: Threads + Wait + Sync + Abort>(
+        &self,
+        rt: &R,
+        alloc: Global,
+        text: &str,
+        items: &str,
+    ) -> Result<(), Fail> {
+        let spec = read_spec(alloc, items)?;
+        let document = Document::read(alloc, text.as_bytes())?;
+        let plan = Plan::new(alloc, &spec, document.pages())?;
+        let job = Job::new(&plan, &document, a4(), None);
+        self.look_at_job(rt, alloc, &job)
     }
 }
 
@@ -301,7 +324,7 @@ fn deliver_each<R: Threads + Wait + Sync + Abort>(
             threads,
         };
         let text = document_of(alloc, sizes.pages())?;
-        with_job(rt, alloc, &text, items, &repeats)?;
+        repeats.look_at_document(rt, alloc, &text, items)?;
     }
     Ok(())
 }

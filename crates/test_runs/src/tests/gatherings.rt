@@ -2,12 +2,15 @@
 ghost use Rattle.std.specs.Prelude.{◌≤◌, IfOk, length};
 ghost use Rattle.planned_runs.specs.Gathering.{IsFreshPass};
 
-use super::jobs::{Task, with_job};
 use super::{WHOLE, table_and_shelf};
 use crate::tests::checks::{assert_bytes, assert_that};
+use dsc::Document;
 use gather_table::Seat;
 use handover::{Pass, Ready};
 use imposer::{Gate, Gathered, Job, MemorySink, Open, Report, RunError, Workers, gather};
+use lengths::a4;
+use pagespec::read_spec;
+use sheet_plan::Plan;
 use std::alloc::{AllocError, Global};
 use std::process::Abort;
 use std::sync::Wait;
@@ -51,7 +54,7 @@ fn queue_for(
 }
 
 /// Gathers a job in this way, at this gate.
-pub(super) fn gather_at<R: Threads + Wait + Sync, G: Gate + Sync>(
+fn gather_at<R: Threads + Wait + Sync, G: Gate + Sync>(
     rt: &R,
     alloc: Global,
     job: &Job<'_, '_>,
@@ -98,10 +101,24 @@ fn shares_of(tokens: Option<(Seat, Pass)>) -> Option<(u64, u64)> {
     }
 }
 
-impl<R: Threads + Wait + Sync> Task<R, Gathering> for Way {
-    fn go(&self, rt: &R, alloc: Global, job: &Job<'_, '_>) -> Result<Gathering, Fail> {
-        gather_at(rt, alloc, job, *self, &Open)
-    }
+/// Gathers the pages of a document, two a sheet.
+pub(super) fn gather_pairs<R: Threads + Wait + Sync, G: Gate + Sync>(
+    rt: &R,
+    alloc: Global,
+    text: &str,
+    way: Way,
+    gate: &G,
+) -> Result<Gathering, Fail> {
+    let spec = read_spec(alloc, TWO_UP)?;
+    let document = Document::read(alloc, text.as_bytes())?;
+    let plan = Plan::new(alloc, &spec, document.pages())?;
+    gather_at(
+        rt,
+        alloc,
+        &Job::new(&plan, &document, a4(), None),
+        way,
+        gate,
+    )
 }
 
 /// So many pages, two a sheet, are gathered by so many workers, into a sink with this room.
@@ -123,7 +140,7 @@ fn assert_gathered<R: Threads + Wait + Abort + Sync>(
         puts: None,
         refused: MOST_GROWTHS,
     };
-    let gathering = with_job(rt, alloc, &document, TWO_UP, &way)?;
+    let gathering = gather_pairs(rt, alloc, &document, way, &Open)?;
     let (written, rest) = output.as_bytes().split_at(room.min(output.len()));
     let bytes = written.len() as u64;
     let outcome = if rest.is_empty() {

@@ -1,11 +1,10 @@
 //! A pass with room for half of the puts: the queue hands the first sheet back to a preparer, so its turn never comes, and
 //! the others are imposed without waiting for it.
-use super::gatherings::{Gathering, Way, gather_at};
-use super::jobs::{Task, with_job};
+use super::gatherings::{Gathering, Way, gather_pairs};
 use super::wait_for;
 use super::windows::six_pages;
 use crate::tests::checks::{assert_bytes, assert_that};
-use imposer::{Gate, Job, Step, Workers};
+use imposer::{Gate, Step, Workers};
 use std::alloc::Global;
 use std::process::Abort;
 use std::sync::Wait;
@@ -13,7 +12,7 @@ use std::sync::atomic::AtomicUsize;
 use std::sync::atomic::Ordering::SeqCst;
 use std::test::Fail;
 use std::thread::Threads;
-use test_tools::{MOST_GROWTHS, TWO_UP};
+use test_tools::MOST_GROWTHS;
 
 /// How many sheets there are, of two pages each.
 const SHEETS: u32 = 3;
@@ -49,32 +48,30 @@ impl Gate for FirstSheetByTheSecond {
     }
 }
 
-/// Gathers a job by two workers of each kind at this gate, with room for so many puts: no wait runs out.
-#[derive(Clone, Copy)]
-struct Puts {
-    room: u32,
-}
-
-impl<R: Threads + Wait + Abort + Sync> Task<R, Gathering> for Puts {
-    fn go(&self, rt: &R, alloc: Global, job: &Job<'_, '_>) -> Result<Gathering, Fail> {
-        let gate = FirstSheetByTheSecond {
-            even: AtomicUsize::new(0),
-            odd: AtomicUsize::new(0),
-            run_out: AtomicUsize::new(0),
-        };
-        let way = Way {
-            workers: Workers {
-                preparers: 2,
-                imposers: 2,
-            },
-            room: 4_000_000,
-            puts: Some(self.room),
-            refused: MOST_GROWTHS,
-        };
-        let gathering = gather_at(rt, alloc, job, way, &gate)?;
-        assert_that(rt, gate.run_out.load(SeqCst) == 0);
-        Ok(gathering)
-    }
+/// Gathers the pages of a document by two workers of each kind at this gate, with room for so many puts. No wait runs out.
+fn gather_with_room<R: Threads + Wait + Abort + Sync>(
+    rt: &R,
+    alloc: Global,
+    text: &str,
+    puts: u32,
+) -> Result<Gathering, Fail> {
+    let gate = FirstSheetByTheSecond {
+        even: AtomicUsize::new(0),
+        odd: AtomicUsize::new(0),
+        run_out: AtomicUsize::new(0),
+    };
+    let way = Way {
+        workers: Workers {
+            preparers: 2,
+            imposers: 2,
+        },
+        room: 4_000_000,
+        puts: Some(puts),
+        refused: MOST_GROWTHS,
+    };
+    let gathering = gather_pairs(rt, alloc, text, way, &gate)?;
+    assert_that(rt, gate.run_out.load(SeqCst) == 0);
+    Ok(gathering)
 }
 
 /// How many sheets were made at the end, if all were made.
@@ -91,8 +88,8 @@ fn swept_in(gathering: &Gathering) -> Option<u32> {
 fn a_sheet_that_is_handed_back_is_not_waited_for(rt: HostRuntime) -> Result<(), Fail> {
     let alloc = rt.alloc();
     let text = six_pages(alloc)?;
-    let whole = with_job(&rt, alloc, &text, TWO_UP, &Puts { room: 2 * SHEETS })?;
-    let half = with_job(&rt, alloc, &text, TWO_UP, &Puts { room: SHEETS })?;
+    let whole = gather_with_room(&rt, alloc, &text, 2 * SHEETS)?;
+    let half = gather_with_room(&rt, alloc, &text, SHEETS)?;
     assert_that(&rt, swept_in(&whole) == Some(0));
     assert_that(&rt, swept_in(&half).unwrap_or(0) > 0);
     assert_bytes(&rt, half.sink.bytes(), whole.sink.bytes());

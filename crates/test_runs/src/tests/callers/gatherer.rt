@@ -5,14 +5,12 @@ ghost use Rattle.gather_table.specs.Shared.{IsSeatOf};
 ghost use Rattle.handover.specs.Passes.{IsPassOf};
 
 use super::tables::mark_checked;
-use crate::tests::table_and_shelf;
 use gather_table::{GatherTable, Published, Reply, Seat};
 use handover::{Full, Pass, Prepared, Ready, Shelf};
 use imposer::{DeliverError, Delivered, ImposeError, Imposed, Job, deliver, impose, sheet_text};
 use run_steps::{Answers, Delivery, is_complete};
 use std::alloc::{AllocError, Global};
 use std::sync::Wait;
-use std::test::Fail;
 
 /// Gathers the pages of a job. The table is one of the job's plan.
 #[derive(Drop)]
@@ -28,30 +26,27 @@ pub(crate) struct Gatherer<'s, 'j, 't, 'd> {
     ghost passed: { IsPassOf ready.now pass },
 }
 
-/// What a test does with one who gathers a job, and what it comes to.
-pub(crate) trait Gathers<R, A> {
-    fn gather(&self, rt: &R, alloc: Global, gatherer: Gatherer<'_, '_, '_, '_>) -> Result<A, Fail>;
-}
-
-/// Does this with one who gathers this job, with room for so many sheets in the queue.
-pub(crate) fn with_gatherer<A, R, G: Gathers<R, A>>(
-    rt: &R,
-    alloc: Global,
-    job: &Job<'_, '_>,
-    room: u32,
-    test: &G,
-) -> Result<A, Fail> {
-    let (ready, pass) = Ready::new(alloc, room.max(1))?;
-    let (table, seat, shelf) = table_and_shelf(alloc, job)?;
-    let gatherer = Gatherer {
+/// One with this seat and this pass.
+pub(crate) fn gatherer_of<'s, 'j, 't, 'd>(
+    job: &'s Job<'j, 'd>,
+    table: &'s GatherTable<'t>,
+    shelf: &'s Shelf<'d>,
+    ready: &'s Ready,
+    seat: Seat,
+    pass: Pass,
+) -> Gatherer<'s, 'j, 't, 'd>
+    requires plan { table.now.layout ≡ layout job.now.plan }
+    requires seat { IsSeatOf table.now seat }
+    requires pass { IsPassOf ready.now pass }
+{
+    Gatherer {
         job,
-        table: &table,
-        shelf: &shelf,
-        ready: &ready,
+        table,
+        shelf,
+        ready,
         seat,
         pass,
-    };
-    test.gather(rt, alloc, gatherer)
+    }
 }
 
 impl<'s, 'j, 't, 'd> Gatherer<'s, 'j, 't, 'd> {

@@ -2,12 +2,13 @@
 //! growth of each call refused in turn.
 ghost use Rattle.handover.specs.Shelves.{IsOn};
 
-use super::gatherer::{Gatherer, Gathers, outcome_of, with_gatherer};
+use super::gatherer::{Gatherer, gatherer_of, outcome_of};
 use super::stories::{Called, Told, number, show, tell};
 use crate::tests::checks::{assert_that, assert_told};
 use crate::tests::jobs::{Task, with_job};
 use dsc::prepare;
-use handover::{Overflow, Prepared, PutError, Receipt, Shelf};
+use gather_table::GatherTable;
+use handover::{Overflow, Prepared, PutError, Ready, Receipt, Shelf};
 use imposer::{DeliverError, Delivered, Job};
 use run_steps::Answers;
 use std::alloc::Global;
@@ -196,21 +197,18 @@ struct Gathering<'s> {
     story: &'s str,
 }
 
-impl<'s, R: Wait> Gathers<R, Told<'s>> for Gathering<'s> {
-    fn gather(
-        &self,
-        rt: &R,
-        alloc: Global,
-        gatherer: Gatherer<'_, '_, '_, '_>,
-    ) -> Result<Told<'s>, Fail> {
-        let mut called = InStory { rt, gatherer };
-        tell(alloc, &mut called, self.number, self.story)
-    }
-}
-
 impl<'s, R: Wait> Task<R, Told<'s>> for Gathering<'s> {
     fn go(&self, rt: &R, alloc: Global, job: &Job<'_, '_>) -> Result<Told<'s>, Fail> {
-        with_gatherer(rt, alloc, job, self.room, self)
+        let (table, seat) = GatherTable::new(alloc, job.plan())?;
+        let shelf = Shelf::new(alloc)?;
+        let (ready, pass) = Ready::new(alloc, self.room.max(1))?;
+        let gatherer = gatherer_of(job, &table, &shelf, &ready, seat, pass);
+        tell(
+            alloc,
+            &mut InStory { rt, gatherer },
+            self.number,
+            self.story,
+        )
     }
 }
 

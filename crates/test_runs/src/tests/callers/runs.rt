@@ -1,5 +1,5 @@
 //! Runs: what is reported of each, and why one is refused before it writes anything.
-use super::stories::{Called, first_wrong, number};
+use super::stories::{number, parts_of};
 use crate::tests::checks::{assert_that, assert_told};
 use crate::tests::workers;
 use dsc::DscError;
@@ -49,7 +49,7 @@ fn show_report(
     report: &Report,
     written: &[u8],
     answer: &mut Vec<u8>,
-) -> anyhow::Result<()> {
+) -> Result<(), Fail> {
     let Report {
         pages,
         sheets,
@@ -78,6 +78,25 @@ fn options_of(settings: &str) -> Options {
     options
 }
 
+/// Makes the run of a line: the input, the options, and the specification.
+fn run_line<R: Threads + Wait + Sync>(
+    rt: &R,
+    alloc: Global,
+    line: &str,
+    answer: &mut Vec<u8>,
+) -> Result<(), Fail> {
+    let (word, rest) = line.split_once(' ').unwrap_or((line, ""));
+    let (settings, items) = rest.rsplit_once(' ').unwrap_or((rest, ""));
+    let input = input_of(alloc, word)?;
+    run_input(
+        rt,
+        alloc,
+        (input.as_bytes(), items),
+        &options_of(settings),
+        answer,
+    )
+}
+
 /// Runs over this input by this specification.
 fn run_input<R: Threads + Wait + Sync>(
     rt: &R,
@@ -85,7 +104,7 @@ fn run_input<R: Threads + Wait + Sync>(
     (input, items): (&[u8], &str),
     options: &Options,
     answer: &mut Vec<u8>,
-) -> anyhow::Result<()> {
+) -> Result<(), Fail> {
     let mut sink = MemorySink::new(alloc, 100_000, 100_000, 1_000)?;
     match run(rt, alloc, input, items, options, &Open, &mut sink) {
         Ok(report) => show_report(alloc, items, &report, sink.bytes(), answer),
@@ -93,20 +112,26 @@ fn run_input<R: Threads + Wait + Sync>(
     }
 }
 
-/// Makes the run of a line: the input, the options, and the specification.
-#[derive(Drop)]
-struct Runs<'r, R> {
-    rt: &'r R,
+/// Whether the run of a line is answered as it says.
+fn is_told<R: Threads + Wait + Sync>(rt: &R, alloc: Global, line: &str) -> Result<bool, Fail> {
+    let (words, wanted) = parts_of(line);
+    let mut answer = Vec::new(alloc);
+    run_line(rt, alloc, words, &mut answer)?;
+    Ok(answer.as_slice() == wanted.as_bytes())
 }
 
-impl<'r, R: Threads + Wait + Sync> Called for Runs<'r, R> {
-    fn call(&mut self, alloc: Global, words: &str, answer: &mut Vec<u8>) -> anyhow::Result<()> {
-        let (word, rest) = words.split_once(' ').unwrap_or((words, ""));
-        let (settings, items) = rest.rsplit_once(' ').unwrap_or((rest, ""));
-        let input = input_of(alloc, word)?;
-        let request = (input.as_bytes(), items);
-        run_input(self.rt, alloc, request, &options_of(settings), answer)
+/// The first line of a story of runs that is answered otherwise than it says.
+fn first_wrong_run<'s, R: Threads + Wait + Sync>(
+    rt: &R,
+    alloc: Global,
+    story: &'s str,
+) -> Result<Option<&'s str>, Fail> {
+    for line in story.lines() {
+        if !is_told(rt, alloc, line)? {
+            return Ok(Some(line));
+        }
     }
+    Ok(None)
 }
 
 /// Pages, sheets, sheets without pages, sheets that were made at the end, and bytes.
@@ -151,7 +176,7 @@ const REFUSALS: &str = "\
 #[test]
 fn reports(rt: HostRuntime) -> Result<(), Fail> {
     for story in [REPORTS, REFUSALS] {
-        assert_told(&rt, first_wrong(rt.alloc(), &mut Runs { rt: &rt }, story)?);
+        assert_told(&rt, first_wrong_run(&rt, rt.alloc(), story)?);
     }
     Ok(())
 }

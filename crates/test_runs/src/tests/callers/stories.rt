@@ -78,7 +78,7 @@ pub(crate) fn first_wrong<'s, C: Called>(
 }
 
 /// The words of a line, and what it says that they are answered.
-fn parts_of(line: &str) -> (&str, &str) {
+pub(crate) fn parts_of(line: &str) -> (&str, &str) {
     line.split_once(" = ").unwrap_or((line, ""))
 }
 

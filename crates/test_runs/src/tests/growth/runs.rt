@@ -1,8 +1,6 @@
 //! Whole runs and gatherings, over a sink that was made before.
-use super::refuse_in_threads;
 use crate::tests::checks::assert_that;
-use crate::tests::gatherings::Way;
-use crate::tests::jobs::with_job;
+use crate::tests::gatherings::{Way, gather_pairs};
 use crate::tests::{Trial, large_pages, run_into};
 use imposer::{Gate, MemorySink, Open, RunError, Step, Workers};
 use std::alloc::{AllocError, Global};
@@ -11,21 +9,21 @@ use std::sync::Wait;
 use std::test::Fail;
 use std::thread;
 use std::thread::Threads;
-use test_tools::{
-    BOOKLET, MOST_GROWTHS, Refused, TWO_UP, document_of, has_refused, refuse, two_up_output,
-};
+use test_tools::{BOOKLET, MOST_GROWTHS, TWO_UP, document_of, has_refused, refuse, two_up_output};
 
 /// More bytes than a run here writes.
 const ROOM: usize = 2_000_000;
 
-/// The first page is delivered late, so that sheets of others are there and wait for their turn.
-#[derive(Drop)]
-struct Late {}
+/// The first page is delivered so many yields late. If there are some, sheets of other pages are there and wait for their turn.
+#[derive(Clone, Copy)]
+struct Late {
+    yields: u32,
+}
 
 impl Gate for Late {
     fn before(&self, step: Step) {
         if step == Step::Deliver(0) {
-            for _ in 0..1_000u32 {
+            for _ in 0..self.yields {
                 thread::yield_now();
             }
         }
@@ -33,6 +31,10 @@ impl Gate for Late {
 
     fn after(&self, _step: Step) {}
 }
+
+const ON_TIME: Late = Late { yields: 0 };
+
+const LATE: Late = Late { yields: 1_000 };
 
 /// What came of a run or a gathering: how many bytes it says that were written, None if it finished, and whether a growth
 /// was refused.
@@ -43,16 +45,16 @@ struct Ended {
 }
 
 /// Runs with the growth of this number refused: what the sink has, and what came of it.
-fn run_refused<R: Threads + Wait + Sync, G: Gate + Sync>(
+fn run_refused<R: Threads + Wait + Sync>(
     rt: &R,
     alloc: Global,
     number: u32,
     trial: &Trial<'_>,
-    gate: &G,
+    gate: Late,
 ) -> Result<(MemorySink, Ended), AllocError> {
     let mut sink = MemorySink::new(alloc, ROOM, ROOM, 1_000)?;
     refuse(alloc, number);
-    let answer = run_into(rt, alloc, trial, gate, &mut sink);
+    let answer = run_into(rt, alloc, trial, &gate, &mut sink);
     let is_refused = has_refused(alloc);
     let written = match answer {
         Ok(_) => None,
@@ -81,41 +83,51 @@ fn is_right(holds: bool, ended: Ended) -> bool {
     }
 }
 
-/// A run whose output is this one, and whether it holds sheets.
-#[derive(Drop)]
-struct Run<'a, G> {
-    trial: &'a Trial<'a>,
-    gate: &'a G,
-    output: &'a [u8],
-    holds: bool,
+/// Runs with the growth of this number refused: whether one was.
+fn refuse_one<R: Threads + Wait + Abort + Sync>(
+    rt: &R,
+    alloc: Global,
+    number: u32,
+    trial: &Trial<'_>,
+    gate: Late,
+    (output, holds): (&[u8], bool),
+) -> Result<bool, AllocError> {
+    let (sink, ended) = run_refused(rt, alloc, number, trial, gate)?;
+    assert_that(rt, is_written(output, &sink, ended.written));
+    assert_that(rt, is_right(holds, ended));
+    Ok(ended.is_refused)
 }
 
-impl<'a, R: Threads + Wait + Abort + Sync, G: Gate + Sync> Refused<R> for Run<'a, G> {
-    fn refuse(&self, rt: &R, alloc: Global, number: u32) -> Result<bool, Fail> {
-        let (sink, ended) = run_refused(rt, alloc, number, self.trial, self.gate)?;
-        assert_that(rt, is_written(self.output, &sink, ended.written));
-        assert_that(rt, is_right(self.holds, ended));
-        Ok(ended.is_refused)
+/// How many growths after one another weren't refused, with one more, which was or wasn't.
+fn unrefused_after(unrefused: u32, is_refused: bool) -> u32 {
+    if is_refused {
+        0
+    } else {
+        unrefused.saturating_add(1)
     }
 }
 
-/// Each growth of the run is refused in turn.
-fn refuse_each<R: Threads + Wait + Abort + Sync, G: Gate + Sync>(
+/// Each growth of the run is refused in turn. Threads grow what they grow in any order, so the end is where none of
+/// some numbers after one another was refused.
+fn refuse_each<R: Threads + Wait + Abort + Sync>(
     rt: &R,
     alloc: Global,
     trial: &Trial<'_>,
-    gate: &G,
+    gate: Late,
     holds: bool,
-) -> Result<(), Fail> {
-    let (sink, ended) = run_refused(rt, alloc, MOST_GROWTHS, trial, gate)?;
+) -> Result<(), AllocError> {
+    let (output, ended) = run_refused(rt, alloc, MOST_GROWTHS, trial, gate)?;
     assert_that(rt, !ended.is_refused);
-    let run = Run {
-        trial,
-        gate,
-        output: sink.bytes(),
-        holds,
-    };
-    refuse_in_threads(rt, alloc, &run)
+    let wanted = (output.bytes(), holds);
+    let mut unrefused = 0u32;
+    for number in 1..MOST_GROWTHS {
+        if unrefused < 4 {
+            let is_refused = refuse_one(rt, alloc, number, trial, gate, wanted)?;
+            unrefused = unrefused_after(unrefused, is_refused);
+        }
+    }
+    assert_that(rt, unrefused == 4);
+    Ok(())
 }
 
 #[test]
@@ -132,7 +144,7 @@ fn runs_by_few_and_by_many(rt: HostRuntime) -> Result<(), Fail> {
             items,
             counts,
         };
-        refuse_each(&rt, rt.alloc(), &trial, &Open, false)?;
+        refuse_each(&rt, rt.alloc(), &trial, ON_TIME, false)?;
     }
     Ok(())
 }
@@ -147,7 +159,7 @@ fn runs_whose_sheets_wait_for_their_turn(rt: HostRuntime) -> Result<(), Fail> {
             items: "0",
             counts,
         };
-        refuse_each(&rt, rt.alloc(), &trial, &Open, true)?;
+        refuse_each(&rt, rt.alloc(), &trial, ON_TIME, true)?;
     }
     Ok(())
 }
@@ -159,20 +171,20 @@ fn refuse_first_last<R: Threads + Wait + Abort + Sync>(
     alloc: Global,
     document: &str,
     late: &[(u32, u32)],
-) -> Result<(), Fail> {
+) -> Result<(), AllocError> {
     let backward = Trial {
         document,
         items: "-0",
         counts: (1, 1),
     };
-    refuse_each(rt, alloc, &backward, &Open, true)?;
+    refuse_each(rt, alloc, &backward, ON_TIME, true)?;
     for counts in late {
         let forward = Trial {
             document,
             items: "0",
             counts: *counts,
         };
-        refuse_each(rt, alloc, &forward, &Late {}, true)?;
+        refuse_each(rt, alloc, &forward, LATE, true)?;
     }
     Ok(())
 }
@@ -183,49 +195,52 @@ fn runs_whose_first_sheet_comes_last(rt: HostRuntime) -> Result<(), Fail> {
     let huge = large_pages(rt.alloc(), 6, 33_333)?;
     refuse_first_last(&rt, rt.alloc(), &huge, &[(2, 1), (3, 2)])?;
     let large = large_pages(rt.alloc(), 24, 5_000)?;
-    refuse_first_last(&rt, rt.alloc(), &large, &[(2, 1)])
+    refuse_first_last(&rt, rt.alloc(), &large, &[(2, 1)])?;
+    Ok(())
 }
 
-/// Gathers the pages of a document, two a sheet. What the sink has are the first bytes of this output, and the tokens come
-/// back if all went well.
-#[derive(Drop)]
-struct Gathered<'a> {
-    text: &'a str,
-    output: &'a [u8],
-}
-
-impl<'a, R: Threads + Wait + Abort + Sync> Refused<R> for Gathered<'a> {
-    fn refuse(&self, rt: &R, alloc: Global, number: u32) -> Result<bool, Fail> {
-        let way = Way {
-            workers: Workers {
-                preparers: 2,
-                imposers: 3,
-            },
-            room: ROOM,
-            puts: None,
-            refused: number,
-        };
-        let gathering = with_job(rt, alloc, self.text, TWO_UP, &way)?;
-        let is_refused = has_refused(alloc);
-        let written = match gathering.outcome {
-            Ok(_) => None,
-            Err(RunError::NoMemory { written }) => Some(written),
-            Err(_) => return Err(AllocError)?,
-        };
-        assert_that(rt, is_written(self.output, &gathering.sink, written));
-        assert_that(rt, written.is_some() == is_refused);
-        assert_that(rt, gathering.shares.is_some() == !is_refused);
-        Ok(is_refused)
-    }
+/// Gathers the pages of a document with the growth of this number refused: whether one was. What the sink has are the
+/// first bytes of this output, and the tokens come back if all went well.
+fn gather_refused<R: Threads + Wait + Abort + Sync>(
+    rt: &R,
+    alloc: Global,
+    number: u32,
+    text: &str,
+    output: &[u8],
+) -> Result<bool, Fail> {
+    let way = Way {
+        workers: Workers {
+            preparers: 2,
+            imposers: 3,
+        },
+        room: ROOM,
+        puts: None,
+        refused: number,
+    };
+    let gathering = gather_pairs(rt, alloc, text, way, &Open)?;
+    let is_refused = has_refused(alloc);
+    let written = match gathering.outcome {
+        Ok(_) => None,
+        Err(RunError::NoMemory { written }) => Some(written),
+        Err(_) => return Err(AllocError)?,
+    };
+    assert_that(rt, is_written(output, &gathering.sink, written));
+    assert_that(rt, written.is_some() == is_refused);
+    assert_that(rt, gathering.shares.is_some() == !is_refused);
+    Ok(is_refused)
 }
 
 #[test]
 fn gatherings(rt: HostRuntime) -> Result<(), Fail> {
     let text = document_of(rt.alloc(), 8)?;
     let output = two_up_output(rt.alloc(), 4)?;
-    let gathered = Gathered {
-        text: &text,
-        output: output.as_bytes(),
-    };
-    refuse_in_threads(&rt, rt.alloc(), &gathered)
+    let mut unrefused = 0u32;
+    for number in 1..MOST_GROWTHS {
+        if unrefused < 4 {
+            let is_refused = gather_refused(&rt, rt.alloc(), number, &text, output.as_bytes())?;
+            unrefused = unrefused_after(unrefused, is_refused);
+        }
+    }
+    assert_that(&rt, unrefused == 4);
+    Ok(())
 }

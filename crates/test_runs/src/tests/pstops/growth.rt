@@ -2,7 +2,6 @@
 use super::{request_of, words_of};
 use crate::tests::callers::stories::{Called, show, tell};
 use crate::tests::checks::{assert_bytes, assert_that, assert_told};
-use crate::tests::growth::refuse_in_threads;
 use dsc::DscError;
 use imposer::{MemorySink, RunError};
 use pagespec::SpecError;
@@ -11,13 +10,15 @@ use pstops_cli::{
     run_request,
 };
 use sheet_plan::PlanError;
-use std::alloc::Global;
+use std::alloc::{AllocError, Global};
 use std::io::Write;
 use std::process::Abort;
 use std::sync::Wait;
 use std::test::Fail;
 use std::thread::Threads;
-use test_tools::{ONE_PAGE, Refused, has_refused, one_up_output, refuse, refuse_each};
+use test_tools::{
+    MOST_GROWTHS, ONE_PAGE, Refused, has_refused, one_up_output, refuse, refuse_each,
+};
 
 /// Calls of the command: words that are read, an input that is read, and the lines of faults.
 #[derive(Drop)]
@@ -151,44 +152,62 @@ fn commands_inputs_and_lines(rt: HostRuntime) -> Result<(), Fail> {
     Ok(())
 }
 
-/// A run of a request over a sink that was made before. If a growth is refused the status is 3, the line reports it or is
-/// empty, and the sink has a first part of the output.
-#[derive(Drop)]
-struct Run<'a> {
-    request: &'a Request,
-    output: &'a [u8],
+/// Runs a request over a sink that was made before: whether a growth was refused. Then the status is 3, the line reports
+/// it or is empty, and the sink has a first part of the output.
+fn run_refused<R: Threads + Wait + Abort + Sync>(
+    rt: &R,
+    alloc: Global,
+    number: u32,
+    request: &Request,
+    output: &[u8],
+) -> Result<bool, AllocError> {
+    let mut sink = MemorySink::new(alloc, 1_000, 1_000, 1_000)?;
+    refuse(alloc, number);
+    let (status, line) = run_request(rt, alloc, request, ONE_PAGE.as_bytes(), &mut sink);
+    let is_refused = has_refused(alloc);
+    let said = line.as_slice();
+    if is_refused {
+        assert_that(rt, status == 3);
+        assert_that(
+            rt,
+            said.is_empty() || said == b"pstops: out of memory\n".as_slice(),
+        );
+        assert_that(rt, output.starts_with(sink.bytes()));
+    } else {
+        assert_that(rt, status == 0);
+        assert_bytes(rt, said, b"pstops: pages 1, sheets 1, bytes 273\n");
+        assert_bytes(rt, sink.bytes(), output);
+    }
+    Ok(is_refused)
 }
 
-impl<'a, R: Threads + Wait + Abort + Sync> Refused<R> for Run<'a> {
-    fn refuse(&self, rt: &R, alloc: Global, number: u32) -> Result<bool, Fail> {
-        let mut sink = MemorySink::new(alloc, 1_000, 1_000, 1_000)?;
-        refuse(alloc, number);
-        let (status, line) = run_request(rt, alloc, self.request, ONE_PAGE.as_bytes(), &mut sink);
-        let is_refused = has_refused(alloc);
-        let said = line.as_slice();
-        if is_refused {
-            assert_that(rt, status == 3);
-            assert_that(
-                rt,
-                said.is_empty() || said == b"pstops: out of memory\n".as_slice(),
-            );
-            assert_that(rt, self.output.starts_with(sink.bytes()));
-        } else {
-            assert_that(rt, status == 0);
-            assert_bytes(rt, said, b"pstops: pages 1, sheets 1, bytes 273\n");
-            assert_bytes(rt, sink.bytes(), self.output);
+/// Refuses each growth of a run in turn. Threads grow what they grow in any order, so the end is where none of some
+/// numbers after one another was refused.
+fn refuse_run<R: Threads + Wait + Abort + Sync>(
+    rt: &R,
+    alloc: Global,
+    request: &Request,
+    output: &[u8],
+) -> Result<(), AllocError> {
+    let mut unrefused = 0u32;
+    for number in 1..MOST_GROWTHS {
+        if unrefused < 4 {
+            let is_refused = run_refused(rt, alloc, number, request, output)?;
+            unrefused = if is_refused {
+                0
+            } else {
+                unrefused.saturating_add(1)
+            };
         }
-        Ok(is_refused)
     }
+    assert_that(rt, unrefused == 4);
+    Ok(())
 }
 
 #[test]
 fn requests(rt: HostRuntime) -> Result<(), Fail> {
     let request = request_of(rt.alloc(), "0")?;
     let output = one_up_output(rt.alloc())?;
-    let run = Run {
-        request: &request,
-        output: output.as_bytes(),
-    };
-    refuse_in_threads(&rt, rt.alloc(), &run)
+    refuse_run(&rt, rt.alloc(), &request, output.as_str().as_bytes())?;
+    Ok(())
 }
