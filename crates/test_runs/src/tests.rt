@@ -1,49 +1,40 @@
-//! What the trials share: options, large documents, a run with its report, and a gathering.
-ghost use Rattle.std.specs.Prelude.{◌≡◌, ◌<◌, IfOk};
+//! What the trials share: options, large documents, a run with its report, and a table.
+ghost use Rattle.std.specs.Prelude.{◌≡◌, IfOk};
 ghost use Rattle.rules.specs.Sheets.{layout};
 ghost use Rattle.gather_table.specs.Shared.{opening_seat};
-ghost use Rattle.planned_runs.specs.Workers.{AreWorkers};
 ghost use Rattle.sheet_writer.specs.Sinks.{IsCountable};
 
 mod callers;
 mod checks;
 mod crews;
 mod doubled;
-mod ended_tables;
 mod examples;
 mod gates;
+mod gatherings;
 mod groups;
 mod growth;
-mod handed_back;
 mod jobs;
-mod large;
 mod pstops;
 mod queues;
 mod refused_puts;
 mod sets;
 mod sheets_of_sheets;
 mod sinks;
+mod tally;
 mod texts;
 mod tools;
 mod windows;
 
-use dsc::Document;
 use gather_table::{GatherTable, Seat};
-use handover::{Pass, Ready, Shelf};
-use imposer::{
-    Gate, Gathered, Job, MemorySink, Open, Options, Report, RunError, Sink, Workers, gather, run,
-};
+use handover::Shelf;
+use imposer::{Gate, Job, Options, Report, RunError, Sink, Workers, run};
 use lengths::a4;
-use pagespec::read_spec;
-use sheet_plan::Plan;
 use std::alloc::{AllocError, Global};
 use std::sync::Wait;
 use std::sync::atomic::AtomicUsize;
 use std::sync::atomic::Ordering::SeqCst;
-use std::test::Fail;
 use std::thread;
 use std::thread::Threads;
-use test_tools::{TWO_UP, refuse};
 
 /// How many shares a whole seat has, and a whole pass.
 const WHOLE: u64 = 4_294_967_296;
@@ -110,34 +101,6 @@ fn large_pages(alloc: Global, pages: u32, lines: usize) -> Result<String, AllocE
     Ok(text)
 }
 
-/// What came of a gathering: what it answers, whether the token of a page was left without a receipt, and the shares of
-/// the seat and of the pass that came back, if they did.
-#[derive(Drop)]
-struct Gathering {
-    outcome: Result<Report, RunError>,
-    is_unshelved: bool,
-    shares: Option<(u64, u64)>,
-}
-
-/// Gathers the pages of a document, two a sheet. The growth of the gathering with this number is refused, if one is given.
-fn gather_pairs<R: Threads + Wait + Sync>(
-    rt: &R,
-    alloc: Global,
-    document: &str,
-    workers: Workers,
-    refused: Option<u32>,
-    sink: &mut MemorySink,
-) -> Result<Gathering, Fail>
-    requires workers { AreWorkers workers }
-    requires countable { sink.old.failures < 10 }
-{
-    let spec = read_spec(alloc, TWO_UP)?;
-    let document = Document::read(alloc, document.as_bytes())?;
-    let plan = Plan::new(alloc, &spec, document.pages())?;
-    let job = Job::new(&plan, &document, a4(), None);
-    gather_job(rt, alloc, &job, workers, refused, sink)
-}
-
 /// A table of the job with its whole seat, and an empty shelf.
 fn table_and_shelf<'j, 'd>(
     alloc: Global,
@@ -148,43 +111,4 @@ fn table_and_shelf<'j, 'd>(
 {
     let (table, seat) = GatherTable::new(alloc, job.plan())?;
     Ok((table, seat, Shelf::new(alloc)?))
-}
-
-/// Makes what a gathering needs, and gathers the job.
-fn gather_job<R: Threads + Wait + Sync>(
-    rt: &R,
-    alloc: Global,
-    job: &Job<'_, '_>,
-    workers: Workers,
-    refused: Option<u32>,
-    sink: &mut MemorySink,
-) -> Result<Gathering, Fail>
-    requires workers { AreWorkers workers }
-    requires countable { sink.old.failures < 10 }
-{
-    let (ready, pass) = Ready::new(alloc, job.sheets().max(1))?;
-    let (table, seat, shelf) = table_and_shelf(alloc, job)?;
-    if let Some(number) = refused {
-        refuse(alloc, number);
-    }
-    let Gathered {
-        outcome,
-        unshelved,
-        tokens,
-    } = gather(
-        rt, alloc, job, &table, seat, &shelf, &ready, pass, workers, &Open, sink,
-    );
-    Ok(Gathering {
-        outcome,
-        is_unshelved: unshelved.is_some(),
-        shares: shares_of(tokens),
-    })
-}
-
-/// The shares of a seat and of a pass, if they are there.
-fn shares_of(tokens: Option<(Seat, Pass)>) -> Option<(u64, u64)> {
-    match tokens {
-        Some((seat, pass)) => Some((seat.share(), pass.share())),
-        None => None,
-    }
 }

@@ -31,13 +31,13 @@ pub fn document_of(alloc: Global, pages: u32) -> Result<String, AllocError> {
 }
 
 /// The body of a page, after its page line.
-pub fn page_body(alloc: Global, page: u32) -> Result<String, AllocError> {
+pub(crate) fn page_body(alloc: Global, page: u32) -> Result<String, AllocError> {
     format!(in alloc; "({page}) pop\nshowpage\n")
 }
 
 /// A document with this count of pages, and with this text between its preamble and its trailer: pages, or the
 /// sheets that are made of them.
-pub fn document_with(alloc: Global, pages: u32, text: &str) -> Result<String, AllocError> {
+pub(crate) fn document_with(alloc: Global, pages: u32, text: &str) -> Result<String, AllocError> {
     format!(in alloc; "%!PS-Adobe-3.0\n%%Pages: {pages}\n%%EndComments\n{text}%%Trailer\n%%EOF\n")
 }
 

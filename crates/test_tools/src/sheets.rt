@@ -2,63 +2,24 @@
 use super::documents::{document_with, page_body};
 use std::alloc::{AllocError, Global};
 
-/// Width and height of A4, in points.
-pub const A4_SIDES: (&str, &str) = ("595", "842");
-
-/// The matrix of a page that isn't moved.
-pub const UNMOVED: &str = "1 0 0 1 0 0";
-
-/// The path along the edge of a paper of this width and height.
-fn edge(alloc: Global, (width, height): (&str, &str)) -> Result<String, AllocError> {
+/// A page placed on A4 by this matrix.
+fn placed(alloc: Global, matrix: &str, body: &str) -> Result<String, AllocError> {
     format!(in alloc;
-        "newpath 0 0 moveto {width} 0 lineto {width} {height} lineto 0 {height} lineto closepath"
+        "userdict /ImposeSave save put\nuserdict /showpage {{}} put\n[{matrix}] concat\n\
+        newpath 0 0 moveto 595 0 lineto 595 842 lineto 0 842 lineto closepath clip newpath\n\
+        {body}ImposeSave restore\n"
     )
-}
-
-/// What comes before the body of a page that is placed on this paper by this matrix.
-pub fn opening(alloc: Global, paper: (&str, &str), matrix: &str) -> Result<String, AllocError> {
-    let edge = edge(alloc, paper)?;
-    format!(in alloc;
-        "userdict /ImposeSave save put\nuserdict /showpage {{}} put\n[{matrix}] concat\n{edge} clip newpath\n"
-    )
-}
-
-/// The border of a page on this paper, which comes between opening and body.
-pub fn border(alloc: Global, paper: (&str, &str), width: &str) -> Result<String, AllocError> {
-    let edge = edge(alloc, paper)?;
-    format!(in alloc; "gsave {width} setlinewidth {edge} stroke grestore\n")
-}
-
-/// A page placed on this paper by this matrix, with its border, if it has one, before its body.
-pub fn placed_on(
-    alloc: Global,
-    paper: (&str, &str),
-    matrix: &str,
-    body: &str,
-) -> Result<String, AllocError> {
-    let opening = opening(alloc, paper, matrix)?;
-    format!(in alloc; "{opening}{body}ImposeSave restore\n")
-}
-
-/// The same on A4.
-pub fn placed(alloc: Global, matrix: &str, body: &str) -> Result<String, AllocError> {
-    placed_on(alloc, A4_SIDES, matrix, body)
 }
 
 /// The sheet with this number, counted from 1, with these placed pages.
-pub fn sheet(alloc: Global, number: u32, pages: &str) -> Result<String, AllocError> {
+fn sheet(alloc: Global, number: u32, pages: &str) -> Result<String, AllocError> {
     format!(in alloc; "%%Page: {number} {number}\n{pages}showpage\n")
 }
 
-/// The sheet with the page of `ONE_PAGE`, unmoved, with this border.
-pub fn one_up_sheet(alloc: Global, border: &str) -> Result<String, AllocError> {
-    let body = format!(in alloc; "{border}{}", page_body(alloc, 0)?)?;
-    sheet(alloc, 1, &placed(alloc, UNMOVED, &body)?)
-}
-
-/// The whole output with that sheet.
-pub fn one_up_output(alloc: Global, border: &str) -> Result<String, AllocError> {
-    document_with(alloc, 1, &one_up_sheet(alloc, border)?)
+/// The whole output with the page of `ONE_PAGE`, unmoved.
+pub fn one_up_output(alloc: Global) -> Result<String, AllocError> {
+    let page = placed(alloc, "1 0 0 1 0 0", &page_body(alloc, 0)?)?;
+    document_with(alloc, 1, &sheet(alloc, 1, &page)?)
 }
 
 /// This many sheets, each of two pages of `document_of`, by `TWO_UP`.

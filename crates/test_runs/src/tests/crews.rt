@@ -42,42 +42,15 @@ struct Fates<'a, R> {
     rt: &'a R,
     preparers: u32,
     imposers: u32,
-    begun: Begun,
+    /// How many preparers, and how many imposers, have begun.
+    begun_preparers: AtomicU32,
+    begun_imposers: AtomicU32,
     /// How often the imposers were told to stop.
     stopped: AtomicU32,
-    failed: Failed,
-}
-
-/// The number of preparers, and of imposers, that have begun.
-#[derive(Drop)]
-struct Begun {
-    preparers: AtomicU32,
-    imposers: AtomicU32,
-}
-
-impl Begun {
-    fn none() -> Begun {
-        Begun {
-            preparers: AtomicU32::new(0),
-            imposers: AtomicU32::new(0),
-        }
-    }
-}
-
-/// The number of waits that ran out, and of collections that began after the imposers had been told to stop.
-#[derive(Drop)]
-struct Failed {
-    waits: AtomicU32,
-    collections: AtomicU32,
-}
-
-impl Failed {
-    fn none() -> Failed {
-        Failed {
-            waits: AtomicU32::new(0),
-            collections: AtomicU32::new(0),
-        }
-    }
+    /// How many waits ran out.
+    run_out: AtomicU32,
+    /// How many collections began after the imposers had been told to stop.
+    late: AtomicU32,
 }
 
 impl<'a, R> Fates<'a, R> {
@@ -86,21 +59,23 @@ impl<'a, R> Fates<'a, R> {
             rt,
             preparers,
             imposers,
-            begun: Begun::none(),
+            begun_preparers: AtomicU32::new(0),
+            begun_imposers: AtomicU32::new(0),
             stopped: AtomicU32::new(0),
-            failed: Failed::none(),
+            run_out: AtomicU32::new(0),
+            late: AtomicU32::new(0),
         }
     }
 
     /// Waits until the word has this value or more, or any wait ran out.
     fn wait_for(&self, word: &AtomicU32, height: u32) {
         for _ in 0..YIELDS {
-            if word.load(SeqCst) >= height || self.failed.waits.load(SeqCst) > 0 {
+            if word.load(SeqCst) >= height || self.run_out.load(SeqCst) > 0 {
                 return;
             }
             thread::yield_now();
         }
-        self.failed.waits.fetch_add(1, SeqCst);
+        self.run_out.fetch_add(1, SeqCst);
     }
 }
 
@@ -135,7 +110,7 @@ impl<'a, R: Abort> Work<Held> for Fates<'a, R> {
         number: u32,
         _count: u32,
     ) -> Result<Held, AllocError> {
-        self.begun.preparers.fetch_add(1, SeqCst);
+        self.begun_preparers.fetch_add(1, SeqCst);
         if has_bit(self.preparers, number) {
             return Err(AllocError);
         }
@@ -165,7 +140,7 @@ impl<'a, R: Abort> Imposing<Held, Ticket> for Fates<'a, R> {
     ghost sends = { λ _ _. ⊤ };
 
     fn impose<W: Wait>(&self, _rt: &W, held: Held, _ticket: Ticket) -> Result<Held, AllocError> {
-        let number = self.begun.imposers.fetch_add(1, SeqCst);
+        let number = self.begun_imposers.fetch_add(1, SeqCst);
         if has_bit(self.imposers, number) {
             return Err(AllocError);
         }
@@ -192,32 +167,22 @@ impl<'a, R> Collector<Collected> for Fates<'a, R> {
     /// Waits until all workers have begun, as a collector waits for what they send.
     fn collect<W: Wait>(&self, _rt: &W, state: &mut Collected) {
         if self.stopped.load(SeqCst) > 0 {
-            self.failed.collections.fetch_add(1, SeqCst);
+            self.late.fetch_add(1, SeqCst);
         }
-        self.wait_for(&self.begun.preparers, WORKERS);
-        self.wait_for(&self.begun.imposers, WORKERS);
+        self.wait_for(&self.begun_preparers, WORKERS);
+        self.wait_for(&self.begun_imposers, WORKERS);
         state.times = state.times.saturating_add(1);
     }
 }
 
-/// The result of a run of workers: how often the collector collected, the final fates, and the shares that were
-/// returned.
-struct Came {
-    collected: u32,
-    late: u32,
-    run_out: u32,
-    stopped: u32,
-    begun: (u32, u32),
-    shares: Option<u64>,
-}
-
-/// Runs three workers of each kind with these fates.
+/// Runs three workers of each kind with these fates: the shares that are returned, if all workers began, no wait ran out, and
+/// the collector collected once, before the imposers were told to stop, once.
 fn gather<R: Threads + Wait + Abort + Sync>(
     rt: &R,
     alloc: Global,
     preparers: u32,
     imposers: u32,
-) -> Came {
+) -> Option<u64> {
     let fates = Fates::new(rt, preparers, imposers);
     let supplies = Supplies {
         crew: Crew {
@@ -231,42 +196,18 @@ fn gather<R: Threads + Wait + Abort + Sync>(
     let mut ended = None;
     let state = Collected { times: 0 };
     let state = gather_by(rt, &fates, &fates, supplies, state, &mut ended);
-    let shares = match ended {
+    let begun = [
+        fates.begun_preparers.load(SeqCst),
+        fates.begun_imposers.load(SeqCst),
+    ];
+    assert_that(rt, begun == [WORKERS, WORKERS]);
+    assert_that(rt, fates.run_out.load(SeqCst) == 0);
+    assert_that(rt, state.times == 1 && fates.late.load(SeqCst) == 0);
+    assert_that(rt, fates.stopped.load(SeqCst) == 1);
+    match ended {
         Some(held) => Some(held.shares),
         None => None,
-    };
-    Came {
-        collected: state.times,
-        late: fates.failed.collections.load(SeqCst),
-        run_out: fates.failed.waits.load(SeqCst),
-        stopped: fates.stopped.load(SeqCst),
-        begun: (
-            fates.begun.preparers.load(SeqCst),
-            fates.begun.imposers.load(SeqCst),
-        ),
-        shares,
     }
-}
-
-/// Whether all workers began, no wait ran out, and these shares were returned.
-fn is_right(came: Came, shares: Option<u64>) -> bool {
-    let Came {
-        collected,
-        late,
-        run_out,
-        stopped,
-        begun,
-        shares: handed_back,
-    } = came;
-    (collected, late, run_out, stopped) == (1, 0, 0, 1)
-        && begun == (WORKERS, WORKERS)
-        && handed_back == shares
-}
-
-#[test]
-fn workers_that_find_memory_hand_back_all(rt: HostRuntime) -> Result<(), Fail> {
-    assert_that(&rt, is_right(gather(&rt, rt.alloc(), 0, 0), Some(100)));
-    Ok(())
 }
 
 // The returned shares are as many as there were, or none.
@@ -274,10 +215,9 @@ fn workers_that_find_memory_hand_back_all(rt: HostRuntime) -> Result<(), Fail> {
 fn a_worker_without_memory_lets_nobody_wait(rt: HostRuntime) -> Result<(), Fail> {
     for preparers in 0..8u32 {
         for imposers in 0..8u32 {
-            let came = gather(&rt, rt.alloc(), preparers, imposers);
             let is_whole = preparers == 0 && imposers == 0;
             let shares = if is_whole { Some(100) } else { None };
-            assert_that(&rt, is_right(came, shares));
+            assert_that(&rt, gather(&rt, rt.alloc(), preparers, imposers) == shares);
         }
     }
     Ok(())

@@ -3,8 +3,8 @@
 ghost use Rattle.std.specs.Prelude.{◌<◌};
 
 use super::callers::gatherer::{Gatherer, Outcome, gatherer_of, outcome_of};
-use super::queues::are_all;
 use super::table_and_shelf;
+use super::tally::Tally;
 use crate::tests::checks::assert_that;
 use dsc::Document;
 use gather_table::{Closing, Published, Reply};
@@ -17,6 +17,8 @@ use sheet_text::Job;
 use std::alloc::{AllocError, Global};
 use std::process::Abort;
 use std::sync::Wait;
+use std::sync::atomic::AtomicUsize;
+use std::sync::atomic::Ordering::SeqCst;
 use std::test::Fail;
 use std::thread::{Threads, for_each_mut};
 use test_tools::{document_of, same_items};
@@ -46,238 +48,171 @@ impl Sizes {
             0
         }
     }
-
-    /// The sheet on which a page is.
-    fn sheet_of(self, page: u32) -> u32 {
-        page.saturating_mul(self.places)
-            .checked_div(self.slots)
-            .unwrap_or(0)
-    }
 }
 
-/// What a delivery does.
-#[derive(Clone, Copy, PartialEq, Eq)]
-enum Deed {
-    Stores,
-    Marks,
-    Fills,
-    Closes,
-    Completes,
-}
+/// From which numbers on deeds are counted: of pages that are stored, of slots that are marked and groups that are filled,
+/// numbered over all sheets, of sheets that are completed and imposed, and what goes wrong.
+const STORED: usize = 0;
 
-/// What deliveries have done, each deed with its number: that of the page that was stored, of the slot that was marked,
-/// counted over all pages, of the group that was filled, counted over all sheets, or of the sheet of which a group was
-/// closed, or that was completed.
-type Done = Vec<(Deed, u32)>;
+const MARKED: usize = 1_000;
 
-/// Adds what a mark of this slot, on this sheet, was answered.
-fn add_reply(done: &mut Done, slot: u32, sheet: u32, reply: Reply) -> Result<(), AllocError> {
-    match reply {
-        Reply::Repeated => return Ok(()),
-        Reply::Completing => done.push((Deed::Completes, sheet))?,
-        Reply::Fills(group) => {
-            let group = sheet.saturating_mul(2).saturating_add(u32::from(group));
-            done.push((Deed::Fills, group))?;
-        }
-        Reply::Fresh => (),
-    }
-    Ok(done.push((Deed::Marks, slot))?)
-}
+const FILLED: usize = 2_000;
 
-/// Adds what a delivery of this page was answered for its slots and groups.
-fn add_answers(
-    done: &mut Done,
-    page: u32,
-    sizes: Sizes,
-    delivered: &Delivered<'_>,
-) -> Result<(), AllocError> {
-    let sheet = sizes.sheet_of(page);
-    let mut slot = page.saturating_mul(sizes.places);
-    for reply in delivered.replies.as_slice() {
-        add_reply(done, slot, sheet, *reply)?;
-        slot = slot.saturating_add(1);
-    }
-    for closing in delivered.closings.as_slice() {
-        done.push((Deed::Closes, sheet))?;
-        if *closing == Closing::Completing {
-            done.push((Deed::Completes, sheet))?;
-        }
-    }
-    Ok(())
-}
+const COMPLETED: usize = 3_000;
 
-/// Adds what a delivery of this page was answered. Refused if a sheet is handed back, and if it names another index of the
-/// page than the table has.
-fn add_delivery(
-    done: &mut Done,
-    page: u32,
-    held: Option<u32>,
-    sizes: Sizes,
-    delivered: &Delivered<'_>,
-) -> Result<(), AllocError> {
-    let index = match delivered.published {
-        Published::Stored => {
-            done.push((Deed::Stores, page))?;
-            delivered.receipt.index()
-        }
-        Published::Held(index) => index,
-    };
-    if held != Some(index) || !delivered.handed_back.is_empty() {
-        return Err(AllocError);
-    }
-    add_answers(done, page, sizes, delivered)
-}
+const IMPOSED: usize = 4_000;
 
-/// Delivers a page. Refused also for a page that isn't there.
-fn deliver_page<R: Wait>(
-    rt: &R,
-    alloc: Global,
-    gatherer: &mut Gatherer<'_, '_, '_, '_>,
-    page: u32,
-    sizes: Sizes,
-    done: &mut Done,
-) -> Result<(), AllocError> {
-    let delivered = gatherer.deliver_page(rt, alloc, page)?;
-    add_delivery(done, page, gatherer.page_at(page), sizes, &delivered)
-}
+const WRONG: usize = 5_000;
 
-/// Which page comes first.
-#[derive(Clone, Copy)]
-enum Order {
-    Ascending,
-    Descending,
-}
-
-/// Delivers all pages in this order, and adds what was done.
-fn deliver_pages<R: Wait>(
-    rt: &R,
-    alloc: Global,
-    gatherer: &mut Gatherer<'_, '_, '_, '_>,
-    sizes: Sizes,
-    order: Order,
-    done: &mut Done,
-) -> Result<(), AllocError> {
-    let pages = sizes.pages();
-    for step in 0..pages {
-        let page = match order {
-            Order::Ascending => step,
-            Order::Descending => pages - 1 - step,
-        };
-        deliver_page(rt, alloc, gatherer, page, sizes, done)?;
-    }
-    Ok(())
-}
-
-/// One of those who deliver all pages, and what came of it.
+/// What is done by all callers, and how often.
 #[derive(Drop)]
-struct Caller<'s, 'j, 't, 'd> {
-    gatherer: Gatherer<'s, 'j, 't, 'd>,
-    order: Order,
-    done: Done,
-    outcome: Result<(), AllocError>,
+struct Done {
+    sizes: Sizes,
+    deeds: Tally,
+    closings: AtomicUsize,
 }
 
-impl<'s, 'j, 't, 'd> Caller<'s, 'j, 't, 'd> {
-    fn deliver<R: Wait>(&mut self, rt: &R, alloc: Global, sizes: Sizes) {
-        let gatherer = &mut self.gatherer;
-        self.outcome = deliver_pages(rt, alloc, gatherer, sizes, self.order, &mut self.done);
+impl Done {
+    /// Nothing is done yet.
+    fn nothing(alloc: Global, sizes: Sizes) -> Result<Done, AllocError> {
+        Ok(Done {
+            sizes,
+            deeds: Tally::new(alloc, WRONG)?,
+            closings: AtomicUsize::new(0),
+        })
+    }
+
+    fn add(&self, deed: usize, number: u32) {
+        self.deeds.add(deed.saturating_add(number as usize));
+    }
+
+    /// Adds what a mark of this slot, on this sheet, was answered.
+    fn add_reply(&self, slot: u32, sheet: u32, reply: Reply) {
+        match reply {
+            Reply::Repeated => return,
+            Reply::Completing => self.add(COMPLETED, sheet),
+            Reply::Fills(group) => {
+                let first = sheet.saturating_mul(2);
+                self.add(FILLED, first.saturating_add(u32::from(group)));
+            }
+            Reply::Fresh => (),
+        }
+        self.add(MARKED, slot);
+    }
+
+    /// Adds what a delivery of this page was answered.
+    fn add_delivery(&self, page: u32, delivered: &Delivered<'_>) {
+        if delivered.published == Published::Stored {
+            self.add(STORED, page);
+        }
+        let mut slot = page.saturating_mul(self.sizes.places);
+        let sheet = slot.checked_div(self.sizes.slots).unwrap_or(0);
+        for reply in delivered.replies.as_slice() {
+            self.add_reply(slot, sheet, *reply);
+            slot = slot.saturating_add(1);
+        }
+        for closing in delivered.closings.as_slice() {
+            self.closings.fetch_add(1, SeqCst);
+            if *closing == Closing::Completing {
+                self.add(COMPLETED, sheet);
+            }
+        }
+    }
+
+    /// Delivers a page. It is wrong if that is refused, if a sheet is handed back, and if another index of the page is named
+    /// than the table has.
+    fn deliver<R: Wait>(
+        &self,
+        rt: &R,
+        alloc: Global,
+        gatherer: &mut Gatherer<'_, '_, '_, '_>,
+        page: u32,
+    ) {
+        let Ok(delivered) = gatherer.deliver_page(rt, alloc, page) else {
+            return self.add(WRONG, page);
+        };
+        let index = match delivered.published {
+            Published::Stored => delivered.receipt.index(),
+            Published::Held(index) => index,
+        };
+        if gatherer.page_at(page) != Some(index) || !delivered.handed_back.is_empty() {
+            self.add(WRONG, page);
+        }
+        self.add_delivery(page, &delivered);
+    }
+
+    /// Delivers all pages. Each other caller does so from the last one on.
+    fn deliver_all<R: Wait>(
+        &self,
+        rt: &R,
+        alloc: Global,
+        caller: usize,
+        gatherer: &mut Gatherer<'_, '_, '_, '_>,
+    ) {
+        let pages = self.sizes.pages();
+        for step in 0..pages {
+            let page = if caller % 2 == 0 {
+                step
+            } else {
+                pages - 1 - step
+            };
+            self.deliver(rt, alloc, gatherer, page);
+        }
+    }
+
+    /// Takes a sheet for each that there is from the queue, and adds those that have their text. Whether the queue gives no
+    /// more.
+    fn take_all<R: Wait>(
+        &self,
+        rt: &R,
+        alloc: Global,
+        gatherer: &mut Gatherer<'_, '_, '_, '_>,
+    ) -> bool {
+        for _ in 0..self.sizes.sheets {
+            if let Some(sheet) = gatherer.take(rt) {
+                if matches!(outcome_of(alloc, gatherer, sheet), Ok(Outcome::Imposed)) {
+                    self.add(IMPOSED, sheet);
+                }
+            }
+        }
+        gatherer.take(rt).is_none()
+    }
+
+    /// Whether each page is stored once, each slot marked, each group filled, each sheet completed and imposed, as many groups
+    /// are closed as there are, and nothing goes wrong.
+    fn is_each_once(&self) -> bool {
+        let sizes = self.sizes;
+        let mut all = 0usize;
+        for (deed, count) in [
+            (STORED, sizes.pages()),
+            (MARKED, sizes.all_slots()),
+            (FILLED, sizes.groups()),
+            (COMPLETED, sizes.sheets),
+            (IMPOSED, sizes.sheets),
+        ] {
+            if !self.deeds.are_once(deed, count as usize) {
+                return false;
+            }
+            all = all.saturating_add(count as usize);
+        }
+        self.deeds.all() == all && self.closings.load(SeqCst) == sizes.groups() as usize
     }
 }
 
-/// So many callers. Each other one delivers the pages descending.
-fn callers_of<'s, 'j, 't, 'd>(
+/// So many others that gather the same.
+fn others_of<'s, 'j, 't, 'd>(
     alloc: Global,
     gatherer: &mut Gatherer<'s, 'j, 't, 'd>,
     count: u32,
-) -> Result<Vec<Caller<'s, 'j, 't, 'd>>, AllocError> {
-    let mut callers = Vec::new(alloc);
-    for number in 0..count {
-        let Some(gatherer) = gatherer.another() else {
+) -> Result<Vec<Gatherer<'s, 'j, 't, 'd>>, AllocError> {
+    let mut others = Vec::new(alloc);
+    for _ in 0..count {
+        let Some(other) = gatherer.another() else {
             return Err(AllocError);
         };
-        callers.push(Caller {
-            gatherer,
-            order: if number % 2 == 0 {
-                Order::Ascending
-            } else {
-                Order::Descending
-            },
-            done: Vec::new(alloc),
-            outcome: Ok(()),
-        })?;
+        others.push(other)?;
     }
-    Ok(callers)
-}
-
-/// What these have done, if all could deliver.
-fn done_by(alloc: Global, callers: &[Caller<'_, '_, '_, '_>]) -> Result<Done, AllocError> {
-    let mut done = Vec::new(alloc);
-    for caller in callers {
-        caller.outcome?;
-        done.extend_from_slice(caller.done.as_slice())?;
-    }
-    Ok(done)
-}
-
-/// The numbers with which this was done.
-fn numbers_of(alloc: Global, done: &[(Deed, u32)], wanted: Deed) -> Result<Vec<u32>, AllocError> {
-    let mut numbers = Vec::new(alloc);
-    for (deed, number) in done {
-        if *deed == wanted {
-            numbers.push(*number)?;
-        }
-    }
-    Ok(numbers)
-}
-
-/// Whether each page was stored once, each slot marked once, each group filled and closed once, and each sheet completed
-/// once.
-fn is_each_once(alloc: Global, done: &[(Deed, u32)], sizes: Sizes) -> Result<bool, AllocError> {
-    let wanted = [
-        (Deed::Stores, sizes.pages()),
-        (Deed::Marks, sizes.all_slots()),
-        (Deed::Fills, sizes.groups()),
-        (Deed::Completes, sizes.sheets),
-    ];
-    for (deed, count) in wanted {
-        if !are_all(numbers_of(alloc, done, deed)?, count)? {
-            return Ok(false);
-        }
-    }
-    let closed = numbers_of(alloc, done, Deed::Closes)?;
-    Ok(closed.len() == sizes.groups() as usize)
-}
-
-/// Takes each sheet from the queue. Whether there are as many as the job has, and each has its text.
-fn take_each<R: Wait>(
-    rt: &R,
-    alloc: Global,
-    gatherer: &mut Gatherer<'_, '_, '_, '_>,
-    taken: &mut Vec<u32>,
-) -> Result<bool, AllocError> {
-    for _ in 0..gatherer.job.sheets() {
-        let Some(sheet) = gatherer.take(rt) else {
-            return Ok(false);
-        };
-        if outcome_of(alloc, gatherer, sheet)? != Outcome::Imposed {
-            return Ok(false);
-        }
-        taken.push(sheet)?;
-    }
-    Ok(gatherer.take(rt).is_none())
-}
-
-/// Whether the queue gives each sheet once, each has its text, and then the queue gives none.
-fn gives_each_sheet<R: Wait>(
-    rt: &R,
-    alloc: Global,
-    gatherer: &mut Gatherer<'_, '_, '_, '_>,
-) -> Result<bool, AllocError> {
-    let mut taken = Vec::new(alloc);
-    if !take_each(rt, alloc, gatherer, &mut taken)? {
-        return Ok(false);
-    }
-    are_all(taken, gatherer.job.sheets())
+    Ok(others)
 }
 
 /// Each page is delivered by each of so many callers, in so many threads.
@@ -290,46 +225,47 @@ struct Repeats {
 }
 
 impl Repeats {
-    /// What all have done.
     fn deliver<R: Threads + Wait + Sync>(
-        self,
+        &self,
         rt: &R,
         alloc: Global,
         gatherer: &mut Gatherer<'_, '_, '_, '_>,
-    ) -> Result<Done, AllocError> {
-        let mut callers = callers_of(alloc, gatherer, self.callers)?;
-        let sizes = self.sizes;
+        done: &Done,
+    ) -> Result<(), AllocError> {
+        let mut callers = others_of(alloc, gatherer, self.callers)?;
         for_each_mut(
             rt,
             callers.as_mut_slice(),
             self.threads,
-            &|_, caller: &mut Caller<'_, '_, '_, '_>| caller.deliver(rt, alloc, sizes),
+            &|number, caller: &mut Gatherer<'_, '_, '_, '_>| {
+                done.deliver_all(rt, alloc, number, caller)
+            },
         );
-        done_by(alloc, callers.as_slice())
+        Ok(())
     }
 
-    /// Delivers the pages, and looks at what was done and at the queue.
+    /// What is done is right, and the queue gives each sheet once.
     fn look<R: Threads + Wait + Sync + Abort>(
-        self,
+        &self,
         rt: &R,
         alloc: Global,
         gatherer: &mut Gatherer<'_, '_, '_, '_>,
     ) -> Result<(), Fail> {
-        let done = self.deliver(rt, alloc, gatherer)?;
-        assert_that(rt, is_each_once(alloc, done.as_slice(), self.sizes)?);
-        assert_that(rt, gives_each_sheet(rt, alloc, gatherer)?);
+        let done = Done::nothing(alloc, self.sizes)?;
+        self.deliver(rt, alloc, gatherer, &done)?;
+        assert_that(rt, done.take_all(rt, alloc, gatherer));
+        assert_that(rt, done.is_each_once());
         Ok(())
     }
 
     /// The same of a job, with room in the queue for each sheet once.
     fn look_at_job<R: Threads + Wait + Sync + Abort>(
-        self,
+        &self,
         rt: &R,
         alloc: Global,
         job: &Job<'_, '_>,
     ) -> Result<(), Fail> {
-        let counts = (job.sheets(), job.document().pages());
-        assert_that(rt, counts == (self.sizes.sheets, self.sizes.pages()));
+        assert_that(rt, job.sheets() == self.sizes.sheets);
         let (ready, pass) = Ready::new(alloc, job.sheets().max(1))?;
         let (table, seat, shelf) = table_and_shelf(alloc, job)?;
         let mut gatherer = gatherer_of(job, &table, &shelf, &ready, seat, pass);
@@ -338,7 +274,7 @@ impl Repeats {
 
     /// The same of a document.
     fn look_at_document<R: Threads + Wait + Sync + Abort>(
-        self,
+        &self,
         rt: &R,
         alloc: Global,
         text: &str,
@@ -352,34 +288,14 @@ impl Repeats {
     }
 }
 
-/// Ten sheets of two pages.
-const TEN: Sizes = Sizes {
-    sheets: 10,
-    slots: 2,
-    places: 1,
-};
-
-/// Two sheets of 65 pages.
-const WIDE: Sizes = Sizes {
-    sheets: 2,
-    slots: 65,
-    places: 1,
-};
-
-/// One sheet with the same page 65 times.
-const SAME: Sizes = Sizes {
-    sheets: 1,
-    slots: 65,
-    places: 65,
-};
-
 /// 65 pages a sheet.
 const SIXTY_FIVE_PAGES: &str = "\
     65:0+1+2+3+4+5+6+7+8+9+10+11+12+13+14+15+16+17+18+19+20+21+22+23+24+25+26+27+28+29+30+31+32+33+34+35\
     +36+37+38+39+40+41+42+43+44+45+46+47+48+49+50+51+52+53+54+55+56+57+58+59+60+61+62+63+64\
 ";
 
-/// All of these documents, with as many pages as the sizes say, by so many callers in so many threads.
+/// Of one page, of two on a sheet, of two and ten such sheets whose slots are in one word, of two sheets of 65 pages, and of
+/// the same page 65 times: each is delivered by so many callers in so many threads.
 fn deliver_each<R: Threads + Wait + Sync + Abort>(
     rt: &R,
     alloc: Global,
@@ -389,17 +305,25 @@ fn deliver_each<R: Threads + Wait + Sync + Abort>(
     requires { 0 < threads }
 {
     let same = same_items(alloc, "0", 65)?;
-    for (items, sizes) in [
-        ("2:0+1", TEN),
-        (SIXTY_FIVE_PAGES, WIDE),
-        (same.as_str(), SAME),
+    for (items, sheets, slots, places) in [
+        ("0", 1, 1, 1),
+        ("2:0+1", 1, 2, 1),
+        ("2:0+1", 2, 2, 1),
+        ("2:0+1", 10, 2, 1),
+        (SIXTY_FIVE_PAGES, 2, 65, 1),
+        (same.as_str(), 1, 65, 65),
     ] {
-        let text = document_of(alloc, sizes.pages())?;
+        let sizes = Sizes {
+            sheets,
+            slots,
+            places,
+        };
         let repeats = Repeats {
             sizes,
             callers,
             threads,
         };
+        let text = document_of(alloc, sizes.pages())?;
         repeats.look_at_document(rt, alloc, &text, items)?;
     }
     Ok(())

@@ -1,4 +1,3 @@
-//! Worked examples of runs: sheets that were made, many pages, and threads that meet.
+//! Worked examples of runs: sheets that were made, and threads that meet.
 mod made_plans;
-mod many_pages;
 mod two_threads;

@@ -110,28 +110,20 @@ fn meet<R: Threads + Wait + Sync>(
     Ok(met == [pages as usize, all, 0] && (report.sheets, report.swept) == (pages, 0))
 }
 
+// A page is delivered while a sheet is imposed, too.
 #[test]
-fn as_many_preparers_run_as_were_asked_for(rt: HostRuntime) -> Result<(), Fail> {
-    for (height, counts, pages) in [(4, (4, 4), 16), (16, (16, 16), 16), (2, (2, 1), 2)] {
-        let is_met = meet(&rt, rt.alloc(), Steps::Pages, height, counts, pages)?;
-        assert_that(&rt, is_met);
+fn as_many_threads_run_as_were_asked_for(rt: HostRuntime) -> Result<(), Fail> {
+    for (steps, height, counts, pages) in [
+        (Steps::Pages, 4, (4, 4), 16),
+        (Steps::Pages, 16, (16, 16), 16),
+        (Steps::Pages, 2, (2, 1), 2),
+        (Steps::Sheets, 4, (4, 4), 16),
+        (Steps::Sheets, 16, (16, 16), 16),
+        (Steps::Sheets, 2, (1, 2), 2),
+        (Steps::SecondPageAndFirstSheet, 2, (1, 1), 2),
+    ] {
+        assert_that(&rt, meet(&rt, rt.alloc(), steps, height, counts, pages)?);
     }
-    Ok(())
-}
-
-#[test]
-fn as_many_imposers_run_as_were_asked_for(rt: HostRuntime) -> Result<(), Fail> {
-    for (height, counts, pages) in [(4, (4, 4), 16), (16, (16, 16), 16), (2, (1, 2), 2)] {
-        let is_met = meet(&rt, rt.alloc(), Steps::Sheets, height, counts, pages)?;
-        assert_that(&rt, is_met);
-    }
-    Ok(())
-}
-
-#[test]
-fn a_page_is_delivered_while_a_sheet_is_imposed(rt: HostRuntime) -> Result<(), Fail> {
-    let steps = Steps::SecondPageAndFirstSheet;
-    assert_that(&rt, meet(&rt, rt.alloc(), steps, 2, (1, 1), 2)?);
     Ok(())
 }
 

@@ -4,23 +4,15 @@ ghost use Rattle.sheet_text.specs.Jobs.{text_of};
 ghost use Rattle.sheet_writer.specs.Writing.{AreEarly, HaveTexts};
 
 use super::jobs::{Task, with_job};
-use crate::tests::checks::{assert_bytes, assert_that};
+use crate::tests::checks::assert_that;
 use sheet_text::{Job, Openings, Rope, Texts, append_placed, begin_sheet, end_sheet, sheet_text};
 use sheet_writer::{Early, MemorySink, Progress, Sink, Spent, WriteSink, write_early, write_rest};
 use std::alloc::{AllocError, Global};
 use std::io::{self, ErrorKind, Write};
 use std::process::Abort;
 use std::test::Fail;
-use test_tools::{A4_SIDES, UNMOVED, document_with, opening, placed, sheet};
 
-/// The body of the third of four pages. It isn't copied to its sheet.
-fn long_body(alloc: Global) -> Result<String, AllocError> {
-    let mut long = "(2) pop\n".repeat(alloc, 600)?;
-    long.push_str("showpage\n")?;
-    Ok(long)
-}
-
-/// The bodies of the four pages.
+/// The bodies of the four pages. This one, of the third, isn't copied to its sheet.
 const fn bodies(long: &str) -> [&str; 4] {
     [
         "(0) pop\nshowpage\n",
@@ -31,13 +23,12 @@ const fn bodies(long: &str) -> [&str; 4] {
 }
 
 /// A document of these pages.
-fn document_of_pages(alloc: Global, bodies: &[&str; 4]) -> Result<String, AllocError> {
-    let mut text = String::new(alloc);
-    for (page, body) in bodies.iter().enumerate() {
-        let number = page.saturating_add(1);
-        text.push_str(&format!(in alloc; "%%Page: {number} {number}\n{body}")?)?;
-    }
-    document_with(alloc, 4, &text)
+fn document_of_pages(alloc: Global, long: &str) -> Result<String, AllocError> {
+    format!(in alloc;
+        "%!PS-Adobe-3.0\n%%Pages: 4\n%%EndComments\n\
+        %%Page: 1 1\n(0) pop\nshowpage\n%%Page: 2 2\n(1) pop\nshowpage\n\
+        %%Page: 3 3\n{long}%%Page: 4 4\n(3) pop\nshowpage\n%%Trailer\n%%EOF\n"
+    )
 }
 
 /// Writes the text of a sheet with a page that isn't copied if it is long.
@@ -159,113 +150,52 @@ impl Write for Calls {
     }
 }
 
-/// Notes which sheets are given back together, and counts the bytes of all their texts.
+/// Notes which sheets are given back, with `END` after those that are together, and counts the bytes of all their texts.
 #[derive(Drop)]
 struct GivenBack {
-    alloc: Global,
-    groups: Vec<Vec<u32>>,
+    sheets: Vec<u32>,
     bytes: usize,
 }
 
-impl GivenBack {
-    fn new(alloc: Global) -> GivenBack {
-        GivenBack {
-            alloc,
-            groups: Vec::new(alloc),
-            bytes: 0,
-        }
-    }
-
-    /// Whether these are given back, in two groups.
-    fn has_groups(&self, one: &[u32], other: &[u32]) -> bool {
-        match self.groups.as_slice() {
-            [first, second] => first.as_slice() == one && second.as_slice() == other,
-            _ => false,
-        }
-    }
-}
+const END: u32 = u32::MAX;
 
 impl<'r> Spent<'r> for GivenBack {
     fn give_back(&mut self, sheets: Texts<'r>) {
-        let mut group = Vec::new(self.alloc);
         for nth in 0..sheets.len() {
             let sheet = sheets.sheet(nth);
-            let _ = group.push(sheet);
+            let _ = self.sheets.push(sheet);
             if let Some((_, text)) = sheets.joined(sheet, nth, 1) {
                 self.bytes = self.bytes.saturating_add(text.len().unwrap_or(0));
             }
         }
-        let _ = self.groups.push(group);
+        let _ = self.sheets.push(END);
     }
 }
 
 /// How long the calls are by which the sheets are written, if all of them come together.
-#[derive(Drop)]
-struct CallsOfAll<'b> {
-    bodies: [&'b str; 4],
-}
-
-impl<'b, R: Abort> Task<R, Vec<usize>> for CallsOfAll<'b> {
-    fn go(&self, rt: &R, alloc: Global, job: &Job<'_, '_>) -> Result<Vec<usize>, Fail> {
-        let mut early = early_with(alloc, job, &self.bodies, &[0, 1, 2, 3])?;
-        let mut calls = Calls {
-            lengths: Vec::new(alloc),
-        };
-        let mut given_back = GivenBack::new(alloc);
-        let mut sink = WriteSink::new(&mut calls);
-        let progress = write_early(job, &mut sink, START, &mut early, &mut given_back);
-        drop(sink);
-        assert_that(rt, progress.next == 4);
-        Ok(calls.lengths)
-    }
-}
-
-/// The text of a sheet with this page, counted from 0.
-fn sheet_of(alloc: Global, page: u32, body: &str) -> Result<String, AllocError> {
-    let text = placed(alloc, UNMOVED, body)?;
-    sheet(alloc, page.saturating_add(1), &text)
-}
-
-/// The first two sheets together, the third one's text before its page, the page and what comes after it, and the last
-/// sheet.
-fn lengths_of(alloc: Global, bodies: &[&str; 4]) -> Result<[usize; 5], AllocError> {
-    let [first, second, third, fourth] = *bodies;
-    let first = sheet_of(alloc, 0, first)?.len();
-    let second = sheet_of(alloc, 1, second)?.len();
-    let opening = opening(alloc, A4_SIDES, UNMOVED)?.len();
-    let fourth = sheet_of(alloc, 3, fourth)?.len();
-    Ok([
-        first.saturating_add(second),
-        opening.saturating_add("%%Page: 3 3\n".len()),
-        third.len(),
-        "ImposeSave restore\nshowpage\n".len(),
-        fourth,
-    ])
-}
-
-/// Does the task with the job of these pages, each on a sheet.
-fn with_pages<R, A, T: Task<R, A>>(
+fn calls_of_all<R: Abort>(
     rt: &R,
     alloc: Global,
+    job: &Job<'_, '_>,
     bodies: &[&str; 4],
-    task: &T,
-) -> Result<A, Fail> {
-    let text = document_of_pages(alloc, bodies)?;
-    with_job(rt, alloc, &text, "0", task)
-}
-
-#[test]
-fn neighbours_are_written_by_one_call(rt: HostRuntime) -> Result<(), Fail> {
-    let long = long_body(rt.alloc())?;
-    let bodies = bodies(&long);
-    let calls = with_pages(&rt, rt.alloc(), &bodies, &CallsOfAll { bodies })?;
-    let wanted = lengths_of(rt.alloc(), &bodies)?;
-    assert_that(&rt, calls.as_slice() == wanted.as_slice());
-    Ok(())
+) -> Result<Vec<usize>, AllocError> {
+    let mut early = early_with(alloc, job, bodies, &[0, 1, 2, 3])?;
+    let mut calls = Calls {
+        lengths: Vec::new(alloc),
+    };
+    let mut given_back = GivenBack {
+        sheets: Vec::new(alloc),
+        bytes: 0,
+    };
+    let mut sink = WriteSink::new(&mut calls);
+    let progress = write_early(job, &mut sink, START, &mut early, &mut given_back);
+    drop(sink);
+    assert_that(rt, progress.next == 4);
+    Ok(calls.lengths)
 }
 
 /// Of two groups, one of each other sheet, the first is given back when its last sheet is written, and not before: which
-/// sheet is the next one and how many groups were given back, after each group.
+/// sheet is the next one and how much was noted, after each group.
 fn write_two_groups(
     alloc: Global,
     job: &Job<'_, '_>,
@@ -281,90 +211,85 @@ fn write_two_groups(
     if progress.halted.is_some() {
         return Err(AllocError);
     }
-    let first = (progress.next, given_back.groups.len());
+    let first = (progress.next, given_back.sheets.len());
     put_sheets(alloc, job, bodies, &mut early, &[1, 3])?;
     let progress = write_early(job, sink, progress, &mut early, given_back);
-    Ok([first, (progress.next, given_back.groups.len())])
+    Ok([first, (progress.next, given_back.sheets.len())])
 }
 
 /// The groups are given back one after the other, with all bytes that were written.
-#[derive(Drop)]
-struct TwoGroups<'b> {
-    bodies: [&'b str; 4],
+fn two_groups<R: Abort>(
+    rt: &R,
+    alloc: Global,
+    job: &Job<'_, '_>,
+    bodies: &[&str; 4],
+) -> Result<MemorySink, AllocError> {
+    let mut sink = MemorySink::new(alloc, 10_000, 10_000, 100)?;
+    let mut given_back = GivenBack {
+        sheets: Vec::new(alloc),
+        bytes: 0,
+    };
+    let counts = write_two_groups(alloc, job, bodies, &mut given_back, &mut sink)?;
+    assert_that(rt, counts == [(1, 0), (4, 6)]);
+    assert_that(
+        rt,
+        given_back.sheets.as_slice() == [0, 2, END, 1, 3, END].as_slice(),
+    );
+    assert_that(rt, given_back.bytes == sink.bytes().len());
+    Ok(sink)
 }
 
-impl<'b, R: Abort> Task<R, ()> for TwoGroups<'b> {
-    fn go(&self, rt: &R, alloc: Global, job: &Job<'_, '_>) -> Result<(), Fail> {
-        let mut sink = MemorySink::new(alloc, 10_000, 10_000, 100)?;
-        let mut given_back = GivenBack::new(alloc);
-        let counts = write_two_groups(alloc, job, &self.bodies, &mut given_back, &mut sink)?;
-        assert_that(rt, counts == [(1, 0), (4, 2)]);
-        assert_that(rt, given_back.has_groups(&[0, 2], &[1, 3]));
-        assert_that(rt, given_back.bytes == sink.bytes().len());
-        Ok(())
-    }
-}
-
-#[test]
-fn sheets_are_given_back_with_the_last_of_them(rt: HostRuntime) -> Result<(), Fail> {
-    let long = long_body(rt.alloc())?;
-    let bodies = bodies(&long);
-    with_pages(&rt, rt.alloc(), &bodies, &TwoGroups { bodies })
-}
-
-/// Writes all sheets and the trailer, if only these came, together: how many were made anew.
-fn write_rest_of<R: Abort>(
+/// Of the four sheets these came, together: the others are made and counted, and these sheets are written, and the trailer.
+fn assert_rest<R: Abort>(
     rt: &R,
     alloc: Global,
     job: &Job<'_, '_>,
     bodies: &[&str; 4],
     came: &[u32],
-    sink: &mut MemorySink,
-) -> Result<u32, Fail>
-    requires countable { sink.old.failures < 10 }
-{
+    sheets: &[u8],
+) -> Result<(), Fail> {
     let trailer = job.document().trailer_text()?;
     let early = early_with(alloc, job, bodies, came)?;
-    let rest = write_rest(alloc, job, sink, START, &early, trailer.as_slice());
+    let mut sink = MemorySink::new(alloc, 10_000, 10_000, 100)?;
+    let rest = write_rest(alloc, job, &mut sink, START, &early, trailer.as_slice());
     assert_that(rt, rest.halted.is_none());
-    Ok(rest.swept)
+    assert_that(rt, (rest.swept as usize).saturating_add(came.len()) == 4);
+    assert_that(
+        rt,
+        sink.bytes().strip_suffix(b"%%Trailer\n%%EOF\n") == Some(sheets),
+    );
+    Ok(())
 }
 
-/// All sheets, and the trailer.
-fn sheets_and_trailer(alloc: Global, bodies: &[&str; 4]) -> Result<String, AllocError> {
-    let mut text = String::new(alloc);
-    for page in 0..4u32 {
-        text.push_str(&sheet_of(alloc, page, bodies[page as usize])?)?;
-    }
-    text.push_str("%%Trailer\n%%EOF\n")?;
-    Ok(text)
-}
+/// The first two sheets together, the third one's text before its page, the page and what comes after it, and the last
+/// sheet: how many bytes each has.
+const LENGTHS: [usize; 5] = [434, 172, 4_809, 28, 217];
 
-/// Of four sheets these came, together.
+/// Four pages, each on a sheet.
 #[derive(Drop)]
-struct SomeCame<'b> {
+struct Pages<'b> {
     bodies: [&'b str; 4],
-    came: &'b [u32],
 }
 
-impl<'b, R: Abort> Task<R, ()> for SomeCame<'b> {
+impl<'b, R: Abort> Task<R, ()> for Pages<'b> {
     fn go(&self, rt: &R, alloc: Global, job: &Job<'_, '_>) -> Result<(), Fail> {
-        let mut sink = MemorySink::new(alloc, 10_000, 10_000, 100)?;
-        let swept = write_rest_of(rt, alloc, job, &self.bodies, self.came, &mut sink)?;
-        assert_that(rt, (swept as usize).saturating_add(self.came.len()) == 4);
-        let wanted = sheets_and_trailer(alloc, &self.bodies)?;
-        assert_bytes(rt, sink.bytes(), wanted.as_bytes());
+        let calls = calls_of_all(rt, alloc, job, &self.bodies)?;
+        assert_that(rt, calls.as_slice() == LENGTHS.as_slice());
+        let sink = two_groups(rt, alloc, job, &self.bodies)?;
+        let some: [&[u32]; 3] = [&[], &[1, 2], &[0, 1, 2, 3]];
+        for came in some {
+            assert_rest(rt, alloc, job, &self.bodies, came, sink.bytes())?;
+        }
         Ok(())
     }
 }
 
+// Neighbours are written by one call, sheets given back with the last of them, and those that never came made.
 #[test]
-fn sheets_that_never_came_are_made_and_counted(rt: HostRuntime) -> Result<(), Fail> {
-    let long = long_body(rt.alloc())?;
+fn sheets_that_come_together(rt: HostRuntime) -> Result<(), Fail> {
+    let mut long = "(2) pop\n".repeat(rt.alloc(), 600)?;
+    long.push_str("showpage\n")?;
+    let text = document_of_pages(rt.alloc(), &long)?;
     let bodies = bodies(&long);
-    let some: [&[u32]; 3] = [&[], &[1, 2], &[0, 1, 2, 3]];
-    for came in some {
-        with_pages(&rt, rt.alloc(), &bodies, &SomeCame { bodies, came })?;
-    }
-    Ok(())
+    with_job(&rt, rt.alloc(), &text, "0", &Pages { bodies })
 }

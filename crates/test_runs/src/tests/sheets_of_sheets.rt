@@ -33,6 +33,7 @@ fn imposed<R: Threads + Wait + Sync>(
     Ok((sink, [report.pages, report.sheets, pages]))
 }
 
+// An open page hides the sheet after it.
 #[test]
 fn each_run_has_the_sheets_of_the_last_one_as_its_pages(rt: HostRuntime) -> Result<(), Fail> {
     let (first, counts) = imposed(&rt, rt.alloc(), EIGHT_PAGES.as_bytes(), TWO_UP)?;
@@ -41,11 +42,6 @@ fn each_run_has_the_sheets_of_the_last_one_as_its_pages(rt: HostRuntime) -> Resu
     assert_that(&rt, counts == [4, 2, 2]);
     let (_, counts) = imposed(&rt, rt.alloc(), second.bytes(), "1:-0,0")?;
     assert_that(&rt, counts == [2, 4, 4]);
-    Ok(())
-}
-
-#[test]
-fn an_open_page_hides_the_sheet_after_it(rt: HostRuntime) -> Result<(), Fail> {
     let (_, counts) = imposed(&rt, rt.alloc(), OPEN_PAGE.as_bytes(), "0,0")?;
     assert_that(&rt, counts == [1, 2, 1]);
     Ok(())

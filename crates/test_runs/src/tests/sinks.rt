@@ -1,15 +1,15 @@
 //! Sinks and writers that fail at each call in turn.
-ghost use Rattle.std.specs.Prelude.{◌<◌, None};
+ghost use Rattle.std.specs.Prelude.{None};
 
 use super::{Trial, run_into};
 use crate::tests::checks::{assert_bytes, assert_that};
-use imposer::{MemorySink, Open, RunError, Sink, SinkFault, WriteSink};
-use std::alloc::{AllocError, Global};
+use imposer::{Open, RunError, Sink, SinkFault, WriteSink};
+use std::alloc::Global;
 use std::io::{self, ErrorKind, Write};
 use std::sync::Wait;
 use std::test::Fail;
 use std::thread::Threads;
-use test_tools::{ONE_PAGE, TWO_PAGES, TWO_UP, one_up_output, two_up_output};
+use test_tools::{TWO_PAGES, TWO_UP};
 
 /// The numbers of preparers and of imposers.
 const COUNTS: [(u32, u32); 2] = [(1, 1), (2, 3)];
@@ -24,91 +24,6 @@ fn pair_by(counts: (u32, u32)) -> Trial<'static> {
         items: TWO_UP,
         counts,
     }
-}
-
-/// Runs into a sink: how many bytes the run says that were written, if they are the first ones of this output, and the
-/// sink has them alone.
-fn written_into<R: Threads + Wait + Sync>(
-    rt: &R,
-    alloc: Global,
-    trial: &Trial<'_>,
-    output: &str,
-    sink: MemorySink,
-) -> Option<u64>
-    requires fresh { sink.failures < 10 }
-{
-    let mut sink = sink;
-    let written = match run_into(rt, alloc, trial, &Open, &mut sink) {
-        Ok(report) => report.bytes,
-        Err(RunError::Write { written }) => written,
-        Err(_) => return None,
-    };
-    let taken = sink.bytes();
-    if output.as_bytes().starts_with(taken) && taken.len() as u64 == written {
-        Some(written)
-    } else {
-        None
-    }
-}
-
-/// Whether a copy of a page is cut off by a sink with any room, and whether one that takes a byte a call has all bytes.
-fn are_cut_off<R: Threads + Wait + Sync>(
-    rt: &R,
-    alloc: Global,
-    counts: (u32, u32),
-) -> Result<bool, AllocError> {
-    let output = one_up_output(alloc, "")?;
-    let trial = Trial {
-        document: ONE_PAGE,
-        items: "0",
-        counts,
-    };
-    for room in 0..273usize {
-        let sink = MemorySink::new(alloc, room, 1_000, 1_000)?;
-        if written_into(rt, alloc, &trial, &output, sink) != Some(room as u64) {
-            return Ok(false);
-        }
-    }
-    let sink = MemorySink::new(alloc, 273, 1, 273)?;
-    Ok(written_into(rt, alloc, &trial, &output, sink) == Some(273))
-}
-
-#[test]
-fn a_sink_that_fails_has_the_first_bytes(rt: HostRuntime) -> Result<(), Fail> {
-    for counts in COUNTS {
-        assert_that(&rt, are_cut_off(&rt, rt.alloc(), counts)?);
-    }
-    Ok(())
-}
-
-/// With sinks that take seven bytes a call and fail after none, one, two .. calls, after how many the run ends well. None
-/// if it never does.
-fn calls_needed<R: Threads + Wait + Sync>(
-    rt: &R,
-    alloc: Global,
-    counts: (u32, u32),
-) -> Result<Option<u64>, AllocError> {
-    let pair = two_up_output(alloc, 1)?;
-    let trial = pair_by(counts);
-    for calls in 0..200u64 {
-        let sink = MemorySink::new(alloc, 1_000, PER_CALL, calls)?;
-        match written_into(rt, alloc, &trial, &pair, sink) {
-            Some(written) if written == pair.len() as u64 => return Ok(Some(calls)),
-            Some(_) => (),
-            None => return Ok(None),
-        }
-    }
-    Ok(None)
-}
-
-// A line of the output may be given in a call of its own. 503 bytes are 72 calls at least.
-#[test]
-fn a_sink_that_fails_at_its_nth_call_has_the_first_bytes(rt: HostRuntime) -> Result<(), Fail> {
-    for counts in COUNTS {
-        let calls = calls_needed(&rt, rt.alloc(), counts)?;
-        assert_that(&rt, calls.unwrap_or(0) >= 72);
-    }
-    Ok(())
 }
 
 /// A sink that takes seven bytes a call, fails at its call with this number and all after it, and counts its calls.

@@ -1,18 +1,7 @@
 //! What tests of several crates write: each text once, written out.
-use crate::tests::checks::{assert_bytes, assert_that};
+use crate::tests::checks::assert_that;
 use std::test::Fail;
-use test_tools::{ONE_PAGE, TWO_PAGES, border, document_of, same_items, two_up_sheets, with_lines};
-
-#[test]
-fn documents(rt: HostRuntime) -> Result<(), Fail> {
-    assert_that(&rt, document_of(rt.alloc(), 1)?.as_str() == ONE_PAGE);
-    assert_that(&rt, document_of(rt.alloc(), 2)?.as_str() == TWO_PAGES);
-    let long = with_lines(rt.alloc(), ONE_PAGE, 2)?;
-    let body = "(0) pop\n(0) pop\nshowpage\n%%Trailer\n%%EOF\n";
-    assert_that(&rt, long.ends_with(body));
-    assert_that(&rt, long.len() == ONE_PAGE.len() + 8);
-    Ok(())
-}
+use test_tools::{ONE_PAGE, TWO_PAGES, document_of, same_items, two_up_sheets, with_lines};
 
 /// Two pages side by side.
 const PAIR: &str = "%%Page: 1 1\n\
@@ -33,19 +22,20 @@ const PAIR: &str = "%%Page: 1 1\n\
     showpage\n";
 
 #[test]
-fn sheets(rt: HostRuntime) -> Result<(), Fail> {
+fn texts_written_out(rt: HostRuntime) -> Result<(), Fail> {
+    assert_that(&rt, document_of(rt.alloc(), 1)?.as_str() == ONE_PAGE);
+    assert_that(&rt, document_of(rt.alloc(), 2)?.as_str() == TWO_PAGES);
+    let long = with_lines(rt.alloc(), ONE_PAGE, 2)?;
+    let body = "(0) pop\n(0) pop\nshowpage\n%%Trailer\n%%EOF\n";
+    assert_that(
+        &rt,
+        long.ends_with(body) && long.len() == ONE_PAGE.len() + 8,
+    );
     let pairs = two_up_sheets(rt.alloc(), 2)?;
-    assert_that(&rt, pairs.starts_with(PAIR));
-    assert_that(&rt, pairs.len() == 2 * PAIR.len());
-    let edge = "newpath 0 0 moveto 2 0 lineto 2 3 lineto 0 3 lineto closepath";
-    let wanted = format!(in rt.alloc(); "gsave .5 setlinewidth {edge} stroke grestore\n")?;
-    let found = border(rt.alloc(), ("2", "3"), ".5")?;
-    assert_bytes(&rt, found.as_bytes(), wanted.as_bytes());
-    Ok(())
-}
-
-#[test]
-fn items(rt: HostRuntime) -> Result<(), Fail> {
+    assert_that(
+        &rt,
+        pairs.starts_with(PAIR) && pairs.len() == 2 * PAIR.len(),
+    );
     assert_that(&rt, same_items(rt.alloc(), "0", 3)?.as_str() == "0+0+0");
     assert_that(&rt, same_items(rt.alloc(), "0", 0)?.is_empty());
     Ok(())

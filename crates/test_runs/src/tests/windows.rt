@@ -37,9 +37,9 @@ pub(super) fn six_pages(alloc: Global) -> Result<String, AllocError> {
 
 /// What a run's threads show each other here.
 #[derive(Drop)]
-struct Words {
+pub(super) struct Words {
     /// How many bytes the sink took.
-    accepted: AtomicUsize,
+    pub(super) accepted: AtomicUsize,
     /// How many calls the sink refused.
     refused: AtomicUsize,
     /// How many pages were delivered.
@@ -47,13 +47,13 @@ struct Words {
     /// How many sheets are being imposed or were.
     imposed: AtomicUsize,
     /// How many waits ran out.
-    run_out: AtomicUsize,
+    pub(super) run_out: AtomicUsize,
     /// How many sheets were imposed too far before their turn.
     too_early: AtomicUsize,
 }
 
 impl Words {
-    fn new() -> Self {
+    pub(super) fn new() -> Self {
         Words {
             accepted: AtomicUsize::new(0),
             refused: AtomicUsize::new(0),
@@ -65,21 +65,21 @@ impl Words {
     }
 
     /// Waits until the word is so high, or any wait ran out.
-    fn wait_for(&self, word: &AtomicUsize, height: usize) {
+    pub(super) fn wait_for(&self, word: &AtomicUsize, height: usize) {
         wait_for(word, height, &self.run_out);
     }
 }
 
 /// Takes so many bytes and then fails. Others can read how many it took.
 #[derive(Drop)]
-struct LimitedSink<'w> {
+pub(super) struct LimitedSink<'w> {
     words: &'w Words,
     room: usize,
     failures: u64,
 }
 
 impl<'w> LimitedSink<'w> {
-    fn new(words: &'w Words, room: usize) -> Self
+    pub(super) fn new(words: &'w Words, room: usize) -> Self
         ensures { result.failures ≡ 0 }
     {
         LimitedSink {
@@ -165,54 +165,32 @@ fn is_in_turn<R: Threads + Wait + Sync>(
     Ok(told == (0, 0) && is_imposed && (report.sheets, report.swept) == (sheets, 0))
 }
 
-/// The same with one, two and four imposers.
-fn are_in_turn<R: Threads + Wait + Sync>(
-    rt: &R,
-    alloc: Global,
-    (document, items): (&str, &str),
-    preparers: u32,
-    first_page: u32,
-    sheets: u32,
-) -> Result<bool, RunError> {
-    for imposers in [1, 2, 4] {
-        let trial = Trial {
-            document,
-            items,
-            counts: (preparers, imposers),
-        };
-        if !is_in_turn(rt, alloc, &trial, first_page, sheets)? {
-            return Ok(false);
-        }
-    }
-    Ok(true)
-}
-
-// The page of the first sheet has a preparer of its own, or it is the last one of the only preparer.
+// The page of the first sheet has a preparer of its own, or it is the last one of the only preparer. A sheet without a page,
+// which is on the queue before all others, waits for its turn too. The pages that are on their sheets four times would all
+// lie in a window, but not the texts of their sheets.
 #[test]
 fn no_sheet_is_imposed_far_before_its_turn(rt: HostRuntime) -> Result<(), Fail> {
-    let document = six_pages(rt.alloc())?;
-    let (forward, backward) = ((document.as_str(), FORWARD), (document.as_str(), BACKWARD));
-    assert_that(&rt, are_in_turn(&rt, rt.alloc(), forward, 6, 0, 6)?);
-    assert_that(&rt, are_in_turn(&rt, rt.alloc(), backward, 6, 5, 6)?);
-    assert_that(&rt, are_in_turn(&rt, rt.alloc(), backward, 1, 5, 6)?);
-    Ok(())
-}
-
-// It is on the queue before all others.
-#[test]
-fn a_sheet_without_a_page_waits_for_its_turn(rt: HostRuntime) -> Result<(), Fail> {
-    let document = six_pages(rt.alloc())?;
-    let case = (document.as_str(), BLANK_LAST);
-    assert_that(&rt, are_in_turn(&rt, rt.alloc(), case, 6, 0, 7)?);
-    Ok(())
-}
-
-// The pages themselves would all lie in a window, but not the texts of their sheets.
-#[test]
-fn text_that_is_there_several_times_counts_so_often(rt: HostRuntime) -> Result<(), Fail> {
-    let document = large_pages(rt.alloc(), PAGES as u32, PAGE_LEN / 36 + 1)?;
-    let case = (document.as_str(), FOUR_TIMES);
-    assert_that(&rt, are_in_turn(&rt, rt.alloc(), case, 6, 0, 6)?);
+    let six = six_pages(rt.alloc())?;
+    let small = large_pages(rt.alloc(), PAGES as u32, PAGE_LEN / 36 + 1)?;
+    for (document, items, preparers, first_page, sheets) in [
+        (six.as_str(), FORWARD, 6, 0, 6),
+        (six.as_str(), BACKWARD, 6, 5, 6),
+        (six.as_str(), BACKWARD, 1, 5, 6),
+        (six.as_str(), BLANK_LAST, 6, 0, 7),
+        (small.as_str(), FOUR_TIMES, 6, 0, 6),
+    ] {
+        for imposers in [1, 2, 4] {
+            let trial = Trial {
+                document,
+                items,
+                counts: (preparers, imposers),
+            };
+            assert_that(
+                &rt,
+                is_in_turn(&rt, rt.alloc(), &trial, first_page, sheets)?,
+            );
+        }
+    }
     Ok(())
 }
 

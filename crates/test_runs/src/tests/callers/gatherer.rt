@@ -16,11 +16,11 @@ use std::sync::Wait;
 #[derive(Drop)]
 pub(crate) struct Gatherer<'s, 'j, 't, 'd> {
     pub(crate) job: &'s Job<'j, 'd>,
-    pub(crate) table: &'s GatherTable<'t>,
+    table: &'s GatherTable<'t>,
     pub(crate) shelf: &'s Shelf<'d>,
-    pub(crate) ready: &'s Ready,
-    pub(crate) seat: Seat,
-    pub(crate) pass: Pass,
+    ready: &'s Ready,
+    seat: Seat,
+    pass: Pass,
     ghost same_plan: { table.now.layout ≡ layout job.now.plan },
     ghost seated: { IsSeatOf table.now seat },
     ghost passed: { IsPassOf ready.now pass },
@@ -50,18 +50,18 @@ pub(crate) fn gatherer_of<'s, 'j, 't, 'd>(
 }
 
 impl<'s, 'j, 't, 'd> Gatherer<'s, 'j, 't, 'd> {
-    /// Delivers a page. None for one that the job doesn't have.
+    /// Delivers a page. Refused also for one that the job doesn't have.
     pub(crate) fn deliver<R: Wait>(
         &mut self,
         rt: &R,
         alloc: Global,
         prepared: Prepared<'d>,
-    ) -> Option<Result<Delivered<'d>, DeliverError<'d>>> {
+    ) -> Result<Delivered<'d>, DeliverError<'d>> {
         let plan = self.job.plan();
         if prepared.page() >= plan.pages() {
-            return None;
+            return Err(DeliverError::NoMemory(prepared));
         }
-        Some(deliver(
+        deliver(
             rt,
             alloc,
             &mut self.seat,
@@ -71,7 +71,7 @@ impl<'s, 'j, 't, 'd> Gatherer<'s, 'j, 't, 'd> {
             self.ready,
             plan,
             prepared,
-        ))
+        )
     }
 
     /// The same with memory for its answers that an earlier delivery leaves.
@@ -80,10 +80,10 @@ impl<'s, 'j, 't, 'd> Gatherer<'s, 'j, 't, 'd> {
         rt: &R,
         prepared: Prepared<'d>,
         answers: Answers,
-    ) -> Option<Result<Delivered<'d>, DeliverError<'d>>> {
+    ) -> Result<Delivered<'d>, DeliverError<'d>> {
         let plan = self.job.plan();
         if prepared.page() >= plan.pages() {
-            return None;
+            return Err(DeliverError::NoMemory(prepared));
         }
         let delivery = Delivery {
             plan,
@@ -92,7 +92,7 @@ impl<'s, 'j, 't, 'd> Gatherer<'s, 'j, 't, 'd> {
             ready: self.ready,
             as_own: false,
         };
-        Some(delivery.deliver(rt, &mut self.seat, &mut self.pass, prepared, answers))
+        delivery.deliver(rt, &mut self.seat, &mut self.pass, prepared, answers)
     }
 
     /// Prepares a page of the document. Refused also for a page that isn't there.
@@ -116,8 +116,8 @@ impl<'s, 'j, 't, 'd> Gatherer<'s, 'j, 't, 'd> {
     ) -> Result<Delivered<'d>, AllocError> {
         let prepared = self.prepare(alloc, page)?;
         match self.deliver(rt, alloc, prepared) {
-            Some(Ok(delivered)) => Ok(delivered),
-            _ => Err(AllocError),
+            Ok(delivered) => Ok(delivered),
+            Err(_) => Err(AllocError),
         }
     }
 

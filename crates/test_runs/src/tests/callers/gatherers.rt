@@ -11,12 +11,12 @@ use gather_table::GatherTable;
 use handover::{Overflow, Prepared, PutError, Ready, Receipt, Shelf};
 use imposer::{DeliverError, Delivered, Job};
 use run_steps::Answers;
-use std::alloc::{AllocError, Global};
+use std::alloc::Global;
 use std::io::Write;
 use std::process::Abort;
 use std::sync::Wait;
 use std::test::Fail;
-use test_tools::{ONE_PAGE, Refused, TWO_PAGES, refuse_each, same_items};
+use test_tools::{ONE_PAGE, Refused, TWO_PAGES, document_of, has_refused, refuse_each, same_items};
 
 /// A gatherer, with what its calls wait by.
 #[derive(Drop)]
@@ -54,35 +54,24 @@ fn show_unshelved(prepared: &Prepared<'_>, answer: &mut Vec<u8>) -> anyhow::Resu
     Ok(write!(answer, "NoMemory {}", prepared.page())?)
 }
 
-/// Delivers a page.
+/// Delivers a page; again in the memory of the answers of a first delivery, if so it is asked.
 fn deliver<R: Wait>(
     rt: &R,
     alloc: Global,
     gatherer: &mut Gatherer<'_, '_, '_, '_>,
     page: u32,
+    is_again: bool,
     answer: &mut Vec<u8>,
 ) -> anyhow::Result<()> {
     let prepared = gatherer.prepare(alloc, page)?;
-    match gatherer.deliver(rt, alloc, prepared) {
-        Some(delivery) => show_delivery(delivery, answer),
-        None => show("no such page", answer),
+    if !is_again {
+        return show_delivery(gatherer.deliver(rt, alloc, prepared), answer);
     }
-}
-
-/// Delivers a page, and again in the memory of the first delivery's answers.
-fn deliver_again<R: Wait>(
-    rt: &R,
-    alloc: Global,
-    gatherer: &mut Gatherer<'_, '_, '_, '_>,
-    page: u32,
-    answer: &mut Vec<u8>,
-) -> anyhow::Result<()> {
-    let prepared = gatherer.prepare(alloc, page)?;
     let first = gatherer.deliver_page(rt, alloc, page)?;
-    match gatherer.deliver_again(rt, prepared, Answers::of(first)) {
-        Some(delivery) => show_delivery(delivery, answer),
-        None => show("no such page", answer),
-    }
+    show_delivery(
+        gatherer.deliver_again(rt, prepared, Answers::of(first)),
+        answer,
+    )
 }
 
 /// A page of which the number, the bytes and the body are known.
@@ -151,6 +140,22 @@ fn put_known<'d, R: Wait>(
     }
 }
 
+/// Puts a page on the shelf, which asks for more room than that: the page is put also if this growth is refused.
+fn put_ahead<'d, R: Wait>(
+    rt: &R,
+    alloc: Global,
+    shelf: &Shelf<'d>,
+    job: &Job<'_, 'd>,
+    page: u32,
+    answer: &mut Vec<u8>,
+) -> anyhow::Result<()> {
+    let is_put = put(rt, alloc, shelf, job, page, answer);
+    if is_put.is_ok() {
+        has_refused(alloc);
+    }
+    is_put
+}
+
 /// The number of the page that the shelf shows at an index.
 fn shown_at(shelf: &Shelf<'_>, index: u32) -> Option<u32> {
     match shelf.at(index) {
@@ -168,8 +173,7 @@ impl<'r, 's, 'j, 't, 'd, R: Wait> Called for InStory<'r, 's, 'j, 't, 'd, R> {
         let rt = self.rt;
         let gatherer = &mut self.gatherer;
         match name {
-            "deliver" => deliver(rt, alloc, gatherer, first, answer),
-            "again" => deliver_again(rt, alloc, gatherer, first, answer),
+            "deliver" | "again" => deliver(rt, alloc, gatherer, first, name == "again", answer),
             "publish" => show(gatherer.publish(first, second), answer),
             "mark" => show(gatherer.mark(first, second.min(65_535) as u16), answer),
             "look" => show(gatherer.look(first), answer),
@@ -178,6 +182,7 @@ impl<'r, 's, 'j, 't, 'd, R: Wait> Called for InStory<'r, 's, 'j, 't, 'd, R> {
             "take" => show(gatherer.take(rt), answer),
             "hand_on" => show(gatherer.hand_on(rt, first), answer),
             "shown" => show(shown_at(gatherer.shelf, first), answer),
+            "ahead" => put_ahead(rt, alloc, gatherer.shelf, gatherer.job, first, answer),
             _ => put(rt, alloc, gatherer.shelf, gatherer.job, first, answer),
         }
     }
@@ -229,24 +234,6 @@ impl<'s, R: Wait + Abort> Refused<R> for Story<'s> {
     }
 }
 
-/// Tells a story with each growth of its calls refused in turn.
-fn assert_story<R: Wait + Abort>(
-    rt: &R,
-    alloc: Global,
-    (text, items): (&str, &str),
-    room: u32,
-    story: &str,
-) -> Result<(), Fail> {
-    let story = Story {
-        text,
-        items,
-        room,
-        story,
-    };
-    assert_that(rt, refuse_each(rt, alloc, &story)?);
-    Ok(())
-}
-
 /// A page that is twice on one sheet.
 const TWICE: &str = "\
     look 0 = Some(3)\n\
@@ -281,19 +268,6 @@ const BLANK: &str = "\
     impose 0 = Imposed\n\
 ";
 
-#[test]
-fn a_page_completes_its_sheets_once(rt: HostRuntime) -> Result<(), Fail> {
-    for (items, story) in [
-        ("0+0", TWICE),
-        ("0+0", AGAIN),
-        ("0,0", HANDED_BACK),
-        ("2:1", BLANK),
-    ] {
-        assert_story(&rt, rt.alloc(), (ONE_PAGE, items), 1, story)?;
-    }
-    Ok(())
-}
-
 /// Another page is at the index of the sheet's own.
 const ANOTHER_PAGE: &str = "\
     shown 0 = None\n\
@@ -317,11 +291,48 @@ const OWN_PAGE: &str = "\
     shown 4294967295 = None\n\
 ";
 
-#[test]
-fn a_sheet_has_the_page_that_its_index_shows(rt: HostRuntime) -> Result<(), Fail> {
-    assert_story(&rt, rt.alloc(), (TWO_PAGES, "0"), 1, ANOTHER_PAGE)?;
-    assert_story(&rt, rt.alloc(), (TWO_PAGES, "0"), 1, OWN_PAGE)
-}
+/// A shelf asks for more room with its 29th page. If that is refused it asks again with the page that needs the room, and this
+/// one comes back. The shelf shows the others.
+const FILLED: &str = "\
+    put 0 = Some(0)\n\
+    put 1 = Some(1)\n\
+    put 2 = Some(2)\n\
+    put 3 = Some(3)\n\
+    put 4 = Some(4)\n\
+    put 5 = Some(5)\n\
+    put 6 = Some(6)\n\
+    put 7 = Some(7)\n\
+    put 8 = Some(8)\n\
+    put 9 = Some(9)\n\
+    put 10 = Some(10)\n\
+    put 11 = Some(11)\n\
+    put 12 = Some(12)\n\
+    put 13 = Some(13)\n\
+    put 14 = Some(14)\n\
+    put 15 = Some(15)\n\
+    put 16 = Some(16)\n\
+    put 17 = Some(17)\n\
+    put 18 = Some(18)\n\
+    put 19 = Some(19)\n\
+    put 20 = Some(20)\n\
+    put 21 = Some(21)\n\
+    put 22 = Some(22)\n\
+    put 23 = Some(23)\n\
+    put 24 = Some(24)\n\
+    put 25 = Some(25)\n\
+    put 26 = Some(26)\n\
+    put 27 = Some(27)\n\
+    ahead 28 = Some(28)\n\
+    put 29 = Some(29)\n\
+    put 30 = Some(30)\n\
+    put 31 = Some(31)\n\
+    put 32 = Some(32)\n\
+    shown 0 = Some(0)\n\
+    shown 27 = Some(27)\n\
+    shown 28 = Some(28)\n\
+    shown 31 = Some(31)\n\
+    shown 32 = Some(32)\n\
+";
 
 /// A queue with room for two. The page comes last, so that a call asks for memory.
 const IN_ORDER: &str = "\
@@ -336,49 +347,61 @@ const IN_ORDER: &str = "\
     deliver 0 = Stored [Completing] [] []\n\
 ";
 
-#[test]
-fn sheets_leave_in_order(rt: HostRuntime) -> Result<(), Fail> {
-    assert_story(&rt, rt.alloc(), (ONE_PAGE, "0"), 2, IN_ORDER)
-}
+/// A page in each of 64 slots.
+const IN_64_SLOTS: &str = "\
+    look 0 = Some(18446744073709551615)\n\
+    deliver 0 = Stored [Fresh, Fresh, Fresh, Fresh, Fresh, Fresh, Fresh, Fresh, Fresh, Fresh, Fresh, Fresh, Fresh, \
+    Fresh, Fresh, Fresh, Fresh, Fresh, Fresh, Fresh, Fresh, Fresh, Fresh, Fresh, Fresh, Fresh, Fresh, Fresh, \
+    Fresh, Fresh, Fresh, Fresh, Fresh, Fresh, Fresh, Fresh, Fresh, Fresh, Fresh, Fresh, Fresh, Fresh, Fresh, \
+    Fresh, Fresh, Fresh, Fresh, Fresh, Fresh, Fresh, Fresh, Fresh, Fresh, Fresh, Fresh, Fresh, Fresh, Fresh, \
+    Fresh, Fresh, Fresh, Fresh, Fresh, Completing] [] []\n\
+";
 
-/// What follows the first 63 marks of a page that is in each of 65 slots.
-const WIDE: &str = "\
-    Fills(0), Fills(1)] [Closed, Completing] []\n\
+/// A page in each of 65 slots.
+const IN_65_SLOTS: &str = "\
+    look 0 = Some(3)\n\
+    deliver 0 = Stored [Fresh, Fresh, Fresh, Fresh, Fresh, Fresh, Fresh, Fresh, Fresh, Fresh, Fresh, Fresh, Fresh, \
+    Fresh, Fresh, Fresh, Fresh, Fresh, Fresh, Fresh, Fresh, Fresh, Fresh, Fresh, Fresh, Fresh, Fresh, Fresh, \
+    Fresh, Fresh, Fresh, Fresh, Fresh, Fresh, Fresh, Fresh, Fresh, Fresh, Fresh, Fresh, Fresh, Fresh, Fresh, \
+    Fresh, Fresh, Fresh, Fresh, Fresh, Fresh, Fresh, Fresh, Fresh, Fresh, Fresh, Fresh, Fresh, Fresh, Fresh, \
+    Fresh, Fresh, Fresh, Fresh, Fresh, Fills(0), Fills(1)] [Closed, Completing] []\n\
     take = Some(0)\n\
     look 0 = Some(0)\n\
     impose 0 = Imposed\n\
+    deliver 0 = Held(0) [Repeated, Repeated, Repeated, Repeated, Repeated, Repeated, Repeated, Repeated, Repeated, \
+    Repeated, Repeated, Repeated, Repeated, Repeated, Repeated, Repeated, Repeated, Repeated, Repeated, Repeated, \
+    Repeated, Repeated, Repeated, Repeated, Repeated, Repeated, Repeated, Repeated, Repeated, Repeated, Repeated, \
+    Repeated, Repeated, Repeated, Repeated, Repeated, Repeated, Repeated, Repeated, Repeated, Repeated, Repeated, \
+    Repeated, Repeated, Repeated, Repeated, Repeated, Repeated, Repeated, Repeated, Repeated, Repeated, Repeated, \
+    Repeated, Repeated, Repeated, Repeated, Repeated, Repeated, Repeated, Repeated, Repeated, Repeated, Repeated, \
+    Repeated] [] []\n\
+    take = None\n\
 ";
 
-/// A page in each of 64 slots.
-fn in_64_slots(alloc: Global) -> Result<String, AllocError> {
-    let fresh = "Fresh, ".repeat(alloc, 63)?;
-    format!(in alloc;
-        "look 0 = Some(18446744073709551615)\ndeliver 0 = Stored [{fresh}Completing] [] []\n"
-    )
-}
-
-/// A page in each of 65 slots.
-fn in_65_slots(alloc: Global) -> Result<String, AllocError> {
-    let fresh = "Fresh, ".repeat(alloc, 63)?;
-    let repeated = "Repeated, ".repeat(alloc, 64)?;
-    format!(in alloc;
-        "look 0 = Some(3)\ndeliver 0 = Stored [{fresh}{WIDE}deliver 0 = Held(0) [{repeated}Repeated] [] []\ntake = None\n"
-    )
-}
-
-/// Tells the story of a page in each of so many slots.
-fn assert_in_slots<R: Wait + Abort>(
-    rt: &R,
-    alloc: Global,
-    slots: u32,
-    story: &str,
-) -> Result<(), Fail> {
-    let items = same_items(alloc, "0", slots)?;
-    assert_story(rt, alloc, (ONE_PAGE, items.as_str()), 1, story)
-}
-
 #[test]
-fn the_last_closing_completes_a_sheet(rt: HostRuntime) -> Result<(), Fail> {
-    assert_in_slots(&rt, rt.alloc(), 64, &in_64_slots(rt.alloc())?)?;
-    assert_in_slots(&rt, rt.alloc(), 65, &in_65_slots(rt.alloc())?)
+fn each_call_is_answered_as_told(rt: HostRuntime) -> Result<(), Fail> {
+    let many = document_of(rt.alloc(), 33)?;
+    let narrow = same_items(rt.alloc(), "0", 64)?;
+    let wide = same_items(rt.alloc(), "0", 65)?;
+    for (text, items, room, story) in [
+        (ONE_PAGE, "0+0", 1, TWICE),
+        (ONE_PAGE, "0+0", 1, AGAIN),
+        (ONE_PAGE, "0,0", 1, HANDED_BACK),
+        (ONE_PAGE, "2:1", 1, BLANK),
+        (TWO_PAGES, "0", 1, ANOTHER_PAGE),
+        (TWO_PAGES, "0", 1, OWN_PAGE),
+        (many.as_str(), "0", 1, FILLED),
+        (ONE_PAGE, "0", 2, IN_ORDER),
+        (ONE_PAGE, narrow.as_str(), 1, IN_64_SLOTS),
+        (ONE_PAGE, wide.as_str(), 1, IN_65_SLOTS),
+    ] {
+        let story = Story {
+            text,
+            items,
+            room,
+            story,
+        };
+        assert_that(&rt, refuse_each(&rt, rt.alloc(), &story)?);
+    }
+    Ok(())
 }

@@ -35,7 +35,7 @@ fn is_wanted(
     let wanted = if items == TWO_UP {
         two_up_output(alloc, report.sheets)?
     } else if items == "0" && report.bytes == 273 {
-        one_up_output(alloc, "")?
+        one_up_output(alloc)?
     } else {
         return Ok(None);
     };
@@ -151,12 +151,6 @@ const REPORTS: &str = "\
     1 1 1 - 127000000000 0 = 1 1 0 0 380, 380 written\n\
 ";
 
-#[test]
-fn reports(rt: HostRuntime) -> Result<(), Fail> {
-    assert_told(&rt, first_wrong_run(&rt, rt.alloc(), REPORTS)?);
-    Ok(())
-}
-
 /// Options are looked at before the specification, and this is read before the input.
 const REFUSALS: &str = "\
     1 1 1 - 0 0 = Options, 0 written\n\
@@ -180,8 +174,10 @@ const REFUSALS: &str = "\
 ";
 
 #[test]
-fn refusals(rt: HostRuntime) -> Result<(), Fail> {
-    assert_told(&rt, first_wrong_run(&rt, rt.alloc(), REFUSALS)?);
+fn reports(rt: HostRuntime) -> Result<(), Fail> {
+    for story in [REPORTS, REFUSALS] {
+        assert_told(&rt, first_wrong_run(&rt, rt.alloc(), story)?);
+    }
     Ok(())
 }
 

@@ -5,34 +5,15 @@ ghost use Rattle.gather_table.specs.Shared.{IsSeatOf};
 ghost use Rattle.gather_table.specs.Table.{HasGroup, slots};
 
 use super::stories::{Called, first_wrong, number, show};
-use crate::tests::checks::assert_told;
+use crate::tests::checks::{assert_that, assert_told};
 use gather_table::{Closing, GatherTable, NoMemory, PlainTable, Published, Reply, Seat};
 use pagespec::read_spec;
 use sheet_plan::Plan;
 use std::alloc::Global;
+use std::fmt::Debug;
+use std::process::Abort;
 use std::test::Fail;
 use test_tools::same_items;
-
-// The calls of a table, each None if its numbers are out of bounds, the slot is blank, its page has no index, the sheet
-// isn't wide, or a slot of the group to be closed is missing.
-trait Calls {
-    fn publish(&mut self, page: u32, index: u32) -> Option<Published>;
-
-    fn mark(&mut self, sheet: u32, slot: u16) -> Option<Reply>;
-
-    fn look(&mut self, sheet: u32) -> Option<u64>;
-
-    fn page_at(&mut self, page: u32) -> Option<Option<u32>>;
-
-    fn close_group(&mut self, sheet: u32, group: u8) -> Option<Closing>;
-
-    fn look_group(&mut self, sheet: u32, group: u8) -> Option<u64>;
-
-    // The word and the first bit in which a sheet has its lane. Only the shared table has lanes.
-    fn lane_of(&self, _sheet: u32) -> Option<(u32, u8)> {
-        None
-    }
-}
 
 // Whether the sheet is wide and has this group.
 fn has_group(plan: &Plan, sheet: u32, group: u8) -> bool
@@ -59,57 +40,6 @@ fn page_in(plan: &Plan, sheet: u32, slot: u16) -> Option<u32>
         Some(page)
     } else {
         None
-    }
-}
-
-// The table for one thread, with its plan.
-#[derive(Drop)]
-struct OneThread<'p> {
-    table: PlainTable<'p>,
-    plan: &'p Plan<'p>,
-    ghost same: { table.layout ≡ layout plan.now },
-}
-
-impl<'p> Calls for OneThread<'p> {
-    fn publish(&mut self, page: u32, index: u32) -> Option<Published> {
-        if page >= self.plan.pages() {
-            return None;
-        }
-        Some(self.table.publish(page, index))
-    }
-
-    fn mark(&mut self, sheet: u32, slot: u16) -> Option<Reply> {
-        let page = page_in(self.plan, sheet, slot)?;
-        self.table.page_at(page)?;
-        Some(self.table.mark(sheet, slot))
-    }
-
-    fn look(&mut self, sheet: u32) -> Option<u64> {
-        if sheet >= self.plan.sheets() {
-            return None;
-        }
-        Some(self.table.look(sheet))
-    }
-
-    fn page_at(&mut self, page: u32) -> Option<Option<u32>> {
-        if page >= self.plan.pages() {
-            return None;
-        }
-        Some(self.table.page_at(page))
-    }
-
-    fn close_group(&mut self, sheet: u32, group: u8) -> Option<Closing> {
-        if !has_group(self.plan, sheet, group) || self.table.look_group(sheet, group) != 0 {
-            return None;
-        }
-        Some(self.table.close_group(sheet, group))
-    }
-
-    fn look_group(&mut self, sheet: u32, group: u8) -> Option<u64> {
-        if !has_group(self.plan, sheet, group) {
-            return None;
-        }
-        Some(self.table.look_group(sheet, group))
     }
 }
 
@@ -148,151 +78,188 @@ fn close_checked(
     Some(table.close_group(seat, sheet, group))
 }
 
-// Publishes the page of a slot, if it has one, and marks the slot.
-pub(crate) fn bring_one(
-    table: &GatherTable,
-    plan: &Plan,
-    seat: &mut Seat,
-    sheet: u32,
-    slot: u16,
-    index: u32,
-) -> Option<Reply>
-    requires plan { table.now.layout ≡ layout plan.now }
-    requires seat { IsSeatOf table.now seat.old }
-    ensures { IsSeatOf table.now seat.new }
-{
-    let page = page_in(plan, sheet, slot)?;
-    table.publish(seat, page, index);
-    mark_checked(table, plan, seat, sheet, slot)
-}
-
-// A caller of the shared table.
+// Both tables of a plan, whose calls are made beside each other. An answer is None if numbers are out of bounds, the slot is
+// blank, its page has no index, the sheet isn't wide, or a slot of the group to be closed is missing.
 #[derive(Drop)]
-struct Seated<'t, 's> {
-    table: &'t GatherTable<'s>,
-    plan: &'t Plan<'s>,
+struct Tables<'t, 'p> {
+    plain: PlainTable<'p>,
+    shared: GatherTable<'t>,
+    plan: &'p Plan<'p>,
     seat: Seat,
-    ghost same: { table.now.layout ≡ layout plan.now },
-    ghost seated: { IsSeatOf table.now seat },
+    ghost same: { plain.layout ≡ layout plan.now },
+    ghost shared_same: { shared.layout ≡ layout plan.now },
+    ghost seated: { IsSeatOf shared seat },
 }
 
-impl<'t, 's> Calls for Seated<'t, 's> {
-    fn publish(&mut self, page: u32, index: u32) -> Option<Published> {
+// The answers of both tables.
+type Both<T> = (Option<T>, Option<T>);
+
+impl<'t, 'p> Tables<'t, 'p> {
+    fn publish(&mut self, page: u32, index: u32) -> Both<Published> {
         if page >= self.plan.pages() {
-            return None;
+            return (None, None);
         }
-        Some(self.table.publish(&mut self.seat, page, index))
+        let plain = self.plain.publish(page, index);
+        let shared = self.shared.publish(&mut self.seat, page, index);
+        (Some(plain), Some(shared))
     }
 
-    fn mark(&mut self, sheet: u32, slot: u16) -> Option<Reply> {
-        mark_checked(self.table, self.plan, &mut self.seat, sheet, slot)
+    fn mark_plainly(&mut self, sheet: u32, slot: u16) -> Option<Reply> {
+        let page = page_in(self.plan, sheet, slot)?;
+        self.plain.page_at(page)?;
+        Some(self.plain.mark(sheet, slot))
     }
 
-    fn look(&mut self, sheet: u32) -> Option<u64> {
+    fn mark(&mut self, sheet: u32, slot: u32) -> Both<Reply> {
+        let slot = slot.min(65_535) as u16;
+        let plain = self.mark_plainly(sheet, slot);
+        let shared = mark_checked(&self.shared, self.plan, &mut self.seat, sheet, slot);
+        (plain, shared)
+    }
+
+    fn look(&mut self, sheet: u32) -> Both<u64> {
         if sheet >= self.plan.sheets() {
-            return None;
+            return (None, None);
         }
-        Some(self.table.look(&mut self.seat, sheet))
+        let plain = self.plain.look(sheet);
+        let shared = self.shared.look(&mut self.seat, sheet);
+        (Some(plain), Some(shared))
     }
 
-    fn page_at(&mut self, page: u32) -> Option<Option<u32>> {
+    fn page_at(&mut self, page: u32) -> Both<Option<u32>> {
         if page >= self.plan.pages() {
+            return (None, None);
+        }
+        let plain = self.plain.page_at(page);
+        let shared = self.shared.page_at(&mut self.seat, page);
+        (Some(plain), Some(shared))
+    }
+
+    fn close_plainly(&mut self, sheet: u32, group: u8) -> Option<Closing> {
+        if !has_group(self.plan, sheet, group) || self.plain.look_group(sheet, group) != 0 {
             return None;
         }
-        Some(self.table.page_at(&mut self.seat, page))
+        Some(self.plain.close_group(sheet, group))
     }
 
-    fn close_group(&mut self, sheet: u32, group: u8) -> Option<Closing> {
-        close_checked(self.table, self.plan, &mut self.seat, sheet, group)
+    fn close_group(&mut self, sheet: u32, group: u8) -> Both<Closing> {
+        let plain = self.close_plainly(sheet, group);
+        let shared = close_checked(&self.shared, self.plan, &mut self.seat, sheet, group);
+        (plain, shared)
     }
 
-    fn look_group(&mut self, sheet: u32, group: u8) -> Option<u64> {
+    fn look_group(&mut self, sheet: u32, group: u8) -> Both<u64> {
         if !has_group(self.plan, sheet, group) {
-            return None;
+            return (None, None);
         }
-        Some(self.table.look_group(&mut self.seat, sheet, group))
+        let plain = self.plain.look_group(sheet, group);
+        let shared = self.shared.look_group(&mut self.seat, sheet, group);
+        (Some(plain), Some(shared))
     }
 
+    // The word and the first bit in which a sheet has its lane. Only the shared table has lanes.
     fn lane_of(&self, sheet: u32) -> Option<(u32, u8)> {
         if sheet >= self.plan.sheets() || self.plan.slots(sheet) > 64 {
             return None;
         }
-        Some(self.table.lane_of(sheet))
+        Some(self.shared.lane_of(sheet))
+    }
+
+    // Marks these slots of the first sheet: the first that isn't answered Fresh.
+    fn not_fresh(&mut self, from: u32, to: u32) -> Option<u32> {
+        for slot in from..to {
+            if self.mark(0, slot) != (Some(Reply::Fresh), Some(Reply::Fresh)) {
+                return Some(slot);
+            }
+        }
+        None
     }
 }
 
-// Marks these slots of the first sheet: the first that isn't answered Fresh.
-fn not_fresh<C: Calls>(table: &mut C, from: u32, to: u32) -> Option<u32> {
-    for slot in from..to {
-        if table.mark(0, slot.min(65_535) as u16) != Some(Reply::Fresh) {
-            return Some(slot);
+// Shows what both tables answer.
+fn show_both<T: Debug + PartialEq + Drop>(
+    answers: Both<T>,
+    answer: &mut Vec<u8>,
+) -> anyhow::Result<()> {
+    let (plain, shared) = answers;
+    if plain == shared {
+        show(shared, answer)
+    } else {
+        show("the tables differ", answer)
+    }
+}
+
+// Makes a call of both tables. Sheets are the first one, but for lanes.
+impl<'t, 'p> Called for Tables<'t, 'p> {
+    fn call(&mut self, _alloc: Global, words: &str, answer: &mut Vec<u8>) -> anyhow::Result<()> {
+        let mut words = words.split(' ');
+        let name = words.next().unwrap_or("");
+        let first = number(words.next());
+        let second = number(words.next());
+        let group = first.min(255) as u8;
+        match name {
+            "publish" => show_both(self.publish(first, second), answer),
+            "mark" => show_both(self.mark(0, first), answer),
+            "not_fresh" => show(self.not_fresh(first, second), answer),
+            "look" => show_both(self.look(0), answer),
+            "group" => show_both(self.look_group(0, group), answer),
+            "page" => show_both(self.page_at(first), answer),
+            "close" => show_both(self.close_group(0, group), answer),
+            "lane" => show(self.lane_of(first), answer),
+            _ => show("no call", answer),
         }
     }
-    None
 }
 
-// Makes a call of a table. Sheets are the first one, but for lanes.
-fn call<C: Calls>(table: &mut C, words: &str, answer: &mut Vec<u8>) -> anyhow::Result<()> {
-    let mut words = words.split(' ');
-    let name = words.next().unwrap_or("");
-    let first = number(words.next());
-    let second = number(words.next());
-    let group = first.min(255) as u8;
-    match name {
-        "publish" => show(table.publish(first, second), answer),
-        "mark" => show(table.mark(0, first.min(65_535) as u16), answer),
-        "not_fresh" => show(not_fresh(table, first, second), answer),
-        "look" => show(table.look(0), answer),
-        "group" => show(table.look_group(0, group), answer),
-        "page" => show(table.page_at(first), answer),
-        "close" => show(table.close_group(0, group), answer),
-        "lane" => show(table.lane_of(first), answer),
-        _ => show("no call", answer),
-    }
+// Tells a story to both tables of a document of so many pages: the first line that is answered otherwise than it says, and the
+// words of the shared table at its end.
+fn told<'s>(
+    alloc: Global,
+    text: &str,
+    pages: u32,
+    story: &'s str,
+) -> Result<(Option<&'s str>, Vec<u64>), Fail> {
+    let spec = read_spec(alloc, text)?;
+    let plan = Plan::new(alloc, &spec, pages)?;
+    told_of(alloc, &plan, story)
 }
 
-impl<'p> Called for OneThread<'p> {
-    fn call(&mut self, _alloc: Global, words: &str, answer: &mut Vec<u8>) -> anyhow::Result<()> {
-        call(self, words, answer)
-    }
+fn told_of<'s>(
+    alloc: Global,
+    plan: &Plan,
+    story: &'s str,
+) -> Result<(Option<&'s str>, Vec<u64>), Fail> {
+    let plain = PlainTable::new(alloc, plan)?;
+    let (shared, seat) = GatherTable::new(alloc, plan)?;
+    let mut tables = Tables {
+        plain,
+        shared,
+        plan,
+        seat,
+    };
+    let wrong = first_wrong(alloc, &mut tables, story)?;
+    Ok((wrong, words_of(alloc, tables)?))
 }
 
-impl<'t, 's> Called for Seated<'t, 's> {
-    fn call(&mut self, _alloc: Global, words: &str, answer: &mut Vec<u8>) -> anyhow::Result<()> {
-        call(self, words, answer)
-    }
+fn words_of(alloc: Global, tables: Tables<'_, '_>) -> Result<Vec<u64>, NoMemory> {
+    let Tables {
+        plain: _,
+        shared,
+        plan: _,
+        seat,
+    } = tables;
+    shared.end(alloc, seat)
 }
 
-// Tells a story to both tables of a document of so many pages: the first line that is answered otherwise than it says.
+// Tells a story to both tables: the first line that is answered otherwise than it says.
 fn in_both<'s>(
     alloc: Global,
     text: &str,
     pages: u32,
     story: &'s str,
 ) -> Result<Option<&'s str>, Fail> {
-    let spec = read_spec(alloc, text)?;
-    let plan = Plan::new(alloc, &spec, pages)?;
-    told_to_both(alloc, &plan, story)
-}
-
-fn told_to_both<'s>(alloc: Global, plan: &Plan, story: &'s str) -> Result<Option<&'s str>, Fail> {
-    let wrong = told_plainly(alloc, plan, story)?;
-    Ok(wrong.or(told_seated(alloc, plan, story)?))
-}
-
-fn told_plainly<'s>(alloc: Global, plan: &Plan, story: &'s str) -> Result<Option<&'s str>, Fail> {
-    let table = PlainTable::new(alloc, plan)?;
-    first_wrong(alloc, &mut OneThread { table, plan }, story)
-}
-
-fn told_seated<'s>(alloc: Global, plan: &Plan, story: &'s str) -> Result<Option<&'s str>, Fail> {
-    let (table, seat) = GatherTable::new(alloc, plan)?;
-    let mut seated = Seated {
-        table: &table,
-        plan,
-        seat,
-    };
-    first_wrong(alloc, &mut seated, story)
+    let (wrong, _words) = told(alloc, text, pages, story)?;
+    Ok(wrong)
 }
 
 // The same of a page in each of so many slots.
@@ -510,30 +477,49 @@ const PAGE_AFTER_A_BLANK_GROUP: &str = "\
     close 1 = Some(Completing)\n\
 ";
 
-#[test]
-fn two_pages_and_blank_slots(rt: HostRuntime) -> Result<(), Fail> {
-    let blanks = same_items(rt.alloc(), "1", 64)?;
-    let behind = format!(in rt.alloc(); "2:{blanks}+0")?;
-    for (text, pages, story) in [
-        ("2:0+1", 2, TWO_PAGES),
-        ("2:1+0", 1, PAGE_BESIDE_A_BLANK),
-        (behind.as_str(), 1, PAGE_AFTER_A_BLANK_GROUP),
-    ] {
-        assert_told(&rt, in_both(rt.alloc(), text, pages, story)?);
-    }
+// Of a sheet of two pages, or with 64 blank slots before its page, one page has come, and nobody has closed its group.
+const SECOND_SLOT: &str = "\
+    publish 0 5 = Some(Stored)\n\
+    mark 1 = Some(Fresh)\n\
+";
+
+const LAST_SLOT: &str = "\
+    publish 0 5 = Some(Stored)\n\
+    mark 64 = Some(Fills(1))\n\
+";
+
+// The table has these words at the end of a story. The word of a page is its index and one more, and 0 if it hasn't come; the
+// bit of a slot is set in its lane. In the closing word, which comes before a wide sheet's groups, groups of blank slots are closed.
+fn assert_words<R: Abort>(
+    rt: &R,
+    alloc: Global,
+    (text, pages): (&str, u32),
+    story: &str,
+    words: &[u64],
+) -> Result<(), Fail> {
+    let (wrong, left) = told(alloc, text, pages, story)?;
+    assert_told(rt, wrong);
+    assert_that(rt, left.as_slice() == words);
     Ok(())
 }
 
-// Tells a story to the shared table of a document of so many pages.
-fn in_shared<'s>(
-    alloc: Global,
-    text: &str,
-    pages: u32,
-    story: &'s str,
-) -> Result<Option<&'s str>, Fail> {
-    let spec = read_spec(alloc, text)?;
-    let plan = Plan::new(alloc, &spec, pages)?;
-    told_seated(alloc, &plan, story)
+#[test]
+fn two_pages_and_blank_slots(rt: HostRuntime) -> Result<(), Fail> {
+    let alloc = rt.alloc();
+    let blanks = same_items(alloc, "1", 64)?;
+    let behind = format!(in alloc; "2:{blanks}+0")?;
+    let behind = (behind.as_str(), 1);
+    assert_words(&rt, alloc, ("2:0+1", 2), TWO_PAGES, &[6, 4_294_967_296, 3])?;
+    assert_words(&rt, alloc, ("2:1+0", 1), PAGE_BESIDE_A_BLANK, &[1, 3])?;
+    assert_words(
+        &rt,
+        alloc,
+        behind,
+        PAGE_AFTER_A_BLANK_GROUP,
+        &[1, 0, 3, u64::MAX, 1],
+    )?;
+    assert_words(&rt, alloc, ("2:1+0", 2), SECOND_SLOT, &[6, 0, 2])?;
+    assert_words(&rt, alloc, behind, LAST_SLOT, &[6, 0, 1, u64::MAX, 1])
 }
 
 // Sheets of two slots take turns.
@@ -578,7 +564,7 @@ fn lanes_follow_one_another(rt: HostRuntime) -> Result<(), Fail> {
         (whole.as_str(), 2, WHOLE_WORDS),
         (wide.as_str(), 100, AMONG_WIDE_SHEETS),
     ] {
-        assert_told(&rt, in_shared(rt.alloc(), text, pages, story)?);
+        assert_told(&rt, in_both(rt.alloc(), text, pages, story)?);
     }
     Ok(())
 }

@@ -1,9 +1,8 @@
 //! Gates at which threads wait for each other: a run on one thread would never come past them.
-ghost use Rattle.std.specs.Prelude.{None};
-
 use crate::tests::checks::assert_that;
-use crate::tests::{Trial, run_into, wait_for};
-use imposer::{Gate, Look, MemorySink, RunError, Sink, SinkFault, Step};
+use crate::tests::windows::{LimitedSink, Words};
+use crate::tests::{Trial, run_into};
+use imposer::{Gate, Look, MemorySink, RunError, Step};
 use std::alloc::Global;
 use std::sync::Wait;
 use std::sync::atomic::AtomicUsize;
@@ -12,26 +11,10 @@ use std::test::Fail;
 use std::thread::Threads;
 use test_tools::TWO_PAGES;
 
-/// Takes all bytes and counts them where others can read it.
-#[derive(Drop)]
-struct CountingSink<'w> {
-    accepted: &'w AtomicUsize,
-}
-
-impl<'w> Sink for CountingSink<'w> {
-    ghost seen = { λ _. record { bytes = None; failures = 0 } };
-
-    fn accept(&mut self, bytes: &[u8]) -> Result<usize, SinkFault> {
-        self.accepted.fetch_add(bytes.len(), SeqCst);
-        Ok(bytes.len())
-    }
-}
-
 /// The second page waits until all before it is written.
 #[derive(Drop)]
 struct Written<'w> {
-    accepted: &'w AtomicUsize,
-    run_out: AtomicUsize,
+    words: &'w Words,
 }
 
 /// The bytes of the preamble and the first of two sheets.
@@ -40,7 +23,7 @@ const FIRST_SHEET_END: usize = 257;
 impl<'w> Gate for Written<'w> {
     fn before(&self, step: Step) {
         if step == Step::Deliver(1) {
-            wait_for(self.accepted, FIRST_SHEET_END, &self.run_out);
+            self.words.wait_for(&self.words.accepted, FIRST_SHEET_END);
         }
     }
 
@@ -50,21 +33,16 @@ impl<'w> Gate for Written<'w> {
 /// Two pages on two sheets, the second page after the first sheet: how many waits ran out, and how many sheets were made
 /// at the end.
 fn run_written<R: Threads + Wait + Sync>(rt: &R, alloc: Global) -> Result<(usize, u32), RunError> {
-    let accepted = AtomicUsize::new(0);
-    let gate = Written {
-        accepted: &accepted,
-        run_out: AtomicUsize::new(0),
-    };
+    let words = Words::new();
+    let gate = Written { words: &words };
     let trial = Trial {
         document: TWO_PAGES,
         items: "0",
         counts: (1, 1),
     };
-    let mut sink = CountingSink {
-        accepted: &accepted,
-    };
+    let mut sink = LimitedSink::new(&words, usize::MAX);
     let report = run_into(rt, alloc, &trial, &gate, &mut sink)?;
-    Ok((gate.run_out.load(SeqCst), report.swept))
+    Ok((words.run_out.load(SeqCst), report.swept))
 }
 
 #[test]

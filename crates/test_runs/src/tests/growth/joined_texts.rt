@@ -5,7 +5,6 @@ use crate::tests::checks::{assert_that, assert_told};
 use sheet_text::{Pieces, Rope, Texts};
 use sheet_writer::Early;
 use std::alloc::{AllocError, Global};
-use std::io::Write;
 use std::mem;
 use std::process::Abort;
 use std::test::Fail;
@@ -26,27 +25,57 @@ struct InTexts<'r> {
 const MOST_PIECES: u32 = 20;
 
 impl<'r> InTexts<'r> {
-    /// Makes the text again: of bytes of its own, a slice, and bytes of its own, with a bar between them.
+    /// Makes the text again of parts with a bar between them: bytes of its own, and slices by their names.
     fn write(&mut self, parts: &str) -> Result<(), AllocError> {
         let (long, longer) = (self.long, self.longer);
-        let mut parts = parts.split('|');
         self.text.clear();
-        self.text.append(parts.next().unwrap_or("").as_bytes())?;
-        match parts.next().unwrap_or("") {
-            "long" => self.text.append_borrowed(long)?,
-            "longer" => self.text.append_borrowed(longer)?,
-            short => self.text.append(short.as_bytes())?,
+        for part in parts.split('|') {
+            let appended = match part {
+                "long" => self.text.append_borrowed(long),
+                "longer" => self.text.append_borrowed(longer),
+                "short" => self.text.append_borrowed(b"cd"),
+                own => self.text.append(own.as_bytes()),
+            };
+            appended?;
         }
-        self.text.append(parts.next().unwrap_or("").as_bytes())
+        Ok(())
     }
 
-    /// Adds a sheet with such a text: how many they are then.
+    /// How many texts there are, and the room and the length of the next one.
+    fn sizes(&self) -> (usize, usize, Option<usize>) {
+        let text = &self.text;
+        (self.texts.len(), text.capacity(), text.pieces().len())
+    }
+
+    /// Adds a sheet with such a text, which leaves its memory: how many they are then. If memory is refused, they are as many
+    /// as before, and the text is as long.
     fn finish(&mut self, sheet: u32, parts: &str, answer: &mut Vec<u8>) -> anyhow::Result<()> {
         self.write(parts)?;
-        let before = (self.texts.len(), size_of(&self.text));
+        let before = self.sizes();
         let is_added = self.texts.push(sheet, &mut self.text).is_ok();
-        let after = (self.texts.len(), size_of(&self.text));
-        show_added(is_added, before, after, answer)
+        let after = self.sizes();
+        if is_added && (after.1, after.2) == (before.1, Some(0)) {
+            show(after.0, answer)
+        } else if !is_added && after == before {
+            Ok(answer.extend_from_slice(b"NoMemory")?)
+        } else {
+            show("something else has changed", answer)
+        }
+    }
+
+    /// Adds a sheet in memory that others had: whether it is added, and whether that asks for memory.
+    fn add_anew(
+        &mut self,
+        alloc: Global,
+        sheet: u32,
+        parts: &str,
+        answer: &mut Vec<u8>,
+    ) -> anyhow::Result<()> {
+        self.write(parts)?;
+        self.texts.clear();
+        refuse(alloc, 1);
+        let is_added = self.texts.push(sheet, &mut self.text).is_ok();
+        show((is_added, has_refused(alloc)), answer)
     }
 
     /// The finished sheets come: how many they are.
@@ -91,51 +120,27 @@ impl<'r> InTexts<'r> {
             let Some(piece) = pieces.take_next() else {
                 return Ok(());
             };
-            answer.push(b' ')?;
-            if piece == self.long {
-                answer.extend_from_slice(b"long")?;
+            let shown = if piece == self.long {
+                b"long".as_slice()
             } else if piece == self.longer {
-                answer.extend_from_slice(b"longer")?;
+                b"longer".as_slice()
             } else {
-                answer.extend_from_slice(piece)?;
-            }
+                piece
+            };
+            answer.push(b' ')?;
+            answer.extend_from_slice(shown)?;
         }
         Ok(())
     }
 
     /// Which of the first sheets are found.
     fn found(&self, answer: &mut Vec<u8>) -> anyhow::Result<()> {
-        for sheet in 0..8u32 {
-            if self.early.joined(sheet, 1).is_some() {
-                write!(answer, "{sheet};")?;
+        for sheet in 0..8u8 {
+            if self.early.joined(u32::from(sheet), 1).is_some() {
+                answer.extend_from_slice(&[b'0' + sheet, b';'])?;
             }
         }
         Ok(())
-    }
-}
-
-/// The room that a text has, and how long it is.
-type Size = (usize, Option<usize>);
-
-fn size_of(text: &Rope<'_>) -> Size {
-    (text.capacity(), text.pieces().len())
-}
-
-/// Shows how many they are, if one more was added and the text has left its memory. If memory was refused, they are as
-/// many as before, and the text is as long.
-fn show_added(
-    is_added: bool,
-    before: (usize, Size),
-    after: (usize, Size),
-    answer: &mut Vec<u8>,
-) -> anyhow::Result<()> {
-    let (_, (room, _)) = before;
-    if is_added && after.1 == (room, Some(0)) {
-        show(after.0, answer)
-    } else if !is_added && after == before {
-        Ok(write!(answer, "NoMemory")?)
-    } else {
-        show("something else has changed", answer)
     }
 }
 
@@ -151,6 +156,7 @@ impl<'r> Called for InTexts<'r> {
                 show(self.texts.len(), answer)
             }
             "finish" => self.finish(first, parts, answer),
+            "anew" => self.add_anew(alloc, first, parts, answer),
             "come" => show(self.come(alloc), answer),
             "found" => self.found(answer),
             "text" => self.text_of(first, answer),
@@ -169,42 +175,32 @@ struct Story<'s> {
     story: &'s str,
 }
 
-impl<'s, R: Abort> Refused<R> for Story<'s> {
-    fn refuse(&self, rt: &R, alloc: Global, number: u32) -> Result<bool, Fail> {
+impl<'s> Story<'s> {
+    /// No sheet is finished, and the text has some room.
+    fn called(&self, alloc: Global) -> Result<InTexts<'s>, AllocError> {
+        let early = Early::new(alloc, self.places)?;
         let mut text = Rope::new(alloc);
         text.reserve(1_000)?;
-        let mut called = InTexts {
+        Ok(InTexts {
             long: self.long,
             longer: self.longer,
             text,
             texts: Texts::new(alloc),
-            early: Early::new(alloc, self.places)?,
-        };
+            early,
+        })
+    }
+}
+
+impl<'s, R: Abort> Refused<R> for Story<'s> {
+    fn refuse(&self, rt: &R, alloc: Global, number: u32) -> Result<bool, Fail> {
+        let mut called = self.called(alloc)?;
         let told = tell(alloc, &mut called, number, self.story)?;
         assert_told(rt, told.wrong);
         Ok(told.is_refused)
     }
 }
 
-/// Tells a story with each growth of its calls refused in turn.
-fn assert_story<R: Abort>(
-    rt: &R,
-    alloc: Global,
-    (long, longer): (&[u8], &[u8]),
-    places: u32,
-    story: &str,
-) -> Result<(), Fail> {
-    let story = Story {
-        places,
-        long,
-        longer,
-        story,
-    };
-    assert_that(rt, refuse_each(rt, alloc, &story)?);
-    Ok(())
-}
-
-/// Long texts and short ones come out as their own.
+/// Long texts and short ones come out as their own, and short slices are copied.
 const TEXTS: &str = "\
     finish 0 ab|cd|ef = 1\n\
     finish 1 |long|g = 2\n\
@@ -214,6 +210,7 @@ const TEXTS: &str = "\
     finish 5 |long| = 6\n\
     finish 6 k|long|l = 7\n\
     finish 7 m = 8\n\
+    finish 8 ab|short|long|long|ef = 9\n\
     joined 0 1 = 1 abcdef\n\
     joined 1 1 = 1 long g\n\
     joined 2 1 = 1 h\n\
@@ -222,6 +219,7 @@ const TEXTS: &str = "\
     joined 5 1 = 1 long\n\
     joined 6 1 = 1 k long l\n\
     joined 7 1 = 1 m\n\
+    joined 8 1 = 1 abcd long long ef\n\
 ";
 
 /// Neighbours without slices are in one piece.
@@ -241,6 +239,8 @@ const NEIGHBOURS: &str = "\
     clear = 0\n\
     finish 0 d = 1\n\
     joined 0 9 = 1 d\n\
+    anew 0 text = (true, false)\n\
+    joined 0 9 = 1 text\n\
 ";
 
 /// A sheet that comes is at its place. Another sheet has the same place: it is dropped, and who asks for it leaves the
@@ -280,33 +280,18 @@ const TOGETHER: &str = "\
     take 6 = 2\n\
 ";
 
-/// Adds a sheet in memory that another one had, with the first growth refused: whether none was asked for.
-fn is_added_anew<'r>(
-    alloc: Global,
-    texts: &mut Texts<'r>,
-    text: &mut Rope<'r>,
-) -> Result<bool, AllocError> {
-    text.append(b"text")?;
-    texts.push(0, text)?;
-    texts.clear();
-    let is_empty = texts.len() == 0;
-    text.append(b"text")?;
-    refuse(alloc, 1);
-    let is_added = texts.push(1, text).is_ok();
-    let is_refused = has_refused(alloc);
-    Ok(is_empty && is_added && !is_refused && texts.joined(1, 0, 1).is_some())
-}
-
 #[test]
 fn texts_and_sheets_come_out_as_they_were(rt: HostRuntime) -> Result<(), Fail> {
     let long = [b'x'; 4_096];
     let longer = [b'y'; 5_000];
-    let slices = (long.as_slice(), longer.as_slice());
     for (places, story) in [(1, TEXTS), (1, NEIGHBOURS), (2, ONE_PLACE), (4, TOGETHER)] {
-        assert_story(&rt, rt.alloc(), slices, places, story)?;
+        let story = Story {
+            places,
+            long: long.as_slice(),
+            longer: longer.as_slice(),
+            story,
+        };
+        assert_that(&rt, refuse_each(&rt, rt.alloc(), &story)?);
     }
-    let mut texts = Texts::new(rt.alloc());
-    let mut text = Rope::new(rt.alloc());
-    assert_that(&rt, is_added_anew(rt.alloc(), &mut texts, &mut text)?);
     Ok(())
 }

@@ -1,8 +1,7 @@
 //! Whole runs and gatherings, over a sink that was made before.
-ghost use Rattle.std.specs.Prelude.{◌<◌};
-
 use crate::tests::checks::assert_that;
-use crate::tests::{Trial, gather_pairs, large_pages, run_into};
+use crate::tests::gatherings::{Way, gather_pairs};
+use crate::tests::{Trial, large_pages, run_into};
 use imposer::{Gate, MemorySink, Open, RunError, Step, Workers};
 use std::alloc::{AllocError, Global};
 use std::process::Abort;
@@ -10,19 +9,21 @@ use std::sync::Wait;
 use std::test::Fail;
 use std::thread;
 use std::thread::Threads;
-use test_tools::{BOOKLET, MOST_GROWTHS, TWO_UP, document_of, has_refused, refuse};
+use test_tools::{BOOKLET, MOST_GROWTHS, TWO_UP, document_of, has_refused, refuse, two_up_output};
 
 /// More bytes than a run here writes.
 const ROOM: usize = 2_000_000;
 
-/// The first page is delivered late, so that sheets of others are there and wait for their turn.
-#[derive(Drop)]
-struct Late {}
+/// The first page is delivered so many yields late. If there are some, sheets of other pages are there and wait for their turn.
+#[derive(Clone, Copy)]
+struct Late {
+    yields: u32,
+}
 
 impl Gate for Late {
     fn before(&self, step: Step) {
         if step == Step::Deliver(0) {
-            for _ in 0..1_000u32 {
+            for _ in 0..self.yields {
                 thread::yield_now();
             }
         }
@@ -31,25 +32,29 @@ impl Gate for Late {
     fn after(&self, _step: Step) {}
 }
 
+const ON_TIME: Late = Late { yields: 0 };
+
+const LATE: Late = Late { yields: 1_000 };
+
 /// What came of a run or a gathering: how many bytes it says that were written, None if it finished, and whether a growth
 /// was refused.
-#[derive(Clone, Copy, PartialEq, Eq)]
+#[derive(Clone, Copy)]
 struct Ended {
     written: Option<u64>,
     is_refused: bool,
 }
 
 /// Runs with the growth of this number refused: what the sink has, and what came of it.
-fn run_refused<R: Threads + Wait + Sync, G: Gate + Sync>(
+fn run_refused<R: Threads + Wait + Sync>(
     rt: &R,
     alloc: Global,
     number: u32,
     trial: &Trial<'_>,
-    gate: &G,
+    gate: Late,
 ) -> Result<(MemorySink, Ended), AllocError> {
     let mut sink = MemorySink::new(alloc, ROOM, ROOM, 1_000)?;
     refuse(alloc, number);
-    let answer = run_into(rt, alloc, trial, gate, &mut sink);
+    let answer = run_into(rt, alloc, trial, &gate, &mut sink);
     let is_refused = has_refused(alloc);
     let written = match answer {
         Ok(_) => None,
@@ -79,12 +84,12 @@ fn is_right(holds: bool, ended: Ended) -> bool {
 }
 
 /// Runs with the growth of this number refused: whether one was.
-fn refuse_one<R: Threads + Wait + Abort + Sync, G: Gate + Sync>(
+fn refuse_one<R: Threads + Wait + Abort + Sync>(
     rt: &R,
     alloc: Global,
     number: u32,
     trial: &Trial<'_>,
-    gate: &G,
+    gate: Late,
     (output, holds): (&[u8], bool),
 ) -> Result<bool, AllocError> {
     let (sink, ended) = run_refused(rt, alloc, number, trial, gate)?;
@@ -104,11 +109,11 @@ fn unrefused_after(unrefused: u32, is_refused: bool) -> u32 {
 
 /// Each growth of the run is refused in turn. Threads grow what they grow in any order, so the end is where none of
 /// some numbers after one another was refused.
-fn refuse_each<R: Threads + Wait + Abort + Sync, G: Gate + Sync>(
+fn refuse_each<R: Threads + Wait + Abort + Sync>(
     rt: &R,
     alloc: Global,
     trial: &Trial<'_>,
-    gate: &G,
+    gate: Late,
     holds: bool,
 ) -> Result<(), AllocError> {
     let (output, ended) = run_refused(rt, alloc, MOST_GROWTHS, trial, gate)?;
@@ -125,38 +130,23 @@ fn refuse_each<R: Threads + Wait + Abort + Sync, G: Gate + Sync>(
     Ok(())
 }
 
-/// The same of a run over so many pages.
-fn refuse_pages<R: Threads + Wait + Abort + Sync>(
-    rt: &R,
-    alloc: Global,
-    pages: u32,
-    items: &str,
-    counts: (u32, u32),
-) -> Result<(), AllocError> {
-    let document = document_of(alloc, pages)?;
-    let trial = Trial {
-        document: &document,
-        items,
-        counts,
-    };
-    refuse_each(rt, alloc, &trial, &Open, false)
-}
-
 #[test]
-fn runs_by_few(rt: HostRuntime) -> Result<(), Fail> {
+fn runs_by_few_and_by_many(rt: HostRuntime) -> Result<(), Fail> {
     for (pages, items, counts) in [
         (2, TWO_UP, (1, 1)),
         (5, BOOKLET, (1, 1)),
         (8, TWO_UP, (2, 3)),
+        (8, TWO_UP, (16, 16)),
     ] {
-        refuse_pages(&rt, rt.alloc(), pages, items, counts)?;
+        let document = document_of(rt.alloc(), pages)?;
+        let trial = Trial {
+            document: &document,
+            items,
+            counts,
+        };
+        refuse_each(&rt, rt.alloc(), &trial, ON_TIME, false)?;
     }
     Ok(())
-}
-
-#[test]
-fn runs_by_many(rt: HostRuntime) -> Result<(), Fail> {
-    Ok(refuse_pages(&rt, rt.alloc(), 8, TWO_UP, (16, 16))?)
 }
 
 // Eight sheets of twelve lie in the window, of those with pages of 90,000 bytes.
@@ -169,7 +159,7 @@ fn runs_whose_sheets_wait_for_their_turn(rt: HostRuntime) -> Result<(), Fail> {
             items: "0",
             counts,
         };
-        refuse_each(&rt, rt.alloc(), &trial, &Open, true)?;
+        refuse_each(&rt, rt.alloc(), &trial, ON_TIME, true)?;
     }
     Ok(())
 }
@@ -187,29 +177,23 @@ fn refuse_first_last<R: Threads + Wait + Abort + Sync>(
         items: "-0",
         counts: (1, 1),
     };
-    refuse_each(rt, alloc, &backward, &Open, true)?;
+    refuse_each(rt, alloc, &backward, ON_TIME, true)?;
     for counts in late {
         let forward = Trial {
             document,
             items: "0",
             counts: *counts,
         };
-        refuse_each(rt, alloc, &forward, &Late {}, true)?;
+        refuse_each(rt, alloc, &forward, LATE, true)?;
     }
     Ok(())
 }
 
-// Two sheets of six lie in the window.
+// Two sheets of six lie in the window; or seventeen of 24, and an imposer sends two of them together.
 #[test]
 fn runs_whose_first_sheet_comes_last(rt: HostRuntime) -> Result<(), Fail> {
     let huge = large_pages(rt.alloc(), 6, 33_333)?;
     refuse_first_last(&rt, rt.alloc(), &huge, &[(2, 1), (3, 2)])?;
-    Ok(())
-}
-
-// Seventeen sheets of 24 lie in the window, and an imposer sends two of them together.
-#[test]
-fn runs_whose_sheets_go_together(rt: HostRuntime) -> Result<(), Fail> {
     let large = large_pages(rt.alloc(), 24, 5_000)?;
     refuse_first_last(&rt, rt.alloc(), &large, &[(2, 1)])?;
     Ok(())
@@ -224,19 +208,23 @@ fn gather_refused<R: Threads + Wait + Abort + Sync>(
     text: &str,
     output: &[u8],
 ) -> Result<bool, Fail> {
-    let mut sink = MemorySink::new(alloc, ROOM, ROOM, 1_000)?;
-    let workers = Workers {
-        preparers: 2,
-        imposers: 3,
+    let way = Way {
+        workers: Workers {
+            preparers: 2,
+            imposers: 3,
+        },
+        room: ROOM,
+        puts: None,
+        refused: number,
     };
-    let gathering = gather_pairs(rt, alloc, text, workers, Some(number), &mut sink)?;
+    let gathering = gather_pairs(rt, alloc, text, way, &Open)?;
     let is_refused = has_refused(alloc);
     let written = match gathering.outcome {
         Ok(_) => None,
         Err(RunError::NoMemory { written }) => Some(written),
         Err(_) => return Err(AllocError)?,
     };
-    assert_that(rt, is_written(output, &sink, written));
+    assert_that(rt, is_written(output, &gathering.sink, written));
     assert_that(rt, written.is_some() == is_refused);
     assert_that(rt, gathering.shares.is_some() == !is_refused);
     Ok(is_refused)
@@ -245,16 +233,11 @@ fn gather_refused<R: Threads + Wait + Abort + Sync>(
 #[test]
 fn gatherings(rt: HostRuntime) -> Result<(), Fail> {
     let text = document_of(rt.alloc(), 8)?;
-    let trial = Trial {
-        document: &text,
-        items: TWO_UP,
-        counts: (1, 1),
-    };
-    let (output, _) = run_refused(&rt, rt.alloc(), MOST_GROWTHS, &trial, &Open)?;
+    let output = two_up_output(rt.alloc(), 4)?;
     let mut unrefused = 0u32;
     for number in 1..MOST_GROWTHS {
         if unrefused < 4 {
-            let is_refused = gather_refused(&rt, rt.alloc(), number, &text, output.bytes())?;
+            let is_refused = gather_refused(&rt, rt.alloc(), number, &text, output.as_bytes())?;
             unrefused = unrefused_after(unrefused, is_refused);
         }
     }

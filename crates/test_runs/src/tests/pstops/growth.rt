@@ -207,7 +207,7 @@ fn refuse_run<R: Threads + Wait + Abort + Sync>(
 #[test]
 fn requests(rt: HostRuntime) -> Result<(), Fail> {
     let request = request_of(rt.alloc(), "0")?;
-    let output = one_up_output(rt.alloc(), "")?;
+    let output = one_up_output(rt.alloc())?;
     refuse_run(&rt, rt.alloc(), &request, output.as_str().as_bytes())?;
     Ok(())
 }

@@ -2,7 +2,7 @@ use Rattle.std.proofs.Common.{sym, ◌∙◌, subst}
 use Rattle.rules.specs.Sheets.{Layout}
 use Rattle.gather_table.specs.Table.{HasGroup}
 use Rattle.gather_table.proofs.GroupLooks.{none_missing_in}
-use Rattle.test_runs.proofs.tests.callers.tables.OneThreadCalls.close_group.Goals as goal
+use Rattle.test_runs.proofs.tests.callers.tables.Tables.close_plainly.Goals as goal
 
 pub close_group-requires : goal.close_group-requires
 close_group-requires c =

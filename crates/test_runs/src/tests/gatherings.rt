@@ -1,0 +1,177 @@
+//! Gatherings, into sinks that fail too: what is written and reported, and that seat and pass come back whole.
+ghost use Rattle.std.specs.Prelude.{◌≤◌, IfOk, length};
+ghost use Rattle.planned_runs.specs.Gathering.{IsFreshPass};
+
+use super::{WHOLE, table_and_shelf};
+use crate::tests::checks::{assert_bytes, assert_that};
+use dsc::Document;
+use gather_table::Seat;
+use handover::{Pass, Ready};
+use imposer::{Gate, Gathered, Job, MemorySink, Open, Report, RunError, Workers, gather};
+use lengths::a4;
+use pagespec::read_spec;
+use sheet_plan::Plan;
+use std::alloc::{AllocError, Global};
+use std::process::Abort;
+use std::sync::Wait;
+use std::test::Fail;
+use std::thread::Threads;
+use test_tools::{MOST_GROWTHS, TWO_UP, document_of, refuse, two_up_output};
+
+/// How a job is gathered: by so many workers, into a sink with so much room, with so many puts by right, if they are made so,
+/// and with the growth of this number refused.
+#[derive(Clone, Copy)]
+pub(super) struct Way {
+    pub(super) workers: Workers,
+    pub(super) room: usize,
+    pub(super) puts: Option<u32>,
+    pub(super) refused: u32,
+}
+
+/// What comes of it: the answer, whether the token of a page was left without a receipt, the shares of the seat and of the
+/// pass that came back, if they did, and what was written.
+#[derive(Drop)]
+pub(super) struct Gathering {
+    pub(super) outcome: Result<Report, RunError>,
+    pub(super) is_unshelved: bool,
+    pub(super) shares: Option<(u64, u64)>,
+    pub(super) sink: MemorySink,
+}
+
+/// A queue for the sheets of a job, in which so many puts are made by right, if they are made so.
+fn queue_for(
+    alloc: Global,
+    job: &Job<'_, '_>,
+    puts: Option<u32>,
+) -> Result<(Ready, Pass), AllocError>
+    ensures pass { IfOk result (λ made. IsFreshPass made.0 made.1) }
+    ensures room { IfOk result (λ made. length job.now.plan.sheets ≤ made.0.capacity) }
+{
+    match puts {
+        Some(puts) => Ready::by_right(alloc, puts.max(job.sheets()).max(1)),
+        None => Ready::new(alloc, job.sheets().max(1)),
+    }
+}
+
+/// Gathers a job in this way, at this gate.
+fn gather_at<R: Threads + Wait + Sync, G: Gate + Sync>(
+    rt: &R,
+    alloc: Global,
+    job: &Job<'_, '_>,
+    way: Way,
+    gate: &G,
+) -> Result<Gathering, Fail> {
+    if !way.workers.are_valid() {
+        return Err(AllocError)?;
+    }
+    let mut sink = MemorySink::new(alloc, way.room, 1_000_000, 1_000)?;
+    let (ready, pass) = queue_for(alloc, job, way.puts)?;
+    let (table, seat, shelf) = table_and_shelf(alloc, job)?;
+    refuse(alloc, way.refused);
+    let Gathered {
+        outcome,
+        unshelved,
+        tokens,
+    } = gather(
+        rt,
+        alloc,
+        job,
+        &table,
+        seat,
+        &shelf,
+        &ready,
+        pass,
+        way.workers,
+        gate,
+        &mut sink,
+    );
+    Ok(Gathering {
+        outcome,
+        is_unshelved: unshelved.is_some(),
+        shares: shares_of(tokens),
+        sink,
+    })
+}
+
+/// The shares of a seat and of a pass, if they are there.
+fn shares_of(tokens: Option<(Seat, Pass)>) -> Option<(u64, u64)> {
+    match tokens {
+        Some((seat, pass)) => Some((seat.share(), pass.share())),
+        None => None,
+    }
+}
+
+/// Gathers the pages of a document, two a sheet.
+pub(super) fn gather_pairs<R: Threads + Wait + Sync, G: Gate + Sync>(
+    rt: &R,
+    alloc: Global,
+    text: &str,
+    way: Way,
+    gate: &G,
+) -> Result<Gathering, Fail> {
+    let spec = read_spec(alloc, TWO_UP)?;
+    let document = Document::read(alloc, text.as_bytes())?;
+    let plan = Plan::new(alloc, &spec, document.pages())?;
+    gather_at(
+        rt,
+        alloc,
+        &Job::new(&plan, &document, a4(), None),
+        way,
+        gate,
+    )
+}
+
+/// So many pages, two a sheet, are gathered by so many workers, into a sink with this room.
+fn assert_gathered<R: Threads + Wait + Abort + Sync>(
+    rt: &R,
+    alloc: Global,
+    pages: u32,
+    (preparers, imposers): (u32, u32),
+    room: usize,
+) -> Result<(), Fail> {
+    let document = document_of(alloc, pages)?;
+    let output = two_up_output(alloc, pages / 2)?;
+    let way = Way {
+        workers: Workers {
+            preparers,
+            imposers,
+        },
+        room,
+        puts: None,
+        refused: MOST_GROWTHS,
+    };
+    let gathering = gather_pairs(rt, alloc, &document, way, &Open)?;
+    let (written, rest) = output.as_bytes().split_at(room.min(output.len()));
+    let bytes = written.len() as u64;
+    let outcome = if rest.is_empty() {
+        Ok(Report {
+            pages,
+            sheets: pages / 2,
+            born: 0,
+            swept: 0,
+            bytes,
+        })
+    } else {
+        Err(RunError::Write { written: bytes })
+    };
+    assert_that(rt, gathering.outcome == outcome);
+    assert_bytes(rt, gathering.sink.bytes(), written);
+    assert_that(rt, !gathering.is_unshelved);
+    assert_that(rt, gathering.shares == Some((WHOLE, WHOLE)));
+    Ok(())
+}
+
+#[test]
+fn a_gathering_hands_back_its_tokens(rt: HostRuntime) -> Result<(), Fail> {
+    for (pages, counts, room) in [
+        (200, (1, 1), 100_000),
+        (200, (2, 3), 100_000),
+        (200, (16, 16), 100_000),
+        (8, (2, 3), 0),
+        (8, (2, 3), 100),
+        (8, (2, 3), 1_000),
+    ] {
+        assert_gathered(&rt, rt.alloc(), pages, counts, room)?;
+    }
+    Ok(())
+}
