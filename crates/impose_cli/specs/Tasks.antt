@@ -81,12 +81,7 @@ IsPlaced (layout.Booklet signing long_edge) s page_paper sheet_paper pages text 
 IsPlaced (layout.Spec specs) s page_paper sheet_paper pages text sides = (text ≡ string_bytes specs) × (sides ≡ None)
 IsPlaced (layout.SpecRow specs signing) s page_paper sheet_paper pages text sides =
     (text ≡ string_bytes specs) × (sides ≡ option_map (λ how. sides_for (signing_of how) pages) signing)
-IsPlaced (layout.Cards cells) s page_paper sheet_paper pages text sides = ⊥
-IsPlaced (layout.Stack cells duplex) s page_paper sheet_paper pages text sides = ⊥
-IsPlaced (layout.Notes n) s page_paper sheet_paper pages text sides = ⊥
-IsPlaced (layout.Poster columns rows) s page_paper sheet_paper pages text sides = ⊥
-IsPlaced layout.Zine s page_paper sheet_paper pages text sides = ⊥
-IsPlaced layout.Selection s page_paper sheet_paper pages text sides = ⊥
+IsPlaced other s page_paper sheet_paper pages text sides = ⊥
 
 -- no page is turned
 abbrev pub is_unturned : Turn → Bool

@@ -75,8 +75,6 @@ after_even even laid found none is = ap (λ x. option_or (option_map error.Arran
 of_laying : (pages : ℕ) (papers : List Paper) (a : Asked) (row : Row) (e : AskedError) → pages ≤ most_pages → row_chosen pages a ≡ Ok row → why_not_even_if a.same_scale a.laying papers (signed (sewn a) row) ≡ None
     → RefusesLaying (laying_for a papers row) (leaves_in (sewn a) row) papers (signed (sewn a) row) e → RefusesAsked pages papers a e
 of_laying pages papers a row (error.Row e) few is even h = absurd h
-of_laying pages papers a row (error.Arrangement e) few is even h = (row, is, after_even _ _ _ even h)
-of_laying pages papers a row (error.Poster e) few is even h = (row, is, after_even _ _ _ even h)
 of_laying pages papers a row (error.Sheets e) few is even h =
     let l = laying_for a papers row in
     let leaves = leaves_in (sewn a) row in
@@ -93,6 +91,7 @@ of_laying pages papers a row (error.Sheets e) few is even h =
       h.2 pages few,
     )
 of_laying pages papers a row error.NoMemory few is even h = subst IsOk (sym is) refl
+of_laying pages papers a row other few is even h = (row, is, after_even _ _ _ even h)
 
 pub asked_told : (pages : ℕ) (papers : List Paper) (a : Asked) (row printed : Row) (leaves : ℕ) (l : Laying) (e : AskedError) → pages ≤ most_pages → row_chosen pages a ≡ Ok row → printed ≡ signed (sewn a) row → leaves ≡ leaves_in (sewn a) row
     → l ≡ evened_if a.same_scale a.laying papers printed → why_not_even_if a.same_scale a.laying papers printed ≡ None → RefusesLaying l leaves papers printed e → RefusesAsked pages papers a e

@@ -15,11 +15,8 @@ use Rattle.row_runs.proofs.Turned.{turned_refused}
 use Rattle.row_runs.specs.Sheets.{RefusesAsked}
 
 of_asked : (j : RowJob) (e : AskedError) → RefusesAsked (page_count j) j.papers.now j.asked e → RefusesRun j e
-of_asked j (error.Row e) h = h
-of_asked j (error.Arrangement e) h = h
-of_asked j (error.Poster e) h = h
 of_asked j (error.Sheets e) h = (h.0, h.1, turned_refused (turn_of j.turn) (page_count j) h.0 e h.3)
-of_asked j error.NoMemory h = h
+of_asked j other h = h
 
 -- a run that makes no sheets
 pub run_refused : (j : RowJob) (n : ℕ) (e : AskedError) → n ≡ page_count j → RefusesAsked n j.papers.now j.asked e → RefusesRun j e
