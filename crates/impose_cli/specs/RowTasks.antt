@@ -36,7 +36,6 @@ use Rattle.row_sheets.specs.Posters.{why_no_poster}
 use Rattle.row_sheets.specs.declared.poster.Poster.{Poster}
 use Rattle.impose_words.specs.Spacings.{arrangement_in, binding_in, notes_in, zine_in}
 use Rattle.impose_words.specs.declared.request.Spacing.{Spacing}
-use Rattle.row_runs.specs.ToldPages.{told_pages}
 use Rattle.impose_cli.specs.Claims.{IsToldBy}
 use Rattle.impose_cli.specs.Reaches.{reach_in, takes}
 use Rattle.pagespec.specs.Items.{turn_of}

@@ -8,7 +8,6 @@ use Rattle.rules.specs.Parts.{NestedUnit, pages}
 use Rattle.rules.specs.Run.{document_of, plan_in}
 use Rattle.rules.specs.Sheets.{sheets}
 use Rattle.dsc.specs.PagesBehind.{pages_behind}
-use Rattle.row_runs.specs.ToldPages.{told_pages}
 use Rattle.impose_cli.specs.Claims.{IsToldBy}
 use Rattle.impose_cli.specs.Reaches.{HasReachOver}
 use Rattle.made_sheets.specs.Choice.{sides_for}
