@@ -1,9 +1,7 @@
 //! The sheets that are asked for.
 ghost use Rattle.std.specs.Prelude.{◌≡◌, ◌<◌, ◌≤◌, IfErr, IfOk, IfSome, OnOk, Ok, None, Some, length, option_map, ℕ};
 ghost use Rattle.made_sheets.specs.Choice.{most_entries};
-ghost use Rattle.rows.specs.Choices.{choice_of};
 ghost use Rattle.rows.specs.Sewing.{MayBeSewn, signing_of};
-ghost use Rattle.rows.specs.Refusals.{RefusesRow};
 ghost use Rattle.row_sheets.specs.Shapes.{filling};
 ghost use Rattle.row_runs.specs.Errors.{of_arrangement, of_poster, of_row};
 ghost use Rattle.row_runs.specs.Limits.{AreFewAsLaid, limit_in as limit_of_laying};
