@@ -202,6 +202,7 @@ few_laid other leaves papers row is = tt
 -- also at one scale
 few_evened : (same_scale : Bool) (l : Laying) (papers : List Paper) (row : Row) (made : List MadeSheet) → AreFewAsLaid (evened_if same_scale l papers row) made → AreFewAsLaid l made
 few_evened false l papers row made h = h
+few_evened true (laying.InCells t (scheme.Cards cells)) papers row made h = h
 few_evened true other papers row made h = h
 
 pub few_made : (same_scale : Bool) (l even : Laying) (leaves : ℕ) (papers : List Paper) (row : Row) (made : List MadeSheet) → even ≡ evened_if same_scale l papers row → made ≡ sheets_laid even leaves papers row

@@ -26,44 +26,28 @@ use std::alloc::Global;
 #[derive(Clone, Copy)]
 pub enum Laying {
     /// Each page as it is, on a sheet of its own paper, and each blank on a sheet of this one.
-    AsTheyAre {
-        blank: Paper,
-    },
+    AsTheyAre { blank: Paper },
     /// Each page fitted into cells of sheets.
-    InCells {
-        setting: Setting,
-        scheme: Scheme,
-    },
+    InCells { setting: Setting, scheme: Scheme },
     /// Each page over several sheets, one page after the other; a blank leaves as many sheets blank.
-    Poster {
-        poster: Poster,
-    },
+    Poster { poster: Poster },
 }
 
 /// In which cells of the sheets the entries of a row are.
 #[derive(Clone, Copy)]
 pub enum Scheme {
     /// In so many of a sheet, from cell to cell and from sheet to sheet.
-    Grid {
-        cells: u32,
-    },
+    Grid { cells: u32 },
     /// Each in so many of a sheet.
-    Cards {
-        cells: u32,
-    },
+    Cards { cells: u32 },
     /// In so many of a sheet, from sheet to sheet and from cell to cell.
-    Stack {
-        cells: u32,
-    },
+    Stack { cells: u32 },
     /// The same on both sides of leaves, in all cells.
     Leaves,
     /// Two entries on each side of leaves, for a row in signatures; for printers that flip a sheet about its longer edge
     /// the backs are turned by half. Pages of a signature's innermost leaf are moved towards the fold by the creep, in
     /// 10^-5 of a point, those of its outermost not at all, and the others in between.
-    Booklet {
-        turned_backs: bool,
-        creep: u64,
-    },
+    Booklet { turned_backs: bool, creep: u64 },
     /// Eight entries on one side of each sheet, which is folded and cut: in two rows of four cells, the first of which is turned
     /// by half.
     Zine,
