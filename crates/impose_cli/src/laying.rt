@@ -56,7 +56,8 @@ pub(crate) fn laying_for(
         Layout::NUp(_) | Layout::Cards(_) | Layout::Stack { .. } => {
             in_cells(layout, spacing, papers)
         }
-        Layout::Notes { .. } | Layout::Zine => in_cells(layout, spacing, papers),
+        Layout::Notes { .. } => in_cells(layout, spacing, papers),
+        Layout::Zine => in_cells(layout, spacing, papers),
         Layout::Booklet { signing, long_edge } => {
             booklet_laying(*signing, *long_edge, spacing, papers)
         }
