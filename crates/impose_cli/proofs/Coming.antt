@@ -37,29 +37,7 @@ use Rattle.impose_said.specs.declared.finished.Done.TheVariants as done
 pub after_as : (f : ImposeFault) (P Q P' Q' : ℕ → Type 0) → ((n : ℕ) → P n → P' n) → ((n : ℕ) → Q n → Q' n) → AfterWrite f P Q → AfterWrite f P' Q'
 after_as (fault.Write n cause) P Q P' Q' failed spent h = failed n h
 after_as (fault.Run (run.NoMemory n)) P Q P' Q' failed spent h = spent n h
-after_as (fault.Command c) P Q P' Q' failed spent h = absurd h
-after_as (fault.Layout e) P Q P' Q' failed spent h = absurd h
-after_as (fault.Poster e) P Q P' Q' failed spent h = absurd h
-after_as (fault.Row e) P Q P' Q' failed spent h = absurd h
-after_as (fault.NoSuchPage place pages) P Q P' Q' failed spent h = absurd h
-after_as (fault.Sheets e) P Q P' Q' failed spent h = absurd h
-after_as fault.NoSpecification P Q P' Q' failed spent h = absurd h
-after_as fault.SeveralPapers P Q P' Q' failed spent h = absurd h
-after_as (fault.Idle option) P Q P' Q' failed spent h = absurd h
-after_as fault.OverInput P Q P' Q' failed spent h = absurd h
-after_as (fault.Read cause) P Q P' Q' failed spent h = absurd h
-after_as fault.NoInput P Q P' Q' failed spent h = absurd h
-after_as fault.Pdf P Q P' Q' failed spent h = absurd h
-after_as (fault.Compressed how) P Q P' Q' failed spent h = absurd h
-after_as fault.DosEps P Q P' Q' failed spent h = absurd h
-after_as fault.Utf16 P Q P' Q' failed spent h = absurd h
-after_as fault.JobLanguage P Q P' Q' failed spent h = absurd h
-after_as fault.TooLong P Q P' Q' failed spent h = absurd h
-after_as (fault.Run run.Options) P Q P' Q' failed spent h = absurd h
-after_as (fault.Run (run.Spec e)) P Q P' Q' failed spent h = absurd h
-after_as (fault.Run (run.Document e)) P Q P' Q' failed spent h = absurd h
-after_as (fault.Run (run.Plan e)) P Q P' Q' failed spent h = absurd h
-after_as (fault.Run (run.Write n)) P Q P' Q' failed spent h = absurd h
+after_as other P Q P' Q' failed spent h = absurd h
 
 -- ---- what comes of it
 
@@ -175,22 +153,15 @@ pub job_broken_off : {V O : Type 0} (j : JobView) (name : Option (List ℕ)) (te
     → TellsCount n outcome → output ≡ out → start ≡ told_if tells name []
     → AfterError error ⊥ (λ k. (k ≤ length (output_of j)) × Appends start all (take k (output_of j))) (λ k. (k ≤ length (output_of j)) × Appends start all (take k (output_of j)))
     → IsFrontOf (counted n out) all → Left j name tells outcome world rest output
-job_broken_off j name tells n run.Options outcome output out world rest start all tells_it same began wrote front = absurd wrote
-job_broken_off j name tells n (run.Spec e) outcome output out world rest start all tells_it same began wrote front = absurd wrote
-job_broken_off j name tells n (run.Document e) outcome output out world rest start all tells_it same began wrote front = absurd wrote
-job_broken_off j name tells n (run.Plan e) outcome output out world rest start all tells_it same began wrote front = absurd wrote
 job_broken_off j name tells n (run.NoMemory k) outcome output out world rest start all tells_it same began wrote front =
     job_broken j name tells n k outcome output out world rest start all tells_it same began wrote.1 front
 job_broken_off j name tells n (run.Write k) outcome output out world rest start all tells_it same began wrote front =
     job_broken j name tells n k outcome output out world rest start all tells_it same began wrote.1 front
+job_broken_off j name tells n other outcome output out world rest start all tells_it same began wrote front = absurd wrote
 
 said_as : (error : RunError) (n : ℕ) (f : ImposeFault) → IsSaidOf error n f → TellsCount {T = Report} n (Err f)
 said_as (run.NoMemory k) n f h = after_as f (λ m. ⊥) (λ m. m ≡ n) (λ m. m ≡ n) (λ m. m ≡ n) (λ m e. absurd e) (λ m e. e) h
-said_as run.Options n f h = after_as f (λ m. m ≡ n) (λ m. ⊥) (λ m. m ≡ n) (λ m. m ≡ n) (λ m e. e) (λ m e. absurd e) h
-said_as (run.Spec e) n f h = after_as f (λ m. m ≡ n) (λ m. ⊥) (λ m. m ≡ n) (λ m. m ≡ n) (λ m e. e) (λ m e. absurd e) h
-said_as (run.Document e) n f h = after_as f (λ m. m ≡ n) (λ m. ⊥) (λ m. m ≡ n) (λ m. m ≡ n) (λ m e. e) (λ m e. absurd e) h
-said_as (run.Plan e) n f h = after_as f (λ m. m ≡ n) (λ m. ⊥) (λ m. m ≡ n) (λ m. m ≡ n) (λ m e. e) (λ m e. absurd e) h
-said_as (run.Write k) n f h = after_as f (λ m. m ≡ n) (λ m. ⊥) (λ m. m ≡ n) (λ m. m ≡ n) (λ m e. e) (λ m e. absurd e) h
+said_as other n f h = after_as f (λ m. m ≡ n) (λ m. ⊥) (λ m. m ≡ n) (λ m. m ≡ n) (λ m e. e) (λ m e. absurd e) h
 
 pub said_count : (error : RunError) (n : ℕ) (outcome : Result Report ImposeFault) → MatchResult outcome (λ report. ⊥) (IsSaidOf error n) → TellsCount n outcome
 said_count error n (Ok report) h = absurd h

@@ -46,16 +46,8 @@ use Rattle.impose_cli.specs.declared.task.Task.{Task}
 -- a specification that is named is what is run, without signatures
 placed_as_named : (l : Layout) (s : Spacing) (named : List ℕ) (page_paper sheet_paper : Paper) (pages : ℕ) (text : List ℕ) (sides : Option ℕ) → IsSpec l named
     → IsPlaced l s page_paper sheet_paper pages text sides → (text ≡ named) × (sides ≡ None)
-placed_as_named (layout.NUp n) s named page_paper sheet_paper pages text sides is h = absurd is
-placed_as_named (layout.Booklet signature long_edge) s named page_paper sheet_paper pages text sides is h = absurd is
-placed_as_named (layout.SpecRow specs signing) s named page_paper sheet_paper pages text sides is h = absurd is
-placed_as_named layout.Zine s named page_paper sheet_paper pages text sides is h = absurd is
-placed_as_named layout.Selection s named page_paper sheet_paper pages text sides is h = absurd is
-placed_as_named (layout.Cards n) s named page_paper sheet_paper pages text sides is h = absurd is
-placed_as_named (layout.Stack n duplex) s named page_paper sheet_paper pages text sides is h = absurd is
-placed_as_named (layout.Notes n) s named page_paper sheet_paper pages text sides is h = absurd is
-placed_as_named (layout.Poster columns rows) s named page_paper sheet_paper pages text sides is h = absurd is
 placed_as_named (layout.Spec specs) s named page_paper sheet_paper pages text sides is h = (h.0 ∙ sym is, h.1)
+placed_as_named other s named page_paper sheet_paper pages text sides is h = absurd is
 
 pub finishes : (r : ImposeRequest) (input : List ℕ) (task : Task) (told : Told) (old new : Option (List ℕ)) (report : Report) → ((text : List ℕ) × IsSpec r.layout text) → IsTask r input task → IsToldBy r input told
     → Accepted (asked_by task) (λ spec us. Appends old new (output (frame_of task.options) task.options.sides spec us) × Reports (frame_of task.options) task.options.sides spec us report)
@@ -94,15 +86,7 @@ finishes r input task told old new report named is tells h =
 -- a request whose layout is a specification is refused as one by it
 by_spec : (l : Layout) (text : List ℕ) (r : ImposeRequest) (input : List ℕ) (f : ImposeFault) → IsSpec l text → RefusesSpecRun r input f → RefusesImposing l r input f
 by_spec (layout.Spec specs) text r input f is h = h
-by_spec (layout.NUp cells) text r input f is h = absurd is
-by_spec (layout.Cards cells) text r input f is h = absurd is
-by_spec (layout.Stack cells duplex) text r input f is h = absurd is
-by_spec (layout.Notes pages) text r input f is h = absurd is
-by_spec (layout.Poster columns on) text r input f is h = absurd is
-by_spec (layout.Booklet signing long_edge) text r input f is h = absurd is
-by_spec layout.Zine text r input f is h = absurd is
-by_spec layout.Selection text r input f is h = absurd is
-by_spec (layout.SpecRow specs signing) text r input f is h = absurd is
+by_spec other text r input f is h = absurd is
 
 -- there is no task
 pub spec_stops : {V O : Type 0} (r : ImposeRequest) (input : List ℕ) (tells : Bool) (f : ImposeFault) (outcome : Result Done ImposeFault) (world : V) (rest : Rest V O) (written : Option (List ℕ)) → ((text : List ℕ) × IsSpec r.layout text) → outcome ≡ Err f → rest ≡ World world

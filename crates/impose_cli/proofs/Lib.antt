@@ -1,9 +1,8 @@
 pub mod Placing
 pub mod RowOptions
 pub mod OnePaper
-pub mod Noted
-pub mod Uneven
 pub mod ZineCells
+pub mod InCells
 pub mod Counted
 pub mod Coming
 pub mod Ending

@@ -8,7 +8,7 @@ use Rattle.std.proofs.lemmas.Bool.Decides.{Decides-int_eq}
 use Rattle.layouts.specs.Refusals.{IsFault, first_of as first_fault_of, is_length, why_not_bound}
 use Rattle.layouts.specs.declared.arrangement.Binding.{Binding}
 use Rattle.layouts.specs.declared.error.ArrangementError.{ArrangementError}
-use Rattle.layouts.specs.declared.error.ArrangementError.TheVariants.{CellsOutOfRange, SideTooLong, LengthOutOfRange, NothingLeftOfPage, UnevenMargins, FoldOnLongEdge, NoRoom, ScaleOutOfRange, ScaleTooLarge, CreepOverFold, NoMemory}
+use Rattle.layouts.specs.declared.error.ArrangementError.TheVariants.{LengthOutOfRange, NoMemory}
 use Rattle.impose_said.specs.Faults.{of_layout, without_memory}
 use Rattle.rows.specs.Sewing.{signing_of}
 use Rattle.rows.specs.declared.sewing.Signing.{Signing}
@@ -36,16 +36,7 @@ ok_both (Err e) P Q p q = tt
 pub refuses_layout : (found : Option ArrangementError) (e : ArrangementError) → IsFault found e
     → (of_layout e ≡ without_memory) ⊎ ((why : ArrangementError) × (of_layout e ≡ fault.Layout why) × (found ≡ Some why))
 refuses_layout found NoMemory h = inl refl
-refuses_layout found CellsOutOfRange h = inr (CellsOutOfRange, refl, unless found CellsOutOfRange (λ bad. cc) h)
-refuses_layout found SideTooLong h = inr (SideTooLong, refl, unless found SideTooLong (λ bad. cc) h)
-refuses_layout found LengthOutOfRange h = inr (LengthOutOfRange, refl, unless found LengthOutOfRange (λ bad. cc) h)
-refuses_layout found NothingLeftOfPage h = inr (NothingLeftOfPage, refl, unless found NothingLeftOfPage (λ bad. cc) h)
-refuses_layout found UnevenMargins h = inr (UnevenMargins, refl, unless found UnevenMargins (λ bad. cc) h)
-refuses_layout found FoldOnLongEdge h = inr (FoldOnLongEdge, refl, unless found FoldOnLongEdge (λ bad. cc) h)
-refuses_layout found NoRoom h = inr (NoRoom, refl, unless found NoRoom (λ bad. cc) h)
-refuses_layout found ScaleOutOfRange h = inr (ScaleOutOfRange, refl, unless found ScaleOutOfRange (λ bad. cc) h)
-refuses_layout found ScaleTooLarge h = inr (ScaleTooLarge, refl, unless found ScaleTooLarge (λ bad. cc) h)
-refuses_layout found CreepOverFold h = inr (CreepOverFold, refl, unless found CreepOverFold (λ bad. cc) h)
+refuses_layout found other h = inr (other, refl, unless found other (λ bad. cc) h)
 
 -- the fault is that of the reason
 pub refuses_laid : (found : Option ArrangementError) (f : ImposeFault) → (f ≡ without_memory) ⊎ ((why : ArrangementError) × (f ≡ fault.Layout why) × (found ≡ Some why)) → (f ≡ without_memory) ⊎ (option_map fault.Layout found ≡ Some f)

@@ -87,16 +87,9 @@ shown_whole l name r input tells text (Ok what) world rest written told h =
 shown_whole l name r input tells text (Err f) world rest written told h = inr (text, told, h)
 
 lays : (l : Layout) → lays_rows l ≡ true → LaysRows l
-lays (layout.NUp cells) e = tt
-lays (layout.Cards cells) e = tt
-lays (layout.Stack cells duplex) e = tt
-lays (layout.Booklet signing long_edge) e = tt
-lays (layout.Notes pages) e = tt
-lays (layout.Poster columns rows) e = tt
-lays layout.Zine e = tt
-lays layout.Selection e = tt
 lays (layout.Spec specs) e = cc
 lays (layout.SpecRow specs signing) e = cc
+lays other e = tt
 
 -- only a layout that lays rows is asked for a plan or a picture
 made_by : (rows : Bool) (found : List Row) (p : Product) (l : Layout) → (rows ≡ true → LaysRows l) → MakesBy rows found p → MayBeMade p l

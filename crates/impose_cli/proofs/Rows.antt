@@ -105,15 +105,7 @@ papers_len None names home text us = length-map (pages us) (own_paper names home
 
 placed_len : (l : Layout) (taken own : List Paper) → length (placed_in l taken own) ≡ length own
 placed_len layout.Selection taken own = length-map own (paper_among (kinds most_kinds taken))
-placed_len (layout.NUp cells) taken own = refl
-placed_len (layout.Cards cells) taken own = refl
-placed_len (layout.Stack cells duplex) taken own = refl
-placed_len (layout.Booklet signing long_edge) taken own = refl
-placed_len (layout.Notes n) taken own = refl
-placed_len (layout.Poster columns rows) taken own = refl
-placed_len layout.Zine taken own = refl
-placed_len (layout.Spec specs) taken own = refl
-placed_len (layout.SpecRow specs signing) taken own = refl
+placed_len other taken own = refl
 
 pub as_many : (r : ImposeRequest) (us : List NestedUnit) (taken own counted papers : List Paper) (n : ℕ) → n ≡ length (pages us)
     → own ≡ own_papers r.page_paper paper_named r.home_paper (bytes_of us) us → counted ≡ placed_in r.layout taken own → papers ≡ map (cells_paper r) counted
@@ -151,16 +143,9 @@ finishes_row r input t told old new report is tells h = record {
 
 -- a request whose layout lays rows is refused as one on its row
 on_row : (l : Layout) (r : ImposeRequest) (input : List ℕ) (f : ImposeFault) → LaysRows l → RefusesRow r input f → RefusesImposing l r input f
-on_row (layout.NUp cells) r input f rows h = h
-on_row (layout.Cards cells) r input f rows h = h
-on_row (layout.Stack cells duplex) r input f rows h = h
-on_row (layout.Notes pages) r input f rows h = h
-on_row (layout.Poster columns on) r input f rows h = h
-on_row (layout.Booklet signing long_edge) r input f rows h = h
-on_row layout.Zine r input f rows h = h
-on_row layout.Selection r input f rows h = h
 on_row (layout.Spec specs) r input f rows h = absurd rows
 on_row (layout.SpecRow specs signing) r input f rows h = absurd rows
+on_row other r input f rows h = h
 
 -- there is no task
 pub row_stops : {V O : Type 0} (r : ImposeRequest) (input : List ℕ) (tells : Bool) (f : ImposeFault) (outcome : Result Done ImposeFault) (world : V) (rest : Rest V O) (written : Option (List ℕ)) → LaysRows r.layout → outcome ≡ Err f → rest ≡ World world

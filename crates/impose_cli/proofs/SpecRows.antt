@@ -51,15 +51,7 @@ finishes_spec_row r input t told old new report is tells h =
 -- a request whose layout is a specification on a row is refused as one by it
 on_spec_row : (l : Layout) (r : ImposeRequest) (input : List ℕ) (f : ImposeFault) → LaysSpecRow l → RefusesSpecRowRun r input f → RefusesImposing l r input f
 on_spec_row (layout.SpecRow specs signing) r input f rows h = h
-on_spec_row (layout.NUp cells) r input f rows h = absurd rows
-on_spec_row (layout.Cards cells) r input f rows h = absurd rows
-on_spec_row (layout.Stack cells duplex) r input f rows h = absurd rows
-on_spec_row (layout.Notes pages) r input f rows h = absurd rows
-on_spec_row (layout.Poster columns on) r input f rows h = absurd rows
-on_spec_row (layout.Booklet signing long_edge) r input f rows h = absurd rows
-on_spec_row layout.Zine r input f rows h = absurd rows
-on_spec_row layout.Selection r input f rows h = absurd rows
-on_spec_row (layout.Spec specs) r input f rows h = absurd rows
+on_spec_row other r input f rows h = absurd rows
 
 -- there is no task
 pub spec_row_stops : {V O : Type 0} (r : ImposeRequest) (input : List ℕ) (tells : Bool) (f : ImposeFault) (outcome : Result Done ImposeFault) (world : V) (rest : Rest V O) (written : Option (List ℕ)) → LaysSpecRow r.layout → outcome ≡ Err f → rest ≡ World world

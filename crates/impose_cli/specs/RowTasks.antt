@@ -15,7 +15,7 @@ use Rattle.layouts.specs.Fitted.{binding_setting_of, setting_of}
 use Rattle.layouts.specs.Grids.{count_of, rounded_down, rounded_up}
 use Rattle.layouts.specs.Refusals.{first_of, is_length, why_not_arranged, why_not_bound}
 use Rattle.layouts.specs.declared.arrangement.Free.{Free}
-use Rattle.layouts.specs.declared.setting.Setting.{Setting}
+use Rattle.layouts.specs.declared.arrangement.Arrangement.{Arrangement}
 use Rattle.layouts.specs.declared.error.ArrangementError.TheVariants as why
 use Rattle.papers.specs.Names.{paper_named}
 use Rattle.papers.specs.Own.{own_papers}
@@ -28,13 +28,14 @@ use Rattle.sheet_text.specs.Jobs.{is_border}
 use Rattle.planned_runs.specs.declared.outcome.Report.{Report}
 use Rattle.row_runs.specs.declared.asked.Laying.{Laying}
 use Rattle.row_runs.specs.declared.asked.Laying.TheVariants as laying
+use Rattle.row_runs.specs.declared.asked.Scheme.{Scheme}
+use Rattle.row_runs.specs.declared.asked.Scheme.TheVariants as scheme
 use Rattle.row_runs.specs.declared.run.RowJob.{RowJob}
 use Rattle.impose_words.specs.Choices.{choice_in}
 use Rattle.row_sheets.specs.Posters.{why_no_poster}
 use Rattle.row_sheets.specs.declared.poster.Poster.{Poster}
 use Rattle.impose_words.specs.Spacings.{arrangement_in, binding_in, notes_in, zine_in}
 use Rattle.impose_words.specs.declared.request.Spacing.{Spacing}
-use Rattle.row_runs.specs.ToldPages.{told_pages}
 use Rattle.impose_cli.specs.Claims.{IsToldBy}
 use Rattle.impose_cli.specs.Reaches.{reach_in, takes}
 use Rattle.pagespec.specs.Items.{turn_of}
@@ -67,10 +68,24 @@ abbrev pub sheet_paper_in : Layout → (named : Option Paper) → (page_paper : 
 sheet_paper_in layout.Selection named page_paper = page_paper
 sheet_paper_in other named page_paper = sheet_paper_found named page_paper
 
--- a stack in so many cells, or in all of them on both sides of leaves
-abbrev pub stacked : (duplex : Bool) → Setting → (cells : ℕ) → Laying
-stacked false t cells = laying.Stack t cells
-stacked true t cells = laying.Leaves t
+-- the cells that a layout asks for, or else those of a zine
+abbrev pub cells_in : Layout → Spacing → Arrangement
+cells_in (layout.NUp cells) s = arrangement_in s cells
+cells_in (layout.Cards cells) s = arrangement_in s cells
+cells_in (layout.Stack cells duplex) s = arrangement_in s cells
+cells_in (layout.Notes pages) s = notes_in s pages
+cells_in other s = zine_in s
+
+-- how a row is put into so many: it goes on from cell to cell, unless the layout has another scheme
+abbrev pub scheme_in : Layout → (cells : ℕ) → Scheme
+scheme_in (layout.Cards cells) n = scheme.Cards n
+scheme_in (layout.Stack cells duplex) n = if duplex then scheme.Leaves else scheme.Stack n
+scheme_in (layout.Notes pages) n = scheme.Grid pages
+scheme_in layout.Zine n = scheme.Zine
+scheme_in other n = scheme.Grid n
+
+abbrev pub filled_in : Layout → Arrangement → (page_paper sheet_paper : Paper) → Laying
+filled_in l a page sheet = laying.InCells (setting_of page sheet a) (scheme_in l (count_of a.cells))
 
 -- so many columns and rows of sheets of a paper, with one margin along all edges: of it and of the overlap none is lost
 abbrev pub poster_in : Spacing → (columns rows : ℕ) → (sheet : Paper) → Poster
@@ -84,57 +99,44 @@ poster_in s columns rows sheet = record {
 
 -- how a layout lays a row of pages of a paper on sheets, if it does (RULES, 14)
 abbrev pub laying_in : Layout → Spacing → (page_paper sheet_paper : Paper) → Option Laying
-laying_in (layout.NUp cells) s page_paper sheet_paper =
-    Some (laying.Grid (setting_of page_paper sheet_paper (arrangement_in s cells)) (count_of cells))
-laying_in (layout.Cards cells) s page_paper sheet_paper =
-    Some (laying.Cards (setting_of page_paper sheet_paper (arrangement_in s cells)) (count_of cells))
-laying_in (layout.Stack cells duplex) s page_paper sheet_paper =
-    Some (stacked duplex (setting_of page_paper sheet_paper (arrangement_in s cells)) (count_of cells))
-laying_in (layout.Booklet signing long_edge) s page_paper sheet_paper =
-    Some (laying.Booklet (binding_setting_of sheet_paper (binding_in s long_edge)) long_edge (rounded_down s.creep))
-laying_in (layout.Notes pages) s page_paper sheet_paper =
-    Some (laying.Grid (setting_of page_paper sheet_paper (notes_in s pages)) pages)
-laying_in (layout.Poster columns rows) s page_paper sheet_paper =
-    Some (laying.Poster (poster_in s columns rows sheet_paper))
-laying_in layout.Zine s page_paper sheet_paper = Some (laying.Zine (setting_of page_paper sheet_paper (zine_in s)))
-laying_in layout.Selection s page_paper sheet_paper = Some (laying.AsTheyAre sheet_paper)
-laying_in (layout.Spec specs) s page_paper sheet_paper = None
-laying_in (layout.SpecRow specs signing) s page_paper sheet_paper = None
+laying_in (layout.Booklet signing long_edge) s page sheet =
+    Some (laying.InCells (binding_setting_of sheet (binding_in s long_edge)) (scheme.Booklet long_edge (rounded_down s.creep)))
+laying_in (layout.Poster columns rows) s page sheet = Some (laying.Poster (poster_in s columns rows sheet))
+laying_in layout.Selection s page sheet = Some (laying.AsTheyAre sheet)
+laying_in (layout.Spec specs) s page sheet = None
+laying_in (layout.SpecRow specs signing) s page sheet = None
+laying_in other s page sheet = Some (filled_in other (cells_in other s) page sheet)
 
 -- as much is kept free along opposite edges, or along all
 abbrev pub has_even_margins : Free → Bool
 has_even_margins f = int_eq f.left f.right && int_eq f.bottom f.top
 
-abbrev pub may_be_stacked : (duplex : Bool) → Free → Bool
-may_be_stacked duplex f = not duplex || has_even_margins f
-
 abbrev pub has_one_margin : Free → Bool
 has_one_margin f = has_even_margins f && int_eq f.left f.bottom
 
--- the fault that says why it can't: what is behind a part of a sheet, or turned by half, needs even margins
--- (RULES, 16, step 9)
+-- margins are as even as the layout needs them: what is behind a part of a sheet, or turned by half, needs even ones
+abbrev pub is_even_enough : Layout → Free → Bool
+is_even_enough (layout.Stack cells duplex) f = not duplex || has_even_margins f
+is_even_enough (layout.Poster columns rows) f = has_one_margin f
+is_even_enough layout.Zine f = has_even_margins f
+is_even_enough other f = true
+
+-- the fault that says why it can't, with margins that are (RULES, 16, step 9)
+abbrev pub why_not_placed : Layout → Spacing → (page_paper sheet_paper : Paper) → Option ImposeFault
+why_not_placed (layout.Booklet signing long_edge) s page sheet = option_map fault.Layout
+    (first_of (is_length s.creep) why.LengthOutOfRange (why_not_bound page sheet (binding_in s long_edge)))
+why_not_placed (layout.Poster columns rows) s page sheet = if is_length s.free.left && is_length s.overlap
+    then option_map fault.Poster (why_no_poster page (poster_in s columns rows sheet))
+    else Some (fault.Layout why.LengthOutOfRange)
+why_not_placed layout.Selection s page sheet = None
+why_not_placed (layout.Spec specs) s page sheet = None
+why_not_placed (layout.SpecRow specs signing) s page sheet = None
+why_not_placed other s page sheet = option_map fault.Layout (why_not_arranged page sheet (cells_in other s))
+
+-- and with others
 abbrev pub why_not_laid : Layout → Spacing → (page_paper sheet_paper : Paper) → Option ImposeFault
-why_not_laid (layout.NUp cells) s page_paper sheet_paper =
-    option_map fault.Layout (why_not_arranged page_paper sheet_paper (arrangement_in s cells))
-why_not_laid (layout.Cards cells) s page_paper sheet_paper =
-    option_map fault.Layout (why_not_arranged page_paper sheet_paper (arrangement_in s cells))
-why_not_laid (layout.Stack cells duplex) s page_paper sheet_paper = option_map fault.Layout
-    (first_of (may_be_stacked duplex s.free) why.UnevenMargins
-    (why_not_arranged page_paper sheet_paper (arrangement_in s cells)))
-why_not_laid (layout.Booklet signing long_edge) s page_paper sheet_paper = option_map fault.Layout
-    (first_of (is_length s.creep) why.LengthOutOfRange (why_not_bound page_paper sheet_paper (binding_in s long_edge)))
-why_not_laid (layout.Notes pages) s page_paper sheet_paper =
-    option_map fault.Layout (why_not_arranged page_paper sheet_paper (notes_in s pages))
-why_not_laid (layout.Poster columns rows) s page_paper sheet_paper = if has_one_margin s.free
-    then (if is_length s.free.left && is_length s.overlap
-    then option_map fault.Poster (why_no_poster page_paper (poster_in s columns rows sheet_paper))
-    else Some (fault.Layout why.LengthOutOfRange))
-    else Some (fault.Layout why.UnevenMargins)
-why_not_laid layout.Zine s page_paper sheet_paper = option_map fault.Layout
-    (first_of (has_even_margins s.free) why.UnevenMargins (why_not_arranged page_paper sheet_paper (zine_in s)))
-why_not_laid layout.Selection s page_paper sheet_paper = None
-why_not_laid (layout.Spec specs) s page_paper sheet_paper = None
-why_not_laid (layout.SpecRow specs signing) s page_paper sheet_paper = None
+why_not_laid l s page sheet =
+    if is_even_enough l s.free then why_not_placed l s page sheet else Some (fault.Layout why.UnevenMargins)
 
 -- the paper of the pages once they are turned
 abbrev pub cells_paper : ImposeRequest → (page_paper : Paper) → Paper

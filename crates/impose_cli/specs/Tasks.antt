@@ -8,7 +8,6 @@ use Rattle.rules.specs.Parts.{NestedUnit, pages}
 use Rattle.rules.specs.Run.{document_of, plan_in}
 use Rattle.rules.specs.Sheets.{sheets}
 use Rattle.dsc.specs.PagesBehind.{pages_behind}
-use Rattle.row_runs.specs.ToldPages.{told_pages}
 use Rattle.impose_cli.specs.Claims.{IsToldBy}
 use Rattle.impose_cli.specs.Reaches.{HasReachOver}
 use Rattle.made_sheets.specs.Choice.{sides_for}
@@ -81,12 +80,7 @@ IsPlaced (layout.Booklet signing long_edge) s page_paper sheet_paper pages text 
 IsPlaced (layout.Spec specs) s page_paper sheet_paper pages text sides = (text ≡ string_bytes specs) × (sides ≡ None)
 IsPlaced (layout.SpecRow specs signing) s page_paper sheet_paper pages text sides =
     (text ≡ string_bytes specs) × (sides ≡ option_map (λ how. sides_for (signing_of how) pages) signing)
-IsPlaced (layout.Cards cells) s page_paper sheet_paper pages text sides = ⊥
-IsPlaced (layout.Stack cells duplex) s page_paper sheet_paper pages text sides = ⊥
-IsPlaced (layout.Notes n) s page_paper sheet_paper pages text sides = ⊥
-IsPlaced (layout.Poster columns rows) s page_paper sheet_paper pages text sides = ⊥
-IsPlaced layout.Zine s page_paper sheet_paper pages text sides = ⊥
-IsPlaced layout.Selection s page_paper sheet_paper pages text sides = ⊥
+IsPlaced other s page_paper sheet_paper pages text sides = ⊥
 
 -- no page is turned
 abbrev pub is_unturned : Turn → Bool

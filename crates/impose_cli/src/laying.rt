@@ -1,24 +1,23 @@
 //! How a layout lays a row of pages on sheets.
-ghost use Rattle.std.specs.Prelude.{◌≡◌, ◌↔◌, ◌<◌, ◌≤◌, IfErr, IfOk, IfSome, IsTrue, OnOk, None, true};
-ghost use Rattle.layouts.specs.Cells.{size};
-ghost use Rattle.layouts.specs.Fitted.{setting_of};
+ghost use Rattle.std.specs.Prelude.{◌≡◌, ◌↔◌, ◌≤◌, IfErr, IfOk, IfSome, IsTrue, OnOk, None, Some, option_map, true};
 ghost use Rattle.layouts.specs.Grids.{count_of, rounded_down as rounded_down_of, rounded_up as rounded_up_of};
-ghost use Rattle.layouts.specs.Refusals.{is_length as may_be_length};
+ghost use Rattle.layouts.specs.Refusals.{is_length as may_be_length, why_not_arranged};
 ghost use Rattle.rows.specs.Sewing.{MayBeSewn};
 ghost use Rattle.sheet_text.specs.Jobs.{is_border};
 ghost use Rattle.row_runs.specs.Sheets.{MayBeLaid};
 ghost use Rattle.impose_cli.specs.Refusals.{RefusesLaying, RefusesOptions};
-ghost use Rattle.impose_words.specs.Spacings.{arrangement_in};
-ghost use Rattle.impose_cli.specs.RowTasks.{has_even_margins as are_even, has_one_margin as are_one, may_be_stacked as may_be_stacked_so};
-ghost use Rattle.impose_cli.specs.RowTasks.{cells_paper, laying_in, sheet_paper_in, signing_in, why_not_laid};
+ghost use Rattle.impose_cli.specs.RowTasks.{has_even_margins as are_even, has_one_margin as are_one, is_even_enough as are_even_enough};
+ghost use Rattle.impose_cli.specs.RowTasks.{cells_in, filled_in, laying_in, scheme_in, why_not_laid, why_not_placed};
+ghost use Rattle.impose_cli.specs.RowTasks.{cells_paper, sheet_paper_in, signing_in};
 ghost use Rattle.impose_words.specs.declared.request.Layout.TheVariants as layout;
+ghost use Rattle.impose_said.specs.declared.fault.ImposeFault.TheVariants as faults;
 
 use impose_said::ImposeFault;
 use impose_words::{ImposeRequest, Layout, Spacing};
 use imposer::RunError;
-use layouts::{ArrangementError, Cells, Free, Papers, Setting};
+use layouts::{Arrangement, ArrangementError, Cells, Free, Papers, Setting};
 use lengths::{Grains, Paper};
-use row_runs::{Laying, turned_paper};
+use row_runs::{Laying, Scheme, turned_paper};
 use row_sheets::{Poster, check_poster};
 use rows::Signing;
 use sheet_plan::are_sides;
@@ -50,16 +49,19 @@ pub(crate) fn laying_for(
     ensures possible { OnOk result (why_not_laid layout.now spacing.now papers.now.page papers.now.sheet ≡ None) }
     ensures refused { IfErr result (RefusesLaying layout.now spacing.now papers.now.page papers.now.sheet) }
 {
+    if !is_even_enough(layout, &spacing.free) {
+        return Err(ImposeFault::Layout(ArrangementError::UnevenMargins));
+    }
     match layout {
-        Layout::NUp(cells) => nup_laying(*cells, spacing, papers),
-        Layout::Cards(cells) => cards_laying(*cells, spacing, papers),
-        Layout::Stack { cells, duplex } => stack_laying(*cells, *duplex, spacing, papers),
+        Layout::NUp(_) | Layout::Cards(_) | Layout::Stack { .. } => {
+            in_cells(layout, spacing, papers)
+        }
+        Layout::Notes { .. } => in_cells(layout, spacing, papers),
+        Layout::Zine => in_cells(layout, spacing, papers),
         Layout::Booklet { signing, long_edge } => {
             booklet_laying(*signing, *long_edge, spacing, papers)
         }
-        Layout::Notes { pages } => notes_laying(*pages, spacing, papers),
         Layout::Poster { columns, rows } => poster_laying(*columns, *rows, spacing, papers),
-        Layout::Zine => zine_laying(spacing, papers),
         Layout::Selection => Ok(Some(Laying::AsTheyAre {
             blank: papers.sheet,
         })),
@@ -67,86 +69,71 @@ pub(crate) fn laying_for(
     }
 }
 
-fn nup_laying(
-    cells: Cells,
-    spacing: &Spacing,
-    papers: &Papers,
-) -> Result<Option<Laying>, ImposeFault>
-    ensures laying { IfOk result (λ laying.
-        laying ≡ laying_in (layout.NUp cells) spacing.now papers.now.page papers.now.sheet) }
-    ensures may_be { IfOk result (λ laying. IfSome laying MayBeLaid) }
-    ensures possible { OnOk result (why_not_laid (layout.NUp cells) spacing.now papers.now.page papers.now.sheet ≡ None) }
-    ensures refused { IfErr result (RefusesLaying (layout.NUp cells) spacing.now papers.now.page papers.now.sheet) }
+/// Whether margins are as even as the layout needs them.
+fn is_even_enough(layout: &Layout, free: &Free) -> bool
+    ensures { result ≡ are_even_enough layout.now free.now }
 {
-    match cells_for(cells, spacing, papers) {
-        Ok((setting, cells)) => Ok(Some(Laying::Grid { setting, cells })),
-        Err(fault) => Err(fault),
+    match layout {
+        Layout::Stack { duplex, .. } => !*duplex || has_even_margins(free),
+        Layout::Poster { .. } => has_one_margin(free),
+        Layout::Zine => has_even_margins(free),
+        _ => true,
     }
 }
 
-fn cards_laying(
-    cells: Cells,
+/// Pages in the cells that the layout asks for.
+fn in_cells(
+    layout: &Layout,
     spacing: &Spacing,
     papers: &Papers,
 ) -> Result<Option<Laying>, ImposeFault>
+    requires { are_even_enough layout.now spacing.now.free ≡ true }
     ensures laying { IfOk result (λ laying.
-        laying ≡ laying_in (layout.Cards cells) spacing.now papers.now.page papers.now.sheet) }
+        laying ≡ Some (filled_in layout.now (cells_in layout.now spacing.now) papers.now.page papers.now.sheet)) }
     ensures may_be { IfOk result (λ laying. IfSome laying MayBeLaid) }
-    ensures possible { OnOk result (why_not_laid (layout.Cards cells) spacing.now papers.now.page papers.now.sheet ≡ None) }
-    ensures refused { IfErr result (RefusesLaying (layout.Cards cells) spacing.now papers.now.page papers.now.sheet) }
+    ensures possible { OnOk result (option_map faults.Layout
+        (why_not_arranged papers.now.page papers.now.sheet (cells_in layout.now spacing.now)) ≡ None) }
+    ensures refused { IfErr result (λ fault. option_map faults.Layout
+        (why_not_arranged papers.now.page papers.now.sheet (cells_in layout.now spacing.now)) ≡ Some fault) }
 {
-    match cells_for(cells, spacing, papers) {
-        Ok((setting, cells)) => Ok(Some(Laying::Cards { setting, cells })),
-        Err(fault) => Err(fault),
-    }
-}
-
-fn stack_laying(
-    cells: Cells,
-    duplex: bool,
-    spacing: &Spacing,
-    papers: &Papers,
-) -> Result<Option<Laying>, ImposeFault>
-    ensures laying { IfOk result (λ laying.
-        laying ≡ laying_in (layout.Stack cells duplex) spacing.now papers.now.page papers.now.sheet) }
-    ensures may_be { IfOk result (λ laying. IfSome laying MayBeLaid) }
-    ensures possible { OnOk result
-        (why_not_laid (layout.Stack cells duplex) spacing.now papers.now.page papers.now.sheet ≡ None) }
-    ensures refused { IfErr result
-        (RefusesLaying (layout.Stack cells duplex) spacing.now papers.now.page papers.now.sheet) }
-{
-    if !may_be_stacked(duplex, &spacing.free) {
-        return Err(ImposeFault::Layout(ArrangementError::UnevenMargins));
-    }
-    match cells_for(cells, spacing, papers) {
-        Ok((setting, cells)) => if duplex {
-            Ok(Some(Laying::Leaves { setting }))
-        } else {
-            Ok(Some(Laying::Stack { setting, cells }))
-        },
-        Err(fault) => Err(fault),
-    }
-}
-
-/// These cells, with what is kept free, and how many a sheet has.
-fn cells_for(
-    cells: Cells,
-    spacing: &Spacing,
-    papers: &Papers,
-) -> Result<(Setting, u32), ImposeFault>
-    ensures made { IfOk result (λ x.
-        x.0 ≡ setting_of papers.now.page papers.now.sheet (arrangement_in spacing.now cells)) }
-    ensures counted { IfOk result (λ x. x.1 ≡ count_of cells) }
-    ensures some { IfOk result (λ x. 0 < x.1) }
-    ensures within { IfOk result (λ x. x.1 ≤ size x.0.grid) }
-    ensures possible { OnOk result
-        (why_not_laid (layout.NUp cells) spacing.now papers.now.page papers.now.sheet ≡ None) }
-    ensures refused { IfErr result
-        (RefusesLaying (layout.NUp cells) spacing.now papers.now.page papers.now.sheet) }
-{
-    match Setting::of(papers, &spacing.arrangement(cells)) {
-        Ok(setting) => Ok((setting, cells.count() as u32)),
+    let arrangement = cells_for(layout, spacing);
+    match Setting::of(papers, &arrangement) {
+        Ok(setting) => Ok(Some(Laying::InCells {
+            setting,
+            scheme: scheme_for(layout, arrangement.cells),
+        })),
         Err(error) => Err(ImposeFault::Layout(error)),
+    }
+}
+
+/// The cells that the layout asks for, or else those of a zine.
+fn cells_for(layout: &Layout, spacing: &Spacing) -> Arrangement
+    ensures { result ≡ cells_in layout.now spacing.now }
+{
+    match layout {
+        Layout::NUp(cells) | Layout::Cards(cells) => spacing.arrangement(*cells),
+        Layout::Stack { cells, .. } => spacing.arrangement(*cells),
+        Layout::Notes { pages } => spacing.notes(*pages),
+        _ => spacing.zine(),
+    }
+}
+
+/// How a row is put into these cells.
+fn scheme_for(layout: &Layout, cells: Cells) -> Scheme
+    requires { count_of cells ≤ 1_024 }
+    ensures { result ≡ scheme_in layout.now (count_of cells) }
+{
+    let cells = cells.count() as u32;
+    match layout {
+        Layout::Cards(_) => Scheme::Cards { cells },
+        Layout::Stack { duplex, .. } => if *duplex {
+            Scheme::Leaves
+        } else {
+            Scheme::Stack { cells }
+        },
+        Layout::Notes { pages } => Scheme::Grid { cells: *pages },
+        Layout::Zine => Scheme::Zine,
+        _ => Scheme::Grid { cells },
     }
 }
 
@@ -160,56 +147,22 @@ fn booklet_laying(
         laying ≡ laying_in (layout.Booklet signing long_edge) spacing.now papers.now.page papers.now.sheet) }
     ensures may_be { IfOk result (λ laying. IfSome laying MayBeLaid) }
     ensures possible { OnOk result
-        (why_not_laid (layout.Booklet signing long_edge) spacing.now papers.now.page papers.now.sheet ≡ None) }
-    ensures refused { IfErr result
-        (RefusesLaying (layout.Booklet signing long_edge) spacing.now papers.now.page papers.now.sheet) }
+        (why_not_placed (layout.Booklet signing long_edge) spacing.now papers.now.page papers.now.sheet ≡ None) }
+    ensures refused { IfErr result (λ fault.
+        why_not_placed (layout.Booklet signing long_edge) spacing.now papers.now.page papers.now.sheet ≡ Some fault) }
 {
     if !is_length(spacing.creep) {
         return Err(ImposeFault::Layout(ArrangementError::LengthOutOfRange));
     }
     let creep = rounded_down(spacing.creep);
     match Setting::of_binding(papers, &spacing.binding(long_edge)) {
-        Ok(setting) => Ok(Some(Laying::Booklet {
+        Ok(setting) => Ok(Some(Laying::InCells {
             setting,
-            turned_backs: long_edge,
-            creep,
+            scheme: Scheme::Booklet {
+                turned_backs: long_edge,
+                creep,
+            },
         })),
-        Err(error) => Err(ImposeFault::Layout(error)),
-    }
-}
-
-fn notes_laying(
-    pages: u32,
-    spacing: &Spacing,
-    papers: &Papers,
-) -> Result<Option<Laying>, ImposeFault>
-    ensures laying { IfOk result (λ laying.
-        laying ≡ laying_in (layout.Notes pages) spacing.now papers.now.page papers.now.sheet) }
-    ensures may_be { IfOk result (λ laying. IfSome laying MayBeLaid) }
-    ensures possible { OnOk result (why_not_laid (layout.Notes pages) spacing.now papers.now.page papers.now.sheet ≡ None) }
-    ensures refused { IfErr result (RefusesLaying (layout.Notes pages) spacing.now papers.now.page papers.now.sheet) }
-{
-    match Setting::of(papers, &spacing.notes(pages)) {
-        Ok(setting) => Ok(Some(Laying::Grid {
-            setting,
-            cells: pages,
-        })),
-        Err(error) => Err(ImposeFault::Layout(error)),
-    }
-}
-
-fn zine_laying(spacing: &Spacing, papers: &Papers) -> Result<Option<Laying>, ImposeFault>
-    ensures laying { IfOk result (λ laying.
-        laying ≡ laying_in layout.Zine spacing.now papers.now.page papers.now.sheet) }
-    ensures may_be { IfOk result (λ laying. IfSome laying MayBeLaid) }
-    ensures possible { OnOk result (why_not_laid layout.Zine spacing.now papers.now.page papers.now.sheet ≡ None) }
-    ensures refused { IfErr result (RefusesLaying layout.Zine spacing.now papers.now.page papers.now.sheet) }
-{
-    if !has_even_margins(&spacing.free) {
-        return Err(ImposeFault::Layout(ArrangementError::UnevenMargins));
-    }
-    match Setting::of(papers, &spacing.zine()) {
-        Ok(setting) => Ok(Some(Laying::Zine { setting })),
         Err(error) => Err(ImposeFault::Layout(error)),
     }
 }
@@ -224,13 +177,10 @@ fn poster_laying(
         laying ≡ laying_in (layout.Poster columns rows) spacing.now papers.now.page papers.now.sheet) }
     ensures may_be { IfOk result (λ laying. IfSome laying MayBeLaid) }
     ensures possible { OnOk result
-        (why_not_laid (layout.Poster columns rows) spacing.now papers.now.page papers.now.sheet ≡ None) }
-    ensures refused { IfErr result
-        (RefusesLaying (layout.Poster columns rows) spacing.now papers.now.page papers.now.sheet) }
+        (why_not_placed (layout.Poster columns rows) spacing.now papers.now.page papers.now.sheet ≡ None) }
+    ensures refused { IfErr result (λ fault.
+        why_not_placed (layout.Poster columns rows) spacing.now papers.now.page papers.now.sheet ≡ Some fault) }
 {
-    if !has_one_margin(&spacing.free) {
-        return Err(ImposeFault::Layout(ArrangementError::UnevenMargins));
-    }
     let margin = spacing.free.left;
     if !(is_length(margin) && is_length(spacing.overlap)) {
         return Err(ImposeFault::Layout(ArrangementError::LengthOutOfRange));
@@ -253,13 +203,6 @@ fn has_even_margins(free: &Free) -> bool
     ensures { result ≡ are_even free.now }
 {
     free.left.get() == free.right.get() && free.bottom.get() == free.top.get()
-}
-
-/// Whether parts of sheets lie behind one another: on one side they needn't.
-fn may_be_stacked(duplex: bool, free: &Free) -> bool
-    ensures { result ≡ may_be_stacked_so duplex free.now }
-{
-    !duplex || has_even_margins(free)
 }
 
 /// Whether as much is kept free along all edges.

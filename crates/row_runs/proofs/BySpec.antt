@@ -24,8 +24,4 @@ of_row j row made e chosen are h = (made, record { row = row; is_chosen = chosen
 pub no_sheets : (j : SpecJob) (row : Row) (made : List MadeSheet) (e : MadeError) → pages_of j ≤ 1_000_000 → row_by j ≡ Ok row → made ≡ by_spec j.spec.now j.sheet j.page (signed (option_map signing_of j.signing) row) → WhyNoSheets made e
     → RefusesBySpec j (of_plan e)
 no_sheets j row made plan.NoMemory few chosen are h = is_row j row chosen
-no_sheets j row made plan.TooManySheets few chosen are h = of_row j row made plan.TooManySheets chosen are (h (pages_of j) few)
-no_sheets j row made plan.TooManyPlaces few chosen are h = of_row j row made plan.TooManyPlaces chosen are (h (pages_of j) few)
-no_sheets j row made plan.TooManyPages few chosen are h = of_row j row made plan.TooManyPages chosen are (h (pages_of j) few)
-no_sheets j row made (plan.SlotsOutOfRange sheet) few chosen are h = of_row j row made (plan.SlotsOutOfRange sheet) chosen are (h (pages_of j) few)
-no_sheets j row made (plan.NoSuchPage sheet) few chosen are h = of_row j row made (plan.NoSuchPage sheet) chosen are (h (pages_of j) few)
+no_sheets j row made other few chosen are h = of_row j row made other chosen are (h (pages_of j) few)

@@ -25,6 +25,7 @@ use Rattle.row_sheets.specs.declared.poster.Poster.{Poster}
 use Rattle.row_sheets.proofs.NoPlan.{even_count, none_from}
 use Rattle.row_runs.specs.declared.asked.Laying.{Laying}
 use Rattle.row_runs.specs.declared.asked.Laying.TheVariants as laying
+use Rattle.row_runs.specs.declared.asked.Scheme.TheVariants as scheme
 use Rattle.row_runs.specs.Evened.{evened_if}
 use Rattle.row_runs.specs.Limits.{AreFew, AreFewAsLaid, limit_in, limit_passed}
 use Rattle.row_runs.specs.Sheets.{MayBeLaid, WhyNoPlan, sheets_laid}
@@ -183,42 +184,26 @@ tiles_count p papers (e ∷ es) =
 
 -- ---- layings
 pub no_plan : (l : Laying) (leaves : ℕ) (papers : List Paper) (row : Row) (e : MadeError) → MayBeLaid l → limit_in l (length row) ≡ Some e → WhyNoPlan l leaves papers row e
-no_plan (laying.Cards setting cells) leaves papers row e may is pages le =
+no_plan (laying.InCells setting (scheme.Cards cells)) leaves papers row e may is pages le =
     let f = filling setting papers in
     passes pages (card_sheets f cells row) cells e le may.0 (cards_even f cells row) (subst (λ (n : ℕ). limit_passed n cells ≡ Some e) (sym (cards_count f cells row)) is)
 no_plan (laying.Poster poster) leaves papers row e may is pages le =
     passes pages (row_tiles poster papers row) 1 e le (omega arith) (tiles_even poster papers row) (subst (λ (n : ℕ). limit_passed n 1 ≡ Some e) (sym (tiles_count poster papers row)) is)
-no_plan (laying.AsTheyAre blank) leaves papers row e may is pages le = absurd (none-some e is)
-no_plan (laying.Grid setting cells) leaves papers row e may is pages le = absurd (none-some e is)
-no_plan (laying.Stack setting cells) leaves papers row e may is pages le = absurd (none-some e is)
-no_plan (laying.Leaves setting) leaves papers row e may is pages le = absurd (none-some e is)
-no_plan (laying.Booklet setting turned_backs creep) leaves papers row e may is pages le = absurd (none-some e is)
-no_plan (laying.Zine setting) leaves papers row e may is pages le = absurd (none-some e is)
+no_plan other leaves papers row e may is pages le = absurd (none-some e is)
 
 few_laid : (l : Laying) (leaves : ℕ) (papers : List Paper) (row : Row) → limit_in l (length row) ≡ None → AreFewAsLaid l (sheets_laid l leaves papers row)
-few_laid (laying.Cards setting cells) leaves papers row is =
+few_laid (laying.InCells setting (scheme.Cards cells)) leaves papers row is =
     let f = filling setting papers in
     keeps (card_sheets f cells row) cells (cards_even f cells row) (subst (λ (n : ℕ). limit_passed n cells ≡ None) (sym (cards_count f cells row)) is)
 few_laid (laying.Poster poster) leaves papers row is =
     keeps (row_tiles poster papers row) 1 (tiles_even poster papers row) (subst (λ (n : ℕ). limit_passed n 1 ≡ None) (sym (tiles_count poster papers row)) is)
-few_laid (laying.AsTheyAre blank) leaves papers row is = tt
-few_laid (laying.Grid setting cells) leaves papers row is = tt
-few_laid (laying.Stack setting cells) leaves papers row is = tt
-few_laid (laying.Leaves setting) leaves papers row is = tt
-few_laid (laying.Booklet setting turned_backs creep) leaves papers row is = tt
-few_laid (laying.Zine setting) leaves papers row is = tt
+few_laid other leaves papers row is = tt
 
 -- also at one scale
 few_evened : (same_scale : Bool) (l : Laying) (papers : List Paper) (row : Row) (made : List MadeSheet) → AreFewAsLaid (evened_if same_scale l papers row) made → AreFewAsLaid l made
 few_evened false l papers row made h = h
-few_evened true (laying.AsTheyAre blank) papers row made h = h
-few_evened true (laying.Grid setting cells) papers row made h = h
-few_evened true (laying.Cards setting cells) papers row made h = record { sheets = h.sheets; places = h.places }
-few_evened true (laying.Stack setting cells) papers row made h = h
-few_evened true (laying.Leaves setting) papers row made h = h
-few_evened true (laying.Booklet setting turned_backs creep) papers row made h = h
-few_evened true (laying.Zine setting) papers row made h = h
-few_evened true (laying.Poster poster) papers row made h = h
+few_evened true (laying.InCells t (scheme.Cards cells)) papers row made h = h
+few_evened true other papers row made h = h
 
 pub few_made : (same_scale : Bool) (l even : Laying) (leaves : ℕ) (papers : List Paper) (row : Row) (made : List MadeSheet) → even ≡ evened_if same_scale l papers row → made ≡ sheets_laid even leaves papers row
     → limit_in even (length row) ≡ None → AreFewAsLaid l made

@@ -1,19 +1,22 @@
 -- Worked examples: the marks and the lines of layings, how many leaves a signature has, and how many pages a document.
 use Rattle.std.proofs.Common.{◌≡◌, [], ◌∷◌, false, true, map, refl}
-use Rattle.std.specs.Prelude.{codes, None, Some}
+use Rattle.std.specs.Prelude.{codes, List, None, Some}
 use Rattle.std.specs.Fmt.{digits}
-use Rattle.rules.specs.Papers.{points}
-use Rattle.made_sheets.specs.Rows.{all_pages}
+use Rattle.rules.specs.Papers.{Paper, points}
+use Rattle.made_sheets.specs.Rows.{Row, all_pages}
 use Rattle.made_sheets.specs.Choice.{InOne, OfSides}
 use Rattle.layouts.specs.Grids.{plain_order}
 use Rattle.layouts.specs.declared.setting.Setting.{Setting}
+use Rattle.row_sheets.specs.SameScale.{at_one_scale}
+use Rattle.row_sheets.specs.Shapes.{filling}
 use Rattle.dressing.specs.Drawn.{stroke_line}
 use Rattle.dressing.specs.declared.strokes.Marks.{Marks}
 use Rattle.preview.specs.declared.guides.Guide.{Guide}
 use Rattle.preview.specs.declared.guides.GuideKind.{GuideKind}
 use Rattle.preview.specs.declared.guides.GuideKind.TheVariants.{Margin, Fold, Cut}
 use Rattle.row_runs.specs.declared.asked.Laying.TheVariants as laying
-use Rattle.row_runs.specs.Evened.{setting_in}
+use Rattle.row_runs.specs.declared.asked.Scheme.TheVariants as scheme
+use Rattle.row_runs.specs.Evened.{evened_if}
 use Rattle.row_runs.specs.Guides.{guides_in}
 use Rattle.row_runs.specs.Marked.{strokes_in}
 use Rattle.row_runs.specs.Sheets.{leaves_in}
@@ -41,7 +44,7 @@ abbrev fold_and_cut : Marks
 fold_and_cut = record { fold = true; cut = true; ruled = false; numbers = None }
 
 -- a booklet's leaf is folded in the middle, and cut 2 points outside of its halves; it isn't cut at the fold
-booklet_marks : map stroke_line (strokes_in fold_and_cut (laying.Booklet halves false 0))
+booklet_marks : map stroke_line (strokes_in fold_and_cut (laying.InCells halves (scheme.Booklet false 0)))
     ≡ codes "newpath 50 0 moveto 50 10 lineto stroke"
     ∷ codes "newpath 50 200 moveto 50 190 lineto stroke"
     ∷ codes "newpath 8 0 moveto 8 10 lineto stroke"
@@ -60,15 +63,16 @@ booklet_marks = refl
 abbrev kind_of : Guide → GuideKind
 kind_of line = line.kind
 
-booklet_is_folded : map kind_of (guides_in (laying.Booklet halves false 0)) ≡ Margin ∷ Margin ∷ Margin ∷ Margin ∷ Fold ∷ []
+booklet_is_folded : map kind_of (guides_in (laying.InCells halves (scheme.Booklet false 0))) ≡ Margin ∷ Margin ∷ Margin ∷ Margin ∷ Fold ∷ []
 booklet_is_folded = refl
 
-leaves_are_cut : map kind_of (guides_in (laying.Leaves halves)) ≡ Margin ∷ Margin ∷ Margin ∷ Margin ∷ Cut ∷ []
+leaves_are_cut : map kind_of (guides_in (laying.InCells halves scheme.Leaves)) ≡ Margin ∷ Margin ∷ Margin ∷ Margin ∷ Cut ∷ []
 leaves_are_cut = refl
 
 -- cards have one scale, if that is asked for
-cards_have_one : setting_in (laying.Cards halves 2) ≡ Some halves
-cards_have_one = refl
+cards_have_one : (papers : List Paper) (row : Row) → evened_if true (laying.InCells halves (scheme.Cards 2)) papers row
+    ≡ laying.InCells (at_one_scale (filling halves papers) row) (scheme.Cards 2)
+cards_have_one papers row = refl
 
 -- signatures of eight sides have two leaves each; one of twenty pages has five
 eight_sides : leaves_in (Some (OfSides 8)) (all_pages 20) ≡ 2

@@ -29,6 +29,7 @@ use Rattle.dressing.proofs.OnFold.{mark_is}
 use Rattle.row_runs.specs.declared.asked.Asked.{Asked}
 use Rattle.row_runs.specs.declared.asked.Laying.{Laying}
 use Rattle.row_runs.specs.declared.asked.Laying.TheVariants as laying
+use Rattle.row_runs.specs.declared.asked.Scheme.TheVariants as scheme
 use Rattle.row_runs.specs.Evened.{evened_if, why_not_even_if}
 use Rattle.row_runs.specs.InPlaces.{AskedStandInPlaces, IsMarkedAtFold, IsShownOn, StandInPlaces}
 use Rattle.row_runs.specs.Sheets.{AreAsked, FitAsLaid, MayBeLaid, laying_for, leaves_in, row_chosen, sewn, sheets_laid}
@@ -61,15 +62,11 @@ asked_so pages papers a row printed leaves l made chosen is_printed many evened 
 -- one scale for all pages leaves the cells as they are
 evened_may_be : (same_scale : Bool) (l : Laying) (papers : List Paper) (row : Row) → MayBeLaid l → MayBeLaid (evened_if same_scale l papers row)
 evened_may_be false l papers row h = h
-evened_may_be true (laying.AsTheyAre blank) papers row h = h
-evened_may_be true (laying.Grid setting cells) papers row h = h
-evened_may_be true (laying.Cards setting cells) papers row h = h
-evened_may_be true (laying.Stack setting cells) papers row h = h
-evened_may_be true (laying.Leaves setting) papers row h = h
-evened_may_be true (laying.Booklet setting turned_backs creep) papers row h = record { grid_is = h.grid_is; order_is = h.order_is; even = h.even }
-evened_may_be true (laying.Zine setting) papers row h =
+evened_may_be true (laying.InCells t (scheme.Booklet turned_backs creep)) papers row h =
+    record { grid_is = h.grid_is; order_is = h.order_is; even = h.even }
+evened_may_be true (laying.InCells t scheme.Zine) papers row h =
     record { grid_is = h.grid_is; order_is = h.order_is; untrimmed = h.untrimmed; some_across = h.some_across; some_up = h.some_up; even = h.even }
-evened_may_be true (laying.Poster poster) papers row h = h
+evened_may_be true other papers row h = h
 
 shown_on : (p : Poster) (papers : List Paper) (row : Row) → AllMayBePosters p papers row → (i page : ℕ) → entry_of row i ≡ Some page
     → IsShownOn p papers i page (sheets_laid (laying.Poster p) 0 papers row)
@@ -100,23 +97,23 @@ at_fold f turned_backs creep leaves row halved fits =
 
 in_places : (l : Laying) (leaves : ℕ) (papers : List Paper) (row : Row) → MayBeLaid l → FitAsLaid l leaves papers row → StandInPlaces l papers row (sheets_laid l leaves papers row)
 in_places (laying.AsTheyAre blank) leaves papers row may fits = tt
-in_places (laying.Grid t cells) leaves papers row may fits =
+in_places (laying.InCells t (scheme.Grid cells)) leaves papers row may fits =
     filled_stands_in_cells (filling t papers) (blocks cells (length row)) cells (grid_entry cells row) may.1 (λ s c. fits (s * cells + c))
-in_places (laying.Cards t cells) leaves papers row may fits =
+in_places (laying.InCells t (scheme.Cards cells)) leaves papers row may fits =
     filled_stands_in_cells (filling t papers) (length row) cells (card_entry row) may.1 (λ s c. fits s)
-in_places (laying.Stack t cells) leaves papers row may fits =
+in_places (laying.InCells t (scheme.Stack cells)) leaves papers row may fits =
     let sheets = blocks cells (length row) in (
       filled_stands_in_cells (filling t papers) sheets cells (stack_entry sheets row) may.1 (λ s c. fits (c * sheets + s)),
       stack_is_read (filling t papers) cells row,
     )
-in_places (laying.Leaves t) leaves papers row may fits =
+in_places (laying.InCells t scheme.Leaves) leaves papers row may fits =
     let many = blocks (2 * size t.grid) (length row) in (
       filled_stands_in_cells (filling t papers) (2 * many) (size t.grid) (duplex_entry many (behind_in t) row) (omega arith)
           (λ s c. fits ((if s % 2 == 0 then c else behind_in t c) * (2 * many) + s)),
       leaves_are_read (filling t papers) row,
     )
-in_places (laying.Booklet t turned_backs creep) leaves papers row may fits = at_fold (filling t papers) turned_backs creep leaves row may fits
-in_places (laying.Zine t) leaves papers row may fits = zine_is_read (filling t papers) row
+in_places (laying.InCells t (scheme.Booklet turned_backs creep)) leaves papers row may fits = at_fold (filling t papers) turned_backs creep leaves row may fits
+in_places (laying.InCells t scheme.Zine) leaves papers row may fits = zine_is_read (filling t papers) row
 in_places (laying.Poster p) leaves papers row may fits = shown_on p papers row fits
 
 pub asked_stand_in_places : AskedStandInPlaces

@@ -21,6 +21,7 @@ use Rattle.row_runs.specs.Evened.{evened_if}
 use Rattle.row_runs.specs.ReadAsBound.{AskedIsRead}
 use Rattle.row_runs.specs.Sheets.{leaves_in, sewn, sheets_laid}
 use Rattle.row_runs.specs.declared.asked.Laying.TheVariants as laying
+use Rattle.row_runs.specs.declared.asked.Scheme.TheVariants as scheme
 
 -- a signature has whole leaves
 four_each : (n : ℕ) → n * 4 / 4 * 4 ≡ n * 4
@@ -39,7 +40,7 @@ may_be_sewn signing how is may = subst (λ o. IfSome o MayBeSewn) is may
 
 -- its sides have the faces of the row that is laid, also at one scale
 faces_laid : (same_scale : Bool) (t : Setting) (turned_backs : Bool) (creep leaves : ℕ) (papers : List Paper) (laid : Row) (b : Bool)
-    → map (as_bound b) (faces_on b turned_backs (sheets_laid (evened_if same_scale (laying.Booklet t turned_backs creep) papers laid) leaves papers laid)) ≡ faces laid
+    → map (as_bound b) (faces_on b turned_backs (sheets_laid (evened_if same_scale (laying.InCells t (scheme.Booklet turned_backs creep)) papers laid) leaves papers laid)) ≡ faces laid
 faces_laid false t turned_backs creep leaves papers laid b = faces_read (filling t papers) turned_backs creep leaves laid b
 faces_laid true t turned_backs creep leaves papers laid b = faces_read (filling (at_one_scale (filling t papers) laid) papers) turned_backs creep leaves laid b
 

@@ -1,7 +1,6 @@
 -- What a refusal says of what was asked for, of a run, and of its sheets.
 use Rattle.std.proofs.Common.{◌≡◌, ℕ, List, refl, sym, subst}
 use Rattle.std.specs.Prelude.{IsOk}
-use Rattle.made_sheets.specs.Choice.{signed}
 use Rattle.row_runs.specs.declared.error.AskedError.{AskedError}
 use Rattle.row_runs.specs.declared.error.AskedError.TheVariants as error
 use Rattle.row_runs.specs.declared.run.RowJob.{RowJob}
@@ -13,19 +12,11 @@ use Rattle.made_sheets.specs.Made.{MadeSheet}
 use Rattle.pagespec.specs.Items.{turn_of}
 use Rattle.sheet_plan.specs.MadeRefusals.{RefusesMade}
 use Rattle.row_runs.proofs.Turned.{turned_refused}
-use Rattle.row_runs.specs.Sheets.{RefusesAsked, laying_for, leaves_in, sewn, sheets_laid}
-use Rattle.row_runs.proofs.NotLaid.{have_space}
+use Rattle.row_runs.specs.Sheets.{RefusesAsked}
 
 of_asked : (j : RowJob) (e : AskedError) → RefusesAsked (page_count j) j.papers.now j.asked e → RefusesRun j e
-of_asked j (error.Row e) h = h
-of_asked j (error.Arrangement e) h = h
-of_asked j (error.Poster e) h = h
-of_asked j (error.Sheets e) h = (
-  sheets_laid (laying_for j.asked j.papers.now h.0) (leaves_in (sewn j.asked) h.0) j.papers.now (signed (sewn j.asked) h.0),
-  record { row = h.0; is_chosen = h.1; are_laid = refl; fits = have_space (laying_for j.asked j.papers.now h.0) (leaves_in (sewn j.asked) h.0) j.papers.now (signed (sewn j.asked) h.0) h.3; accepted = h.2 },
-  turned_refused (turn_of j.turn) (page_count j) (sheets_laid (laying_for j.asked j.papers.now h.0) (leaves_in (sewn j.asked) h.0) j.papers.now (signed (sewn j.asked) h.0)) e h.4,
-)
-of_asked j error.NoMemory h = h
+of_asked j (error.Sheets e) h = (h.0, h.1, turned_refused (turn_of j.turn) (page_count j) h.0 e h.3)
+of_asked j other h = h
 
 -- a run that makes no sheets
 pub run_refused : (j : RowJob) (n : ℕ) (e : AskedError) → n ≡ page_count j → RefusesAsked n j.papers.now j.asked e → RefusesRun j e

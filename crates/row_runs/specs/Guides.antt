@@ -15,6 +15,7 @@ use Rattle.dressing.specs.declared.strokes.Stroke.{Stroke}
 use Rattle.row_runs.specs.Marked.{ruled_if}
 use Rattle.row_runs.specs.declared.asked.Laying.{Laying}
 use Rattle.row_runs.specs.declared.asked.Laying.TheVariants as laying
+use Rattle.row_runs.specs.declared.asked.Scheme.TheVariants as scheme
 
 -- a line that is so far from the left edge of a paper, and one that lies so far from the lower one
 abbrev pub upright : GuideKind → Paper → (x : ℤ) → Guide
@@ -78,12 +79,10 @@ tile_room p = record {
 -- the lines of a laying: stacks and cards are cut between their cells, booklets and zines are folded
 abbrev pub guides_in : Laying → List Guide
 guides_in (laying.AsTheyAre blank) = []
-guides_in (laying.Grid setting cells) = margin_lines setting.room
-guides_in (laying.Cards setting cells) = lines_in Cut setting
-guides_in (laying.Stack setting cells) = lines_in Cut setting
-guides_in (laying.Leaves setting) = lines_in Cut setting
-guides_in (laying.Booklet setting turned_backs creep) = lines_in Fold setting
-guides_in (laying.Zine setting) = lines_in Fold setting
+guides_in (laying.InCells t (scheme.Grid cells)) = margin_lines t.room
+guides_in (laying.InCells t (scheme.Booklet turned_backs creep)) = lines_in Fold t
+guides_in (laying.InCells t scheme.Zine) = lines_in Fold t
+guides_in (laying.InCells t other) = lines_in Cut t
 guides_in (laying.Poster poster) = margin_lines (tile_room poster)
 
 -- the lines for notes that are asked for
@@ -91,7 +90,7 @@ abbrev pub note_guide : Stroke → Guide
 note_guide s = record { kind = Note; start = s.start; end = s.end }
 
 abbrev pub notes_in : Marks → Laying → List Guide
-notes_in marks (laying.Grid setting cells) = map note_guide (ruled_if marks.ruled setting)
+notes_in marks (laying.InCells t (scheme.Grid cells)) = map note_guide (ruled_if marks.ruled t)
 notes_in marks other = []
 
 -- all lines of a laying with these marks

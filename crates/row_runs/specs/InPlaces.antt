@@ -22,6 +22,7 @@ use Rattle.row_runs.specs.Sheets.{AreAsked, MayBeAsked, laying_for, sewn}
 use Rattle.row_runs.specs.declared.asked.Asked.{Asked}
 use Rattle.row_runs.specs.declared.asked.Laying.{Laying}
 use Rattle.row_runs.specs.declared.asked.Laying.TheVariants as laying
+use Rattle.row_runs.specs.declared.asked.Scheme.TheVariants as scheme
 
 -- these sheets show all of the page of entry i: the poster has tiles, which are longer than they overlap, and each point of
 -- the page is shown on one of the entry's sheets
@@ -37,19 +38,19 @@ at_folds = record { fold = true; cut = false; ruled = false; numbers = None }
 abbrev pub IsMarkedAtFold : Setting → (turned_backs : Bool) → (creep : ℕ) → List MadeSheet → Type 0
 IsMarkedAtFold t turned_backs creep made = (stand : LeavesStand t turned_backs creep made)
     × (0 < wide t.room t.grid
-    → AllByRecursion (IsAlong t.room stand.twice) (strokes_in at_folds (laying.Booklet t turned_backs creep)))
+    → AllByRecursion (IsAlong t.room stand.twice) (strokes_in at_folds (laying.InCells t (scheme.Booklet turned_backs creep))))
 
 -- in cells that are filled in turn each page is fitted into its own, and they read in order; a stack's, cut and laid, are
 -- the row, and so are a zine's, folded and cut; booklets are marked at their fold; of a poster's pages each point is shown. How pages lie as they are
 -- `StandAsLaid` says alone
 abbrev pub StandInPlaces : Laying → List Paper → Row → List MadeSheet → Type 0
 StandInPlaces (laying.AsTheyAre blank) papers row made = ⊤
-StandInPlaces (laying.Grid setting cells) papers row made = All (StandsInCells setting) made
-StandInPlaces (laying.Cards setting cells) papers row made = All (StandsInCells setting) made
-StandInPlaces (laying.Stack setting cells) papers row made = All (StandsInCells setting) made × ArePiled cells row made
-StandInPlaces (laying.Leaves setting) papers row made = All (StandsInCells setting) made × ArePiledLeaves setting row made
-StandInPlaces (laying.Booklet setting turned_backs creep) papers row made = IsMarkedAtFold setting turned_backs creep made
-StandInPlaces (laying.Zine setting) papers row made = AreReadFolded row made
+StandInPlaces (laying.InCells t (scheme.Grid cells)) papers row made = All (StandsInCells t) made
+StandInPlaces (laying.InCells t (scheme.Cards cells)) papers row made = All (StandsInCells t) made
+StandInPlaces (laying.InCells t (scheme.Stack cells)) papers row made = All (StandsInCells t) made × ArePiled cells row made
+StandInPlaces (laying.InCells t scheme.Leaves) papers row made = All (StandsInCells t) made × ArePiledLeaves t row made
+StandInPlaces (laying.InCells t (scheme.Booklet turned_backs creep)) papers row made = IsMarkedAtFold t turned_backs creep made
+StandInPlaces (laying.InCells t scheme.Zine) papers row made = AreReadFolded row made
 StandInPlaces (laying.Poster p) papers row made = (i page : ℕ) → entry_of row i ≡ Some page → IsShownOn p papers i page made
 
 -- it is so on the sheets that are asked for: a law

@@ -8,6 +8,7 @@ use Rattle.sheet_plan.specs.declared.error.MadeError.{MadeError}
 use Rattle.sheet_plan.specs.declared.error.MadeError.TheVariants as plan
 use Rattle.row_runs.specs.declared.asked.Laying.{Laying}
 use Rattle.row_runs.specs.declared.asked.Laying.TheVariants as laying
+use Rattle.row_runs.specs.declared.asked.Scheme.TheVariants as scheme
 
 -- the first limit that so many sheets pass, with so many places on each
 abbrev pub limit_passed : (sheets places : ℕ) → Option MadeError
@@ -19,7 +20,7 @@ limit_passed sheets places =
 -- the one that the sheets of so many entries pass. Only cards and posters have more places than entries, but for the last
 -- sheet (RULES, 16, step 13)
 abbrev pub limit_in : Laying → (entries : ℕ) → Option MadeError
-limit_in (laying.Cards setting cells) n = limit_passed n cells
+limit_in (laying.InCells setting (scheme.Cards cells)) n = limit_passed n cells
 limit_in (laying.Poster poster) n = limit_passed (n * (poster.rows * poster.columns)) 1
 limit_in other n = None
 
@@ -30,6 +31,6 @@ pub record AreFew (made : List MadeSheet) : Type 0 where
 
 -- those of cards and posters do
 abbrev pub AreFewAsLaid : Laying → List MadeSheet → Type 0
-AreFewAsLaid (laying.Cards setting cells) made = AreFew made
+AreFewAsLaid (laying.InCells setting (scheme.Cards cells)) made = AreFew made
 AreFewAsLaid (laying.Poster poster) made = AreFew made
 AreFewAsLaid other made = ⊤

@@ -7,6 +7,7 @@ use Rattle.dressing.specs.declared.strokes.Marks.{Marks}
 use Rattle.dressing.specs.declared.strokes.Stroke.{Stroke}
 use Rattle.row_runs.specs.declared.asked.Laying.{Laying}
 use Rattle.row_runs.specs.declared.asked.Laying.TheVariants as laying
+use Rattle.row_runs.specs.declared.asked.Scheme.TheVariants as scheme
 
 -- a sheet is cut between its cells, if that is asked for
 abbrev pub cut_if : (asked : Bool) → Setting → List Stroke
@@ -28,11 +29,8 @@ ruled_if asked setting = if asked then note_lines setting.room setting.grid else
 -- cut round them; other sheets are cut between their cells; pages as they are, zines and posters have no marks. Lines for notes
 -- are on sheets whose cells are filled in turn (RULES, 15)
 abbrev pub strokes_in : Marks → Laying → List Stroke
-strokes_in marks (laying.AsTheyAre blank) = []
-strokes_in marks (laying.Poster poster) = []
-strokes_in marks (laying.Zine setting) = []
-strokes_in marks (laying.Grid setting cells) = cut_if marks.cut setting ++ ruled_if marks.ruled setting
-strokes_in marks (laying.Cards setting cells) = cut_if marks.cut setting
-strokes_in marks (laying.Stack setting cells) = cut_if marks.cut setting
-strokes_in marks (laying.Leaves setting) = cut_if marks.cut setting
-strokes_in marks (laying.Booklet setting turned_backs creep) = fold_if marks.fold setting ++ outer_cut_if marks.cut setting
+strokes_in marks (laying.InCells t (scheme.Grid cells)) = cut_if marks.cut t ++ ruled_if marks.ruled t
+strokes_in marks (laying.InCells t (scheme.Booklet turned_backs creep)) = fold_if marks.fold t ++ outer_cut_if marks.cut t
+strokes_in marks (laying.InCells t scheme.Zine) = []
+strokes_in marks (laying.InCells t other) = cut_if marks.cut t
+strokes_in marks other = []

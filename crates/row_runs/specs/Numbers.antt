@@ -8,7 +8,6 @@ use Rattle.layouts.specs.Cells.{high}
 use Rattle.row_sheets.specs.RowSheets.{paper_of}
 use Rattle.dressing.specs.declared.numbers.Numbering.{Numbering}
 use Rattle.sheet_text.specs.declared.numbers.Numbers.{Numbers}
-use Rattle.row_runs.specs.Evened.{setting_in}
 use Rattle.row_runs.specs.Sheets.{laying_for, leaves_in, row_chosen, sewn, sheets_laid}
 use Rattle.row_runs.specs.declared.asked.Asked.{Asked}
 use Rattle.row_runs.specs.declared.asked.Laying.{Laying}
@@ -26,12 +25,7 @@ places_from place (entry ∷ row) = named place entry ∷ places_from (place + 1
 -- the paper of sheets, which pages have whose own isn't known, and which blanks are given here
 abbrev pub sheet_paper : Laying → Paper
 sheet_paper (laying.AsTheyAre blank) = blank
-sheet_paper (laying.Grid setting cells) = setting.room.paper
-sheet_paper (laying.Cards setting cells) = setting.room.paper
-sheet_paper (laying.Stack setting cells) = setting.room.paper
-sheet_paper (laying.Leaves setting) = setting.room.paper
-sheet_paper (laying.Zine setting) = setting.room.paper
-sheet_paper (laying.Booklet setting turned_backs creep) = setting.room.paper
+sheet_paper (laying.InCells t how) = t.room.paper
 sheet_paper (laying.Poster poster) = poster.sheet
 
 abbrev pub paper_in : List Paper → (other : Paper) → Option ℕ → Paper
@@ -50,7 +44,8 @@ places_by papers a (Err fault) = []
 -- how far the foot of a cell is below the middle of its page, in grains: half of the cell's height. Pages that are as they are,
 -- and posters, are their own cells
 abbrev pub below_middle : Laying → Option ℤ
-below_middle l = option_map (λ t. pos (635_000 * high t.room t.grid)) (setting_in l)
+below_middle (laying.InCells t how) = Some (pos (635_000 * high t.room t.grid))
+below_middle other = None
 
 -- the numbers that are asked for of a document with so many pages, if any are (RULES, 15)
 abbrev pub numbers_asked : (pages : ℕ) → List Paper → Asked → Option Numbering → Option Numbers

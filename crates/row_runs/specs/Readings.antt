@@ -15,6 +15,7 @@ use Rattle.preview.specs.declared.reading.Places.TheVariants.{Cells, Tiles}
 use Rattle.preview.specs.declared.reading.Reading.{Reading}
 use Rattle.row_runs.specs.declared.asked.Laying.{Laying}
 use Rattle.row_runs.specs.declared.asked.Laying.TheVariants as laying
+use Rattle.row_runs.specs.declared.asked.Scheme.TheVariants as scheme
 
 -- ---- edges
 
@@ -38,14 +39,9 @@ edge_at_side t = if nat_lt (height_read t) (width_read t) then Short else Long
 
 -- leaves are printed on both sides, also those of a booklet, which folds parallel to the shorter edge
 abbrev pub sides_in : Laying → Sides
-sides_in (laying.AsTheyAre blank) = sides.One
-sides_in (laying.Grid setting cells) = sides.One
-sides_in (laying.Cards setting cells) = sides.One
-sides_in (laying.Stack setting cells) = sides.One
-sides_in (laying.Leaves setting) = sides.Both (edge_at_side setting)
-sides_in (laying.Booklet setting turned_backs creep) = sides.Both (if turned_backs then Long else Short)
-sides_in (laying.Zine setting) = sides.One
-sides_in (laying.Poster poster) = sides.One
+sides_in (laying.InCells t scheme.Leaves) = sides.Both (edge_at_side t)
+sides_in (laying.InCells t (scheme.Booklet turned_backs creep)) = sides.Both (if turned_backs then Long else Short)
+sides_in other = sides.One
 
 -- ---- places
 
@@ -59,12 +55,7 @@ tiles_in p = record { rows = max 1 p.rows; columns = max 1 p.columns; turned = f
 
 abbrev pub places_in : Laying → Places
 places_in (laying.AsTheyAre blank) = Cells single plain_order
-places_in (laying.Grid setting cells) = Cells setting.grid setting.order
-places_in (laying.Cards setting cells) = Cells setting.grid setting.order
-places_in (laying.Stack setting cells) = Cells setting.grid setting.order
-places_in (laying.Leaves setting) = Cells setting.grid setting.order
-places_in (laying.Booklet setting turned_backs creep) = Cells setting.grid setting.order
-places_in (laying.Zine setting) = Cells setting.grid setting.order
+places_in (laying.InCells t how) = Cells t.grid t.order
 places_in (laying.Poster poster) = Tiles (tiles_in poster)
 
 abbrev pub reading_in : Laying → Reading

@@ -13,7 +13,7 @@ use Rattle.rows.specs.Choices.{choice_of}
 use Rattle.rows.specs.Sewing.{MayBeSewn, signing_of}
 use Rattle.rows.specs.Refusals.{RefusesRow}
 use Rattle.row_sheets.specs.RowSheets.{selected}
-use Rattle.row_sheets.specs.Filled.{card_sheets, duplex_sheets, grid_sheets, stack_sheets, zine_sheets}
+use Rattle.row_sheets.specs.Filled.{Filling, card_sheets, duplex_sheets, grid_sheets, stack_sheets, zine_sheets}
 use Rattle.row_sheets.specs.Creep.{AreHalves, creeping_sheets, first_over_fold}
 use Rattle.row_sheets.specs.Shapes.{filling, first_refused}
 use Rattle.row_sheets.specs.Posters.{AllMayBePosters, first_no_poster, most_tiles, row_tiles}
@@ -22,9 +22,12 @@ use Rattle.row_sheets.specs.Zine.{AreZineCells}
 use Rattle.sheet_plan.specs.MadeRefusals.{RefusesMade}
 use Rattle.sheet_plan.specs.declared.error.MadeError.{MadeError}
 use Rattle.row_runs.specs.Evened.{evened_if, why_not_even_if}
+use Rattle.row_runs.specs.Limits.{limit_in}
 use Rattle.row_runs.specs.declared.asked.Asked.{Asked}
 use Rattle.row_runs.specs.declared.asked.Laying.{Laying}
 use Rattle.row_runs.specs.declared.asked.Laying.TheVariants as laying
+use Rattle.row_runs.specs.declared.asked.Scheme.{Scheme}
+use Rattle.row_runs.specs.declared.asked.Scheme.TheVariants as scheme
 use Rattle.row_runs.specs.declared.error.AskedError.{AskedError}
 use Rattle.row_runs.specs.declared.error.AskedError.TheVariants as error
 
@@ -32,18 +35,13 @@ use Rattle.row_runs.specs.declared.error.AskedError.TheVariants as error
 -- have, and no wider margins
 abbrev pub MayBeLaid : Laying → Type 0
 MayBeLaid (laying.AsTheyAre blank) = ⊤
-MayBeLaid (laying.Grid setting cells) = (0 < cells) × (cells ≤ size setting.grid)
-MayBeLaid (laying.Cards setting cells) = (0 < cells) × (cells ≤ size setting.grid)
-MayBeLaid (laying.Stack setting cells) = (0 < cells) × (cells ≤ size setting.grid)
-MayBeLaid (laying.Leaves setting) = ⊤
-MayBeLaid (laying.Booklet setting turned_backs creep) = AreHalves setting
-MayBeLaid (laying.Zine setting) = AreZineCells setting
+MayBeLaid (laying.InCells t (scheme.Grid cells)) = (0 < cells) × (cells ≤ size t.grid)
+MayBeLaid (laying.InCells t (scheme.Cards cells)) = (0 < cells) × (cells ≤ size t.grid)
+MayBeLaid (laying.InCells t (scheme.Stack cells)) = (0 < cells) × (cells ≤ size t.grid)
+MayBeLaid (laying.InCells t scheme.Leaves) = ⊤
+MayBeLaid (laying.InCells t (scheme.Booklet turned_backs creep)) = AreHalves t
+MayBeLaid (laying.InCells t scheme.Zine) = AreZineCells t
 MayBeLaid (laying.Poster poster) = (poster.rows * poster.columns ≤ most_tiles) × (poster.edge ≤ 10_000_000_000)
-
--- each page is whole on a sheet
-abbrev pub IsWhole : Laying → Type 0
-IsWhole (laying.Poster poster) = ⊥
-IsWhole other = ⊤
 
 -- and a signature may have so many sides
 pub record MayBeAsked (a : Asked) : Type 0 where
@@ -57,51 +55,42 @@ abbrev pub leaves_in : Option Signing → Row → ℕ
 leaves_in None row = 0
 leaves_in (Some how) row = sides_for how (length row) / 4
 
--- a row of pages with these papers, laid on sheets; if it is in signatures, each has so many leaves (RULES, 14)
+-- a row in the cells of sheets; if it is in signatures, each has so many leaves (RULES, 14)
+abbrev pub sheets_in : Scheme → Filling → (leaves : ℕ) → Row → List MadeSheet
+sheets_in (scheme.Grid cells) f leaves row = grid_sheets f cells row
+sheets_in (scheme.Cards cells) f leaves row = card_sheets f cells row
+sheets_in (scheme.Stack cells) f leaves row = stack_sheets f cells row
+sheets_in scheme.Leaves f leaves row = duplex_sheets f row
+sheets_in (scheme.Booklet turned_backs creep) f leaves row = creeping_sheets f turned_backs creep leaves row
+sheets_in scheme.Zine f leaves row = zine_sheets f row
+
+-- a row of pages with these papers, laid on sheets
 abbrev pub sheets_laid : Laying → (leaves : ℕ) → List Paper → Row → List MadeSheet
 sheets_laid (laying.AsTheyAre blank) leaves papers row = selected papers blank row
-sheets_laid (laying.Grid setting cells) leaves papers row = grid_sheets (filling setting papers) cells row
-sheets_laid (laying.Cards setting cells) leaves papers row = card_sheets (filling setting papers) cells row
-sheets_laid (laying.Stack setting cells) leaves papers row = stack_sheets (filling setting papers) cells row
-sheets_laid (laying.Leaves setting) leaves papers row = duplex_sheets (filling setting papers) row
-sheets_laid (laying.Booklet setting turned_backs creep) leaves papers row =
-    creeping_sheets (filling setting papers) turned_backs creep leaves row
-sheets_laid (laying.Zine setting) leaves papers row = zine_sheets (filling setting papers) row
+sheets_laid (laying.InCells t how) leaves papers row = sheets_in how (filling t papers) leaves row
 sheets_laid (laying.Poster poster) leaves papers row = row_tiles poster papers row
 
--- why it can't be laid so: the first page of the row that doesn't fit its cell, or can't be a poster
+-- why it can't be in the cells: the first page of the row that doesn't fit its own
+abbrev pub why_not_in : Scheme → Filling → (leaves : ℕ) → Row → Option ArrangementError
+why_not_in (scheme.Booklet turned_backs creep) f leaves row = first_over_fold f creep leaves row
+why_not_in other f leaves row = first_refused f row
+
+-- they aren't filled for that reason, or out of memory
+abbrev pub IsNotIn : Scheme → Filling → (leaves : ℕ) → Row → ArrangementError → Type 0
+IsNotIn how f leaves row e = (e ≡ why.NoMemory) ⊎ (why_not_in how f leaves row ≡ Some e)
+
+-- why it can't be laid so: a page that doesn't fit its cell, or the first one that can't be a poster
 abbrev pub why_not_laid : Laying → (leaves : ℕ) → List Paper → Row → Option AskedError
 why_not_laid (laying.AsTheyAre blank) leaves papers row = None
-why_not_laid (laying.Grid setting cells) leaves papers row = option_map error.Arrangement (first_refused (filling setting papers) row)
-why_not_laid (laying.Cards setting cells) leaves papers row = option_map error.Arrangement (first_refused (filling setting papers) row)
-why_not_laid (laying.Stack setting cells) leaves papers row = option_map error.Arrangement (first_refused (filling setting papers) row)
-why_not_laid (laying.Leaves setting) leaves papers row = option_map error.Arrangement (first_refused (filling setting papers) row)
-why_not_laid (laying.Booklet setting turned_backs creep) leaves papers row =
-    option_map error.Arrangement (first_over_fold (filling setting papers) creep leaves row)
-why_not_laid (laying.Zine setting) leaves papers row = option_map error.Arrangement (first_refused (filling setting papers) row)
+why_not_laid (laying.InCells t how) leaves papers row = option_map error.Arrangement (why_not_in how (filling t papers) leaves row)
 why_not_laid (laying.Poster poster) leaves papers row = option_map error.Poster (first_no_poster poster papers row)
-
--- the cells aren't filled for that reason, or out of memory
-abbrev pub WhyNotLaid : Laying → (leaves : ℕ) → List Paper → Row → ArrangementError → Type 0
-WhyNotLaid l leaves papers row e = (e ≡ why.NoMemory) ⊎ (why_not_laid l leaves papers row ≡ Some (error.Arrangement e))
 
 -- each page of the row has its place, laid so: for none of them there is such a reason
 abbrev pub FitAsLaid : Laying → (leaves : ℕ) → List Paper → Row → Type 0
 FitAsLaid (laying.AsTheyAre blank) leaves papers row = ⊤
-FitAsLaid (laying.Grid setting cells) leaves papers row = AllFit (filling setting papers) row
-FitAsLaid (laying.Cards setting cells) leaves papers row = AllFit (filling setting papers) row
-FitAsLaid (laying.Stack setting cells) leaves papers row = AllFit (filling setting papers) row
-FitAsLaid (laying.Leaves setting) leaves papers row = AllFit (filling setting papers) row
-FitAsLaid (laying.Booklet setting turned_backs creep) leaves papers row =
-    AllFitOnLeaves (filling setting papers) creep leaves row
-FitAsLaid (laying.Zine setting) leaves papers row = AllFit (filling setting papers) row
+FitAsLaid (laying.InCells t (scheme.Booklet turned_backs creep)) leaves papers row = AllFitOnLeaves (filling t papers) creep leaves row
+FitAsLaid (laying.InCells t other) leaves papers row = AllFit (filling t papers) row
 FitAsLaid (laying.Poster poster) leaves papers row = AllMayBePosters poster papers row
-
--- each page of cards has its place, and each of a poster can be one
-abbrev pub HaveSpace : Laying → List Paper → Row → Type 0
-HaveSpace (laying.Cards setting cells) papers row = AllFit (filling setting papers) row
-HaveSpace (laying.Poster poster) papers row = AllMayBePosters poster papers row
-HaveSpace other papers row = ⊥
 
 -- the sheets that it comes to pass a limit: of so few pages they are no plan, and this is their first fault
 abbrev pub WhyNoPlan : Laying → (leaves : ℕ) → List Paper → Row → MadeError → Type 0
@@ -113,7 +102,8 @@ RefusesLaying l leaves papers row (error.Arrangement e) = why_not_laid l leaves 
 RefusesLaying l leaves papers row (error.Poster e) = why_not_laid l leaves papers row ≡ Some (error.Poster e)
 RefusesLaying l leaves papers row error.NoMemory = ⊤
 RefusesLaying l leaves papers row (error.Row e) = ⊥
-RefusesLaying l leaves papers row (error.Sheets e) = HaveSpace l papers row × WhyNoPlan l leaves papers row e
+RefusesLaying l leaves papers row (error.Sheets e) =
+    FitAsLaid l leaves papers row × (limit_in l (length row) ≡ Some e) × WhyNoPlan l leaves papers row e
 
 -- ---- what is asked for
 
@@ -145,16 +135,14 @@ pub record AreAsked (pages : ℕ) (papers : List Paper) (a : Asked) (made : List
   pub fits : FitAsLaid (laying_for a papers row) (leaves_in (sewn a) row) papers (signed (sewn a) row)
   pub accepted : why_not_asked papers a row ≡ None
 
--- a refusal names the fault of the row; or, if there is one, why a page of it is refused; or, if none is, the limit that its
--- sheets pass (RULES, 16, steps 11 to 13)
+-- a refusal names the fault of the row; or, if there is one, why a page of it is refused; or, if none is, the limit that the
+-- sheets pass that are asked for (RULES, 16, steps 11 to 13)
 abbrev pub RefusesAsked : (pages : ℕ) → List Paper → Asked → AskedError → Type 0
 RefusesAsked pages papers a (error.Row e) = RefusesRow (row_chosen pages a) e
 RefusesAsked pages papers a (error.Arrangement e) =
     (row : Row) × (row_chosen pages a ≡ Ok row) × (why_not_asked papers a row ≡ Some (error.Arrangement e))
 RefusesAsked pages papers a (error.Poster e) =
     (row : Row) × (row_chosen pages a ≡ Ok row) × (why_not_asked papers a row ≡ Some (error.Poster e))
-RefusesAsked pages papers a (error.Sheets e) = (row : Row) × (row_chosen pages a ≡ Ok row)
-    × (why_not_asked papers a row ≡ None)
-    × HaveSpace (laying_for a papers row) papers (signed (sewn a) row)
-    × RefusesMade pages (sheets_laid (laying_for a papers row) (leaves_in (sewn a) row) papers (signed (sewn a) row)) e
+RefusesAsked pages papers a (error.Sheets e) = (made : List MadeSheet) × (asked : AreAsked pages papers a made)
+    × (limit_in (laying_for a papers asked.row) (length (signed (sewn a) asked.row)) ≡ Some e) × RefusesMade pages made e
 RefusesAsked pages papers a error.NoMemory = IsOk (row_chosen pages a)

@@ -8,6 +8,7 @@ use Rattle.row_sheets.specs.Standing.{AllStand, LeavesStand, StandsIn}
 use Rattle.row_sheets.specs.Zine.{closer}
 use Rattle.row_runs.specs.declared.asked.Laying.{Laying}
 use Rattle.row_runs.specs.declared.asked.Laying.TheVariants as laying
+use Rattle.row_runs.specs.declared.asked.Scheme.TheVariants as scheme
 
 -- a page as it is, on a sheet of this paper
 abbrev pub SlotIsAsItIs : (sheet : Paper) → MadeSlot → Type 0
@@ -27,10 +28,7 @@ pub record StandsAlone (sheet : MadeSheet) : Type 0 where
 -- said by laws of their own
 abbrev pub StandAsLaid : Laying → List MadeSheet → Type 0
 StandAsLaid (laying.AsTheyAre blank) made = All StandsAlone made
-StandAsLaid (laying.Grid setting cells) made = AllStand setting.room made
-StandAsLaid (laying.Cards setting cells) made = AllStand setting.room made
-StandAsLaid (laying.Stack setting cells) made = AllStand setting.room made
-StandAsLaid (laying.Leaves setting) made = AllStand setting.room made
-StandAsLaid (laying.Booklet setting turned_backs creep) made = LeavesStand setting turned_backs creep made
-StandAsLaid (laying.Zine setting) made = AllStand (closer setting.room) made
+StandAsLaid (laying.InCells t (scheme.Booklet turned_backs creep)) made = LeavesStand t turned_backs creep made
+StandAsLaid (laying.InCells t scheme.Zine) made = AllStand (closer t.room) made
+StandAsLaid (laying.InCells t other) made = AllStand t.room made
 StandAsLaid (laying.Poster poster) made = ⊤

@@ -1,16 +1,13 @@
 //! The sheets that are asked for.
-ghost use Rattle.std.specs.Prelude.{◌≡◌, ◌<◌, ◌≤◌, All, IfErr, IfOk, IfSome, OnOk, Ok, None, Some, length, option_map, ℕ};
+ghost use Rattle.std.specs.Prelude.{◌≡◌, ◌<◌, ◌≤◌, IfErr, IfOk, IfSome, OnOk, Ok, None, Some, length, option_map, ℕ};
 ghost use Rattle.made_sheets.specs.Choice.{most_entries};
-ghost use Rattle.rows.specs.Choices.{choice_of};
 ghost use Rattle.rows.specs.Sewing.{MayBeSewn, signing_of};
-ghost use Rattle.rows.specs.Refusals.{RefusesRow};
-ghost use Rattle.row_sheets.specs.RowSheets.{selected as selected_of};
-ghost use Rattle.layouts.specs.declared.error.ArrangementError.TheVariants as ArrangementError;
+ghost use Rattle.row_sheets.specs.Shapes.{filling};
 ghost use Rattle.row_runs.specs.Errors.{of_arrangement, of_poster, of_row};
 ghost use Rattle.row_runs.specs.Limits.{AreFewAsLaid, limit_in as limit_of_laying};
-ghost use Rattle.row_runs.specs.Sheets.{AreAsked, FitAsLaid, IsWhole, MayBeAsked, MayBeLaid, RefusesAsked, RefusesLaying, WhyNotLaid};
-ghost use Rattle.row_runs.specs.Sheets.{leaves_in as leaves_of_signature, sheets_laid};
-ghost use Rattle.row_runs.specs.Standing.{StandAsLaid, StandsAlone};
+ghost use Rattle.row_runs.specs.Sheets.{AreAsked, FitAsLaid, IsNotIn, MayBeAsked, MayBeLaid, RefusesAsked, RefusesLaying};
+ghost use Rattle.row_runs.specs.Sheets.{leaves_in as leaves_of_signature, sheets_in, sheets_laid};
+ghost use Rattle.row_runs.specs.Standing.{StandAsLaid};
 
 use crate::error::AskedError;
 use crate::evened::evened_if;
@@ -29,45 +26,31 @@ use std::alloc::Global;
 #[derive(Clone, Copy)]
 pub enum Laying {
     /// Each page as it is, on a sheet of its own paper, and each blank on a sheet of this one.
-    AsTheyAre {
-        blank: Paper,
-    },
-    /// In so many cells of a sheet, from cell to cell and from sheet to sheet.
-    Grid {
-        setting: Setting,
-        cells: u32,
-    },
-    /// Each page in so many cells of a sheet.
-    Cards {
-        setting: Setting,
-        cells: u32,
-    },
-    /// In so many cells of a sheet, from sheet to sheet and from cell to cell.
-    Stack {
-        setting: Setting,
-        cells: u32,
-    },
+    AsTheyAre { blank: Paper },
+    /// Each page fitted into cells of sheets.
+    InCells { setting: Setting, scheme: Scheme },
+    /// Each page over several sheets, one page after the other; a blank leaves as many sheets blank.
+    Poster { poster: Poster },
+}
+
+/// In which cells of the sheets the entries of a row are.
+#[derive(Clone, Copy)]
+pub enum Scheme {
+    /// In so many of a sheet, from cell to cell and from sheet to sheet.
+    Grid { cells: u32 },
+    /// Each in so many of a sheet.
+    Cards { cells: u32 },
+    /// In so many of a sheet, from sheet to sheet and from cell to cell.
+    Stack { cells: u32 },
     /// The same on both sides of leaves, in all cells.
-    Leaves {
-        setting: Setting,
-    },
+    Leaves,
     /// Two entries on each side of leaves, for a row in signatures; for printers that flip a sheet about its longer edge
     /// the backs are turned by half. Pages of a signature's innermost leaf are moved towards the fold by the creep, in
     /// 10^-5 of a point, those of its outermost not at all, and the others in between.
-    Booklet {
-        setting: Setting,
-        turned_backs: bool,
-        creep: u64,
-    },
+    Booklet { turned_backs: bool, creep: u64 },
     /// Eight entries on one side of each sheet, which is folded and cut: in two rows of four cells, the first of which is turned
     /// by half.
-    Zine {
-        setting: Setting,
-    },
-    /// Each page over several sheets, one page after the other; a blank leaves as many sheets blank.
-    Poster {
-        poster: Poster,
-    },
+    Zine,
 }
 
 /// What is imposed of a document, and how: which pages, in signatures or not, laid so on sheets.
@@ -178,13 +161,19 @@ pub(crate) fn laid(
         return Err(passing(laying, papers, row, limit));
     }
     match laying {
+        Laying::AsTheyAre { blank } => match select(alloc, row, papers, blank) {
+            Ok(sheets) => Ok(sheets),
+            Err(_) => Err(AskedError::NoMemory),
+        },
+        Laying::InCells { setting, scheme } => {
+            match in_cells(alloc, setting, scheme, leaves, papers, row) {
+                Ok(sheets) => Ok(sheets),
+                Err(error) => Err(arrangement_error(error)),
+            }
+        }
         Laying::Poster { poster } => match poster_row_sheets(alloc, poster, papers, row) {
             Ok(sheets) => Ok(sheets),
             Err(error) => Err(poster_error(error)),
-        },
-        _ => match laid_whole(alloc, laying, leaves, papers, row) {
-            Ok(sheets) => Ok(sheets),
-            Err(error) => Err(arrangement_error(error)),
         },
     }
 }
@@ -196,41 +185,42 @@ fn passing(laying: &Laying, papers: &[Paper], row: &[Option<u32>], limit: MadeEr
     ensures { (leaves : ℕ) → RefusesLaying laying.now leaves papers.now row.now result }
 {
     match laying {
-        Laying::Cards { setting, .. } => match check_cells(setting, papers, row) {
-            Ok(()) => AskedError::Sheets(limit),
-            Err(error) => arrangement_error(error),
+        Laying::InCells { setting, scheme } => match scheme {
+            Scheme::Cards { .. } => match check_cells(setting, papers, row) {
+                Ok(()) => AskedError::Sheets(limit),
+                Err(error) => arrangement_error(error),
+            },
+            _ => unreachable!(),
         },
         Laying::Poster { poster } => match check_posters(poster, papers, row) {
             Ok(()) => AskedError::Sheets(limit),
             Err(error) => poster_error(error),
         },
-        _ => unreachable!(),
+        Laying::AsTheyAre { .. } => unreachable!(),
     }
 }
 
-/// A row of which each page is whole on a sheet.
-fn laid_whole(
+/// The row in the cells of sheets.
+fn in_cells(
     alloc: Global,
-    laying: &Laying,
+    setting: &Setting,
+    scheme: &Scheme,
     leaves: u32,
     papers: &[Paper],
     row: &[Option<u32>],
 ) -> Result<MadeSheets, ArrangementError>
-    requires laid { MayBeLaid laying.now }
-    requires whole { IsWhole laying.now }
-    ensures made { IfOk result (λ made. made ≡ sheets_laid laying.now leaves papers.now row.now) }
-    ensures stands { IfOk result (StandAsLaid laying.now) }
-    ensures fits { OnOk result (FitAsLaid laying.now leaves papers.now row.now) }
-    ensures refused { IfErr result (WhyNotLaid laying.now leaves papers.now row.now) }
+    requires { MayBeLaid (Laying.InCells setting.now scheme.now) }
+    ensures made { IfOk result (λ made. made ≡ sheets_in scheme.now (filling setting.now papers.now) leaves row.now) }
+    ensures stands { IfOk result (StandAsLaid (Laying.InCells setting.now scheme.now)) }
+    ensures fits { OnOk result (FitAsLaid (Laying.InCells setting.now scheme.now) leaves papers.now row.now) }
+    ensures refused { IfErr result (IsNotIn scheme.now (filling setting.now papers.now) leaves row.now) }
 {
-    match laying {
-        Laying::AsTheyAre { blank } => selected(alloc, papers, blank, row),
-        Laying::Grid { setting, cells } => grid_sheets(alloc, setting, papers, *cells, row),
-        Laying::Cards { setting, cells } => card_sheets(alloc, setting, papers, *cells, row),
-        Laying::Stack { setting, cells } => stack_sheets(alloc, setting, papers, *cells, row),
-        Laying::Leaves { setting } => leaf_sheets(alloc, setting, papers, row),
-        Laying::Booklet {
-            setting,
+    match scheme {
+        Scheme::Grid { cells } => grid_sheets(alloc, setting, papers, *cells, row),
+        Scheme::Cards { cells } => card_sheets(alloc, setting, papers, *cells, row),
+        Scheme::Stack { cells } => stack_sheets(alloc, setting, papers, *cells, row),
+        Scheme::Leaves => leaf_sheets(alloc, setting, papers, row),
+        Scheme::Booklet {
             turned_backs,
             creep,
         } => {
@@ -240,24 +230,6 @@ fn laid_whole(
             };
             creeping_booklet_sheets(alloc, setting, papers, *turned_backs, creep, row)
         }
-        Laying::Zine { setting } => zine_sheets(alloc, setting, papers, row),
-        Laying::Poster { .. } => unreachable!(),
-    }
-}
-
-/// Each entry as it is, on a sheet of its own.
-fn selected(
-    alloc: Global,
-    papers: &[Paper],
-    blank: &Paper,
-    row: &[Option<u32>],
-) -> Result<MadeSheets, ArrangementError>
-    ensures made { IfOk result (λ made. made ≡ selected_of papers.now blank.now row.now) }
-    ensures stands { IfOk result (All StandsAlone) }
-    ensures refused { IfErr result (λ error. error ≡ ArrangementError.NoMemory) }
-{
-    match select(alloc, row, papers, blank) {
-        Ok(sheets) => Ok(sheets),
-        Err(_) => Err(ArrangementError::NoMemory),
+        Scheme::Zine => zine_sheets(alloc, setting, papers, row),
     }
 }

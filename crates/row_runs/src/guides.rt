@@ -8,7 +8,7 @@ ghost use Rattle.row_runs.specs.Guides.{upright as upright_of, upright_line as u
 ghost use Rattle.row_runs.specs.Guides.{guides_with, note_guide as note_guide_of, notes_in, tile_room as tile_room_of};
 ghost use Rattle.row_runs.specs.Sheets.{MayBeLaid};
 
-use crate::asked::Laying;
+use crate::asked::{Laying, Scheme};
 use crate::marked::ruled_if;
 use dressing::{Marks, Stroke, gap_at};
 use layouts::{Grid, Room, Setting};
@@ -39,12 +39,12 @@ fn push_guides(laying: &Laying, guides: &mut Vec<Guide>) -> Result<(), AllocErro
 {
     match laying {
         Laying::AsTheyAre { .. } => Ok(()),
-        Laying::Grid { setting, .. } => push_margin(&setting.room, guides),
-        Laying::Cards { setting, .. } => push_lines(GuideKind::Cut, setting, guides),
-        Laying::Stack { setting, .. } => push_lines(GuideKind::Cut, setting, guides),
-        Laying::Leaves { setting } => push_lines(GuideKind::Cut, setting, guides),
-        Laying::Booklet { setting, .. } => push_lines(GuideKind::Fold, setting, guides),
-        Laying::Zine { setting } => push_lines(GuideKind::Fold, setting, guides),
+        Laying::InCells { setting, scheme } => match scheme {
+            Scheme::Grid { .. } => push_margin(&setting.room, guides),
+            Scheme::Booklet { .. } => push_lines(GuideKind::Fold, setting, guides),
+            Scheme::Zine => push_lines(GuideKind::Fold, setting, guides),
+            _ => push_lines(GuideKind::Cut, setting, guides),
+        },
         Laying::Poster { poster } => push_margin(&tile_room(poster), guides),
     }
 }
@@ -59,11 +59,14 @@ fn push_notes(
     ensures { OnOk result (guides.new.items ≡ guides.old.items ++ notes_in marks laying.now) }
 {
     match laying {
-        Laying::Grid { setting, .. } => {
-            let lines = ruled_if(alloc, marks.ruled, setting)?;
-            push_note_guides(lines.as_slice(), guides)?;
-            Ok(())
-        }
+        Laying::InCells { setting, scheme } => match scheme {
+            Scheme::Grid { .. } => {
+                let lines = ruled_if(alloc, marks.ruled, setting)?;
+                push_note_guides(lines.as_slice(), guides)?;
+                Ok(())
+            }
+            _ => Ok(()),
+        },
         _ => Ok(()),
     }
 }

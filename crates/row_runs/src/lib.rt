@@ -17,7 +17,7 @@ mod reading;
 mod run;
 mod turning;
 
-pub use asked::{Asked, Laying, asked_sheets};
+pub use asked::{Asked, Laying, Scheme, asked_sheets};
 pub use by_spec::SpecJob;
 pub use counted_pages::told_pages;
 pub use error::AskedError;

@@ -2,7 +2,7 @@
 ghost use Rattle.std.specs.Prelude.{◌≡◌, ◌<◌, ◌^◌};
 ghost use Rattle.row_runs.specs.Limits.{limit_in as limit_of_laying, limit_passed as first_passed};
 
-use crate::asked::Laying;
+use crate::asked::{Laying, Scheme};
 use sheet_plan::MadeError;
 
 const MOST_SHEETS: u128 = 1_000_000;
@@ -17,12 +17,15 @@ pub(crate) fn limit_in(laying: &Laying, entries: usize) -> Option<MadeError>
     ensures { result ≡ limit_of_laying laying.now entries }
 {
     match laying {
-        Laying::Cards { cells, .. } => limit_passed(entries as u128, u128::from(*cells)),
+        Laying::InCells { scheme, .. } => match scheme {
+            Scheme::Cards { cells } => limit_passed(entries as u128, u128::from(*cells)),
+            _ => None,
+        },
         Laying::Poster { poster } => {
             let tiles = u128::from(poster.rows) * u128::from(poster.columns);
             limit_passed(entries as u128 * tiles, 1)
         }
-        _ => None,
+        Laying::AsTheyAre { .. } => None,
     }
 }
 

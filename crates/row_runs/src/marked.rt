@@ -2,7 +2,7 @@
 ghost use Rattle.std.specs.Prelude.{◌≡◌, ◌++◌, IfOk};
 ghost use Rattle.row_runs.specs.Marked.{cut_if as cut_of, fold_if as fold_of, outer_cut_if as outer_cut_of, ruled_if as ruled_of, strokes_in};
 
-use crate::asked::Laying;
+use crate::asked::{Laying, Scheme};
 use dressing::{Marks, Stroke, cut_marks, fold_marks, note_lines, outer_cut_marks};
 use layouts::Setting;
 use std::alloc::{AllocError, Global};
@@ -18,14 +18,13 @@ pub(crate) fn strokes_of(
     ensures { IfOk result (λ strokes. strokes.items ≡ strokes_in marks laying.now) }
 {
     match laying {
-        Laying::AsTheyAre { .. } | Laying::Zine { .. } | Laying::Poster { .. } => {
-            Ok(Vec::new(alloc))
-        }
-        Laying::Grid { setting, .. } => cut_and_ruled(alloc, marks, setting),
-        Laying::Cards { setting, .. } => cut_if(alloc, marks.cut, setting),
-        Laying::Stack { setting, .. } => cut_if(alloc, marks.cut, setting),
-        Laying::Leaves { setting } => cut_if(alloc, marks.cut, setting),
-        Laying::Booklet { setting, .. } => booklet_strokes(alloc, marks, setting),
+        Laying::InCells { setting, scheme } => match scheme {
+            Scheme::Grid { .. } => cut_and_ruled(alloc, marks, setting),
+            Scheme::Booklet { .. } => booklet_strokes(alloc, marks, setting),
+            Scheme::Zine => Ok(Vec::new(alloc)),
+            _ => cut_if(alloc, marks.cut, setting),
+        },
+        Laying::AsTheyAre { .. } | Laying::Poster { .. } => Ok(Vec::new(alloc)),
     }
 }
 

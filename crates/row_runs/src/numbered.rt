@@ -6,7 +6,7 @@ ghost use Rattle.row_runs.specs.Numbers.{places_from, sheet_paper as sheet_paper
 ghost use Rattle.row_runs.specs.Sheets.{MayBeAsked, row_chosen};
 
 use crate::asked::{Asked, Laying, laid, leaves_in};
-use crate::evened::{evened_if, setting_in};
+use crate::evened::evened_if;
 use crate::guides::grains;
 use dressing::{Numbering, cell_height};
 use lengths::{Grains, Paper};
@@ -119,12 +119,7 @@ fn sheet_paper(laying: &Laying) -> &Paper
 {
     match laying {
         Laying::AsTheyAre { blank } => blank,
-        Laying::Grid { setting, .. } => &setting.room.paper,
-        Laying::Cards { setting, .. } => &setting.room.paper,
-        Laying::Stack { setting, .. } => &setting.room.paper,
-        Laying::Leaves { setting } => &setting.room.paper,
-        Laying::Zine { setting } => &setting.room.paper,
-        Laying::Booklet { setting, .. } => &setting.room.paper,
+        Laying::InCells { setting, .. } => &setting.room.paper,
         Laying::Poster { poster } => &poster.sheet,
     }
 }
@@ -133,6 +128,8 @@ fn sheet_paper(laying: &Laying) -> &Paper
 fn below_middle(laying: &Laying) -> Option<Grains>
     ensures { result ≡ below_of laying.now }
 {
-    let setting = setting_in(laying)?;
+    let Laying::InCells { setting, .. } = laying else {
+        return None;
+    };
     Some(grains((635_000 * cell_height(&setting.room, setting.grid)) as i128))
 }

@@ -4,11 +4,10 @@ ghost use Rattle.rules.specs.Papers.{is_side};
 ghost use Rattle.layouts.specs.Cells.{held_height, held_width};
 ghost use Rattle.layouts.specs.Grids.{plain_order as order_of_one};
 ghost use Rattle.preview.specs.declared.naming.Edge.TheVariants.{Long, Short};
-ghost use Rattle.preview.specs.declared.reading.Places.TheVariants.{Cells};
 ghost use Rattle.row_runs.specs.Readings.{edge_at_side as edge_of, height_read, places_in, reading_in, sides_in, single as single_grid};
 ghost use Rattle.row_runs.specs.Readings.{tiles_in, width_read};
 
-use crate::asked::Laying;
+use crate::asked::{Laying, Scheme};
 use layouts::{Grid, Order, Run, Setting, Turned};
 use lengths::{Grains, Paper};
 use preview::{Edge, Places, Reading, Sides};
@@ -29,11 +28,14 @@ pub(crate) fn sides_of(laying: &Laying) -> Sides
     ensures { result ≡ sides_in laying.now }
 {
     match laying {
-        Laying::Leaves { setting } => Sides::Both {
-            flip: edge_at_side(setting),
-        },
-        Laying::Booklet { turned_backs, .. } => Sides::Both {
-            flip: edge_of_backs(*turned_backs),
+        Laying::InCells { setting, scheme } => match scheme {
+            Scheme::Leaves => Sides::Both {
+                flip: edge_at_side(setting),
+            },
+            Scheme::Booklet { turned_backs, .. } => Sides::Both {
+                flip: edge_of_backs(*turned_backs),
+            },
+            _ => Sides::One,
         },
         _ => Sides::One,
     }
@@ -100,24 +102,13 @@ fn places_of(laying: &Laying) -> Places
             grid: single(),
             order: plain_order(),
         },
-        Laying::Grid { setting, .. } => cells_of(setting),
-        Laying::Cards { setting, .. } => cells_of(setting),
-        Laying::Stack { setting, .. } => cells_of(setting),
-        Laying::Leaves { setting } => cells_of(setting),
-        Laying::Booklet { setting, .. } => cells_of(setting),
-        Laying::Zine { setting } => cells_of(setting),
+        Laying::InCells { setting, .. } => Places::Cells {
+            grid: setting.grid,
+            order: setting.order,
+        },
         Laying::Poster { poster } => Places::Tiles {
             grid: tiles_of(poster),
         },
-    }
-}
-
-fn cells_of(setting: &Setting) -> Places
-    ensures { result ≡ Cells setting.now.grid setting.now.order }
-{
-    Places::Cells {
-        grid: setting.grid,
-        order: setting.order,
     }
 }
 

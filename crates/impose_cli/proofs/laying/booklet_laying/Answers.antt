@@ -5,6 +5,7 @@ use Rattle.layouts.specs.Grids.{leaf_order}
 use Rattle.layouts.specs.Refusals.{first_of, is_length, why_not_bound}
 use Rattle.layouts.specs.declared.error.ArrangementError.TheVariants as why
 use Rattle.row_runs.specs.declared.asked.Laying.TheVariants as laying
+use Rattle.row_runs.specs.declared.asked.Scheme.TheVariants as scheme
 use Rattle.impose_words.specs.Spacings.{binding_in}
 use Rattle.impose_said.specs.declared.fault.ImposeFault.TheVariants as fault
 use Rattle.impose_cli.proofs.laying.booklet_laying.Goals as goal
@@ -18,7 +19,7 @@ returns-then-not-is_length-clause-refused c =
 
 pub returns-in-Ok-clause-laying : goal.returns-in-Ok-clause-laying
 returns-in-Ok-clause-laying c =
-    ap₂ (λ t n. Some (laying.Booklet t c.args.long_edge n)) (c.in-Ok.ensures.made ∙ ap (binding_setting_of c.args.papers.now.sheet) c.binding.ensures) c.rounded_down-creep.ensures
+    ap₂ (λ t n. Some (laying.InCells t (scheme.Booklet c.args.long_edge n))) (c.in-Ok.ensures.made ∙ ap (binding_setting_of c.args.papers.now.sheet) c.binding.ensures) c.rounded_down-creep.ensures
 
 pub returns-in-Ok-clause-may_be : goal.returns-in-Ok-clause-may_be
 returns-in-Ok-clause-may_be c =

@@ -15,14 +15,7 @@ laid : (l : Layout) (s : Spacing) (page : Paper) (sheet : Option Paper) → ((x 
     → why_not_laid l s page (sheet_paper_in l sheet page) ≡ None → IsPossible l s (Some page) sheet
 laid (layout.Spec x) s page sheet no_spec no_row e = absurd (no_spec x refl)
 laid (layout.SpecRow x signing) s page sheet no_spec no_row e = absurd (no_row x signing refl)
-laid (layout.NUp cells) s page sheet no_spec no_row e = e
-laid (layout.Booklet signing long_edge) s page sheet no_spec no_row e = e
-laid (layout.Cards cells) s page sheet no_spec no_row e = e
-laid (layout.Stack cells duplex) s page sheet no_spec no_row e = e
-laid (layout.Notes n) s page sheet no_spec no_row e = e
-laid (layout.Poster columns rows) s page sheet no_spec no_row e = e
-laid layout.Zine s page sheet no_spec no_row e = e
-laid layout.Selection s page sheet no_spec no_row e = e
+laid other s page sheet no_spec no_row e = e
 
 pub returns-in-Spec-default-clause-possible : goal.returns-in-Spec-default-clause-possible
 returns-in-Spec-default-clause-possible c = rw c.in-Spec-default.is-0 (rw c.as_str.ensures.value at c.check_spec.ensures.possible)

@@ -1,25 +1,26 @@
 use Rattle.std.proofs.Common.{ap, inr, subst, sym, ◌∙◌}
-use Rattle.std.specs.Prelude.{option_map}
-use Rattle.row_runs.specs.declared.error.AskedError.TheVariants as error
-use Rattle.row_runs.specs.Sheets.{HaveSpace, why_not_laid}
+use Rattle.row_runs.specs.declared.asked.Laying.TheVariants as laying
+use Rattle.row_runs.specs.Sheets.{FitAsLaid, why_not_laid}
 use Rattle.row_runs.proofs.Counted.{no_plan}
-use Rattle.row_runs.proofs.NotLaid.{laid_told, posters_told}
+use Rattle.row_runs.proofs.NotLaid.{cells_told, posters_told}
 use Rattle.row_runs.proofs.asked.passing.Goals as goal
 
 pub returns-in-Ok : goal.returns-in-Ok
 returns-in-Ok c = λ leaves. (
-  subst (λ l. HaveSpace l c.args.papers.now c.args.row.now) (sym c.in-Cards.is) c.in-Ok.ensures.fits,
+  subst (λ l. FitAsLaid l leaves c.args.papers.now c.args.row.now) (sym (c.in-InCells.is ∙ ap (laying.InCells c.in-InCells.setting) c.in-Cards.is)) c.in-Ok.ensures.fits,
+  c.requires.passed,
   no_plan c.args.laying.now leaves c.args.papers.now c.args.row.now c.args.limit c.requires.laid c.requires.passed,
 )
 
 pub returns-in-Err : goal.returns-in-Err
 returns-in-Err c = λ leaves.
-    laid_told c.args.laying.now leaves c.args.papers.now c.args.row.now c.in-Err.error c.arrangement_error.result c.arrangement_error.ensures
-    (inr (ap (λ l. why_not_laid l leaves c.args.papers.now c.args.row.now) c.in-Cards.is ∙ ap (option_map error.Arrangement) c.in-Err.ensures.refused))
+    cells_told c.args.laying.now leaves c.args.papers.now c.args.row.now _ c.in-Err.error c.arrangement_error.result
+    (ap (λ l. why_not_laid l leaves c.args.papers.now c.args.row.now) (c.in-InCells.is ∙ ap (laying.InCells c.in-InCells.setting) c.in-Cards.is)) c.arrangement_error.ensures (inr c.in-Err.ensures.refused)
 
 pub returns-in-Ok-check_posters : goal.returns-in-Ok-check_posters
 returns-in-Ok-check_posters c = λ leaves. (
-  subst (λ l. HaveSpace l c.args.papers.now c.args.row.now) (sym c.in-Poster.is) c.in-Ok-check_posters.ensures.possible,
+  subst (λ l. FitAsLaid l leaves c.args.papers.now c.args.row.now) (sym c.in-Poster.is) c.in-Ok-check_posters.ensures.possible,
+  c.requires.passed,
   no_plan c.args.laying.now leaves c.args.papers.now c.args.row.now c.args.limit c.requires.laid c.requires.passed,
 )
 
