@@ -813,7 +813,7 @@ init
 		n++
 	:: else -> n = 0; break
 	od;
-	/* supplies_of, gather_at, run_workers, start, start_preparers, start_imposers; each preparer's room by
+	/* supplies_of, gather_at, run_workers, start_preparers, start_imposers; each preparer's room by
 	   RunInput::split_preparer, Shared::room_for, most_puts, with_page, Ready::split_with_room; an imposer has none
 	   (RunInput::split, Ready::split) */
 #ifdef F_START
