@@ -46,6 +46,11 @@ begun run count h unused =
           omega (arith, none);
     }
 
+-- what is not there has any property
+pub of_none : {A : Type 0} (o : Option A) (P : A → Type 0) → IsNone o → IfSome o P
+of_none None P none = tt
+of_none (Some a) P none = absurd (true≢false none)
+
 none_of_two : {A : Type 0} (one two new : Option A) → new ≡ option_or one two → IsNone new → IsNone one × IsNone two
 none_of_two None two new is none = (refl, subst IsNone is none)
 none_of_two (Some a) two new is none = absurd (true≢false (subst IsNone is none))

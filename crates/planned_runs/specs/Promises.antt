@@ -2,8 +2,10 @@
 use Rattle.std.specs.Prelude.{◌≡◌, ℕ, ◌+◌, ◌≤◌, [], IfSome, IsNone, IsTrue}
 use Rattle.histories.specs.Seats.{times}
 use Rattle.sheet_plan.specs.Places.{born_complete}
+use Rattle.gather_table.specs.Shared.{own_calls}
 use Rattle.handover.specs.Passes.{puts_in}
 use Rattle.handover.specs.Shelves.{IsOn}
+use Rattle.run_steps.specs.Delivery.{CloseWhatTheyFill}
 use Rattle.run_steps.specs.Duty.{Duty, share_below, shares, most_puts, most_puts_of}
 use Rattle.planned_runs.specs.Tokens.{AreTokens, AreUnused, AreInOrder, done, put, completed}
 use Rattle.planned_runs.specs.Rooms.{PutsAll}
@@ -49,6 +51,18 @@ pub record HasPrepared {G : Type 0} (run : Shared G) (count number : ℕ) (h : H
       → done w h.tokens ≡ share_below w run.table.now.layout count number run.table.now.layout.pages
   pub order : AreInOrder h.tokens
   pub puts : IsTrue run.by_right → PutsAll h.tokens
+
+-- an imposer's tokens
+abbrev pub AreOfImposer : {G : Type 0} → Shared G → Tokens → Type 0
+AreOfImposer run tokens = AreTokens run.table.now run.ready.now 1 tokens
+
+-- what an imposer does in between: it keeps its tokens, nothing was published, marked or put, and no group is left open that
+-- was closed
+pub record OnlyImposes {G : Type 0} (run : Shared G) (old new : Tokens) : Type 0 where
+  pub tokens : AreOfImposer run new
+  pub work : (w : Duty → ℕ) → done w new ≡ done w old
+  pub puts : (s : ℕ) → put s new ≡ put s old
+  pub closes : CloseWhatTheyFill (own_calls old.seat) → CloseWhatTheyFill (own_calls new.seat)
 
 -- what an imposer promises: it has no page without a receipt, and nothing was published, marked or put
 pub record HasImposed (h : Holding) : Type 0 where

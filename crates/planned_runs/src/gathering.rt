@@ -1,11 +1,10 @@
 //! The part of a run in which all its workers start and end.
 ghost use Rattle.std.specs.Prelude.{◌≡◌, ℕ, ◌+◌, ◌-◌, ◌<◌, ◌≤◌, List, Option, None, Err, length, IfOk, IfErr, IfSome, IsNone};
-ghost use Rattle.std.specs.Prelude.{IsSome, IsSomeAnd, IsTrue, MatchResult, OnOk, ⊤};
+ghost use Rattle.std.specs.Prelude.{IsSome, IsTrue, OnOk};
 ghost use Rattle.std.specs.Io.KnownBytes.{Appends};
 ghost use Rattle.crossbeam_channel.specs.Claims.{IsSeatAt};
 ghost use Rattle.crossbeam_channel.specs.Ends.{receives_on, sends_on};
 ghost use Rattle.rules.specs.Sheets.{layout};
-ghost use Rattle.rules.specs.Filters.{trailer_text};
 ghost use Rattle.histories.specs.Seats.{whole_share};
 ghost use Rattle.handover.specs.Passes.{IsPassOf};
 ghost use Rattle.handover.specs.Shelves.{IsOn};
@@ -16,7 +15,6 @@ ghost use Rattle.planned_runs.specs.Outcomes.{FailedIn};
 ghost use Rattle.run_steps.specs.Delivery.{HandedOn};
 ghost use Rattle.sheet_writer.specs.Places.{not_come};
 ghost use Rattle.sheet_writer.specs.Sinks.{IsCountable};
-ghost use Rattle.sheet_writer.specs.Writing.{AreEarly};
 ghost use Rattle.planned_runs.specs.Tokens.{AreTokens, AreUnused};
 ghost use Rattle.run_steps.specs.Gathered.{HasPages, IsGathered, IsHandedOn, AreAllPut};
 ghost use Rattle.planned_runs.specs.Desks.{IsDeskOf};
@@ -168,26 +166,6 @@ pub(crate) fn gather_on<'d, R: Threads + Wait + Sync, G: Gate + Sync, S: Sink>(
     gather_as::<Brand, R, G, S>(rt, &shared, tokens, workers, sink)
 }
 
-/// `gather_on` for a run: its pass has room for all puts, so every complete sheet was put on the queue exactly once.
-pub(crate) fn gather_run<'d, R: Threads + Wait + Sync, G: Gate + Sync, S: Sink>(
-    rt: &R,
-    floor: &Floor<'_, '_, '_, 'd, G>,
-    tokens: Tokens,
-    workers: Workers,
-    sink: &mut S,
-) -> Gathered<'d>
-    requires seat { IsFreshSeat floor.now.table.now tokens.seat }
-    requires pass { IsFreshPass floor.now.ready.now tokens.pass }
-    requires room { HasRoomForAll floor.now.table.now.layout workers.preparers tokens.pass }
-    requires workers { AreWorkers workers }
-    requires countable { IsCountable (S.seen sink.old) }
-    ensures outcome { Answers floor.now.job.now (S.seen sink.old) (S.seen sink.new) result.outcome }
-    ensures tokens { TokensComeBack result }
-    ensures whole { Leaves floor.now.table.now floor.now.ready.now ⊤ result }
-{
-    gather_on(rt, floor, tokens, workers, sink)
-}
-
 /// `gather`, with the texts of the channel's rule chosen.
 fn gather_as<
     'r,
@@ -221,31 +199,13 @@ fn gather_as<
         return out_of_memory(0);
     };
     let Setup {
-        desk,
+        mut desk,
         channel,
         sending,
     } = setup;
-    let supplies = supplies_of(shared.alloc, workers, tokens, sending);
-    let gathered = gather_at(rt, shared, &channel, desk, supplies, sink);
-    // By a call, so that what becomes of its parts is proved once, and not here.
-    drop(channel);
-    gathered
-}
-
-/// What is given out to the workers: the tokens, and the ticket for sending.
-fn supplies_of<'r, 'd>(
-    alloc: Global,
-    workers: Workers,
-    tokens: Tokens,
-    sending: Ticket<'r>,
-) -> Supplies<Holding<'d>, Ticket<'r>>
-    ensures crew { (result.crew.preparers ≡ workers.preparers) × (result.crew.imposers ≡ workers.imposers) }
-    ensures held { result.held ≡ record { tokens = tokens; unshelved = None } }
-    ensures ticket { result.ticket ≡ sending.entry }
-{
-    Supplies {
+    let supplies = Supplies {
         crew: Crew {
-            alloc,
+            alloc: shared.alloc,
             preparers: workers.preparers,
             imposers: workers.imposers,
         },
@@ -254,7 +214,12 @@ fn supplies_of<'r, 'd>(
             unshelved: None,
         },
         ticket: sending,
-    }
+    };
+    let gathered = gather_at(rt, shared, &channel, &mut desk, supplies, sink);
+    // By calls, so that what becomes of the parts is proved once, and not here.
+    drop(desk);
+    drop(channel);
+    gathered
 }
 
 /// `gather`, once the sheets without pages are on the queue: the workers work with these supplies, the collector writes
@@ -271,7 +236,7 @@ fn gather_at<
     rt: &R,
     shared: &Shared<'_, 'r, '_, 'd, G>,
     channel: &Channel<'r, T>,
-    desk: Desk<'r>,
+    desk: &mut Desk<'r>,
     supplies: Supplies<Holding<'d>, Ticket<'r>>,
     sink: &mut S,
 ) -> Gathered<'d>
@@ -283,8 +248,8 @@ fn gather_at<
     requires blank_sheets { HavePutBlankSheets shared.now supplies.held.tokens }
     requires enough { IsEnough shared.now supplies.crew.preparers 0 supplies.held }
     requires sending { IsSeatAt (sends_on channel.now.sender) supplies.ticket }
-    requires receiving { IsSeatAt (receives_on channel.now.receiver) desk.receiving }
-    requires desk { IsDeskOf shared.now.job.now desk }
+    requires receiving { IsSeatAt (receives_on channel.now.receiver) desk.old.receiving }
+    requires desk { IsDeskOf shared.now.job.now desk.old }
     requires countable { IsCountable (S.seen sink.old) }
     ensures outcome { Answers shared.now.job.now (S.seen sink.old) (S.seen sink.new) result.outcome }
     ensures tokens { TokensComeBack result }
@@ -301,17 +266,9 @@ fn gather_at<
         channel: &*channel,
         ruled: &ruled,
     };
-    let Desk {
-        header,
-        trailer,
-        mut early,
-        mut receiving,
-    } = desk;
     let state = CollectorState {
         sink,
-        early: &mut early,
-        header: header.as_slice(),
-        ticket: &mut receiving,
+        desk,
         progress: Progress {
             next: 0,
             written: 0,
@@ -321,16 +278,12 @@ fn gather_at<
     };
     let mut ended = None;
     let mut state = gather_by(rt, &input, &input, supplies, state, &mut ended);
-    let gathered = finish(shared.alloc, job, &mut state, trailer.as_slice(), ended);
+    let gathered = finish(shared.alloc, job, &mut state, ended);
     let CollectorState {
         sink: _,
-        early: _,
-        header: _,
-        ticket: _,
+        desk: _,
         progress: _,
     } = state;
-    drop(early);
-    drop(receiving);
     gathered
 }
 
@@ -369,14 +322,12 @@ fn finish<'d, S: Sink>(
     alloc: Global,
     job: &Job<'_, 'd>,
     state: &mut CollectorState<'_, '_, S>,
-    trailer: &[u8],
     ended: Option<Holding<'d>>,
 ) -> Gathered<'d>
     requires countable { IsSome ended → state.old.progress.halted ≡ None → IsCountable (S.seen state.old.sink.now) }
     requires next { IsSome ended → state.old.progress.halted ≡ None
         → state.old.progress.next ≤ length job.now.plan.sheets }
-    requires early { IsSome ended → AreEarly job.now state.old.early.now.groups.items }
-    requires trailer { trailer.now ≡ trailer_text job.now.units }
+    requires desk { IsSome ended → IsDeskOf job.now state.old.desk.now }
     ensures same_sink { state.new.sink.ghost_name ≡ state.old.sink.ghost_name }
     ensures ended { IsSome ended.entry → Concludes job.now (S.seen state.old.sink.now) (S.seen state.new.sink.now)
         state.old.progress result.outcome }
@@ -385,7 +336,7 @@ fn finish<'d, S: Sink>(
         × (S.seen state.new.sink.now ≡ S.seen state.old.sink.now) }
 {
     match ended {
-        Some(ended) => conclude(alloc, job, state, trailer, ended),
+        Some(ended) => conclude(alloc, job, state, ended),
         None => out_of_memory(state.progress.written),
     }
 }
@@ -395,23 +346,22 @@ fn conclude<'d, S: Sink>(
     alloc: Global,
     job: &Job<'_, 'd>,
     state: &mut CollectorState<'_, '_, S>,
-    trailer: &[u8],
     ended: Holding<'d>,
 ) -> Gathered<'d>
     requires countable { state.old.progress.halted ≡ None → IsCountable (S.seen state.old.sink.now) }
     requires next { state.old.progress.halted ≡ None → state.old.progress.next ≤ length job.now.plan.sheets }
-    requires early { AreEarly job.now state.old.early.now.groups.items }
-    requires trailer { trailer.now ≡ trailer_text job.now.units }
+    requires desk { IsDeskOf job.now state.old.desk.now }
     ensures same_sink { state.new.sink.ghost_name ≡ state.old.sink.ghost_name }
     ensures ended { Concludes job.now (S.seen state.old.sink.now) (S.seen state.new.sink.now) state.old.progress
         result.outcome }
     ensures tokens { HandsBack ended.entry result }
 
     // The report counts the sheets that hadn't come.
-    ensures swept { IfOk result.outcome (λ report. report.swept ≡ not_come state.old.early.now
+    ensures swept { IfOk result.outcome (λ report. report.swept ≡ not_come state.old.desk.now.early
         state.old.progress.next (length job.now.plan.sheets - state.old.progress.next)) }
 {
-    let rest = write_rest(alloc, job, state.sink, state.progress, state.early, trailer);
+    let trailer = state.desk.trailer.as_slice();
+    let rest = write_rest(alloc, job, state.sink, state.progress, &state.desk.early, trailer);
     let Holding { tokens, unshelved } = ended;
     let Tokens { seat, pass } = tokens;
     let written = rest.written;

@@ -10,7 +10,7 @@ ghost use Rattle.planned_runs.specs.Outcomes.{FailedIn, IsNoRefusal};
 ghost use Rattle.planned_runs.specs.Workers.{AreWorkers};
 
 use crate::gate::Gate;
-use crate::gathering::gather_run;
+use crate::gathering::gather_on;
 use crate::listener::{GatheredPlan, Listener};
 use crate::outcome::{Report, RunError};
 use crate::rooms::ready_for;
@@ -83,9 +83,9 @@ fn gather_plan<'j, 'd, R: Threads + Wait + Sync, G: Gate + Sync, S: Sink>(
     ensures unwritten { IfErr result (λ e. S.seen sink.new ≡ S.seen sink.old) }
     ensures of_job { IfOk result (IsOfJob job.now) }
 {
+    let shelf = Shelf::of_document(alloc, job.document())?;
     let (queue, pass) = ready_for(alloc, job.plan(), workers.preparers)?;
     let (table, seat) = GatherTable::new(alloc, job.plan())?;
-    let shelf = Shelf::of_document(alloc, job.document())?;
     let floor = Floor {
         alloc,
         gate: &*gate,
@@ -96,7 +96,8 @@ fn gather_plan<'j, 'd, R: Threads + Wait + Sync, G: Gate + Sync, S: Sink>(
         ready: &queue,
     };
     keep_blocks(alloc);
-    let gathered = gather_run(rt, &floor, Tokens { seat, pass }, workers, sink);
+    let gathered = gather_on(rt, &floor, Tokens { seat, pass }, workers, sink);
+    drop(shelf);
     Ok(GatheredPlan {
         table,
         queue,

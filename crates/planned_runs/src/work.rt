@@ -7,6 +7,8 @@ ghost use Rattle.planned_runs.specs.Promises.{HasPrepared, HasImposed, HasGather
 
 use crate::channel::{SheetRule, SheetTexts, Ticket};
 use crate::gate::Gate;
+use crate::imposing::ImposerBench;
+use crate::preparing::PreparerBench;
 use crate::shared::RunInput;
 use crate::tokens::{Holding, Tokens};
 use std::alloc::AllocError;
@@ -41,14 +43,18 @@ impl<'s, 'r, 't, 'd, T: SheetTexts, G: Gate> Work<Holding<'d>> for RunInput<'s, 
         number: u32,
         count: u32,
     ) -> Result<Holding<'d>, AllocError> {
-        let ended = self.shared.prepare_all(rt, held, number, count);
+        let mut held = held;
+        let mut bench = PreparerBench::new(self.shared.alloc);
+        let ended = self.shared.prepare_all(rt, &mut held, &mut bench, number, count);
+        drop(bench);
         if ended.is_err() {
             self.shared.window.lift();
             // Its stint is lost with it. Another one's turn may be given away here: a turn is advice.
             self.shared.preparing.give();
         }
         self.shared.preparers_left.fetch_sub(1, SeqCst);
-        ended
+        ended?;
+        Ok(held)
     }
 
     /// It gets room for all of its puts, as far as there is room by right.
@@ -93,21 +99,28 @@ impl<'s, 'r, 't, 'd, T: SheetTexts, G: Gate> Imposing<Holding<'d>, Ticket<'r>>
     for RunInput<'s, 'r, 't, 'd, T, G> {
     ghost sends = { λ input t. IsSeatAt (sends_on input.channel.now.sender) t };
 
-    /// However the imposer ends, one less is left then.
+    /// Imposes sheets that are ready until there are none after the last preparer has ended. However it ends, one imposer
+    /// less is left then.
     fn impose<R: Wait>(
         &self,
         rt: &R,
         held: Holding<'d>,
         ticket: Ticket<'r>,
     ) -> Result<Holding<'d>, AllocError> {
-        let ended = self.impose_ready(rt, held, ticket);
+        let mut held = held;
+        let mut ticket = ticket;
+        let mut bench = ImposerBench::new(self.shared.alloc, &self.shared.window);
+        let ended = self.impose_all(rt, &mut held.tokens, &mut ticket, &mut bench);
+        drop(bench);
+        drop(ticket);
         if ended.is_err() {
             self.shared.window.lift();
             // Its stint is lost with it. Another one's turn may be given away here: a turn is advice.
             self.shared.imposing.give();
         }
         self.shared.imposers_left.fetch_sub(1, SeqCst);
-        ended
+        ended?;
+        Ok(held)
     }
 
     fn stop(&self) {

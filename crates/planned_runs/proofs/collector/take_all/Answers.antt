@@ -12,7 +12,7 @@ loop-preserved g c = record {
   same = c.take_turn.ensures.same ∙ c.loop.invariant.same;
   goes_on = λ start stands. c.take_turn.ensures.goes_on start (c.loop.invariant.goes_on start stands);
   steady = c.take_turn.ensures.steady (search rules) ∙ c.loop.invariant.steady;
-  early = c.take_turn.ensures.early;
+  desk = c.take_turn.ensures.desk;
 }
 
 pub returns-clause-goes_on : goal.returns-clause-goes_on

@@ -8,10 +8,6 @@ returns-in-Ok-clause-reads g c =
     let pages = pages_of c.args.self.now.table.now.layout c.args.sheet in
     reads_both _ _ _ c.is_complete.ensures.reads (reads_look_ups _ _ pages (length pages) c.in-Ok.ensures.looked_up)
 
-pub returns-in-NoMemory-clause-reads : goal.returns-in-NoMemory-clause-reads
-returns-in-NoMemory-clause-reads g c =
-    reads_both _ _ _ c.is_complete.ensures.reads (reads_until _ _ (pages_of c.args.self.now.table.now.layout c.args.sheet) _ c.in-Err.ensures.looked_up)
-
 pub returns-in-NotShown-clause-reads : goal.returns-in-NotShown-clause-reads
 returns-in-NotShown-clause-reads g c =
     reads_both _ _ _ c.is_complete.ensures.reads (reads_until _ _ (pages_of c.args.self.now.table.now.layout c.args.sheet) _ c.in-Err.ensures.looked_up)

@@ -50,10 +50,6 @@ pub returns-clause-by_right : goal.returns-clause-by_right
 returns-clause-by_right g c = λ room.
     nothing_by_right c.args.self.now.table.now.layout c.args.page c.args.tokens.now _ _ c.in-Err.ensures.called c.in-Err.ensures.handed_on
 
-pub returns-in-NoMemory-clause-put : goal.returns-in-NoMemory-clause-put
-returns-in-NoMemory-clause-put g c =
-    same_order c.args.tokens.now _ _ c.in-Err.ensures.called c.in-Err.ensures.handed_on
-
 pub returns-clause-put : goal.returns-clause-put
 returns-clause-put g c =
     same_order c.args.tokens.now _ _ c.in-Err.ensures.called c.in-Err.ensures.handed_on
