@@ -18,14 +18,14 @@ loop-slot-init c = record { text = sym (append-nil _); looked_up = looks_none _ 
 
 pub loop-slot-preserved : goal.loop-slot-preserved
 loop-slot-preserved c = record {
-  text = slots_turn c.args.self.now.job.now c.args.sheet c.loop-slot.slot _ _ _ _ c.plan-plan.ensures.sheets (c.slots-slot-end.ensures.value ∙ ap (λ (plan : Plan). length (pages_on plan c.args.sheet)) c.plan-plan.ensures.value) c.loop-slot-test.true c.loop-slot.invariant.text c.in-Ok.ensures.text;
+  text = slots_turn c.args.self.now.job.now c.args.sheet c.loop-slot.slot _ _ _ _ c.plan-plan.ensures.sheets (c.slots-slot-end.ensures.value ∙ ap (λ (plan : Plan). length (pages_on plan c.args.sheet)) c.plan-plan.ensures.value) c.loop-slot-test.true c.loop-slot.invariant.text c.in_ok-append_shelved.ensures.text;
   looked_up = looks_on c.args.self.now.job.now c.args.self.now.table.now.layout _ _ _ c.args.sheet c.loop-slot.slot c.args.self.now.same_plan c.loop-slot.invariant.looked_up c.append_shelved.ensures.looked_up;
 }
 
-pub returns-in-Err-clause-looked_up : goal.returns-in-Err-clause-looked_up
-returns-in-Err-clause-looked_up c = (
+pub returns-in_err-append_shelved-clause-looked_up : goal.returns-in_err-append_shelved-clause-looked_up
+returns-in_err-append_shelved-clause-looked_up c = (
   length (needed (take (c.loop-slot.slot + 1) (slots c.args.self.now.table.now.layout c.args.sheet))),
-  looks_some c.args.self.now.job.now c.args.self.now.table.now.layout c.args.sheet c.loop-slot.slot _ c.args.self.now.same_plan c.in-Err.ensures.has_page.1,
+  looks_some c.args.self.now.job.now c.args.self.now.table.now.layout c.args.sheet c.loop-slot.slot _ c.args.self.now.same_plan c.in_err-append_shelved.ensures.has_page.1,
   looks_on c.args.self.now.job.now c.args.self.now.table.now.layout _ _ _ c.args.sheet c.loop-slot.slot c.args.self.now.same_plan c.loop-slot.invariant.looked_up c.append_shelved.ensures.looked_up,
 )
 
