@@ -20,7 +20,7 @@ use Rattle.run_steps.specs.Duty.{Duty, owed}
 use Rattle.planned_runs.specs.Rooms.{HasRoomForAll}
 use Rattle.planned_runs.specs.Tokens.{AreTokens, AreUnused, done, put}
 use Rattle.run_steps.specs.Gathered.{HasPages, IsGathered, IsHandedOn, AreAllPut}
-use Rattle.planned_runs.specs.Gathering.{Answers, AreWhole, Concludes, HandsBack, GivesUp, IsFreshSeat, IsFreshPass}
+use Rattle.planned_runs.specs.Gathering.{Answers, AreWhole, Concludes, HandsBack, GivesUp, TokensComeBack, IsFreshSeat, IsFreshPass}
 use Rattle.sheet_writer.specs.declared.writing.Halt.{Halt}
 use Rattle.sheet_writer.specs.declared.writing.Halt.TheVariants as halt
 use Rattle.sheet_writer.specs.declared.writing.Progress.{Progress}
@@ -112,29 +112,35 @@ back_whole table queue by_right e (Some t) unshelved a h w put same is = (
 )
 
 pub gathered_whole : (written : ℕ) {Unchanged : Type 0} {G : Type 0} (run : Shared G) (first : Tokens) (ended : Option Holding) (g : Gathered)
-    → HasPages run.table.now.layout → ((s : ℕ) → put s first ≤ times s (born_complete run.table.now.layout))
-    → (IsTrue run.by_right → (s : ℕ) → put s first ≡ times s (born_complete run.table.now.layout))
+    → HasPages run.floor.table.now.layout → ((s : ℕ) → put s first ≤ times s (born_complete run.floor.table.now.layout))
+    → (IsTrue run.by_right → (s : ℕ) → put s first ≡ times s (born_complete run.floor.table.now.layout))
     → IfSome ended (AllAreBack run first)
     → IfSome ended (λ e. HandsBack e g)
     → (IsNone ended → GivesUp written g × Unchanged)
-    → IsWhole run.table.now run.ready.now run.by_right g
+    → IsWhole run.floor.table.now run.floor.ready.now run.by_right g
 gathered_whole written run first (Some e) g pages start exact back concluded missing =
-    back_whole run.table.now run.ready.now run.by_right e g.tokens g.unshelved back.tokens
-    (gathered_handed_on run.table.now run.ready.now first e.tokens back.tokens start back.order.puts)
-    (λ none. tokens_gathered run.table.now run.ready.now e.tokens back.tokens pages (back.work none) back.order.closes)
-    (λ yes. gathered_all_put run.table.now run.ready.now first e.tokens back.tokens (exact yes) (back.puts yes))
+    back_whole run.floor.table.now run.floor.ready.now run.by_right e g.tokens g.unshelved back.tokens
+    (gathered_handed_on run.floor.table.now run.floor.ready.now first e.tokens back.tokens start back.order.puts)
+    (λ none. tokens_gathered run.floor.table.now run.floor.ready.now e.tokens back.tokens pages (back.work none) back.order.closes)
+    (λ yes. gathered_all_put run.floor.table.now run.floor.ready.now first e.tokens back.tokens (exact yes) (back.puts yes))
     concluded.same concluded.unshelved
 gathered_whole written run first None g pages start exact back concluded missing =
-    subst (IsWhole run.table.now run.ready.now run.by_right) (sym (missing refl).0) tt
+    subst (IsWhole run.floor.table.now run.floor.ready.now run.by_right) (sym (missing refl).0) tt
+
+-- the tokens come back, but after out of memory
+pub tokens_back : (written : ℕ) {Unchanged : Type 0} (ended : Option Holding) (g : Gathered) → IfSome ended (λ e. HandsBack e g)
+    → (IsNone ended → GivesUp written g × Unchanged) → TokensComeBack g
+tokens_back written (Some e) g concluded missing = concluded.tokens
+tokens_back written None g concluded missing = subst TokensComeBack (sym (missing refl).0) refl
 
 -- a token that comes back is one of the shelf
 pub gathered_unshelved : (written : ℕ) {Unchanged : Type 0} {G : Type 0} (run : Shared G) (first : Tokens) (ended : Option Holding) (g : Gathered)
     → IfSome ended (AllAreBack run first)
     → IfSome ended (λ e. HandsBack e g)
     → (IsNone ended → GivesUp written g × Unchanged)
-    → IfSome g.unshelved (IsOn run.shelf.now)
-gathered_unshelved written run first (Some e) g back concluded missing = subst (λ u. IfSome u (IsOn run.shelf.now)) (sym concluded.unshelved) back.unshelved
-gathered_unshelved written run first None g back concluded missing = subst (λ x. IfSome x.unshelved (IsOn run.shelf.now)) (sym (missing refl).0) tt
+    → IfSome g.unshelved (IsOn run.floor.shelf.now)
+gathered_unshelved written run first (Some e) g back concluded missing = subst (λ u. IfSome u (IsOn run.floor.shelf.now)) (sym concluded.unshelved) back.unshelved
+gathered_unshelved written run first None g back concluded missing = subst (λ x. IfSome x.unshelved (IsOn run.floor.shelf.now)) (sym (missing refl).0) tt
 
 -- tokens of which nothing was used have no calls and no moves
 none_inside : (own : List ℕ) → ((x : ℕ) → 0 < times x own → x < 0) → own ≡ []

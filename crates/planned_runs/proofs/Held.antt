@@ -238,7 +238,7 @@ imposes_same run old pass are same =
 pub imposes_read : {G : Type 0} (run : Shared G) (old : Tokens) (seat : SeatView) → AreOfImposer run old → OnlyReads old.seat seat
     → OnlyImposes run old (record { seat = seat; pass = old.pass })
 imposes_read run old seat are reads = record {
-  tokens = tokens_read run.table.now run.ready.now 1 old seat are reads;
+  tokens = tokens_read run.floor.table.now run.floor.ready.now 1 old seat are reads;
   work = λ h. done_read h old.seat seat reads;
   puts = λ s. refl;
   closes = closes_read old.seat seat reads;
@@ -247,7 +247,7 @@ imposes_read run old seat are reads = record {
 pub imposes_taken : {G : Type 0} (run : Shared G) (sheet : ℕ) (old : Tokens) (pass : PassView) → AreOfImposer run old → queue.Made old.pass (Take sheet) pass
     → OnlyImposes run old (record { seat = old.seat; pass = pass })
 imposes_taken run sheet old pass are taken =
-    let table = run.table.now in let line = run.ready.now in
+    let table = run.floor.table.now in let line = run.floor.ready.now in
     record {
       tokens = are_tokens table line 1 (record { seat = old.seat; pass = pass }) (seat_with table line 1 old are)
           (pass_moved line 1 old.pass pass (Take sheet) (pass_with table line 1 old are) taken);

@@ -31,13 +31,13 @@ impl<'s, 'r, 't, 'd, 'a, T: SheetTexts, G: Gate, S: Sink> Collector<CollectorSta
     ghost reference = { λ input state. state.sink.ghost_name };
 
     ghost is_ready_to_collect = { λ input state. IsSeatAt (receives_on input.channel.now.receiver) state.desk.now.receiving
-        × IsDeskOf input.shared.now.job.now state.desk.now
+        × IsDeskOf input.shared.now.floor.job.now state.desk.now
         × (state.progress ≡ record { next = 0; written = 0; swept = 0; halted = None })
         × IsCountable (S.seen state.sink.now) };
 
     ghost collected = { λ input old new.
-        Stands input.shared.now.job.now (S.seen old.sink.now) (S.seen new.sink.now) new.progress
-        × IsDeskOf input.shared.now.job.now new.desk.now };
+        Stands input.shared.now.floor.job.now (S.seen old.sink.now) (S.seen new.sink.now) new.progress
+        × IsDeskOf input.shared.now.floor.job.now new.desk.now };
 
     fn collect<R: Wait>(&self, rt: &R, state: &mut CollectorState<'a, 'r, S>) {
         state.progress = write_text(state.sink, state.progress, state.desk.header.as_slice());
@@ -56,10 +56,10 @@ fn take_all<'r, R: Wait, T: SheetTexts, G: Gate, S: Sink>(
     requires countable { IsCountable (S.seen state.old.sink.now) }
     requires ticket { IsSeatAt (receives_on input.now.channel.now.receiver) state.old.desk.now.receiving }
     requires going { state.old.progress.halted ≡ None }
-    requires desk { IsDeskOf input.now.shared.now.job.now state.old.desk.now }
-    ensures desk { IsDeskOf input.now.shared.now.job.now state.new.desk.now }
+    requires desk { IsDeskOf input.now.shared.now.floor.job.now state.old.desk.now }
+    ensures desk { IsDeskOf input.now.shared.now.floor.job.now state.new.desk.now }
     ensures same { state.new.sink.ghost_name ≡ state.old.sink.ghost_name }
-    ensures goes_on { GoesOn input.now.shared.now.job.now (S.seen state.old.sink.now) (S.seen state.new.sink.now)
+    ensures goes_on { GoesOn input.now.shared.now.floor.job.now (S.seen state.old.sink.now) (S.seen state.new.sink.now)
         state.old.progress state.new.progress }
 {
     let mut idling = input.shared.window.idling();
@@ -81,12 +81,12 @@ fn take_turn<'r, R: Wait, T: SheetTexts, G: Gate, S: Sink>(
     requires countable { IsCountable (S.seen state.old.sink.now) }
     requires ticket { IsSeatAt (receives_on input.now.channel.now.receiver) state.old.desk.now.receiving }
     requires going { state.old.progress.halted ≡ None }
-    requires desk { IsDeskOf input.now.shared.now.job.now state.old.desk.now }
+    requires desk { IsDeskOf input.now.shared.now.floor.job.now state.old.desk.now }
     ensures ticket { IsSeatAt (receives_on input.now.channel.now.receiver) state.new.desk.now.receiving }
     ensures going { IsTrue result → state.new.progress.halted ≡ None }
-    ensures desk { IsDeskOf input.now.shared.now.job.now state.new.desk.now }
+    ensures desk { IsDeskOf input.now.shared.now.floor.job.now state.new.desk.now }
     ensures same { state.new.sink.ghost_name ≡ state.old.sink.ghost_name }
-    ensures goes_on { GoesOn input.now.shared.now.job.now (S.seen state.old.sink.now) (S.seen state.new.sink.now)
+    ensures goes_on { GoesOn input.now.shared.now.floor.job.now (S.seen state.old.sink.now) (S.seen state.new.sink.now)
         state.old.progress state.new.progress }
     ensures steady { IsTrue result → (S.seen state.new.sink.now).failures ≡ (S.seen state.old.sink.now).failures }
 {
@@ -114,22 +114,22 @@ fn take_one<'r, R: Wait, T: SheetTexts, G: Gate, S: Sink>(
     requires countable { IsCountable (S.seen state.old.sink.now) }
     requires ticket { IsSeatAt (receives_on input.now.channel.now.receiver) state.old.desk.now.receiving }
     requires going { state.old.progress.halted ≡ None }
-    requires desk { IsDeskOf input.now.shared.now.job.now state.old.desk.now }
+    requires desk { IsDeskOf input.now.shared.now.floor.job.now state.old.desk.now }
     ensures ticket { IsSeatAt (receives_on input.now.channel.now.receiver) state.new.desk.now.receiving }
-    ensures desk { IsDeskOf input.now.shared.now.job.now state.new.desk.now }
+    ensures desk { IsDeskOf input.now.shared.now.floor.job.now state.new.desk.now }
     ensures same { state.new.sink.ghost_name ≡ state.old.sink.ghost_name }
-    ensures goes_on { GoesOn input.now.shared.now.job.now (S.seen state.old.sink.now) (S.seen state.new.sink.now)
+    ensures goes_on { GoesOn input.now.shared.now.floor.job.now (S.seen state.old.sink.now) (S.seen state.new.sink.now)
         state.old.progress state.new.progress }
     ensures steady { state.new.progress.halted ≡ None → (S.seen state.new.sink.now).failures ≡ (S.seen state.old.sink.now).failures }
     ensures nothing { result ≡ false → state.new.progress.halted ≡ None }
 {
     let shared = input.shared;
     let channel = input.channel;
-    shared.gate.before_look(Look::Channel);
+    shared.floor.gate.before_look(Look::Channel);
     let received = channel
         .receiver
         .try_recv_as::<SheetRule<T>, R>(rt, &mut state.desk.receiving);
-    shared.gate.after_look(Look::Channel);
+    shared.floor.gate.after_look(Look::Channel);
     let Ok(batch) = received else {
         return false;
     };
@@ -139,7 +139,7 @@ fn take_one<'r, R: Wait, T: SheetTexts, G: Gate, S: Sink>(
         queue: &channel.spent,
     };
     state.progress = write_early(
-        shared.job,
+        shared.floor.job,
         state.sink,
         state.progress,
         &mut state.desk.early,

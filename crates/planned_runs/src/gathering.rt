@@ -20,8 +20,8 @@ ghost use Rattle.run_steps.specs.Gathered.{HasPages, IsGathered, IsHandedOn, Are
 ghost use Rattle.planned_runs.specs.Desks.{IsDeskOf};
 ghost use Rattle.planned_runs.specs.Promises.{HavePutBlankSheets, IsEnough, IsHeld};
 ghost use Rattle.planned_runs.specs.Rooms.{HasRoomForAll};
-ghost use Rattle.planned_runs.specs.Gathering.{IsFreshSeat, IsFreshPass, ReportsOf, WrotePartOf, AreWhole, Leaves, TokensComeBack};
-ghost use Rattle.planned_runs.specs.Gathering.{Answers, Concludes, HandsBack, GivesUp};
+ghost use Rattle.planned_runs.specs.Gathering.{IsFreshSeat, IsFreshPass, ReportsOf, WrotePartOf, AreWhole, TokensComeBack};
+ghost use Rattle.planned_runs.specs.Gathering.{Concludes, EndsOn, HandsBack, GivesUp};
 
 use crate::channel::{Channel, RuledJob, SheetTexts, Ticket};
 use crate::collector::CollectorState;
@@ -118,27 +118,24 @@ pub fn gather<'j, 'd, R: Threads + Wait + Sync, G: Gate + Sync, S: Sink>(
         is_of_document: false,
         ready: &*ready,
     };
-    gather_on(rt, &floor, Tokens { seat, pass }, workers, sink)
+    gather_on(rt, floor, Tokens { seat, pass }, workers, sink)
 }
 
 /// `gather` on this floor, whose shelf may be that of the job's document: then pages are put as the document's own, and
 /// imposers don't compare them.
 pub(crate) fn gather_on<'d, R: Threads + Wait + Sync, G: Gate + Sync, S: Sink>(
     rt: &R,
-    floor: &Floor<'_, '_, '_, 'd, G>,
+    floor: Floor<'_, '_, '_, 'd, G>,
     tokens: Tokens,
     workers: Workers,
     sink: &mut S,
 ) -> Gathered<'d>
-    requires seat { IsFreshSeat floor.now.table.now tokens.seat }
-    requires pass { IsFreshPass floor.now.ready.now tokens.pass }
+    requires seat { IsFreshSeat floor.table.now tokens.seat }
+    requires pass { IsFreshPass floor.ready.now tokens.pass }
     requires workers { AreWorkers workers }
     requires countable { IsCountable (S.seen sink.old) }
-    ensures outcome { Answers floor.now.job.now (S.seen sink.old) (S.seen sink.new) result.outcome }
-    ensures tokens { TokensComeBack result }
-    ensures whole { Leaves floor.now.table.now floor.now.ready.now
-        (HasRoomForAll floor.now.table.now.layout workers.preparers tokens.pass) result }
-    ensures unshelved { IfSome result.unshelved (IsOn floor.now.shelf.now) }
+    ensures { EndsOn floor.entry (HasRoomForAll floor.entry.table.now.layout workers.preparers tokens.pass)
+        (S.seen sink.old) (S.seen sink.new) result }
 {
     // Each shows that it keeps what every seat and every pass keeps.
     tokens.seat.share();
@@ -149,13 +146,7 @@ pub(crate) fn gather_on<'d, R: Threads + Wait + Sync, G: Gate + Sync, S: Sink>(
     let (of_pages, of_slots) = bytes_of_pages(job);
     let page_len = of_pages / (job.plan().pages() as usize).max(1);
     let shared = Shared {
-        alloc: floor.alloc,
-        gate: floor.gate,
-        job,
-        table: floor.table,
-        shelf: floor.shelf,
-        is_of_document: floor.is_of_document,
-        ready: floor.ready,
+        floor,
         by_right,
         preparers_left: AtomicU32::new(workers.preparers),
         imposers_left: AtomicU32::new(workers.imposers),
@@ -181,21 +172,18 @@ fn gather_as<
     workers: Workers,
     sink: &mut S,
 ) -> Gathered<'d>
-    requires texts { (s : ℕ) → T.text s ≡ text_of shared.now.job.now s }
-    requires tokens { AreTokens shared.now.table.now shared.now.ready.now whole_share tokens × AreUnused tokens }
+    requires texts { (s : ℕ) → T.text s ≡ text_of shared.now.floor.job.now s }
+    requires tokens { AreTokens shared.now.floor.table.now shared.now.floor.ready.now whole_share tokens × AreUnused tokens }
     requires workers { AreWorkers workers }
     requires room { IsTrue shared.now.by_right
-        → HasRoomForAll shared.now.table.now.layout workers.preparers tokens.pass }
+        → HasRoomForAll shared.now.floor.table.now.layout workers.preparers tokens.pass }
     requires countable { IsCountable (S.seen sink.old) }
-    ensures outcome { Answers shared.now.job.now (S.seen sink.old) (S.seen sink.new) result.outcome }
-    ensures tokens { TokensComeBack result }
-    ensures whole { Leaves shared.now.table.now shared.now.ready.now (IsTrue shared.now.by_right) result }
-    ensures unshelved { IfSome result.unshelved (IsOn shared.now.shelf.now) }
+    ensures { EndsOn shared.now.floor (IsTrue shared.now.by_right) (S.seen sink.old) (S.seen sink.new) result }
 {
-    let job = shared.job;
+    let job = shared.floor.job;
     let mut tokens = tokens;
     put_blank_sheets(rt, shared, job.plan().born_complete(), &mut tokens.pass);
-    let Ok(setup) = Setup::<'r, T>::new(shared.alloc, job, shared.window.len()) else {
+    let Ok(setup) = Setup::<'r, T>::new(shared.floor.alloc, job, shared.window.len()) else {
         return out_of_memory(0);
     };
     let Setup {
@@ -205,7 +193,7 @@ fn gather_as<
     } = setup;
     let supplies = Supplies {
         crew: Crew {
-            alloc: shared.alloc,
+            alloc: shared.floor.alloc,
             preparers: workers.preparers,
             imposers: workers.imposers,
         },
@@ -240,8 +228,8 @@ fn gather_at<
     supplies: Supplies<Holding<'d>, Ticket<'r>>,
     sink: &mut S,
 ) -> Gathered<'d>
-    requires texts { (s : ℕ) → T.text s ≡ text_of shared.now.job.now s }
-    requires pages { HasPages shared.now.table.now.layout }
+    requires texts { (s : ℕ) → T.text s ≡ text_of shared.now.floor.job.now s }
+    requires pages { HasPages shared.now.floor.table.now.layout }
     requires crew { (0 < supplies.crew.preparers)
         × (supplies.crew.preparers + supplies.crew.imposers < whole_share) }
     requires held { IsHeld shared.now whole_share supplies.held }
@@ -249,14 +237,11 @@ fn gather_at<
     requires enough { IsEnough shared.now supplies.crew.preparers 0 supplies.held }
     requires sending { IsSeatAt (sends_on channel.now.sender) supplies.ticket }
     requires receiving { IsSeatAt (receives_on channel.now.receiver) desk.old.receiving }
-    requires desk { IsDeskOf shared.now.job.now desk.old }
+    requires desk { IsDeskOf shared.now.floor.job.now desk.old }
     requires countable { IsCountable (S.seen sink.old) }
-    ensures outcome { Answers shared.now.job.now (S.seen sink.old) (S.seen sink.new) result.outcome }
-    ensures tokens { TokensComeBack result }
-    ensures whole { Leaves shared.now.table.now shared.now.ready.now (IsTrue shared.now.by_right) result }
-    ensures unshelved { IfSome result.unshelved (IsOn shared.now.shelf.now) }
+    ensures { EndsOn shared.now.floor (IsTrue shared.now.by_right) (S.seen sink.old) (S.seen sink.new) result }
 {
-    let job = shared.job;
+    let job = shared.floor.job;
     let ruled = RuledJob {
         job: &*job,
         of: PhantomData,
@@ -278,7 +263,7 @@ fn gather_at<
     };
     let mut ended = None;
     let mut state = gather_by(rt, &input, &input, supplies, state, &mut ended);
-    let gathered = finish(shared.alloc, job, &mut state, ended);
+    let gathered = finish(shared.floor.alloc, job, &mut state, ended);
     let CollectorState {
         sink: _,
         desk: _,
@@ -294,13 +279,13 @@ fn put_blank_sheets<R: Wait, G: Gate>(
     sheets: &[u32],
     pass: &mut Pass,
 )
-    requires pass { IsPassOf shared.now.ready.now pass.old }
-    ensures pass { IsPassOf shared.now.ready.now pass.new }
-    ensures put { (back : List ℕ) × HandedOn shared.now.ready.now sheets.now back pass.old pass.new }
+    requires pass { IsPassOf shared.now.floor.ready.now pass.old }
+    ensures pass { IsPassOf shared.now.floor.ready.now pass.new }
+    ensures put { (back : List ℕ) × HandedOn shared.now.floor.ready.now sheets.now back pass.old pass.new }
 {
     for k in 0..sheets.len() {
         // What the queue hands back is made by the collector, so its turn isn't waited for.
-        if shared.ready.put(rt, pass, sheets[k]).is_err() {
+        if shared.floor.ready.put(rt, pass, sheets[k]).is_err() {
             shared.window.lift();
         }
     }

@@ -131,7 +131,7 @@ impl<'s, 'r, 't, 'd, T: SheetTexts, G: Gate> RunInput<'s, 'r, 't, 'd, T, G> {
             Some(spent) => spent,
             None => {
                 let window = &self.shared.window;
-                Texts::with_room(self.shared.alloc, window.batch(), window.batch_bytes())?
+                Texts::with_room(self.shared.floor.alloc, window.batch(), window.batch_bytes())?
             }
         };
         batch.clear();
@@ -238,9 +238,9 @@ impl<'s, 'r, 't, 'd, G: Gate> Shared<'s, 'r, 't, 'd, G> {
         if held.come_nearer(end) {
             return FoundSheet::Nothing;
         }
-        self.gate.before_look(Look::Queue);
-        let taken = self.ready.take(rt, &mut tokens.pass);
-        self.gate.after_look(Look::Queue);
+        self.floor.gate.before_look(Look::Queue);
+        let taken = self.floor.ready.take(rt, &mut tokens.pass);
+        self.floor.gate.after_look(Look::Queue);
         let Some(sheet) = taken else {
             return FoundSheet::Nothing;
         };
@@ -265,26 +265,26 @@ impl<'s, 'r, 't, 'd, G: Gate> Shared<'s, 'r, 't, 'd, G> {
         openings: &mut Openings,
         sheet: u32,
     ) -> Result<bool, AllocError>
-        requires seat { IsSeatOf self.now.table.now seat.old }
+        requires seat { IsSeatOf self.now.floor.table.now seat.old }
         ensures reads { OnOk result (OnlyReads seat.old seat.new) }
-        ensures text { IfOk result (λ made. IsTrue made → text.new ≡ text_of self.now.job.now sheet) }
+        ensures text { IfOk result (λ made. IsTrue made → text.new ≡ text_of self.now.floor.job.now sheet) }
     {
-        let job = self.job;
+        let job = self.floor.job;
         if sheet >= job.sheets() {
             return Ok(false);
         }
-        if !is_complete(seat, self.table, sheet) {
+        if !is_complete(seat, self.floor.table, sheet) {
             return Ok(false);
         }
         let imposition = Imposition {
             job,
-            table: self.table,
-            shelf: self.shelf,
-            is_of_document: self.is_of_document,
+            table: self.floor.table,
+            shelf: self.floor.shelf,
+            is_of_document: self.floor.is_of_document,
         };
-        self.gate.before(Step::Impose(sheet));
+        self.floor.gate.before(Step::Impose(sheet));
         let answer = imposition.impose(text, openings, seat, sheet);
-        self.gate.after(Step::Impose(sheet));
+        self.floor.gate.after(Step::Impose(sheet));
         match answer {
             Ok(()) => Ok(true),
             Err(error) => match error {

@@ -96,7 +96,7 @@ fn gather_plan<'j, 'd, R: Threads + Wait + Sync, G: Gate + Sync, S: Sink>(
         ready: &queue,
     };
     keep_blocks(alloc);
-    let gathered = gather_on(rt, &floor, Tokens { seat, pass }, workers, sink);
+    let gathered = gather_on(rt, floor, Tokens { seat, pass }, workers, sink);
     drop(shelf);
     Ok(GatheredPlan {
         table,

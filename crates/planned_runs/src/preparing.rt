@@ -57,7 +57,7 @@ impl<'s, 'r, 't, 'd, G: Gate> Shared<'s, 'r, 't, 'd, G> {
         ensures back { OnOk result (IsHeld self.now 1 held.new) }
         ensures prepared { OnOk result (HasPrepared self.now count number held.new) }
     {
-        let job = self.job;
+        let job = self.floor.job;
         let part = PageShare { number, count };
         for page in 0..job.plan().pages() {
             self.prepare_own_page(rt, held, bench, page, part)?;
@@ -76,15 +76,15 @@ impl<'s, 'r, 't, 'd, G: Gate> Shared<'s, 'r, 't, 'd, G> {
         part: PageShare,
     ) -> Result<(), AllocError>
         requires count { 0 < part.count }
-        requires page { page < self.now.job.now.plan.pages }
+        requires page { page < self.now.floor.job.now.plan.pages }
         requires held { IsHeld self.now 1 held.old }
         ensures held { OnOk result (IsHeld self.now 1 held.new) }
         ensures done { OnOk result (IsNone held.new.unshelved → IsNone held.old.unshelved × ((h : Duty → ℕ) →
             done h held.new.tokens ≡ done h held.old.tokens + (if page % part.count == part.number
-            then total h (duties self.now.table.now.layout page) else 0))) }
+            then total h (duties self.now.floor.table.now.layout page) else 0))) }
         ensures put { OnOk result (AreInOrder held.old.tokens → AreInOrder held.new.tokens) }
-        ensures by_right { OnOk result (HasRoomFrom self.now.table.now.layout part.count part.number page held.old.tokens
-            → HasRoomFrom self.now.table.now.layout part.count part.number (page + 1) held.new.tokens
+        ensures by_right { OnOk result (HasRoomFrom self.now.floor.table.now.layout part.count part.number page held.old.tokens
+            → HasRoomFrom self.now.floor.table.now.layout part.count part.number (page + 1) held.new.tokens
             × (PutsAll held.old.tokens → PutsAll held.new.tokens)) }
     {
         if page % part.count != part.number {
@@ -106,29 +106,29 @@ impl<'s, 'r, 't, 'd, G: Gate> Shared<'s, 'r, 't, 'd, G> {
         answers: &mut Answers,
         page: u32,
     ) -> Result<Option<Overflow<'d>>, AllocError>
-        requires page { page < self.now.job.now.plan.pages }
-        requires tokens { AreTokens self.now.table.now self.now.ready.now 1 tokens.old }
-        ensures tokens { OnOk result (AreTokens self.now.table.now self.now.ready.now 1 tokens.new) }
+        requires page { page < self.now.floor.job.now.plan.pages }
+        requires tokens { AreTokens self.now.floor.table.now self.now.floor.ready.now 1 tokens.old }
+        ensures tokens { OnOk result (AreTokens self.now.floor.table.now self.now.floor.ready.now 1 tokens.new) }
         ensures done { IfOk result (λ lost. IsNone lost → (h : Duty → ℕ)
-            → done h tokens.new ≡ done h tokens.old + total h (duties self.now.table.now.layout page)) }
+            → done h tokens.new ≡ done h tokens.old + total h (duties self.now.floor.table.now.layout page)) }
         ensures put { OnOk result (AreInOrder tokens.old → AreInOrder tokens.new) }
-        ensures by_right { OnOk result (HasRoomForPage self.now.table.now.layout page tokens.old
-            → PutsByRight self.now.table.now.layout page tokens.old tokens.new) }
-        ensures lost { IfOk result (λ lost. IfSome lost (IsOn self.now.shelf.now)) }
+        ensures by_right { OnOk result (HasRoomForPage self.now.floor.table.now.layout page tokens.old
+            → PutsByRight self.now.floor.table.now.layout page tokens.old tokens.new) }
+        ensures lost { IfOk result (λ lost. IfSome lost (IsOn self.now.floor.shelf.now)) }
     {
-        let job = self.job;
+        let job = self.floor.job;
         let delivery = Delivery {
             plan: job.plan(),
-            table: self.table,
-            shelf: self.shelf,
-            ready: self.ready,
-            as_own: self.is_of_document,
+            table: self.floor.table,
+            shelf: self.floor.shelf,
+            ready: self.floor.ready,
+            as_own: self.floor.is_of_document,
         };
-        let prepared = Prepared::of_page(self.alloc, job.document(), page)?;
-        let used = mem::replace(answers, Answers::new(self.alloc));
-        self.gate.before(Step::Deliver(page));
+        let prepared = Prepared::of_page(self.floor.alloc, job.document(), page)?;
+        let used = mem::replace(answers, Answers::new(self.floor.alloc));
+        self.floor.gate.before(Step::Deliver(page));
         let answer = delivery.deliver(rt, &mut tokens.seat, &mut tokens.pass, prepared, used);
-        self.gate.after(Step::Deliver(page));
+        self.floor.gate.after(Step::Deliver(page));
         match answer {
             Ok(delivered) => {
                 if !delivered.handed_back.is_empty() {

@@ -17,9 +17,9 @@ impl<'s, 'r, 't, 'd, G: Gate> Shared<'s, 'r, 't, 'd, G> {
     /// How much of the pass's room preparer `number` of `count` gets: what it needs, as far as there is so much.
     pub(crate) fn room_for(&self, pass: &Pass, number: u32, count: u32) -> u32
         requires count { 0 < count }
-        ensures { result ≡ min (most_puts self.now.table.now.layout count number) (puts_in pass.now.room) }
+        ensures { result ≡ min (most_puts self.now.floor.table.now.layout count number) (puts_in pass.now.room) }
     {
-        let job = self.job;
+        let job = self.floor.job;
         most_puts(job.plan(), number, count).min(pass.room())
     }
 }

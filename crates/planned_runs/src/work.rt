@@ -44,7 +44,7 @@ impl<'s, 'r, 't, 'd, T: SheetTexts, G: Gate> Work<Holding<'d>> for RunInput<'s, 
         count: u32,
     ) -> Result<Holding<'d>, AllocError> {
         let mut held = held;
-        let mut bench = PreparerBench::new(self.shared.alloc);
+        let mut bench = PreparerBench::new(self.shared.floor.alloc);
         let ended = self.shared.prepare_all(rt, &mut held, &mut bench, number, count);
         drop(bench);
         if ended.is_err() {
@@ -59,7 +59,7 @@ impl<'s, 'r, 't, 'd, T: SheetTexts, G: Gate> Work<Holding<'d>> for RunInput<'s, 
 
     /// It gets room for all of its puts, as far as there is room by right.
     fn split_preparer(&self, held: &mut Holding<'d>, number: u32, count: u32) -> Holding<'d> {
-        let seat = self.shared.table.split(&mut held.tokens.seat, 1);
+        let seat = self.shared.floor.table.split(&mut held.tokens.seat, 1);
         let room = self.shared.room_for(&held.tokens.pass, number, count);
         let pass = self
             .shared
@@ -72,8 +72,8 @@ impl<'s, 'r, 't, 'd, T: SheetTexts, G: Gate> Work<Holding<'d>> for RunInput<'s, 
     }
 
     fn split(&self, held: &mut Holding<'d>) -> Holding<'d> {
-        let seat = self.shared.table.split(&mut held.tokens.seat, 1);
-        let pass = self.shared.ready.split(&mut held.tokens.pass, 1);
+        let seat = self.shared.floor.table.split(&mut held.tokens.seat, 1);
+        let pass = self.shared.floor.ready.split(&mut held.tokens.pass, 1);
         Holding {
             tokens: Tokens { seat, pass },
             unshelved: None,
@@ -86,8 +86,8 @@ impl<'s, 'r, 't, 'd, T: SheetTexts, G: Gate> Work<Holding<'d>> for RunInput<'s, 
             tokens: others,
             unshelved: lost,
         } = theirs;
-        let seat = self.shared.table.join(tokens.seat, others.seat);
-        let pass = self.shared.ready.join(tokens.pass, others.pass);
+        let seat = self.shared.floor.table.join(tokens.seat, others.seat);
+        let pass = self.shared.floor.ready.join(tokens.pass, others.pass);
         Holding {
             tokens: Tokens { seat, pass },
             unshelved: unshelved.or(lost),
@@ -109,7 +109,7 @@ impl<'s, 'r, 't, 'd, T: SheetTexts, G: Gate> Imposing<Holding<'d>, Ticket<'r>>
     ) -> Result<Holding<'d>, AllocError> {
         let mut held = held;
         let mut ticket = ticket;
-        let mut bench = ImposerBench::new(self.shared.alloc, &self.shared.window);
+        let mut bench = ImposerBench::new(self.shared.floor.alloc, &self.shared.window);
         let ended = self.impose_all(rt, &mut held.tokens, &mut ticket, &mut bench);
         drop(bench);
         drop(ticket);

@@ -12,7 +12,7 @@ invariant-loop g l = record {
   ticket : IsSeatAt (receives_on l.input.channel.now.receiver) l.state.desk.now.receiving;
   going : l.state.progress.halted ≡ None;
   same : l.state.sink.ghost_name ≡ l.initial.state.sink.ghost_name;
-  goes_on : GoesOn l.input.shared.now.job.now (g.S.Sink.seen l.initial.state.sink.now) (g.S.Sink.seen l.state.sink.now) l.initial.state.progress l.state.progress;
+  goes_on : GoesOn l.input.shared.now.floor.job.now (g.S.Sink.seen l.initial.state.sink.now) (g.S.Sink.seen l.state.sink.now) l.initial.state.progress l.state.progress;
   steady : (g.S.Sink.seen l.state.sink.now).failures ≡ (g.S.Sink.seen l.initial.state.sink.now).failures;
-  desk : IsDeskOf l.input.shared.now.job.now l.state.desk.now;
+  desk : IsDeskOf l.input.shared.now.floor.job.now l.state.desk.now;
 }

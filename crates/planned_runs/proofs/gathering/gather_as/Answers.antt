@@ -11,7 +11,7 @@ use Rattle.planned_runs.proofs.gathering.gather_as.Goals as goal
 
 pub gather_at-gathered-requires-clause-pages : goal.gather_at-gathered-requires-clause-pages
 gather_at-gathered-requires-clause-pages g c κs within =
-    table_has_pages c.args.shared.now.job.now.plan c.args.shared.now.table.now c.plan.ensures.sound c.args.shared.now.same_plan
+    table_has_pages c.args.shared.now.floor.job.now.plan c.args.shared.now.floor.table.now c.plan.ensures.sound c.args.shared.now.floor.same_plan
 
 pub gather_at-gathered-requires-clause-crew : goal.gather_at-gathered-requires-clause-crew
 gather_at-gathered-requires-clause-crew g c κs within =
@@ -22,8 +22,8 @@ gather_at-gathered-requires-clause-crew g c κs within =
 -- what the caller holds when the threads start: it has put the blank sheets
 pub gather_at-gathered-requires-clause-held : goal.gather_at-gathered-requires-clause-held
 gather_at-gathered-requires-clause-held g c κs within =
-    let table = c.args.shared.now.table.now in
-    let queue = c.args.shared.now.ready.now in
+    let table = c.args.shared.now.floor.table.now in
+    let queue = c.args.shared.now.floor.ready.now in
     let put = c.put_blank_sheets.ensures.put in
     let first : Tokens = record { seat = c.args.tokens.seat; pass = c.put_blank_sheets.new.pass } in
     let all = are_tokens table queue whole_share first (seat_with table queue whole_share c.args.tokens c.requires.tokens.0)
@@ -32,10 +32,10 @@ gather_at-gathered-requires-clause-held g c κs within =
 
 pub gather_at-gathered-requires-clause-blank_sheets : goal.gather_at-gathered-requires-clause-blank_sheets
 gather_at-gathered-requires-clause-blank_sheets g c κs within =
-    let table = c.args.shared.now.table.now in
-    let queue = c.args.shared.now.ready.now in
+    let table = c.args.shared.now.floor.table.now in
+    let queue = c.args.shared.now.floor.ready.now in
     let put = c.put_blank_sheets.ensures.put in
-    let born : c.born_complete.result.now ≡ born_complete table.layout = c.born_complete.ensures.value ∙ ap (λ p. born_complete (layout p)) c.plan.ensures.value ∙ ap born_complete (sym c.args.shared.now.same_plan) in
+    let born : c.born_complete.result.now ≡ born_complete table.layout = c.born_complete.ensures.value ∙ ap (λ p. born_complete (layout p)) c.plan.ensures.value ∙ ap born_complete (sym c.args.shared.now.floor.same_plan) in
     let first : Tokens = record { seat = c.args.tokens.seat; pass = c.put_blank_sheets.new.pass } in
     record {
       no_calls = c.requires.tokens.1.no_calls;
@@ -50,9 +50,9 @@ gather_at-gathered-requires-clause-blank_sheets g c κs within =
 pub gather_at-gathered-requires-clause-enough : goal.gather_at-gathered-requires-clause-enough
 gather_at-gathered-requires-clause-enough g c κs within =
     let run = c.args.shared.now in
-    let queue = run.ready.now in
+    let queue = run.floor.ready.now in
     let put = c.put_blank_sheets.ensures.put in
-    let born : c.born_complete.result.now ≡ born_complete run.table.now.layout = c.born_complete.ensures.value ∙ ap (λ p. born_complete (layout p)) c.plan.ensures.value ∙ ap born_complete (sym run.same_plan) in
+    let born : c.born_complete.result.now ≡ born_complete run.floor.table.now.layout = c.born_complete.ensures.value ∙ ap (λ p. born_complete (layout p)) c.plan.ensures.value ∙ ap born_complete (sym run.floor.same_plan) in
     let same = ap (λ (xs : List ℕ). length xs) born in
     let first : Tokens = record { seat = c.args.tokens.seat; pass = c.put_blank_sheets.new.pass } in
     λ yes.

@@ -10,7 +10,7 @@ loop-page-init g c = record {
   done = search rules;
   put = search rules;
   by_right = λ yes. (
-    room_at_first c.args.self.now.table.now.layout c.args.count c.args.number c.args.held.now.tokens (c.requires.held.room yes),
+    room_at_first c.args.self.now.floor.table.now.layout c.args.count c.args.number c.args.held.now.tokens (c.requires.held.room yes),
     unused_puts_all c.args.held.now.tokens c.requires.held.new.unused,
   );
 }
@@ -19,7 +19,7 @@ pub loop-page-preserved : goal.loop-page-preserved
 loop-page-preserved g c = record {
   held = c.in_ok-prepare_own_page.ensures.held;
   done = λ none h.
-      let layout = c.args.self.now.table.now.layout in
+      let layout = c.args.self.now.floor.table.now.layout in
       let step = c.in_ok-prepare_own_page.ensures.done none in
       let was = c.loop-page.invariant.done step.0 h in
       let now = step.1 h in
