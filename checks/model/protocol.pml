@@ -401,7 +401,7 @@ inline find_held()
 }
 
 /* RunInput::impose_batch, RunInput::impose_more: further sheets, before the same end of the window, until the
-   queue is asked, there is nothing, or the batch is full (Window::batch). Then on to where that leads. */
+   queue is asked, there is nothing, or the batch is full. Then on to where that leads. */
 inline further()
 {
 	do

@@ -183,7 +183,7 @@ fn gather_as<
     let job = shared.floor.job;
     let mut tokens = tokens;
     put_blank_sheets(rt, shared, job.plan().born_complete(), &mut tokens.pass);
-    let Ok(setup) = Setup::<'r, T>::new(shared.floor.alloc, job, shared.window.len()) else {
+    let Ok(setup) = Setup::<'r, T>::new(shared.floor.alloc, job, shared.window.len) else {
         return out_of_memory(0);
     };
     let Setup {

@@ -131,12 +131,12 @@ impl<'s, 'r, 't, 'd, T: SheetTexts, G: Gate> RunInput<'s, 'r, 't, 'd, T, G> {
             Some(spent) => spent,
             None => {
                 let window = &self.shared.window;
-                Texts::with_room(self.shared.floor.alloc, window.batch(), window.batch_bytes())?
+                Texts::with_room(self.shared.floor.alloc, window.batch, window.batch_bytes)?
             }
         };
         batch.clear();
         self.impose_into(tokens, &mut batch, bench, first)?;
-        for _ in 1..self.shared.window.batch() {
+        for _ in 1..self.shared.window.batch {
             if !self.impose_more(rt, tokens, bench, &mut batch, end)? {
                 break;
             }
