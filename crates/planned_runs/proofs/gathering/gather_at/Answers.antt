@@ -1,6 +1,6 @@
 use Rattle.std.proofs.Common.{rules, arith, sym, subst}
 use Rattle.planned_runs.specs.Tokens.{AreTokens}
-use Rattle.planned_runs.proofs.Ends.{sink_answers, tokens_back, gathered_unshelved, gathered_whole}
+use Rattle.planned_runs.proofs.Ends.{ends_on}
 use Rattle.planned_runs.proofs.Holdings.{begun, all_back}
 use Rattle.planned_runs.proofs.gathering.gather_at.Goals as goal
 
@@ -22,22 +22,13 @@ pub returns : goal.returns
 returns g c =
     let run = c.args.shared.now in
     let state = c.gather_by-state.result in
-    let last = c.finish-gathered.new.state in
     let first = c.args.supplies.held in
     let count = c.args.supplies.crew.preparers in
-    let blank = c.requires.blank_sheets in
     let ended = c.gather_by-state.new.ended in
     let finished = c.finish-gathered.ensures in
     let back = all_back run first.tokens count ended c.requires.crew.0 c.requires.held.tokens.seat_share
     c.gather_by-state.ensures.held c.gather_by-state.ensures.share
-    (c.gather_by-state.ensures.gathered first (begun run count first blank.no_calls)) in
-    record {
-      outcome = sink_answers run.floor.job.now (g.S.Sink.seen c.args.sink.now) (g.S.Sink.seen state.sink.now) (g.S.Sink.seen last.sink.now) _
-          state.progress ended c.finish-gathered.result
-          (search rules) (search rules) (search rules) finished.ended finished.missing;
-      tokens = tokens_back state.progress.written ended c.finish-gathered.result finished.tokens finished.missing;
-      whole = gathered_whole state.progress.written run first.tokens ended c.finish-gathered.result
-          c.requires.pages blank.no_others blank.all back finished.tokens finished.missing;
-      unshelved = gathered_unshelved state.progress.written run first.tokens ended c.finish-gathered.result
-          back finished.tokens finished.missing;
-    }
+    (c.gather_by-state.ensures.gathered first (begun run count first c.requires.blank_sheets.no_calls)) in
+    ends_on run first.tokens (g.S.Sink.seen c.args.sink.now) (g.S.Sink.seen state.sink.now) (g.S.Sink.seen c.finish-gathered.new.state.sink.now) _
+    state.progress ended c.finish-gathered.result c.requires.pages c.requires.blank_sheets
+    (search rules) (search rules) (search rules) back finished.ended finished.tokens finished.missing

@@ -1,10 +1,8 @@
 use Rattle.std.proofs.Common.{◌≡◌, ◌∙◌, ap, sym, arith}
-use Rattle.std.specs.Prelude.{IsNone}
 use Rattle.std.proofs.lemmas.Bool.{le-leb}
 use Rattle.rules.specs.Sheets.{Plan, Layout, layout}
 use Rattle.run_steps.specs.Duty.{most_puts_in_all}
-use Rattle.run_steps.specs.Gathered.{IsGathered}
-use Rattle.planned_runs.proofs.Ends.{fresh_tokens, put_if_room}
+use Rattle.planned_runs.proofs.Ends.{fresh_tokens, leaves_if}
 use Rattle.planned_runs.proofs.gathering.gather_on.Goals as goal
 
 pub gather_as-requires-clause-tokens : goal.gather_as-requires-clause-tokens
@@ -20,8 +18,7 @@ returns g c =
     record {
       outcome = gathered.outcome;
       tokens = gathered.tokens;
-      whole = put_if_room floor.table.now floor.ready.now floor.table.now.layout count c.args.tokens.pass c.gather_as.result.tokens
-          (λ t. IsNone c.gather_as.result.unshelved → IsGathered floor.table.now.layout t.0.front) _
+      whole = leaves_if _ _ _ _ c.gather_as.result
           (λ room. le-leb _ _ (omega (arith, room, same, c.most_puts_in_all.ensures, c.room-room.ensures, c.from.ensures)))
           gathered.whole;
       unshelved = gathered.unshelved;
