@@ -83,9 +83,9 @@ fn gather_plan<'j, 'd, R: Threads + Wait + Sync, G: Gate + Sync, S: Sink>(
     ensures unwritten { IfErr result (λ e. S.seen sink.new ≡ S.seen sink.old) }
     ensures of_job { IfOk result (IsOfJob job.now) }
 {
-    let shelf = Shelf::of_document(alloc, job.document())?;
     let (queue, pass) = ready_for(alloc, job.plan(), workers.preparers)?;
     let (table, seat) = GatherTable::new(alloc, job.plan())?;
+    let shelf = Shelf::of_document(alloc, job.document())?;
     let floor = Floor {
         alloc,
         gate: &*gate,
@@ -97,6 +97,7 @@ fn gather_plan<'j, 'd, R: Threads + Wait + Sync, G: Gate + Sync, S: Sink>(
     };
     keep_blocks(alloc);
     let gathered = gather_on(rt, floor, Tokens { seat, pass }, workers, sink);
+    // By a call, so that what becomes of its parts is proved once, and not here.
     drop(shelf);
     Ok(GatheredPlan {
         table,
