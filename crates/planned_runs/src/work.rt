@@ -63,6 +63,7 @@ impl<'s, 'r, 't, 'd, T: SheetTexts, G: Gate> Work<Holding<'d>> for RunInput<'s, 
         let room = self.shared.room_for(&held.tokens.pass, number, count);
         let pass = self
             .shared
+            .floor
             .ready
             .split_with_room(&mut held.tokens.pass, 1, room);
         Holding {
