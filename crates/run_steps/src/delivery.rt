@@ -203,7 +203,14 @@ impl<'f, 'p, 't, 'd> Delivery<'f, 'p, 't, 'd> {
             answers.replies.push_reserved(reply);
             push_closing(&mut answers.closings, closing);
             let completed = completes_sheet(reply, closing);
-            hand_on_completed(rt, self.ready, pass, place.0, completed, &mut answers.handed_back);
+            hand_on_completed(
+                rt,
+                self.ready,
+                pass,
+                place.0,
+                completed,
+                &mut answers.handed_back,
+            );
         }
     }
 }

@@ -2,7 +2,7 @@ use Rattle.std.proofs.Common.{ap, ◌++◌, ◌∙◌}
 use Rattle.rules.specs.Parts.{pages}
 use Rattle.rules.specs.Output.{opening_text, closing_text}
 use Rattle.run_steps.proofs.imposition.Imposition.append_shelved.Goals as goal
-use Rattle.run_steps.proofs.LookUps.{has_index, page_in, same_job}
+use Rattle.run_steps.proofs.LookUps.{has_index, on_err, page_in, same_job}
 use Rattle.sheet_text.proofs.Slots.{slot_shelved}
 
 pub find_shelved-requires-clause-index : goal.find_shelved-requires-clause-index
@@ -21,7 +21,9 @@ returns-in-Ok-clause-text c = λ it at.
     c.in_ok-shown.ensures.raw c.in_ok-shown.ensures.prepared
 
 pub returns-in_err-shown-clause-has_page : goal.returns-in_err-shown-clause-has_page
-returns-in_err-shown-clause-has_page c = (c.in-Some.page, page_in _ _ c.args.sheet c.args.slot _ _ (same_job c.args.self.now.job.now c.plan.result.now c.plan.ensures.value) c.page_of.ensures.value c.in-Some.is)
+returns-in_err-shown-clause-has_page c =
+    on_err c.from_residual.result _
+    (c.in-Some.page, page_in _ _ c.args.sheet c.args.slot _ _ (same_job c.args.self.now.job.now c.plan.result.now c.plan.ensures.value) c.page_of.ensures.value c.in-Some.is)
 
 pub returns-in-Err-clause-has_page : goal.returns-in-Err-clause-has_page
 returns-in-Err-clause-has_page c = (c.in-Some.page, page_in _ _ c.args.sheet c.args.slot _ _ (same_job c.args.self.now.job.now c.plan.result.now c.plan.ensures.value) c.page_of.ensures.value c.in-Some.is)
