@@ -345,8 +345,10 @@ fn conclude<'d, S: Sink>(
     ensures swept { IfOk result.outcome (λ report. report.swept ≡ not_come state.old.desk.now.early
         state.old.progress.next (length job.now.plan.sheets - state.old.progress.next)) }
 {
-    let trailer = state.desk.trailer.as_slice();
-    let rest = write_rest(alloc, job, state.sink, state.progress, &state.desk.early, trailer);
+    let progress = state.progress;
+    let desk = &*state.desk;
+    let trailer = desk.trailer.as_slice();
+    let rest = write_rest(alloc, job, state.sink, progress, &desk.early, trailer);
     let Holding { tokens, unshelved } = ended;
     let Tokens { seat, pass } = tokens;
     let written = rest.written;
