@@ -1,5 +1,5 @@
 -- How a gathering ends.
-use Rattle.std.proofs.Common.{ℕ, ◌+◌, ◌<◌, ◌≤◌, ◌≡◌, ◌⊎◌, inl, inr, ⊎_elim, refl, sym, ap, ◌∙◌, subst, arith, Bool, List, [], ◌∷◌, length, take, Option, Some, None, if◌then◌else◌, ◌==◌, eq-eqb}
+use Rattle.std.proofs.Common.{ℕ, ◌+◌, ◌<◌, ◌≡◌, ◌⊎◌, inl, inr, ⊎_elim, refl, sym, ap, ◌∙◌, subst, arith, Bool, List, [], ◌∷◌, length, take, Option, Some, None, if◌then◌else◌, ◌==◌, eq-eqb}
 use Rattle.std.specs.Prelude.{Err, IfSome, IsNone, IsSome, IsTrue}
 use Rattle.std.specs.Io.KnownBytes.{Appends}
 use Rattle.std.proofs.KnownBytes.{Appends-nil}

@@ -12,11 +12,13 @@ pub loop-preserved : goal.loop-preserved
 loop-preserved g c =
     (tt, tt, c.impose_next.ensures.ticket, imposes_both _ _ _ _ c.loop.invariant.3 c.in_ok-impose_next.ensures.imposes)
 
-pub returns-clause-imposes : goal.returns-clause-imposes
-returns-clause-imposes g c =
+pub returns : goal.returns
+returns g c =
     let run = c.args.self.now.shared.now in
-    elim c.match-next.branch [
-      | in-None w ↦ subst (OnlyImposes run c.args.tokens.now) (sym w.tokens-is) c.loop.invariant.3
-      | in-Some+in_ok-impose_next+else-branch+then-none_left+then-is_empty w ↦
-          subst (OnlyImposes run c.args.tokens.now) (sym w.tokens-is) (imposes_both _ _ _ _ c.loop.invariant.3 w.in_ok-impose_next.ensures.imposes)
-    ]
+    record {
+      imposes = elim c.match-next.branch [
+        | in-None w ↦ subst (OnlyImposes run c.args.tokens.now) (sym w.tokens-is) c.loop.invariant.3
+        | in-Some+in_ok-impose_next+else-branch+then-none_left+then-is_empty w ↦
+            subst (OnlyImposes run c.args.tokens.now) (sym w.tokens-is) (imposes_both _ _ _ _ c.loop.invariant.3 w.in_ok-impose_next.ensures.imposes)
+      ];
+    }

@@ -1,4 +1,4 @@
-use Rattle.std.proofs.Common.{rules, sym, subst}
+use Rattle.std.proofs.Common.{sym, subst}
 use Rattle.sheet_writer.specs.Writing.{HaveTexts}
 use Rattle.planned_runs.specs.Promises.{OnlyImposes}
 use Rattle.planned_runs.proofs.Held.{imposes_both}
