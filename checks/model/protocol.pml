@@ -401,7 +401,7 @@ inline find_held()
 }
 
 /* RunInput::impose_batch, RunInput::impose_more: further sheets, before the same end of the window, until the
-   queue is asked, there is nothing, or the batch is full (Window::batch). Then on to where that leads. */
+   queue is asked, there is nothing, or the batch is full. Then on to where that leads. */
 inline further()
 {
 	do
@@ -420,7 +420,7 @@ inline further()
 	fi
 }
 
-/* RunInput::impose, RunInput::impose_ready, RunInput::impose_all, RunInput::impose_next */
+/* RunInput::impose, RunInput::impose_all, RunInput::impose_next */
 proctype imposer()
 {
 	byte held;                       /* a bit for each sheet */
@@ -780,7 +780,7 @@ init
 	byte memory;
 #endif
 
-	/* The table: run_plan, gather_plan, gather_run, gather_on. Ready::by_right, most_puts_in_all: the pass has room for all puts. */
+	/* The table: run_plan, gather_plan, gather_on. Ready::by_right, most_puts_in_all: the pass has room for all puts. */
 	d_step {
 		n = 0;
 		do
@@ -813,7 +813,7 @@ init
 		n++
 	:: else -> n = 0; break
 	od;
-	/* supplies_of, gather_at, run_workers, start, start_preparers, start_imposers; each preparer's room by
+	/* gather_at, run_workers, start_preparers, start_imposers; each preparer's room by
 	   RunInput::split_preparer, Shared::room_for, most_puts, with_page, Ready::split_with_room; an imposer has none
 	   (RunInput::split, Ready::split) */
 #ifdef F_START

@@ -179,7 +179,7 @@ grows_to h layout count number p n le =
     let e : p + (n - p) ≡ n = omega (arith, le) in
     subst (λ m. share_below h layout count number p ≤ share_below h layout count number m) e (grows h layout count number p (n - p))
 
-next_share : (layout : Layout) (count number p : ℕ) → p % count ≡ number
+pub next_share : (layout : Layout) (count number p : ℕ) → p % count ≡ number
     → share_below is_place layout count number (p + 1) ≡ share_below is_place layout count number p + length (places_of layout p)
 next_share layout count number p mine =
     let e : suc p ≡ p + 1 = omega arith in
@@ -191,16 +191,6 @@ next_share layout count number p mine =
 -- the sheets of a plan are as many as those of its layout
 pub sheets_same : (plan : Plan) → length (layout plan).sheets ≡ length plan.sheets
 sheets_same plan = length-map _ _
-
--- the count of a preparer's puts, with one page more
-pub least_next : (l : Layout) (count number p puts next n : ℕ) → puts ≡ min (share_below is_place l count number p) n
-    → next ≡ min (puts + (if p % count == number then length (places_of l p) else 0)) n
-    → next ≡ min (share_below is_place l count number (p + 1)) n
-least_next l count number p puts next n is after =
-    let e : suc p ≡ p + 1 = omega arith in
-    let one : (if p % count == number then total is_place (duties l p) else 0) ≡ (if p % count == number then length (places_of l p) else 0) =
-    ap (λ k. if p % count == number then k else 0) (page_weighs l p) in
-    subst (λ m. next ≡ min (share_below is_place l count number m) n) e (omega (arith, is, after, one))
 
 -- there is room for a page of the preparer's own
 pub room_for_page : (layout : Layout) (count number p : ℕ) (old : Tokens) → p < layout.pages → p % count ≡ number → HasRoomFrom layout count number p old → HasRoomForPage layout p old

@@ -1,11 +1,10 @@
 -- How a gathering ends.
-use Rattle.std.proofs.Common.{ℕ, ◌+◌, ◌<◌, ◌≤◌, ◌≡◌, ◌⊎◌, inl, inr, ⊎_elim, refl, sym, ap, ◌∙◌, subst, arith, Bool, List, [], ◌∷◌, length, take, Option, Some, None, if◌then◌else◌, ◌==◌, eq-eqb}
+use Rattle.std.proofs.Common.{ℕ, ◌+◌, ◌<◌, ◌≡◌, ◌⊎◌, inl, inr, ⊎_elim, refl, sym, ap, ◌∙◌, subst, arith, Bool, List, [], ◌∷◌, length, take, Option, Some, None, if◌then◌else◌, ◌==◌, eq-eqb}
 use Rattle.std.specs.Prelude.{Err, IfSome, IsNone, IsSome, IsTrue}
 use Rattle.std.specs.Io.KnownBytes.{Appends}
 use Rattle.std.proofs.KnownBytes.{Appends-nil}
 use Rattle.rules.specs.Sheets.{Layout}
 use Rattle.histories.specs.Seats.{whole_share, times}
-use Rattle.sheet_plan.specs.Places.{born_complete}
 use Rattle.gather_table.specs.History.{Entry}
 use Rattle.gather_table.specs.Shared.{TableView, SeatView, IsSeat, own_calls}
 use Rattle.handover.specs.Queue.{Move}
@@ -17,10 +16,10 @@ use Rattle.sheet_writer.specs.Sinks.{SinkView}
 use Rattle.sheet_writer.specs.Writing.{WroteFirst, HasFront, Stands}
 use Rattle.run_steps.specs.Delivery.{CloseWhatTheyFill}
 use Rattle.run_steps.specs.Duty.{Duty, owed}
-use Rattle.planned_runs.specs.Rooms.{HasRoomForAll}
-use Rattle.planned_runs.specs.Tokens.{AreTokens, AreUnused, done, put}
+use Rattle.planned_runs.specs.Promises.{HavePutBlankSheets}
+use Rattle.planned_runs.specs.Tokens.{AreTokens, AreUnused, done}
 use Rattle.run_steps.specs.Gathered.{HasPages, IsGathered, IsHandedOn, AreAllPut}
-use Rattle.planned_runs.specs.Gathering.{Answers, AreWhole, Concludes, HandsBack, GivesUp, IsFreshSeat, IsFreshPass}
+use Rattle.planned_runs.specs.Gathering.{Answers, AreWhole, Concludes, EndsOn, HandsBack, GivesUp, Leaves, IsFreshSeat, IsFreshPass}
 use Rattle.sheet_writer.specs.declared.writing.Halt.{Halt}
 use Rattle.sheet_writer.specs.declared.writing.Halt.TheVariants as halt
 use Rattle.sheet_writer.specs.declared.writing.Progress.{Progress}
@@ -57,28 +56,6 @@ used_wrote job old new p used = ⊎_elim
     (λ stands. stands_wrote job old new p stands)
     used
 
-gathered_answers : (job : JobView) (start mid last : SinkView) (p : Progress) (ended : Option Holding) (g : Gathered)
-    → WasUsed job start mid p
-    → IfSome ended (λ e. Stands job start mid p)
-    → (IsSome ended → Concludes job mid last p g.outcome)
-    → (IsNone ended → GivesUp p.written g × (last ≡ mid))
-    → Answers job start last g.outcome
-gathered_answers job start mid last p (Some e) g used stood concluded missing = concluded refl start stood
-gathered_answers job start mid last p None g used stood concluded missing =
-    let m = missing refl in
-    subst (λ x. Answers job start last x.outcome) (sym m.0)
-    (subst (λ t. Answers job start t (Err (NoMemory p.written))) (sym m.1) (used_wrote job start mid p used))
-
--- the same, of a sink that is left as the collector's is
-pub sink_answers : (job : JobView) (start mid last end : SinkView) (p : Progress) (ended : Option Holding) (g : Gathered) → end ≡ last
-    → WasUsed job start mid p
-    → IfSome ended (λ e. Stands job start mid p)
-    → (IsSome ended → Concludes job mid last p g.outcome)
-    → (IsNone ended → GivesUp p.written g × (last ≡ mid))
-    → Answers job start end g.outcome
-sink_answers job start mid last end p ended g same used stood concluded missing =
-    subst (λ t. Answers job start t g.outcome) (sym same) (gathered_answers job start mid last p ended g used stood concluded missing)
-
 -- tokens with all shares have gathered all pages, if their calls weigh what the pages want done and close what they fill
 pub tokens_gathered : (table : TableView) (queue : QueueView) (tokens : Tokens)
     → AreTokens table queue whole_share tokens → HasPages table.layout
@@ -91,11 +68,6 @@ tokens_gathered table queue tokens a pages w closed =
     (λ h. w h ∙ ap (λ (l : Layout). owed h l l.pages) (sym same)) closed)
 
 -- what comes back is whole, and has gathered all
-abbrev pub IsWhole : TableView → QueueView → (by_right : Bool) → Gathered → Type 0
-IsWhole table queue by_right g = IfSome g.tokens (λ t.
-    AreWhole table queue t.0 t.1 × IsHandedOn t.1.front × (IsNone g.unshelved → IsGathered table.layout t.0.front)
-    × (IsTrue by_right → AreAllPut table.layout t.0.front t.1.front))
-
 back_whole : (table : TableView) (queue : QueueView) (by_right : Bool) (e : Holding) (tokens : Option (SeatView × PassView)) (unshelved : Option Overflow)
     → AreTokens table queue whole_share e.tokens → IsHandedOn e.tokens.pass.front → (IsNone e.unshelved → IsGathered table.layout e.tokens.seat.front)
     → (IsTrue by_right → AreAllPut table.layout e.tokens.seat.front e.tokens.pass.front)
@@ -111,30 +83,36 @@ back_whole table queue by_right e (Some t) unshelved a h w put same is = (
   λ yes. subst (λ (z : SeatView × PassView). AreAllPut table.layout z.0.front z.1.front) (λ i. (sym same.0 i, sym same.1 i)) (put yes),
 )
 
-pub gathered_whole : (written : ℕ) {Unchanged : Type 0} {G : Type 0} (run : Shared G) (first : Tokens) (ended : Option Holding) (g : Gathered)
-    → HasPages run.table.now.layout → ((s : ℕ) → put s first ≤ times s (born_complete run.table.now.layout))
-    → (IsTrue run.by_right → (s : ℕ) → put s first ≡ times s (born_complete run.table.now.layout))
+-- how a gathering ends, if it is known what became of what the workers had, and how far the collector came
+pub ends_on : {G : Type 0} (run : Shared G) (first : Tokens) (start mid last end : SinkView) (p : Progress) (ended : Option Holding) (g : Gathered)
+    → HasPages run.floor.table.now.layout → HavePutBlankSheets run first → end ≡ last
+    → WasUsed run.floor.job.now start mid p
+    → IfSome ended (λ e. Stands run.floor.job.now start mid p)
     → IfSome ended (AllAreBack run first)
+    → (IsSome ended → Concludes run.floor.job.now mid last p g.outcome)
     → IfSome ended (λ e. HandsBack e g)
-    → (IsNone ended → GivesUp written g × Unchanged)
-    → IsWhole run.table.now run.ready.now run.by_right g
-gathered_whole written run first (Some e) g pages start exact back concluded missing =
-    back_whole run.table.now run.ready.now run.by_right e g.tokens g.unshelved back.tokens
-    (gathered_handed_on run.table.now run.ready.now first e.tokens back.tokens start back.order.puts)
-    (λ none. tokens_gathered run.table.now run.ready.now e.tokens back.tokens pages (back.work none) back.order.closes)
-    (λ yes. gathered_all_put run.table.now run.ready.now first e.tokens back.tokens (exact yes) (back.puts yes))
-    concluded.same concluded.unshelved
-gathered_whole written run first None g pages start exact back concluded missing =
-    subst (IsWhole run.table.now run.ready.now run.by_right) (sym (missing refl).0) tt
-
--- a token that comes back is one of the shelf
-pub gathered_unshelved : (written : ℕ) {Unchanged : Type 0} {G : Type 0} (run : Shared G) (first : Tokens) (ended : Option Holding) (g : Gathered)
-    → IfSome ended (AllAreBack run first)
-    → IfSome ended (λ e. HandsBack e g)
-    → (IsNone ended → GivesUp written g × Unchanged)
-    → IfSome g.unshelved (IsOn run.shelf.now)
-gathered_unshelved written run first (Some e) g back concluded missing = subst (λ u. IfSome u (IsOn run.shelf.now)) (sym concluded.unshelved) back.unshelved
-gathered_unshelved written run first None g back concluded missing = subst (λ x. IfSome x.unshelved (IsOn run.shelf.now)) (sym (missing refl).0) tt
+    → (IsNone ended → GivesUp p.written g × (last ≡ mid))
+    → EndsOn run.floor (IsTrue run.by_right) start end g
+ends_on run first start mid last end p (Some e) g pages blank same used stood back concluded handed missing =
+    let table = run.floor.table.now in let queue = run.floor.ready.now in
+    record {
+      outcome = subst (λ t. Answers run.floor.job.now start t g.outcome) (sym same) (concluded refl start stood);
+      tokens = handed.tokens;
+      whole = back_whole table queue run.by_right e g.tokens g.unshelved back.tokens
+          (gathered_handed_on table queue first e.tokens back.tokens blank.no_others back.order.puts)
+          (λ none. tokens_gathered table queue e.tokens back.tokens pages (back.work none) back.order.closes)
+          (λ yes. gathered_all_put table queue first e.tokens back.tokens (blank.all yes) (back.puts yes))
+          handed.same handed.unshelved;
+      unshelved = subst (λ u. IfSome u (IsOn run.floor.shelf.now)) (sym handed.unshelved) back.unshelved;
+    }
+ends_on run first start mid last end p None g pages blank same used stood back concluded handed missing =
+    let m = missing refl in
+    subst (EndsOn run.floor (IsTrue run.by_right) start end) (sym m.0) (record {
+      outcome = subst (λ t. Answers run.floor.job.now start t (Err (NoMemory p.written))) (sym (same ∙ m.1)) (used_wrote run.floor.job.now start mid p used);
+      tokens = refl;
+      whole = tt;
+      unshelved = tt;
+    })
 
 -- tokens of which nothing was used have no calls and no moves
 none_inside : (own : List ℕ) → ((x : ℕ) → 0 < times x own → x < 0) → own ≡ []
@@ -160,10 +138,14 @@ fresh_tokens table queue tokens seat pass held kept = (
   },
 )
 
--- if there is room for all puts, every complete sheet was put
-pub put_if_room : (table : TableView) (queue : QueueView) (layout : Layout) (count : ℕ) (pass : PassView) (tokens : Option (SeatView × PassView)) (Rest : SeatView × PassView → Type 0) (fits : Bool)
-    → (HasRoomForAll layout count pass → IsTrue fits)
-    → IfSome tokens (λ t. AreWhole table queue t.0 t.1 × IsHandedOn t.1.front × Rest t × (IsTrue fits → AreAllPut layout t.0.front t.1.front))
-    → IfSome tokens (λ t. AreWhole table queue t.0 t.1 × IsHandedOn t.1.front × Rest t × (HasRoomForAll layout count pass → AreAllPut layout t.0.front t.1.front))
-put_if_room table queue layout count pass None Rest fits by whole = tt
-put_if_room table queue layout count pass (Some t) Rest fits by whole = (whole.0, whole.1, whole.2, λ room. whole.3 (by room))
+-- what a gathering leaves on another condition, which implies the first
+pub leaves_if : (table : TableView) (queue : QueueView) (P Q : Type 0) (g : Gathered) → (P → Q) → Leaves table queue Q g → Leaves table queue P g
+leaves_if table queue P Q g by = if_there g.tokens
+  where
+    if_there : (tokens : Option (SeatView × PassView))
+        → IfSome tokens (λ t. AreWhole table queue t.0 t.1 × IsHandedOn t.1.front × (IsNone g.unshelved → IsGathered table.layout t.0.front)
+        × (Q → AreAllPut table.layout t.0.front t.1.front))
+        → IfSome tokens (λ t. AreWhole table queue t.0 t.1 × IsHandedOn t.1.front × (IsNone g.unshelved → IsGathered table.layout t.0.front)
+        × (P → AreAllPut table.layout t.0.front t.1.front))
+    if_there None left = tt
+    if_there (Some t) left = (left.0, left.1, left.2, λ p. left.3 (by p))

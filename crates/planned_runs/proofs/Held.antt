@@ -1,6 +1,7 @@
 -- The tokens of a worker stay tokens whatever it calls, and what it called adds up.
 use Rattle.std.proofs.Common.{◌≡◌, ⊎_elim, ℕ, ◌+◌, ◌≤◌, if◌then◌else◌, List, [], ◌∷◌, ◌++◌, refl, sym, ap, ◌∙◌, subst}
 use Rattle.std.proofs.Common.{arith}
+use Rattle.std.specs.Prelude.{Result, Ok, OnOk}
 use Rattle.rules.specs.Sheets.{Layout}
 use Rattle.histories.specs.Seats.{total, times}
 use Rattle.histories.specs.Own.{entries_at}
@@ -18,10 +19,16 @@ use Rattle.run_steps.specs.Delivery.{calls_of, AreAnswered, completed, CloseWhat
 use Rattle.run_steps.specs.Duty.{Duty, worth, duties}
 use Rattle.run_steps.specs.Reading.{OnlyReads}
 use Rattle.planned_runs.specs.Tokens as held
-use Rattle.planned_runs.specs.Tokens.{AreTokens, AreUnused, AreOfBoth, AreInOrder, OnlyImposes, done, put}
+use Rattle.planned_runs.specs.Tokens.{AreTokens, AreUnused, AreOfBoth, AreInOrder, done, put}
+use Rattle.planned_runs.specs.Promises.{AreOfImposer, OnlyImposes}
+use Rattle.planned_runs.specs.declared.shared.Shared.{Shared}
 use Rattle.run_steps.specs.declared.delivery.Delivered.{Delivered}
 use Rattle.planned_runs.specs.declared.tokens.Tokens.{Tokens}
 use Rattle.run_steps.proofs.Shares.{delivery_weight, deliveries_close, completed_counted}
+
+-- what holds at Ok
+pub at_ok : {A E : Type 0} {a : A} (r : Result A E) (P : Type 0) → r ≡ Ok a → OnOk r P → P
+at_ok r P is holds = subst (λ x. OnOk x P) is holds
 
 -- a pass as the seat that it is
 abbrev PassSeat : Type 0
@@ -220,30 +227,39 @@ closes_read old new reads before =
     closes_called old new reads.calls before (λ s g. let n = reads.closes_nothing s g in omega arith) reads.made
 
 -- what an imposer does: nothing, a look, a take, and one thing after another
-pub imposes_nothing : (tokens : Tokens) → OnlyImposes tokens tokens
-imposes_nothing tokens = record { work = λ h. refl; puts = λ s. refl; closes = λ closed. closed }
+pub imposes_nothing : {G : Type 0} (run : Shared G) (tokens : Tokens) → AreOfImposer run tokens → OnlyImposes run tokens tokens
+imposes_nothing run tokens are = record { tokens = are; work = λ h. refl; puts = λ s. refl; closes = λ closed. closed }
 
-pub imposes_same : (old : Tokens) (pass : PassView) → pass ≡ old.pass → OnlyImposes old (record { seat = old.seat; pass = pass })
-imposes_same old pass same =
-    subst (λ (p : PassView). OnlyImposes old (record { seat = old.seat; pass = p })) (sym same) (imposes_nothing old)
+pub imposes_same : {G : Type 0} (run : Shared G) (old : Tokens) (pass : PassView) → AreOfImposer run old → pass ≡ old.pass
+    → OnlyImposes run old (record { seat = old.seat; pass = pass })
+imposes_same run old pass are same =
+    subst (λ (p : PassView). OnlyImposes run old (record { seat = old.seat; pass = p })) (sym same) (imposes_nothing run old are)
 
-pub imposes_read : (old : Tokens) (seat : SeatView) → OnlyReads old.seat seat → OnlyImposes old (record { seat = seat; pass = old.pass })
-imposes_read old seat reads = record {
+pub imposes_read : {G : Type 0} (run : Shared G) (old : Tokens) (seat : SeatView) → AreOfImposer run old → OnlyReads old.seat seat
+    → OnlyImposes run old (record { seat = seat; pass = old.pass })
+imposes_read run old seat are reads = record {
+  tokens = tokens_read run.floor.table.now run.floor.ready.now 1 old seat are reads;
   work = λ h. done_read h old.seat seat reads;
   puts = λ s. refl;
   closes = closes_read old.seat seat reads;
 }
 
-pub imposes_taken : (sheet : ℕ) (old : Tokens) (pass : PassView) → queue.Made old.pass (Take sheet) pass
-    → OnlyImposes old (record { seat = old.seat; pass = pass })
-imposes_taken sheet old pass taken = record {
-  work = λ h. refl;
-  puts = λ s. puts_taken s sheet old.pass pass taken;
-  closes = λ closed. closed;
-}
+pub imposes_taken : {G : Type 0} (run : Shared G) (sheet : ℕ) (old : Tokens) (pass : PassView) → AreOfImposer run old → queue.Made old.pass (Take sheet) pass
+    → OnlyImposes run old (record { seat = old.seat; pass = pass })
+imposes_taken run sheet old pass are taken =
+    let table = run.floor.table.now in let line = run.floor.ready.now in
+    record {
+      tokens = are_tokens table line 1 (record { seat = old.seat; pass = pass }) (seat_with table line 1 old are)
+          (pass_moved line 1 old.pass pass (Take sheet) (pass_with table line 1 old are) taken);
+      work = λ h. refl;
+      puts = λ s. puts_taken s sheet old.pass pass taken;
+      closes = λ closed. closed;
+    }
 
-pub imposes_both : (first second third : Tokens) → OnlyImposes first second → OnlyImposes second third → OnlyImposes first third
-imposes_both first second third one two = record {
+pub imposes_both : {G : Type 0} (run : Shared G) (first second third : Tokens) → OnlyImposes run first second → OnlyImposes run second third
+    → OnlyImposes run first third
+imposes_both run first second third one two = record {
+  tokens = two.tokens;
   work = λ h. two.work h ∙ one.work h;
   puts = λ s. two.puts s ∙ one.puts s;
   closes = λ closed. two.closes (one.closes closed);

@@ -6,7 +6,7 @@ use Rattle.rules.specs.Sheets.{Plan, Layout, layout}
 use Rattle.histories.specs.Seats.{total}
 use Rattle.sheet_plan.specs.Places.{places_of}
 use Rattle.run_steps.specs.Duty.{Duty, duties, is_place, most_puts, share_below}
-use Rattle.planned_runs.proofs.ByRight.{least_next, sheets_same}
+use Rattle.planned_runs.proofs.ByRight.{next_share, sheets_same}
 
 -- two numbers that leave the same one, when they are divided, aren't less than the divisor apart
 apart : (q r c n j : ℕ) → n < c → 0 < j → j < c → r * c + n ≡ q * c + (n + j) → ⊥
@@ -19,17 +19,15 @@ apart q r c n j below after before e = ⊎_elim
     (cases_lt (n + j) c)
 
 -- a page between one of the preparer's own and the next isn't its own
-not_own : (count number p j : ℕ) → 0 < count → p % count ≡ number % count → 0 < j → j < count → (p + j) % count ≢ number
+not_own : (count number p j : ℕ) → 0 < count → p % count ≡ number → 0 < j → j < count → (p + j) % count ≢ number
 not_own count number p j some own after before is =
     let below : number < count = subst (λ k. k < count) is (mod_below (p + j) count some) in
-    let alone : 0 * count + number ≡ number = omega arith in
-    let left : p % count ≡ number = own ∙ subst (λ m. m % count ≡ number) alone (mod-mul-add 0 count number below) in
     let here = div-add-mod' p count in
     let there = div-add-mod' (p + j) count in
-    apart (p / count) ((p + j) / count) count number j below after before (omega (arith, here, there, left, is))
+    apart (p / count) ((p + j) / count) count number j below after before (omega (arith, here, there, own, is))
 
 -- so what it owes doesn't grow by these
-pub passed_over : (h : Duty → ℕ) (l : Layout) (count number p k : ℕ) → 0 < count → p % count ≡ number % count → k < count
+pub passed_over : (h : Duty → ℕ) (l : Layout) (count number p k : ℕ) → 0 < count → p % count ≡ number → k < count
     → share_below h l count number (p + 1 + k) ≡ share_below h l count number (p + 1)
 passed_over h l count number p zero some own less = ap (share_below h l count number) (omega arith)
 passed_over h l count number p (suc k) some own less =
@@ -56,25 +54,30 @@ none_before h l count number (suc n) some few =
         let whole = div-add-mod' n count in
         omega (arith, whole, is, few)
 
--- the next of its own
-pub own_next : (count number p : ℕ) → 0 < count → p % count ≡ number % count → (p + count) % count ≡ number % count
+-- the first of its own, and the next
+pub own_first : (count number : ℕ) → number < count → number % count ≡ number
+own_first count number below =
+    let alone : 0 * count + number ≡ number = omega arith in
+    subst (λ m. m % count ≡ number) alone (mod-mul-add 0 count number below)
+
+pub own_next : (count number p : ℕ) → 0 < count → p % count ≡ number → (p + count) % count ≡ number
 own_next count number p some own =
     let whole = div-add-mod' p count in
     let next : (p / count + 1) * count + p % count ≡ p + count = omega (arith, whole) in
-    subst (λ k. k % count ≡ number % count) next (mod-mul-add (p / count + 1) count (p % count) (mod_below p count some) ∙ own)
+    subst (λ k. k % count ≡ number) next (mod-mul-add (p / count + 1) count (p % count) (mod_below p count some) ∙ own)
 
 -- the count of its puts, with this page and those up to the next of its own
-pub most_next : (l : Layout) (count number p pages puts next n : ℕ) → 0 < count → p % count ≡ number % count → p < pages
-    → puts ≡ min (share_below is_place l count number (min p pages)) n
-    → next ≡ min (puts + (if p % count == number then length (places_of l p) else 0)) n
+pub most_next : (l : Layout) (count number p pages puts next n : ℕ) → 0 < count → p % count ≡ number → p < pages
+    → puts ≡ min (share_below is_place l count number (min p pages)) n → next ≡ min (puts + length (places_of l p)) n
     → next ≡ min (share_below is_place l count number (min (p + count) pages)) n
 most_next l count number p pages puts next n some own within is after =
     let here : min p pages ≡ p = omega (arith, within) in
-    let one = least_next l count number p puts next n (subst (λ m. puts ≡ min (share_below is_place l count number m) n) here is) after in
+    let now = subst (λ m. puts ≡ min (share_below is_place l count number m) n) here is in
+    let more = next_share l count number p own in
     let k = min (p + count) pages - (p + 1) in
     let at : p + 1 + k ≡ min (p + count) pages = omega (arith, some, within) in
     let same = passed_over is_place l count number p k some own (omega (arith, some, within)) in
-    subst (λ m. next ≡ min (share_below is_place l count number m) n) at (omega (arith, one, same))
+    subst (λ m. next ≡ min (share_below is_place l count number m) n) at (omega (arith, now, more, after, same))
 
 -- of all its pages
 pub most_of_all : (plan : Plan) (count number p puts : ℕ) → plan.pages ≤ p

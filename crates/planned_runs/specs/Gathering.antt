@@ -7,6 +7,7 @@ use Rattle.histories.specs.Seats.{whole_share}
 use Rattle.sheet_plan.specs.Places.{born_complete}
 use Rattle.gather_table.specs.Shared.{TableView, SeatView, IsSeat, IsSeatOf}
 use Rattle.handover.specs.Passes.{QueueView, PassView, IsPass, IsPassOf}
+use Rattle.handover.specs.Shelves.{IsOn}
 use Rattle.run_steps.specs.Gathered.{IsGathered, IsHandedOn, AreAllPut}
 use Rattle.sheet_text.specs.Jobs.{JobView, output_of}
 use Rattle.sheet_writer.specs.Sinks.{SinkView}
@@ -14,6 +15,7 @@ use Rattle.sheet_writer.specs.Writing.{WroteFirst, Stands}
 use Rattle.planned_runs.specs.Outcomes.{AfterError}
 use Rattle.planned_runs.specs.Outcomes.{FailedIn}
 use Rattle.sheet_writer.specs.declared.writing.Progress.{Progress}
+use Rattle.planned_runs.specs.declared.shared.Floor.{Floor}
 use Rattle.planned_runs.specs.declared.tokens.Holding.{Holding}
 use Rattle.planned_runs.specs.declared.gathering.Gathered.{Gathered}
 use Rattle.planned_runs.specs.declared.outcome.Report.{Report}
@@ -74,6 +76,13 @@ abbrev pub Leaves : TableView → QueueView → (HasRoom : Type 0) → Gathered 
 Leaves table queue HasRoom gathered = IfSome gathered.tokens (λ t. AreWhole table queue t.0 t.1
     × IsHandedOn t.1.front × (IsNone gathered.unshelved → IsGathered table.layout t.0.front)
     × (HasRoom → AreAllPut table.layout t.0.front t.1.front))
+
+-- how a gathering on this floor ends: what it answers of the sink, and what it leaves
+pub record EndsOn {G : Type 0} (floor : Floor G) (HasRoom : Type 0) (old new : SinkView) (gathered : Gathered) : Type 0 where
+  pub outcome : Answers floor.job.now old new gathered.outcome
+  pub tokens : TokensComeBack gathered
+  pub whole : Leaves floor.table.now floor.ready.now HasRoom gathered
+  pub unshelved : IfSome gathered.unshelved (IsOn floor.shelf.now)
 
 -- how a run answers whose workers have ended, wherever its collector began
 abbrev pub Concludes : JobView → (old new : SinkView) → Progress → Result Report RunError → Type 0

@@ -2,8 +2,10 @@
 use Rattle.std.specs.Prelude.{◌≡◌, ℕ, ◌+◌, ◌≤◌, [], IfSome, IsNone, IsTrue}
 use Rattle.histories.specs.Seats.{times}
 use Rattle.sheet_plan.specs.Places.{born_complete}
+use Rattle.gather_table.specs.Shared.{own_calls}
 use Rattle.handover.specs.Passes.{puts_in}
 use Rattle.handover.specs.Shelves.{IsOn}
+use Rattle.run_steps.specs.Delivery.{CloseWhatTheyFill}
 use Rattle.run_steps.specs.Duty.{Duty, share_below, shares, most_puts, most_puts_of}
 use Rattle.planned_runs.specs.Tokens.{AreTokens, AreUnused, AreInOrder, done, put, completed}
 use Rattle.planned_runs.specs.Rooms.{PutsAll}
@@ -15,40 +17,52 @@ use Rattle.planned_runs.specs.declared.tokens.Holding.{Holding}
 -- the tokens are of the run's table and queue, with this share, and the token of a page without a receipt is of its
 -- shelf
 pub record IsHeld {G : Type 0} (run : Shared G) (share : ℕ) (h : Holding) : Type 0 where
-  pub tokens : AreTokens run.table.now run.ready.now share h.tokens
-  pub unshelved : IfSome h.unshelved (IsOn run.shelf.now)
+  pub tokens : AreTokens run.floor.table.now run.floor.ready.now share h.tokens
+  pub unshelved : IfSome h.unshelved (IsOn run.floor.shelf.now)
 
 -- what the workers of a run begin with: nothing was called on the table, and no sheets were put but those without pages; if
 -- puts are made by right, all of these were
 pub record HavePutBlankSheets {G : Type 0} (run : Shared G) (first : Tokens) : Type 0 where
   pub no_calls : first.seat.own ≡ []
-  pub no_others : (s : ℕ) → put s first ≤ times s (born_complete run.table.now.layout)
-  pub all : IsTrue run.by_right → (s : ℕ) → put s first ≡ times s (born_complete run.table.now.layout)
+  pub no_others : (s : ℕ) → put s first ≤ times s (born_complete run.floor.table.now.layout)
+  pub all : IsTrue run.by_right → (s : ℕ) → put s first ≡ times s (born_complete run.floor.table.now.layout)
 
 -- one share, with which nothing was done yet
 pub record IsNew {G : Type 0} (run : Shared G) (h : Holding) : Type 0 where
-  pub tokens : AreTokens run.table.now run.ready.now 1 h.tokens
+  pub tokens : AreTokens run.floor.table.now run.floor.ready.now 1 h.tokens
   pub unused : AreUnused h.tokens
   pub unshelved : IsNone h.unshelved
 
 -- the same of preparer `number` of `count`: if puts are made by right, there is room for all of its puts
 pub record IsNewPreparer {G : Type 0} (run : Shared G) (count number : ℕ) (h : Holding) : Type 0 where
   pub new : IsNew run h
-  pub room : IsTrue run.by_right → most_puts run.table.now.layout count number ≤ puts_in h.tokens.pass.room
+  pub room : IsTrue run.by_right → most_puts run.floor.table.now.layout count number ≤ puts_in h.tokens.pass.room
 
 -- if puts are made by right, there is room for all puts of the preparers from this number on
 abbrev pub IsEnough : {G : Type 0} → Shared G → (count number : ℕ) → Holding → Type 0
 IsEnough run count number h =
-    IsTrue run.by_right → most_puts_of run.table.now.layout count count
-    ≤ most_puts_of run.table.now.layout count number + puts_in h.tokens.pass.room
+    IsTrue run.by_right → most_puts_of run.floor.table.now.layout count count
+    ≤ most_puts_of run.floor.table.now.layout count number + puts_in h.tokens.pass.room
 
 -- what preparer `number` of `count` promises: if each of its pages got a receipt, exactly their work was done; all was
 -- called and put in order; and if puts are made by right, every sheet that its calls completed was put
 pub record HasPrepared {G : Type 0} (run : Shared G) (count number : ℕ) (h : Holding) : Type 0 where
   pub work : IsNone h.unshelved → (w : Duty → ℕ)
-      → done w h.tokens ≡ share_below w run.table.now.layout count number run.table.now.layout.pages
+      → done w h.tokens ≡ share_below w run.floor.table.now.layout count number run.floor.table.now.layout.pages
   pub order : AreInOrder h.tokens
   pub puts : IsTrue run.by_right → PutsAll h.tokens
+
+-- an imposer's tokens
+abbrev pub AreOfImposer : {G : Type 0} → Shared G → Tokens → Type 0
+AreOfImposer run tokens = AreTokens run.floor.table.now run.floor.ready.now 1 tokens
+
+-- what an imposer does in between: it keeps its tokens, nothing was published, marked or put, and no group is left open that
+-- was closed
+pub record OnlyImposes {G : Type 0} (run : Shared G) (old new : Tokens) : Type 0 where
+  pub tokens : AreOfImposer run new
+  pub work : (w : Duty → ℕ) → done w new ≡ done w old
+  pub puts : (s : ℕ) → put s new ≡ put s old
+  pub closes : CloseWhatTheyFill (own_calls old.seat) → CloseWhatTheyFill (own_calls new.seat)
 
 -- what an imposer promises: it has no page without a receipt, and nothing was published, marked or put
 pub record HasImposed (h : Holding) : Type 0 where
@@ -60,6 +74,6 @@ pub record HasImposed (h : Holding) : Type 0 where
 -- by right, every sheet that calls completed since was put
 pub record HasGathered {G : Type 0} (run : Shared G) (first : Tokens) (count joined : ℕ) (h : Holding) : Type 0 where
   pub work : IsNone h.unshelved → (w : Duty → ℕ)
-      → done w h.tokens ≡ shares w run.table.now.layout count run.table.now.layout.pages joined
+      → done w h.tokens ≡ shares w run.floor.table.now.layout count run.floor.table.now.layout.pages joined
   pub order : AreInOrderSince first h.tokens
   pub puts : IsTrue run.by_right → (s : ℕ) → put s h.tokens ≡ put s first + completed s h.tokens

@@ -52,9 +52,3 @@ pub record AreOfBoth (one two new : Tokens) : Type 0 where
   pub calls : (weight : Entry → ℕ)
       → total weight (own_calls new.seat) ≡ total weight (own_calls one.seat) + total weight (own_calls two.seat)
   pub puts : (s : ℕ) → put s new ≡ put s one + put s two
-
--- what an imposer does in between: nothing was published, marked or put, and no group is left open that was closed
-pub record OnlyImposes (old new : Tokens) : Type 0 where
-  pub work : (h : Duty → ℕ) → done h new ≡ done h old
-  pub puts : (s : ℕ) → put s new ≡ put s old
-  pub closes : CloseWhatTheyFill (own_calls old.seat) → CloseWhatTheyFill (own_calls new.seat)

@@ -1,29 +1,28 @@
 //! What the collector needs and keeps, and how it takes what the workers finish.
-ghost use Rattle.std.specs.Prelude.{◌≡◌, ℕ, ◌+◌, ◌<◌, ◌≤◌, None, Some, length, false, IsTrue};
+ghost use Rattle.std.specs.Prelude.{◌≡◌, None, false, IsTrue};
 ghost use Rattle.sheet_writer.specs.Sinks.{IsCountable};
 ghost use Rattle.crossbeam_channel.specs.Claims.{IsSeatAt};
 ghost use Rattle.crossbeam_channel.specs.Ends.{receives_on};
-ghost use Rattle.made_sheets.specs.MadeOutput.{dressed_preamble};
-ghost use Rattle.sheet_writer.specs.Writing.{Stands, GoesOn, AreEarly};
+ghost use Rattle.sheet_writer.specs.Writing.{Stands, GoesOn};
+ghost use Rattle.planned_runs.specs.Desks.{IsDeskOf};
 
-use crate::channel::{SheetRule, SheetTexts, Ticket};
+use crate::channel::{SheetRule, SheetTexts};
 use crate::gate::{Gate, Look};
+use crate::setup::Desk;
 use crate::shared::RunInput;
 use crate::spent::Written;
 use crate::window::Idling;
-use sheet_writer::{Early, Progress, Sink, write_early, write_text};
+use sheet_writer::{Progress, Sink, write_early, write_text};
 use std::sync::Wait;
 use std::sync::atomic::Ordering::SeqCst;
 use workers::Collector;
 
-/// What the collector writes to, and the sheets that came before their turn. It owns no memory, so that what becomes
-/// of the sink is known to whom it belongs.
+/// What the collector writes to, its desk, and how far it is. It owns no memory, so that what becomes of the sink is known
+/// to whom it belongs.
 #[derive(Drop)]
 pub(crate) struct CollectorState<'a, 'r, S> {
     pub(crate) sink: &'a mut S,
-    pub(crate) early: &'a mut Early<'r>,
-    pub(crate) header: &'a [u8],
-    pub(crate) ticket: &'a mut Ticket<'r>,
+    pub(crate) desk: &'a mut Desk<'r>,
     pub(crate) progress: Progress,
 }
 
@@ -31,18 +30,17 @@ impl<'s, 'r, 't, 'd, 'a, T: SheetTexts, G: Gate, S: Sink> Collector<CollectorSta
     for RunInput<'s, 'r, 't, 'd, T, G> {
     ghost reference = { λ input state. state.sink.ghost_name };
 
-    ghost is_ready_to_collect = { λ input state. IsSeatAt (receives_on input.channel.now.receiver) state.ticket.now
-        × (state.header.now ≡ dressed_preamble (length input.shared.now.job.now.plan.sheets) input.shared.now.job.now.header input.shared.now.job.now.units)
+    ghost is_ready_to_collect = { λ input state. IsSeatAt (receives_on input.channel.now.receiver) state.desk.now.receiving
+        × IsDeskOf input.shared.now.floor.job.now state.desk.now
         × (state.progress ≡ record { next = 0; written = 0; swept = 0; halted = None })
-        × AreEarly input.shared.now.job.now state.early.now.groups.items
         × IsCountable (S.seen state.sink.now) };
 
     ghost collected = { λ input old new.
-        Stands input.shared.now.job.now (S.seen old.sink.now) (S.seen new.sink.now) new.progress
-        × AreEarly input.shared.now.job.now new.early.now.groups.items };
+        Stands input.shared.now.floor.job.now (S.seen old.sink.now) (S.seen new.sink.now) new.progress
+        × IsDeskOf input.shared.now.floor.job.now new.desk.now };
 
     fn collect<R: Wait>(&self, rt: &R, state: &mut CollectorState<'a, 'r, S>) {
-        state.progress = write_text(state.sink, state.progress, state.header);
+        state.progress = write_text(state.sink, state.progress, state.desk.header.as_slice());
         if state.progress.halted.is_none() {
             take_all(rt, self, state);
         }
@@ -56,12 +54,12 @@ fn take_all<'r, R: Wait, T: SheetTexts, G: Gate, S: Sink>(
     state: &mut CollectorState<'_, 'r, S>,
 )
     requires countable { IsCountable (S.seen state.old.sink.now) }
-    requires ticket { IsSeatAt (receives_on input.now.channel.now.receiver) state.old.ticket.now }
+    requires ticket { IsSeatAt (receives_on input.now.channel.now.receiver) state.old.desk.now.receiving }
     requires going { state.old.progress.halted ≡ None }
-    requires early { AreEarly input.now.shared.now.job.now state.old.early.now.groups.items }
-    ensures early { AreEarly input.now.shared.now.job.now state.new.early.now.groups.items }
+    requires desk { IsDeskOf input.now.shared.now.floor.job.now state.old.desk.now }
+    ensures desk { IsDeskOf input.now.shared.now.floor.job.now state.new.desk.now }
     ensures same { state.new.sink.ghost_name ≡ state.old.sink.ghost_name }
-    ensures goes_on { GoesOn input.now.shared.now.job.now (S.seen state.old.sink.now) (S.seen state.new.sink.now)
+    ensures goes_on { GoesOn input.now.shared.now.floor.job.now (S.seen state.old.sink.now) (S.seen state.new.sink.now)
         state.old.progress state.new.progress }
 {
     let mut idling = input.shared.window.idling();
@@ -81,14 +79,14 @@ fn take_turn<'r, R: Wait, T: SheetTexts, G: Gate, S: Sink>(
     state: &mut CollectorState<'_, 'r, S>,
 ) -> bool
     requires countable { IsCountable (S.seen state.old.sink.now) }
-    requires ticket { IsSeatAt (receives_on input.now.channel.now.receiver) state.old.ticket.now }
+    requires ticket { IsSeatAt (receives_on input.now.channel.now.receiver) state.old.desk.now.receiving }
     requires going { state.old.progress.halted ≡ None }
-    requires early { AreEarly input.now.shared.now.job.now state.old.early.now.groups.items }
-    ensures ticket { IsSeatAt (receives_on input.now.channel.now.receiver) state.new.ticket.now }
+    requires desk { IsDeskOf input.now.shared.now.floor.job.now state.old.desk.now }
+    ensures ticket { IsSeatAt (receives_on input.now.channel.now.receiver) state.new.desk.now.receiving }
     ensures going { IsTrue result → state.new.progress.halted ≡ None }
-    ensures early { AreEarly input.now.shared.now.job.now state.new.early.now.groups.items }
+    ensures desk { IsDeskOf input.now.shared.now.floor.job.now state.new.desk.now }
     ensures same { state.new.sink.ghost_name ≡ state.old.sink.ghost_name }
-    ensures goes_on { GoesOn input.now.shared.now.job.now (S.seen state.old.sink.now) (S.seen state.new.sink.now)
+    ensures goes_on { GoesOn input.now.shared.now.floor.job.now (S.seen state.old.sink.now) (S.seen state.new.sink.now)
         state.old.progress state.new.progress }
     ensures steady { IsTrue result → (S.seen state.new.sink.now).failures ≡ (S.seen state.old.sink.now).failures }
 {
@@ -114,37 +112,37 @@ fn take_one<'r, R: Wait, T: SheetTexts, G: Gate, S: Sink>(
     state: &mut CollectorState<'_, 'r, S>,
 ) -> bool
     requires countable { IsCountable (S.seen state.old.sink.now) }
-    requires ticket { IsSeatAt (receives_on input.now.channel.now.receiver) state.old.ticket.now }
+    requires ticket { IsSeatAt (receives_on input.now.channel.now.receiver) state.old.desk.now.receiving }
     requires going { state.old.progress.halted ≡ None }
-    requires early { AreEarly input.now.shared.now.job.now state.old.early.now.groups.items }
-    ensures ticket { IsSeatAt (receives_on input.now.channel.now.receiver) state.new.ticket.now }
-    ensures early { AreEarly input.now.shared.now.job.now state.new.early.now.groups.items }
+    requires desk { IsDeskOf input.now.shared.now.floor.job.now state.old.desk.now }
+    ensures ticket { IsSeatAt (receives_on input.now.channel.now.receiver) state.new.desk.now.receiving }
+    ensures desk { IsDeskOf input.now.shared.now.floor.job.now state.new.desk.now }
     ensures same { state.new.sink.ghost_name ≡ state.old.sink.ghost_name }
-    ensures goes_on { GoesOn input.now.shared.now.job.now (S.seen state.old.sink.now) (S.seen state.new.sink.now)
+    ensures goes_on { GoesOn input.now.shared.now.floor.job.now (S.seen state.old.sink.now) (S.seen state.new.sink.now)
         state.old.progress state.new.progress }
     ensures steady { state.new.progress.halted ≡ None → (S.seen state.new.sink.now).failures ≡ (S.seen state.old.sink.now).failures }
     ensures nothing { result ≡ false → state.new.progress.halted ≡ None }
 {
     let shared = input.shared;
     let channel = input.channel;
-    shared.gate.before_look(Look::Channel);
+    shared.floor.gate.before_look(Look::Channel);
     let received = channel
         .receiver
-        .try_recv_as::<SheetRule<T>, R>(rt, state.ticket);
-    shared.gate.after_look(Look::Channel);
+        .try_recv_as::<SheetRule<T>, R>(rt, &mut state.desk.receiving);
+    shared.floor.gate.after_look(Look::Channel);
     let Ok(batch) = received else {
         return false;
     };
-    state.early.put(batch);
+    state.desk.early.put(batch);
     let mut written = Written {
         rt,
         queue: &channel.spent,
     };
     state.progress = write_early(
-        shared.job,
+        shared.floor.job,
         state.sink,
         state.progress,
-        state.early,
+        &mut state.desk.early,
         &mut written,
     );
     true

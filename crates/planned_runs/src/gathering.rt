@@ -1,11 +1,10 @@
 //! The part of a run in which all its workers start and end.
 ghost use Rattle.std.specs.Prelude.{◌≡◌, ℕ, ◌+◌, ◌-◌, ◌<◌, ◌≤◌, List, Option, None, Err, length, IfOk, IfErr, IfSome, IsNone};
-ghost use Rattle.std.specs.Prelude.{IsSome, IsSomeAnd, IsTrue, MatchResult, OnOk, ⊤};
+ghost use Rattle.std.specs.Prelude.{IsSome, IsTrue, OnOk};
 ghost use Rattle.std.specs.Io.KnownBytes.{Appends};
 ghost use Rattle.crossbeam_channel.specs.Claims.{IsSeatAt};
 ghost use Rattle.crossbeam_channel.specs.Ends.{receives_on, sends_on};
 ghost use Rattle.rules.specs.Sheets.{layout};
-ghost use Rattle.rules.specs.Filters.{trailer_text};
 ghost use Rattle.histories.specs.Seats.{whole_share};
 ghost use Rattle.handover.specs.Passes.{IsPassOf};
 ghost use Rattle.handover.specs.Shelves.{IsOn};
@@ -16,14 +15,13 @@ ghost use Rattle.planned_runs.specs.Outcomes.{FailedIn};
 ghost use Rattle.run_steps.specs.Delivery.{HandedOn};
 ghost use Rattle.sheet_writer.specs.Places.{not_come};
 ghost use Rattle.sheet_writer.specs.Sinks.{IsCountable};
-ghost use Rattle.sheet_writer.specs.Writing.{AreEarly};
 ghost use Rattle.planned_runs.specs.Tokens.{AreTokens, AreUnused};
 ghost use Rattle.run_steps.specs.Gathered.{HasPages, IsGathered, IsHandedOn, AreAllPut};
 ghost use Rattle.planned_runs.specs.Desks.{IsDeskOf};
 ghost use Rattle.planned_runs.specs.Promises.{HavePutBlankSheets, IsEnough, IsHeld};
 ghost use Rattle.planned_runs.specs.Rooms.{HasRoomForAll};
-ghost use Rattle.planned_runs.specs.Gathering.{IsFreshSeat, IsFreshPass, ReportsOf, WrotePartOf, AreWhole, Leaves, TokensComeBack};
-ghost use Rattle.planned_runs.specs.Gathering.{Answers, Concludes, HandsBack, GivesUp};
+ghost use Rattle.planned_runs.specs.Gathering.{IsFreshSeat, IsFreshPass, ReportsOf, WrotePartOf, AreWhole, TokensComeBack};
+ghost use Rattle.planned_runs.specs.Gathering.{Concludes, EndsOn, HandsBack, GivesUp};
 
 use crate::channel::{Channel, RuledJob, SheetTexts, Ticket};
 use crate::collector::CollectorState;
@@ -120,27 +118,24 @@ pub fn gather<'j, 'd, R: Threads + Wait + Sync, G: Gate + Sync, S: Sink>(
         is_of_document: false,
         ready: &*ready,
     };
-    gather_on(rt, &floor, Tokens { seat, pass }, workers, sink)
+    gather_on(rt, floor, Tokens { seat, pass }, workers, sink)
 }
 
 /// `gather` on this floor, whose shelf may be that of the job's document: then pages are put as the document's own, and
 /// imposers don't compare them.
 pub(crate) fn gather_on<'d, R: Threads + Wait + Sync, G: Gate + Sync, S: Sink>(
     rt: &R,
-    floor: &Floor<'_, '_, '_, 'd, G>,
+    floor: Floor<'_, '_, '_, 'd, G>,
     tokens: Tokens,
     workers: Workers,
     sink: &mut S,
 ) -> Gathered<'d>
-    requires seat { IsFreshSeat floor.now.table.now tokens.seat }
-    requires pass { IsFreshPass floor.now.ready.now tokens.pass }
+    requires seat { IsFreshSeat floor.table.now tokens.seat }
+    requires pass { IsFreshPass floor.ready.now tokens.pass }
     requires workers { AreWorkers workers }
     requires countable { IsCountable (S.seen sink.old) }
-    ensures outcome { Answers floor.now.job.now (S.seen sink.old) (S.seen sink.new) result.outcome }
-    ensures tokens { TokensComeBack result }
-    ensures whole { Leaves floor.now.table.now floor.now.ready.now
-        (HasRoomForAll floor.now.table.now.layout workers.preparers tokens.pass) result }
-    ensures unshelved { IfSome result.unshelved (IsOn floor.now.shelf.now) }
+    ensures { EndsOn floor.entry (HasRoomForAll floor.entry.table.now.layout workers.preparers tokens.pass)
+        (S.seen sink.old) (S.seen sink.new) result }
 {
     // Each shows that it keeps what every seat and every pass keeps.
     tokens.seat.share();
@@ -151,13 +146,7 @@ pub(crate) fn gather_on<'d, R: Threads + Wait + Sync, G: Gate + Sync, S: Sink>(
     let (of_pages, of_slots) = bytes_of_pages(job);
     let page_len = of_pages / (job.plan().pages() as usize).max(1);
     let shared = Shared {
-        alloc: floor.alloc,
-        gate: floor.gate,
-        job,
-        table: floor.table,
-        shelf: floor.shelf,
-        is_of_document: floor.is_of_document,
-        ready: floor.ready,
+        floor,
         by_right,
         preparers_left: AtomicU32::new(workers.preparers),
         imposers_left: AtomicU32::new(workers.imposers),
@@ -166,26 +155,6 @@ pub(crate) fn gather_on<'d, R: Threads + Wait + Sync, G: Gate + Sync, S: Sink>(
         imposing: Turns::new(page_len),
     };
     gather_as::<Brand, R, G, S>(rt, &shared, tokens, workers, sink)
-}
-
-/// `gather_on` for a run: its pass has room for all puts, so every complete sheet was put on the queue exactly once.
-pub(crate) fn gather_run<'d, R: Threads + Wait + Sync, G: Gate + Sync, S: Sink>(
-    rt: &R,
-    floor: &Floor<'_, '_, '_, 'd, G>,
-    tokens: Tokens,
-    workers: Workers,
-    sink: &mut S,
-) -> Gathered<'d>
-    requires seat { IsFreshSeat floor.now.table.now tokens.seat }
-    requires pass { IsFreshPass floor.now.ready.now tokens.pass }
-    requires room { HasRoomForAll floor.now.table.now.layout workers.preparers tokens.pass }
-    requires workers { AreWorkers workers }
-    requires countable { IsCountable (S.seen sink.old) }
-    ensures outcome { Answers floor.now.job.now (S.seen sink.old) (S.seen sink.new) result.outcome }
-    ensures tokens { TokensComeBack result }
-    ensures whole { Leaves floor.now.table.now floor.now.ready.now ⊤ result }
-{
-    gather_on(rt, floor, tokens, workers, sink)
 }
 
 /// `gather`, with the texts of the channel's rule chosen.
@@ -203,49 +172,28 @@ fn gather_as<
     workers: Workers,
     sink: &mut S,
 ) -> Gathered<'d>
-    requires texts { (s : ℕ) → T.text s ≡ text_of shared.now.job.now s }
-    requires tokens { AreTokens shared.now.table.now shared.now.ready.now whole_share tokens × AreUnused tokens }
+    requires texts { (s : ℕ) → T.text s ≡ text_of shared.now.floor.job.now s }
+    requires tokens { AreTokens shared.now.floor.table.now shared.now.floor.ready.now whole_share tokens × AreUnused tokens }
     requires workers { AreWorkers workers }
     requires room { IsTrue shared.now.by_right
-        → HasRoomForAll shared.now.table.now.layout workers.preparers tokens.pass }
+        → HasRoomForAll shared.now.floor.table.now.layout workers.preparers tokens.pass }
     requires countable { IsCountable (S.seen sink.old) }
-    ensures outcome { Answers shared.now.job.now (S.seen sink.old) (S.seen sink.new) result.outcome }
-    ensures tokens { TokensComeBack result }
-    ensures whole { Leaves shared.now.table.now shared.now.ready.now (IsTrue shared.now.by_right) result }
-    ensures unshelved { IfSome result.unshelved (IsOn shared.now.shelf.now) }
+    ensures { EndsOn shared.now.floor (IsTrue shared.now.by_right) (S.seen sink.old) (S.seen sink.new) result }
 {
-    let job = shared.job;
+    let job = shared.floor.job;
     let mut tokens = tokens;
     put_blank_sheets(rt, shared, job.plan().born_complete(), &mut tokens.pass);
-    let Ok(setup) = Setup::<'r, T>::new(shared.alloc, job, shared.window.len()) else {
+    let Ok(setup) = Setup::<'r, T>::new(shared.floor.alloc, job, shared.window.len) else {
         return out_of_memory(0);
     };
     let Setup {
-        desk,
+        mut desk,
         channel,
         sending,
     } = setup;
-    let supplies = supplies_of(shared.alloc, workers, tokens, sending);
-    let gathered = gather_at(rt, shared, &channel, desk, supplies, sink);
-    // By a call, so that what becomes of its parts is proved once, and not here.
-    drop(channel);
-    gathered
-}
-
-/// What is given out to the workers: the tokens, and the ticket for sending.
-fn supplies_of<'r, 'd>(
-    alloc: Global,
-    workers: Workers,
-    tokens: Tokens,
-    sending: Ticket<'r>,
-) -> Supplies<Holding<'d>, Ticket<'r>>
-    ensures crew { (result.crew.preparers ≡ workers.preparers) × (result.crew.imposers ≡ workers.imposers) }
-    ensures held { result.held ≡ record { tokens = tokens; unshelved = None } }
-    ensures ticket { result.ticket ≡ sending.entry }
-{
-    Supplies {
+    let supplies = Supplies {
         crew: Crew {
-            alloc,
+            alloc: shared.floor.alloc,
             preparers: workers.preparers,
             imposers: workers.imposers,
         },
@@ -254,7 +202,12 @@ fn supplies_of<'r, 'd>(
             unshelved: None,
         },
         ticket: sending,
-    }
+    };
+    let gathered = gather_at(rt, shared, &channel, &mut desk, supplies, sink);
+    // By calls, so that what becomes of the parts is proved once, and not here.
+    drop(desk);
+    drop(channel);
+    gathered
 }
 
 /// `gather`, once the sheets without pages are on the queue: the workers work with these supplies, the collector writes
@@ -271,27 +224,24 @@ fn gather_at<
     rt: &R,
     shared: &Shared<'_, 'r, '_, 'd, G>,
     channel: &Channel<'r, T>,
-    desk: Desk<'r>,
+    desk: &mut Desk<'r>,
     supplies: Supplies<Holding<'d>, Ticket<'r>>,
     sink: &mut S,
 ) -> Gathered<'d>
-    requires texts { (s : ℕ) → T.text s ≡ text_of shared.now.job.now s }
-    requires pages { HasPages shared.now.table.now.layout }
+    requires texts { (s : ℕ) → T.text s ≡ text_of shared.now.floor.job.now s }
+    requires pages { HasPages shared.now.floor.table.now.layout }
     requires crew { (0 < supplies.crew.preparers)
         × (supplies.crew.preparers + supplies.crew.imposers < whole_share) }
     requires held { IsHeld shared.now whole_share supplies.held }
     requires blank_sheets { HavePutBlankSheets shared.now supplies.held.tokens }
     requires enough { IsEnough shared.now supplies.crew.preparers 0 supplies.held }
     requires sending { IsSeatAt (sends_on channel.now.sender) supplies.ticket }
-    requires receiving { IsSeatAt (receives_on channel.now.receiver) desk.receiving }
-    requires desk { IsDeskOf shared.now.job.now desk }
+    requires receiving { IsSeatAt (receives_on channel.now.receiver) desk.old.receiving }
+    requires desk { IsDeskOf shared.now.floor.job.now desk.old }
     requires countable { IsCountable (S.seen sink.old) }
-    ensures outcome { Answers shared.now.job.now (S.seen sink.old) (S.seen sink.new) result.outcome }
-    ensures tokens { TokensComeBack result }
-    ensures whole { Leaves shared.now.table.now shared.now.ready.now (IsTrue shared.now.by_right) result }
-    ensures unshelved { IfSome result.unshelved (IsOn shared.now.shelf.now) }
+    ensures { EndsOn shared.now.floor (IsTrue shared.now.by_right) (S.seen sink.old) (S.seen sink.new) result }
 {
-    let job = shared.job;
+    let job = shared.floor.job;
     let ruled = RuledJob {
         job: &*job,
         of: PhantomData,
@@ -301,17 +251,9 @@ fn gather_at<
         channel: &*channel,
         ruled: &ruled,
     };
-    let Desk {
-        header,
-        trailer,
-        mut early,
-        mut receiving,
-    } = desk;
     let state = CollectorState {
         sink,
-        early: &mut early,
-        header: header.as_slice(),
-        ticket: &mut receiving,
+        desk,
         progress: Progress {
             next: 0,
             written: 0,
@@ -321,16 +263,12 @@ fn gather_at<
     };
     let mut ended = None;
     let mut state = gather_by(rt, &input, &input, supplies, state, &mut ended);
-    let gathered = finish(shared.alloc, job, &mut state, trailer.as_slice(), ended);
+    let gathered = finish(shared.floor.alloc, job, &mut state, ended);
     let CollectorState {
         sink: _,
-        early: _,
-        header: _,
-        ticket: _,
+        desk: _,
         progress: _,
     } = state;
-    drop(early);
-    drop(receiving);
     gathered
 }
 
@@ -341,13 +279,13 @@ fn put_blank_sheets<R: Wait, G: Gate>(
     sheets: &[u32],
     pass: &mut Pass,
 )
-    requires pass { IsPassOf shared.now.ready.now pass.old }
-    ensures pass { IsPassOf shared.now.ready.now pass.new }
-    ensures put { (back : List ℕ) × HandedOn shared.now.ready.now sheets.now back pass.old pass.new }
+    requires pass { IsPassOf shared.now.floor.ready.now pass.old }
+    ensures pass { IsPassOf shared.now.floor.ready.now pass.new }
+    ensures put { (back : List ℕ) × HandedOn shared.now.floor.ready.now sheets.now back pass.old pass.new }
 {
     for k in 0..sheets.len() {
         // What the queue hands back is made by the collector, so its turn isn't waited for.
-        if shared.ready.put(rt, pass, sheets[k]).is_err() {
+        if shared.floor.ready.put(rt, pass, sheets[k]).is_err() {
             shared.window.lift();
         }
     }
@@ -369,14 +307,12 @@ fn finish<'d, S: Sink>(
     alloc: Global,
     job: &Job<'_, 'd>,
     state: &mut CollectorState<'_, '_, S>,
-    trailer: &[u8],
     ended: Option<Holding<'d>>,
 ) -> Gathered<'d>
     requires countable { IsSome ended → state.old.progress.halted ≡ None → IsCountable (S.seen state.old.sink.now) }
     requires next { IsSome ended → state.old.progress.halted ≡ None
         → state.old.progress.next ≤ length job.now.plan.sheets }
-    requires early { IsSome ended → AreEarly job.now state.old.early.now.groups.items }
-    requires trailer { trailer.now ≡ trailer_text job.now.units }
+    requires desk { IsSome ended → IsDeskOf job.now state.old.desk.now }
     ensures same_sink { state.new.sink.ghost_name ≡ state.old.sink.ghost_name }
     ensures ended { IsSome ended.entry → Concludes job.now (S.seen state.old.sink.now) (S.seen state.new.sink.now)
         state.old.progress result.outcome }
@@ -385,7 +321,7 @@ fn finish<'d, S: Sink>(
         × (S.seen state.new.sink.now ≡ S.seen state.old.sink.now) }
 {
     match ended {
-        Some(ended) => conclude(alloc, job, state, trailer, ended),
+        Some(ended) => conclude(alloc, job, state, ended),
         None => out_of_memory(state.progress.written),
     }
 }
@@ -395,23 +331,24 @@ fn conclude<'d, S: Sink>(
     alloc: Global,
     job: &Job<'_, 'd>,
     state: &mut CollectorState<'_, '_, S>,
-    trailer: &[u8],
     ended: Holding<'d>,
 ) -> Gathered<'d>
     requires countable { state.old.progress.halted ≡ None → IsCountable (S.seen state.old.sink.now) }
     requires next { state.old.progress.halted ≡ None → state.old.progress.next ≤ length job.now.plan.sheets }
-    requires early { AreEarly job.now state.old.early.now.groups.items }
-    requires trailer { trailer.now ≡ trailer_text job.now.units }
+    requires desk { IsDeskOf job.now state.old.desk.now }
     ensures same_sink { state.new.sink.ghost_name ≡ state.old.sink.ghost_name }
     ensures ended { Concludes job.now (S.seen state.old.sink.now) (S.seen state.new.sink.now) state.old.progress
         result.outcome }
     ensures tokens { HandsBack ended.entry result }
 
     // The report counts the sheets that hadn't come.
-    ensures swept { IfOk result.outcome (λ report. report.swept ≡ not_come state.old.early.now
+    ensures swept { IfOk result.outcome (λ report. report.swept ≡ not_come state.old.desk.now.early
         state.old.progress.next (length job.now.plan.sheets - state.old.progress.next)) }
 {
-    let rest = write_rest(alloc, job, state.sink, state.progress, state.early, trailer);
+    let progress = state.progress;
+    let desk = &*state.desk;
+    let trailer = desk.trailer.as_slice();
+    let rest = write_rest(alloc, job, state.sink, progress, &desk.early, trailer);
     let Holding { tokens, unshelved } = ended;
     let Tokens { seat, pass } = tokens;
     let written = rest.written;

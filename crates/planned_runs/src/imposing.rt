@@ -6,31 +6,45 @@ ghost use Rattle.gather_table.specs.Shared.{IsSeatOf};
 ghost use Rattle.sheet_text.specs.Jobs.{text_of};
 ghost use Rattle.sheet_writer.specs.Writing.{HaveTexts};
 ghost use Rattle.run_steps.specs.Reading.{OnlyReads};
-ghost use Rattle.planned_runs.specs.Tokens.{AreTokens, OnlyImposes};
-ghost use Rattle.planned_runs.specs.Promises.{IsHeld, IsNew, HasImposed};
+ghost use Rattle.planned_runs.specs.Promises.{AreOfImposer, OnlyImposes};
 
 use crate::channel::{SheetRule, SheetTexts, Ticket};
 use crate::gate::{Gate, Look, Step};
 use crate::shared::{RunInput, Shared};
-use crate::tokens::{Holding, Tokens};
+use crate::tokens::Tokens;
 use crate::turns::Stint;
-use crate::window::Held;
+use crate::window::{Held, Idling, Window};
 use gather_table::Seat;
 use run_steps::{ImposeError, Imposition, is_complete};
 use sheet_text::{Openings, Rope, Texts};
-use std::alloc::AllocError;
+use std::alloc::{AllocError, Global};
 use std::sync::Wait;
 use std::sync::atomic::Ordering::SeqCst;
 
 /// What an imposer keeps from one sheet to the next.
 #[derive(Drop)]
-struct ImposerBench<'r> {
+pub(crate) struct ImposerBench<'r> {
+    stint: Stint,
+    idling: Idling,
     /// Sheets that were taken off the queue and lie past the window.
     held: Held,
     /// Texts before placed pages.
     openings: Openings,
     /// Memory for the text of a sheet.
     text: Rope<'r>,
+}
+
+impl<'r> ImposerBench<'r> {
+    /// Before the first sheet.
+    pub(crate) fn new(alloc: Global, window: &Window) -> Self {
+        ImposerBench {
+            stint: Stint::new(),
+            idling: window.idling(),
+            held: Held::new(alloc),
+            openings: Openings::new(alloc),
+            text: Rope::new(alloc),
+        }
+    }
 }
 
 /// What an imposer finds when it looks for a sheet.
@@ -46,67 +60,29 @@ enum FoundSheet {
 
 impl<'s, 'r, 't, 'd, T: SheetTexts, G: Gate> RunInput<'s, 'r, 't, 'd, T, G> {
     /// Imposes sheets that are ready until there are none after the last preparer has ended.
-    pub(crate) fn impose_ready<R: Wait>(
-        &self,
-        rt: &R,
-        holding: Holding<'d>,
-        ticket: Ticket<'r>,
-    ) -> Result<Holding<'d>, AllocError>
-        requires holding { IsNew self.now.shared.now holding }
-        requires ticket { IsSeatAt (sends_on self.now.channel.now.sender) ticket }
-        ensures back { IfOk result (IsHeld self.now.shared.now 1) }
-        ensures imposed { IfOk result HasImposed }
-    {
-        let Holding {
-            mut tokens,
-            unshelved,
-        } = holding;
-        drop(unshelved);
-        let mut ticket = ticket;
-        let mut bench = ImposerBench {
-            held: Held::new(self.shared.alloc),
-            openings: Openings::new(self.shared.alloc),
-            text: Rope::new(self.shared.alloc),
-        };
-        let ended = self.impose_all(rt, &mut tokens, &mut ticket, &mut bench);
-        drop(bench);
-        drop(ticket);
-        match ended {
-            Ok(()) => Ok(Holding {
-                tokens,
-                unshelved: None,
-            }),
-            Err(error) => Err(error),
-        }
-    }
-
-    /// The same with what an imposer needs and keeps.
-    fn impose_all<R: Wait>(
+    pub(crate) fn impose_all<R: Wait>(
         &self,
         rt: &R,
         tokens: &mut Tokens,
         ticket: &mut Ticket<'r>,
         bench: &mut ImposerBench<'r>,
     ) -> Result<(), AllocError>
-        requires tokens { AreTokens self.now.shared.now.table.now self.now.shared.now.ready.now 1 tokens.old }
+        requires tokens { AreOfImposer self.now.shared.now tokens.old }
         requires ticket { IsSeatAt (sends_on self.now.channel.now.sender) ticket.old }
-        ensures tokens { AreTokens self.now.shared.now.table.now self.now.shared.now.ready.now 1 tokens.new }
-        ensures imposes { OnlyImposes tokens.old tokens.new }
+        ensures imposes { OnOk result (OnlyImposes self.now.shared.now tokens.old tokens.new) }
     {
-        let mut stint = Stint::new();
-        let mut idling = self.shared.window.idling();
         for _ in rt.forever() {
-            self.shared.imposing.go_on(rt, &mut stint);
+            self.shared.imposing.go_on(rt, &mut bench.stint);
             // Read before the queue is: what the last preparer puts is put before it ends.
             let none_left = self.shared.preparers_left.load(SeqCst) == 0;
             if self.impose_next(rt, tokens, ticket, bench)? {
-                idling.end();
+                bench.idling.end();
             } else {
-                self.shared.imposing.end(&mut stint);
+                self.shared.imposing.end(&mut bench.stint);
                 if none_left && bench.held.is_empty() {
                     break;
                 }
-                self.shared.window.rest(rt, &mut idling);
+                self.shared.window.rest(rt, &mut bench.idling);
             }
         }
         Ok(())
@@ -121,11 +97,10 @@ impl<'s, 'r, 't, 'd, T: SheetTexts, G: Gate> RunInput<'s, 'r, 't, 'd, T, G> {
         ticket: &mut Ticket<'r>,
         bench: &mut ImposerBench<'r>,
     ) -> Result<bool, AllocError>
-        requires tokens { AreTokens self.now.shared.now.table.now self.now.shared.now.ready.now 1 tokens.old }
+        requires tokens { AreOfImposer self.now.shared.now tokens.old }
         requires ticket { IsSeatAt (sends_on self.now.channel.now.sender) ticket.old }
-        ensures tokens { AreTokens self.now.shared.now.table.now self.now.shared.now.ready.now 1 tokens.new }
         ensures ticket { IsSeatAt (sends_on self.now.channel.now.sender) ticket.new }
-        ensures imposes { OnlyImposes tokens.old tokens.new }
+        ensures imposes { OnOk result (OnlyImposes self.now.shared.now tokens.old tokens.new) }
     {
         let end = self.shared.window.end();
         match self.shared.find_sheet(rt, tokens, &mut bench.held, end) {
@@ -148,21 +123,20 @@ impl<'s, 'r, 't, 'd, T: SheetTexts, G: Gate> RunInput<'s, 'r, 't, 'd, T, G> {
         first: u32,
         end: u32,
     ) -> Result<Texts<'r>, AllocError>
-        requires tokens { AreTokens self.now.shared.now.table.now self.now.shared.now.ready.now 1 tokens.old }
-        ensures tokens { AreTokens self.now.shared.now.table.now self.now.shared.now.ready.now 1 tokens.new }
-        ensures imposes { OnlyImposes tokens.old tokens.new }
+        requires tokens { AreOfImposer self.now.shared.now tokens.old }
+        ensures imposes { OnOk result (OnlyImposes self.now.shared.now tokens.old tokens.new) }
         ensures texts { IfOk result (λ batch. HaveTexts T.text batch) }
     {
         let mut batch = match self.channel.spent.pop(rt) {
             Some(spent) => spent,
             None => {
                 let window = &self.shared.window;
-                Texts::with_room(self.shared.alloc, window.batch(), window.batch_bytes())?
+                Texts::with_room(self.shared.floor.alloc, window.batch, window.batch_bytes)?
             }
         };
         batch.clear();
         self.impose_into(tokens, &mut batch, bench, first)?;
-        for _ in 1..self.shared.window.batch() {
+        for _ in 1..self.shared.window.batch {
             if !self.impose_more(rt, tokens, bench, &mut batch, end)? {
                 break;
             }
@@ -179,10 +153,9 @@ impl<'s, 'r, 't, 'd, T: SheetTexts, G: Gate> RunInput<'s, 'r, 't, 'd, T, G> {
         batch: &mut Texts<'r>,
         end: u32,
     ) -> Result<bool, AllocError>
-        requires tokens { AreTokens self.now.shared.now.table.now self.now.shared.now.ready.now 1 tokens.old }
+        requires tokens { AreOfImposer self.now.shared.now tokens.old }
         requires texts { HaveTexts T.text batch.old }
-        ensures tokens { AreTokens self.now.shared.now.table.now self.now.shared.now.ready.now 1 tokens.new }
-        ensures imposes { OnlyImposes tokens.old tokens.new }
+        ensures imposes { OnOk result (OnlyImposes self.now.shared.now tokens.old tokens.new) }
         ensures texts { OnOk result (HaveTexts T.text batch.new) }
     {
         match self.shared.find_sheet(rt, tokens, &mut bench.held, end) {
@@ -204,10 +177,9 @@ impl<'s, 'r, 't, 'd, T: SheetTexts, G: Gate> RunInput<'s, 'r, 't, 'd, T, G> {
         bench: &mut ImposerBench<'r>,
         sheet: u32,
     ) -> Result<(), AllocError>
-        requires tokens { AreTokens self.now.shared.now.table.now self.now.shared.now.ready.now 1 tokens.old }
+        requires tokens { AreOfImposer self.now.shared.now tokens.old }
         requires texts { HaveTexts T.text batch.old }
-        ensures tokens { AreTokens self.now.shared.now.table.now self.now.shared.now.ready.now 1 tokens.new }
-        ensures imposes { OnlyImposes tokens.old tokens.new }
+        ensures imposes { OnOk result (OnlyImposes self.now.shared.now tokens.old tokens.new) }
         ensures texts { OnOk result (HaveTexts T.text batch.new) }
     {
         let imposed = self.shared.impose_taken(
@@ -257,9 +229,8 @@ impl<'s, 'r, 't, 'd, G: Gate> Shared<'s, 'r, 't, 'd, G> {
         held: &mut Held,
         end: u32,
     ) -> FoundSheet
-        requires tokens { AreTokens self.now.table.now self.now.ready.now 1 tokens.old }
-        ensures tokens { AreTokens self.now.table.now self.now.ready.now 1 tokens.new }
-        ensures imposes { OnlyImposes tokens.old tokens.new }
+        requires tokens { AreOfImposer self.now tokens.old }
+        ensures imposes { OnlyImposes self.now tokens.old tokens.new }
     {
         if let Some(sheet) = held.pop_before(end) {
             return FoundSheet::Sheet(sheet);
@@ -267,9 +238,9 @@ impl<'s, 'r, 't, 'd, G: Gate> Shared<'s, 'r, 't, 'd, G> {
         if held.come_nearer(end) {
             return FoundSheet::Nothing;
         }
-        self.gate.before_look(Look::Queue);
-        let taken = self.ready.take(rt, &mut tokens.pass);
-        self.gate.after_look(Look::Queue);
+        self.floor.gate.before_look(Look::Queue);
+        let taken = self.floor.ready.take(rt, &mut tokens.pass);
+        self.floor.gate.after_look(Look::Queue);
         let Some(sheet) = taken else {
             return FoundSheet::Nothing;
         };
@@ -294,26 +265,26 @@ impl<'s, 'r, 't, 'd, G: Gate> Shared<'s, 'r, 't, 'd, G> {
         openings: &mut Openings,
         sheet: u32,
     ) -> Result<bool, AllocError>
-        requires seat { IsSeatOf self.now.table.now seat.old }
-        ensures reads { OnlyReads seat.old seat.new }
-        ensures text { IfOk result (λ made. IsTrue made → text.new ≡ text_of self.now.job.now sheet) }
+        requires seat { IsSeatOf self.now.floor.table.now seat.old }
+        ensures reads { OnOk result (OnlyReads seat.old seat.new) }
+        ensures text { IfOk result (λ made. IsTrue made → text.new ≡ text_of self.now.floor.job.now sheet) }
     {
-        let job = self.job;
+        let job = self.floor.job;
         if sheet >= job.sheets() {
             return Ok(false);
         }
-        if !is_complete(seat, self.table, sheet) {
+        if !is_complete(seat, self.floor.table, sheet) {
             return Ok(false);
         }
         let imposition = Imposition {
             job,
-            table: self.table,
-            shelf: self.shelf,
-            is_of_document: self.is_of_document,
+            table: self.floor.table,
+            shelf: self.floor.shelf,
+            is_of_document: self.floor.is_of_document,
         };
-        self.gate.before(Step::Impose(sheet));
+        self.floor.gate.before(Step::Impose(sheet));
         let answer = imposition.impose(text, openings, seat, sheet);
-        self.gate.after(Step::Impose(sheet));
+        self.floor.gate.after(Step::Impose(sheet));
         match answer {
             Ok(()) => Ok(true),
             Err(error) => match error {

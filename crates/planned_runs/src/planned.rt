@@ -10,7 +10,7 @@ ghost use Rattle.planned_runs.specs.Outcomes.{FailedIn, IsNoRefusal};
 ghost use Rattle.planned_runs.specs.Workers.{AreWorkers};
 
 use crate::gate::Gate;
-use crate::gathering::gather_run;
+use crate::gathering::gather_on;
 use crate::listener::{GatheredPlan, Listener};
 use crate::outcome::{Report, RunError};
 use crate::rooms::ready_for;
@@ -96,7 +96,9 @@ fn gather_plan<'j, 'd, R: Threads + Wait + Sync, G: Gate + Sync, S: Sink>(
         ready: &queue,
     };
     keep_blocks(alloc);
-    let gathered = gather_run(rt, &floor, Tokens { seat, pass }, workers, sink);
+    let gathered = gather_on(rt, floor, Tokens { seat, pass }, workers, sink);
+    // By a call, so that what becomes of its parts is proved once, and not here.
+    drop(shelf);
     Ok(GatheredPlan {
         table,
         queue,

@@ -13,7 +13,7 @@ use crate::tokens::{Holding, Tokens};
 use crate::turns::Stint;
 use handover::{Overflow, Prepared};
 use run_steps::{Answers, DeliverError, Delivery};
-use std::alloc::AllocError;
+use std::alloc::{AllocError, Global};
 use std::mem;
 use std::sync::Wait;
 
@@ -26,12 +26,20 @@ struct PageShare {
 
 /// What a preparer keeps from one page to the next.
 #[derive(Drop)]
-struct PreparerBench<'d> {
+pub(crate) struct PreparerBench {
     stint: Stint,
     /// Memory for what a delivery is answered.
     answers: Answers,
-    /// The token of the last page for which the shelf gave no receipt.
-    unshelved: Option<Overflow<'d>>,
+}
+
+impl PreparerBench {
+    /// Before the first page.
+    pub(crate) fn new(alloc: Global) -> Self {
+        PreparerBench {
+            stint: Stint::new(),
+            answers: Answers::new(alloc),
+        }
+    }
 }
 
 impl<'s, 'r, 't, 'd, G: Gate> Shared<'s, 'r, 't, 'd, G> {
@@ -39,65 +47,52 @@ impl<'s, 'r, 't, 'd, G: Gate> Shared<'s, 'r, 't, 'd, G> {
     pub(crate) fn prepare_all<R: Wait>(
         &self,
         rt: &R,
-        holding: Holding<'d>,
+        held: &mut Holding<'d>,
+        bench: &mut PreparerBench,
         number: u32,
         count: u32,
-    ) -> Result<Holding<'d>, AllocError>
+    ) -> Result<(), AllocError>
         requires count { 0 < count }
-        requires holding { IsNewPreparer self.now count number holding }
-        ensures back { IfOk result (IsHeld self.now 1) }
-        ensures prepared { IfOk result (HasPrepared self.now count number) }
+        requires held { IsNewPreparer self.now count number held.old }
+        ensures back { OnOk result (IsHeld self.now 1 held.new) }
+        ensures prepared { OnOk result (HasPrepared self.now count number held.new) }
     {
-        let job = self.job;
-        let Holding {
-            mut tokens,
-            unshelved,
-        } = holding;
-        let mut bench = PreparerBench {
-            stint: Stint::new(),
-            answers: Answers::new(self.alloc),
-            unshelved,
-        };
+        let job = self.floor.job;
         let part = PageShare { number, count };
         for page in 0..job.plan().pages() {
-            self.prepare_own_page(rt, &mut tokens, &mut bench, page, part)?;
+            self.prepare_own_page(rt, held, bench, page, part)?;
         }
         self.preparing.end(&mut bench.stint);
-        Ok(Holding {
-            tokens,
-            unshelved: bench.unshelved,
-        })
+        Ok(())
     }
 
     /// Delivers the page if it is this preparer's. A page without a receipt takes the place of an earlier one.
     fn prepare_own_page<R: Wait>(
         &self,
         rt: &R,
-        tokens: &mut Tokens,
-        bench: &mut PreparerBench<'d>,
+        held: &mut Holding<'d>,
+        bench: &mut PreparerBench,
         page: u32,
         part: PageShare,
     ) -> Result<(), AllocError>
         requires count { 0 < part.count }
-        requires page { page < self.now.job.now.plan.pages }
-        requires tokens { AreTokens self.now.table.now self.now.ready.now 1 tokens.old }
-        requires unshelved { IfSome bench.old.unshelved (IsOn self.now.shelf.now) }
-        ensures tokens { AreTokens self.now.table.now self.now.ready.now 1 tokens.new }
-        ensures done { OnOk result (IsNone bench.new.unshelved → IsNone bench.old.unshelved × ((h : Duty → ℕ) →
-            done h tokens.new ≡ done h tokens.old + (if page % part.count == part.number
-            then total h (duties self.now.table.now.layout page) else 0))) }
-        ensures put { AreInOrder tokens.old → AreInOrder tokens.new }
-        ensures by_right { OnOk result (HasRoomFrom self.now.table.now.layout part.count part.number page tokens.old
-            → HasRoomFrom self.now.table.now.layout part.count part.number (page + 1) tokens.new
-            × (PutsAll tokens.old → PutsAll tokens.new)) }
-        ensures lost { OnOk result (IfSome bench.new.unshelved (IsOn self.now.shelf.now)) }
+        requires page { page < self.now.floor.job.now.plan.pages }
+        requires held { IsHeld self.now 1 held.old }
+        ensures held { OnOk result (IsHeld self.now 1 held.new) }
+        ensures done { OnOk result (IsNone held.new.unshelved → IsNone held.old.unshelved × ((h : Duty → ℕ) →
+            done h held.new.tokens ≡ done h held.old.tokens + (if page % part.count == part.number
+            then total h (duties self.now.floor.table.now.layout page) else 0))) }
+        ensures put { OnOk result (AreInOrder held.old.tokens → AreInOrder held.new.tokens) }
+        ensures by_right { OnOk result (HasRoomFrom self.now.floor.table.now.layout part.count part.number page held.old.tokens
+            → HasRoomFrom self.now.floor.table.now.layout part.count part.number (page + 1) held.new.tokens
+            × (PutsAll held.old.tokens → PutsAll held.new.tokens)) }
     {
         if page % part.count != part.number {
             return Ok(());
         }
         self.preparing.go_on(rt, &mut bench.stint);
-        if let Some(lost) = self.prepare_page(rt, tokens, &mut bench.answers, page)? {
-            drop(bench.unshelved.replace(lost));
+        if let Some(lost) = self.prepare_page(rt, &mut held.tokens, &mut bench.answers, page)? {
+            drop(held.unshelved.replace(lost));
         }
         Ok(())
     }
@@ -111,29 +106,29 @@ impl<'s, 'r, 't, 'd, G: Gate> Shared<'s, 'r, 't, 'd, G> {
         answers: &mut Answers,
         page: u32,
     ) -> Result<Option<Overflow<'d>>, AllocError>
-        requires page { page < self.now.job.now.plan.pages }
-        requires tokens { AreTokens self.now.table.now self.now.ready.now 1 tokens.old }
-        ensures tokens { AreTokens self.now.table.now self.now.ready.now 1 tokens.new }
+        requires page { page < self.now.floor.job.now.plan.pages }
+        requires tokens { AreTokens self.now.floor.table.now self.now.floor.ready.now 1 tokens.old }
+        ensures tokens { OnOk result (AreTokens self.now.floor.table.now self.now.floor.ready.now 1 tokens.new) }
         ensures done { IfOk result (λ lost. IsNone lost → (h : Duty → ℕ)
-            → done h tokens.new ≡ done h tokens.old + total h (duties self.now.table.now.layout page)) }
-        ensures put { AreInOrder tokens.old → AreInOrder tokens.new }
-        ensures by_right { OnOk result (HasRoomForPage self.now.table.now.layout page tokens.old
-            → PutsByRight self.now.table.now.layout page tokens.old tokens.new) }
-        ensures lost { IfOk result (λ lost. IfSome lost (IsOn self.now.shelf.now)) }
+            → done h tokens.new ≡ done h tokens.old + total h (duties self.now.floor.table.now.layout page)) }
+        ensures put { OnOk result (AreInOrder tokens.old → AreInOrder tokens.new) }
+        ensures by_right { OnOk result (HasRoomForPage self.now.floor.table.now.layout page tokens.old
+            → PutsByRight self.now.floor.table.now.layout page tokens.old tokens.new) }
+        ensures lost { IfOk result (λ lost. IfSome lost (IsOn self.now.floor.shelf.now)) }
     {
-        let job = self.job;
+        let job = self.floor.job;
         let delivery = Delivery {
             plan: job.plan(),
-            table: self.table,
-            shelf: self.shelf,
-            ready: self.ready,
-            as_own: self.is_of_document,
+            table: self.floor.table,
+            shelf: self.floor.shelf,
+            ready: self.floor.ready,
+            as_own: self.floor.is_of_document,
         };
-        let prepared = Prepared::of_page(self.alloc, job.document(), page)?;
-        let used = mem::replace(answers, Answers::new(self.alloc));
-        self.gate.before(Step::Deliver(page));
+        let prepared = Prepared::of_page(self.floor.alloc, job.document(), page)?;
+        let used = mem::replace(answers, Answers::new(self.floor.alloc));
+        self.floor.gate.before(Step::Deliver(page));
         let answer = delivery.deliver(rt, &mut tokens.seat, &mut tokens.pass, prepared, used);
-        self.gate.after(Step::Deliver(page));
+        self.floor.gate.after(Step::Deliver(page));
         match answer {
             Ok(delivered) => {
                 if !delivered.handed_back.is_empty() {

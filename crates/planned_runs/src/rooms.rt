@@ -1,5 +1,5 @@
 //! How many puts there are at most, and a queue that has room for all of them.
-ghost use Rattle.std.specs.Prelude.{◌≡◌, ◌+◌, ◌<◌, ◌≤◌, ◌%◌, ◌==◌, if◌then◌else◌, length, min, IfOk};
+ghost use Rattle.std.specs.Prelude.{◌≡◌, ◌+◌, ◌<◌, ◌≤◌, length, min, IfOk};
 ghost use Rattle.rules.specs.Sheets.{layout};
 ghost use Rattle.sheet_plan.specs.Places.{places_of};
 ghost use Rattle.handover.specs.Passes.{puts_in};
@@ -16,10 +16,10 @@ use std::alloc::{AllocError, Global};
 impl<'s, 'r, 't, 'd, G: Gate> Shared<'s, 'r, 't, 'd, G> {
     /// How much of the pass's room preparer `number` of `count` gets: what it needs, as far as there is so much.
     pub(crate) fn room_for(&self, pass: &Pass, number: u32, count: u32) -> u32
-        requires count { 0 < count }
-        ensures { result ≡ min (most_puts self.now.table.now.layout count number) (puts_in pass.now.room) }
+        requires number { number < count }
+        ensures { result ≡ min (most_puts self.now.floor.table.now.layout count number) (puts_in pass.now.room) }
     {
-        let job = self.job;
+        let job = self.floor.job;
         most_puts(job.plan(), number, count).min(pass.room())
     }
 }
@@ -27,29 +27,23 @@ impl<'s, 'r, 't, 'd, G: Gate> Shared<'s, 'r, 't, 'd, G> {
 /// How many puts preparer `number` of `count` makes at most: it completes no more sheets than its pages have places, and
 /// no more than there are.
 pub(crate) fn most_puts(plan: &Plan<'_>, number: u32, count: u32) -> u32
-    requires count { 0 < count }
+    requires number { number < count }
     ensures { result ≡ most_puts (layout plan.now) count number }
 {
     let mut puts = 0;
     // Its own pages lie as far apart as there are preparers.
     for page in (number..plan.pages()).step_by(count as usize) {
-        puts = with_page(plan, number, count, page, puts);
+        puts = with_page(plan, page, puts);
     }
     puts
 }
 
-/// The same with one page more, if it is this preparer's.
-fn with_page(plan: &Plan<'_>, number: u32, count: u32, page: u32, puts: u32) -> u32
-    requires count { 0 < count }
+/// The same with one page more.
+fn with_page(plan: &Plan<'_>, page: u32, puts: u32) -> u32
     requires page { page < plan.now.pages }
-    ensures { result ≡ min (puts + (if page % count == number then length (places_of (layout plan.now) page) else 0))
-        (length plan.now.sheets) }
+    ensures { result ≡ min (puts + length (places_of (layout plan.now) page)) (length plan.now.sheets) }
 {
-    let places = if page % count == number {
-        plan.slots_of_page(page).len()
-    } else {
-        0
-    };
+    let places = plan.slots_of_page(page).len();
     (puts as usize)
         .saturating_add(places)
         .min(plan.sheets() as usize) as u32

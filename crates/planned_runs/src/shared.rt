@@ -21,24 +21,17 @@ pub(crate) struct Floor<'s, 'r, 't, 'd, G> {
     pub(crate) job: &'s Job<'r, 'd>,
     pub(crate) table: &'s GatherTable<'t>,
     pub(crate) shelf: &'r Shelf<'d>,
-    /// Whether the shelf is that of the job's document.
+    /// Whether the shelf is that of the job's document. Then pages are put as the document's own, and not compared.
     pub(crate) is_of_document: bool,
     pub(crate) ready: &'s Ready,
     ghost of_document: { IsTrue is_of_document → IsShelfOf shelf.now job.now.units },
     ghost same_plan: { table.now.layout ≡ layout job.now.plan },
 }
 
-/// What all threads of one run share. The table is one of the job's plan.
+/// What all threads of one run share.
 #[derive(Drop)]
 pub(crate) struct Shared<'s, 'r, 't, 'd, G> {
-    pub(crate) alloc: Global,
-    pub(crate) gate: &'s G,
-    pub(crate) job: &'s Job<'r, 'd>,
-    pub(crate) table: &'s GatherTable<'t>,
-    pub(crate) shelf: &'r Shelf<'d>,
-    /// Whether the shelf is that of the job's document. Then pages are put as the document's own, and not compared.
-    pub(crate) is_of_document: bool,
-    pub(crate) ready: &'s Ready,
+    pub(crate) floor: Floor<'s, 'r, 't, 'd, G>,
     /// Whether the queue has room by right for all puts: then it refuses none.
     pub(crate) by_right: bool,
     /// How many preparers haven't ended.
@@ -50,8 +43,6 @@ pub(crate) struct Shared<'s, 'r, 't, 'd, G> {
     /// Preparers take turns, and so do imposers.
     pub(crate) preparing: Turns,
     pub(crate) imposing: Turns,
-    ghost of_document: { IsTrue is_of_document → IsShelfOf shelf.now job.now.units },
-    ghost same_plan: { table.now.layout ≡ layout job.now.plan },
 }
 
 /// What the threads of a run need, the caller's among them: what all share, and the channel of finished sheets.
@@ -61,5 +52,5 @@ pub(crate) struct RunInput<'s, 'r, 't, 'd, T: SheetTexts, G> {
     pub(crate) channel: &'s Channel<'r, T>,
     /// The same job, with the texts of the channel's rule.
     pub(crate) ruled: &'s RuledJob<'s, 'r, 'd, T>,
-    ghost same_job: { ruled.now.job.now ≡ shared.now.job.now },
+    ghost same_job: { ruled.now.job.now ≡ shared.now.floor.job.now },
 }

@@ -17,10 +17,10 @@ const LONGEST_STINT: usize = 512;
 /// With fewer pages in a stint, pages are so large that workers don't get in each other's way.
 const FEWEST_IN_TURN: u32 = 32;
 
-/// How often a worker sleeps before it goes on without a turn, and how long.
-const MOST_SLEEPS: u32 = 20;
+/// How many naps a worker takes before it goes on without a turn, and how long one is.
+const MOST_NAPS: u32 = 20;
 
-const MICROSECONDS_OF_A_SLEEP: u64 = 500;
+const MICROSECONDS_OF_A_NAP: u64 = 500;
 
 /// Turns of workers of one kind. If pages are small, workers that go on at the same time spend most of their time on
 /// taking words of the table and the queue from each other, so one does a stint while the others sleep. It is advice
@@ -91,12 +91,12 @@ impl Turns {
 
     /// Waits for the turn. Whether it was got.
     fn wait<R: Wait>(&self, rt: &R) -> bool {
-        for _ in 0..MOST_SLEEPS {
+        for _ in 0..MOST_NAPS {
             if self.taken.compare_exchange(0, 1, SeqCst, SeqCst).is_ok() {
                 return true;
             }
             self.taken
-                .park_timeout(rt, 1, Duration::from_micros(MICROSECONDS_OF_A_SLEEP));
+                .park_timeout(rt, 1, Duration::from_micros(MICROSECONDS_OF_A_NAP));
         }
         false
     }

@@ -51,13 +51,13 @@ pub(crate) struct Window {
     next: CachePadded<AtomicU64>,
     /// No turn is waited for: the sheet that is written next may never come.
     lifted: AtomicBool,
-    len: u32,
+    pub(crate) len: u32,
     /// How many sheets are written before it moves.
     step: u32,
     /// How many sheets an imposer sends together at most.
-    batch: u32,
+    pub(crate) batch: u32,
     /// About how many bytes of text these have.
-    batch_bytes: usize,
+    pub(crate) batch_bytes: usize,
 }
 
 impl Window {
@@ -86,21 +86,6 @@ impl Window {
             batch,
             batch_bytes: (text * batch as usize).min(BYTES_AHEAD),
         }
-    }
-
-    /// How many sheets lie in it.
-    pub(crate) fn len(&self) -> u32 {
-        self.len
-    }
-
-    /// How many sheets an imposer sends together at most.
-    pub(crate) fn batch(&self) -> u32 {
-        self.batch
-    }
-
-    /// About how many bytes of text these sheets have.
-    pub(crate) fn batch_bytes(&self) -> usize {
-        self.batch_bytes
     }
 
     /// The first sheet past it.

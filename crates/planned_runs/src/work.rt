@@ -7,6 +7,8 @@ ghost use Rattle.planned_runs.specs.Promises.{HasPrepared, HasImposed, HasGather
 
 use crate::channel::{SheetRule, SheetTexts, Ticket};
 use crate::gate::Gate;
+use crate::imposing::ImposerBench;
+use crate::preparing::PreparerBench;
 use crate::shared::RunInput;
 use crate::tokens::{Holding, Tokens};
 use std::alloc::AllocError;
@@ -41,22 +43,28 @@ impl<'s, 'r, 't, 'd, T: SheetTexts, G: Gate> Work<Holding<'d>> for RunInput<'s, 
         number: u32,
         count: u32,
     ) -> Result<Holding<'d>, AllocError> {
-        let ended = self.shared.prepare_all(rt, held, number, count);
+        let shared = self.shared;
+        let mut held = held;
+        let mut bench = PreparerBench::new(shared.floor.alloc);
+        let ended = shared.prepare_all(rt, &mut held, &mut bench, number, count);
+        drop(bench);
         if ended.is_err() {
-            self.shared.window.lift();
+            shared.window.lift();
             // Its stint is lost with it. Another one's turn may be given away here: a turn is advice.
-            self.shared.preparing.give();
+            shared.preparing.give();
         }
-        self.shared.preparers_left.fetch_sub(1, SeqCst);
-        ended
+        shared.preparers_left.fetch_sub(1, SeqCst);
+        ended?;
+        Ok(held)
     }
 
     /// It gets room for all of its puts, as far as there is room by right.
     fn split_preparer(&self, held: &mut Holding<'d>, number: u32, count: u32) -> Holding<'d> {
-        let seat = self.shared.table.split(&mut held.tokens.seat, 1);
-        let room = self.shared.room_for(&held.tokens.pass, number, count);
-        let pass = self
-            .shared
+        let shared = self.shared;
+        let seat = shared.floor.table.split(&mut held.tokens.seat, 1);
+        let room = shared.room_for(&held.tokens.pass, number, count);
+        let pass = shared
+            .floor
             .ready
             .split_with_room(&mut held.tokens.pass, 1, room);
         Holding {
@@ -66,8 +74,9 @@ impl<'s, 'r, 't, 'd, T: SheetTexts, G: Gate> Work<Holding<'d>> for RunInput<'s, 
     }
 
     fn split(&self, held: &mut Holding<'d>) -> Holding<'d> {
-        let seat = self.shared.table.split(&mut held.tokens.seat, 1);
-        let pass = self.shared.ready.split(&mut held.tokens.pass, 1);
+        let shared = self.shared;
+        let seat = shared.floor.table.split(&mut held.tokens.seat, 1);
+        let pass = shared.floor.ready.split(&mut held.tokens.pass, 1);
         Holding {
             tokens: Tokens { seat, pass },
             unshelved: None,
@@ -80,8 +89,9 @@ impl<'s, 'r, 't, 'd, T: SheetTexts, G: Gate> Work<Holding<'d>> for RunInput<'s, 
             tokens: others,
             unshelved: lost,
         } = theirs;
-        let seat = self.shared.table.join(tokens.seat, others.seat);
-        let pass = self.shared.ready.join(tokens.pass, others.pass);
+        let shared = self.shared;
+        let seat = shared.floor.table.join(tokens.seat, others.seat);
+        let pass = shared.floor.ready.join(tokens.pass, others.pass);
         Holding {
             tokens: Tokens { seat, pass },
             unshelved: unshelved.or(lost),
@@ -93,21 +103,29 @@ impl<'s, 'r, 't, 'd, T: SheetTexts, G: Gate> Imposing<Holding<'d>, Ticket<'r>>
     for RunInput<'s, 'r, 't, 'd, T, G> {
     ghost sends = { λ input t. IsSeatAt (sends_on input.channel.now.sender) t };
 
-    /// However the imposer ends, one less is left then.
+    /// Imposes sheets that are ready until there are none after the last preparer has ended. However it ends, one imposer
+    /// less is left then.
     fn impose<R: Wait>(
         &self,
         rt: &R,
         held: Holding<'d>,
         ticket: Ticket<'r>,
     ) -> Result<Holding<'d>, AllocError> {
-        let ended = self.impose_ready(rt, held, ticket);
+        let shared = self.shared;
+        let mut held = held;
+        let mut ticket = ticket;
+        let mut bench = ImposerBench::new(shared.floor.alloc, &shared.window);
+        let ended = self.impose_all(rt, &mut held.tokens, &mut ticket, &mut bench);
+        drop(bench);
+        drop(ticket);
         if ended.is_err() {
-            self.shared.window.lift();
+            shared.window.lift();
             // Its stint is lost with it. Another one's turn may be given away here: a turn is advice.
-            self.shared.imposing.give();
+            shared.imposing.give();
         }
-        self.shared.imposers_left.fetch_sub(1, SeqCst);
-        ended
+        shared.imposers_left.fetch_sub(1, SeqCst);
+        ended?;
+        Ok(held)
     }
 
     fn stop(&self) {

@@ -11,7 +11,7 @@ use Rattle.gather_table.specs.declared.answers.Closing.{Closing}
 use Rattle.handover.specs.Passes.{QueueView, PassView, Made, puts_in, room_after}
 use Rattle.handover.proofs.Rooms.{one_less}
 use Rattle.run_steps.specs.Delivery.{is_filling, place_calls, answer_list, completes_sheet, completed, HandedOn}
-use Rattle.run_steps.specs.Delivery.{WasRefused, NoneHandedBack}
+use Rattle.run_steps.specs.Delivery.{NoneHandedBack}
 use Rattle.run_steps.proofs.Marks.{on_calls, completed-append, completed_place}
 
 -- sheets after sheets

@@ -1,6 +1,6 @@
 -- The look-ups of a sheet's pages, one by one.
 use Rattle.std.proofs.Common.{◌≡◌, ℕ, zero, suc, ◌+◌, ◌<◌, ◌≤◌, List, [], ◌∷◌, ◌++◌, Option, Some, length, take, drop, refl, sym, ap, ◌∙◌, subst, arith, length-append}
-use Rattle.std.specs.Prelude.{None, slice_get}
+use Rattle.std.specs.Prelude.{None, Result, Ok, Err, IsErrAnd, MatchResult, OnErr, slice_get}
 use Rattle.std.proofs.lemmas.List.{take_all}
 use Rattle.rules.specs.Sheets.{Layout, Plan, layout}
 use Rattle.sheet_plan.specs.Plans.{pages_on}
@@ -149,3 +149,12 @@ pub looks_done : (inside job : JobView) (table : Layout) (old new : SeatView) (s
 looks_done inside job table old new s k end view same end_is k_is looked =
     let all : k ≡ length (slots table s) = k_is ∙ end_is ∙ ap (λ (j : JobView). length (pages_on j.plan s)) view ∙ ap (λ (l : Layout). length (slots l s)) (sym same) in
     subst (λ xs. LooksUp (pages_of table s) (length (needed xs)) old new) (take_all k (slots table s) (omega (arith, all))) looked
+
+-- an error that is handed on
+pub handed_on : {T E : Type 0} (r : Result T E) (e : E) (A : T → Type 0) (B : E → Type 0) → IsErrAnd r (λ g. g ≡ e) → B e → MatchResult r A B
+handed_on (Ok x) e A B is holds = absurd is
+handed_on (Err g) e A B is holds = subst B (sym is) holds
+
+pub on_err : {T E : Type 0} (r : Result T E) (P : Type 0) → P → OnErr r P
+on_err (Ok x) P holds = tt
+on_err (Err e) P holds = holds

@@ -1,6 +1,6 @@
 //! A page is put on the shelf, published and marked.
 ghost use Rattle.std.specs.Prelude.{◌≡◌, ℕ, ◌<◌, ◌≤◌, ◌+◌, ◌++◌, [], ◌∷◌, List, length, All, filter};
-ghost use Rattle.std.specs.Prelude.{IfOk, IfErr, IsTrue, MatchResult, vec_capacity, if◌then◌else◌};
+ghost use Rattle.std.specs.Prelude.{IfOk, IfErr, OnOk, IsTrue, MatchResult, vec_capacity, if◌then◌else◌};
 ghost use Rattle.rules.specs.Sheets.{layout};
 ghost use Rattle.gather_table.specs.Shared.{IsSeatOf, Makes};
 ghost use Rattle.sheet_plan.specs.Places.{places_of};
@@ -145,7 +145,8 @@ impl<'f, 'p, 't, 'd> Delivery<'f, 'p, 't, 'd> {
     {
         let page = prepared.page();
         let places = self.plan.slots_of_page(page);
-        let Ok(answers) = answers.reserve(places.len()) else {
+        let mut answers = answers;
+        let Ok(()) = answers.reserve(places.len()) else {
             return Err(DeliverError::NoMemory(prepared));
         };
         let receipt = match self.shelf.put_as(rt, prepared, self.as_own) {
@@ -156,13 +157,18 @@ impl<'f, 'p, 't, 'd> Delivery<'f, 'p, 't, 'd> {
             },
         };
         let published = self.table.publish(seat, page, receipt.index());
-        let marked = self.mark_places(rt, seat, pass, places, answers);
+        self.mark_places(rt, seat, pass, places, &mut answers);
+        let Answers {
+            replies,
+            closings,
+            handed_back,
+        } = answers;
         Ok(Delivered {
             receipt,
             published,
-            replies: marked.replies,
-            closings: marked.closings,
-            handed_back: marked.handed_back,
+            replies,
+            closings,
+            handed_back,
         })
     }
 
@@ -174,52 +180,42 @@ impl<'f, 'p, 't, 'd> Delivery<'f, 'p, 't, 'd> {
         seat: &mut Seat,
         pass: &mut Pass,
         places: &[(u32, u16)],
-        answers: Marked,
-    ) -> Marked
+        answers: &mut Answers,
+    )
         requires seat { IsSeatOf self.now.table.now seat.old }
         requires pass { IsPassOf self.now.ready.now pass.old }
         requires places { All (IsReady self.now.table.now.layout seat.old.front) places.now }
-        requires replies { (answers.replies.items ≡ []) × (length places.now ≤ vec_capacity answers.replies) }
-        requires closings { (answers.closings.items ≡ []) × (length places.now ≤ vec_capacity answers.closings) }
-        requires handed_back { (answers.handed_back.items ≡ [])
-            × (length places.now ≤ vec_capacity answers.handed_back) }
-        ensures called { Makes seat.old (place_calls places.now result.replies.items result.closings.items) seat.new }
-        ensures replies { length result.replies.items ≡ length places.now }
-        ensures closings { length result.closings.items ≡ length (filter is_filling result.replies.items) }
+        requires replies { (answers.old.replies.items ≡ []) × (length places.now ≤ vec_capacity answers.old.replies) }
+        requires closings { (answers.old.closings.items ≡ []) × (length places.now ≤ vec_capacity answers.old.closings) }
+        requires handed_back { (answers.old.handed_back.items ≡ [])
+            × (length places.now ≤ vec_capacity answers.old.handed_back) }
+        ensures called { Makes seat.old (place_calls places.now answers.new.replies.items answers.new.closings.items)
+            seat.new }
+        ensures replies { length answers.new.replies.items ≡ length places.now }
+        ensures closings { length answers.new.closings.items ≡ length (filter is_filling answers.new.replies.items) }
         ensures pass { IsPassOf self.now.ready.now pass.new }
         ensures handed_on { HandedOn self.now.ready.now
-            (completed (place_calls places.now result.replies.items result.closings.items)) result.handed_back.items
-            pass.old pass.new }
+            (completed (place_calls places.now answers.new.replies.items answers.new.closings.items))
+            answers.new.handed_back.items pass.old pass.new }
     {
-        let Marked {
-            mut replies,
-            mut closings,
-            mut handed_back,
-        } = answers;
         for place in places {
             let (reply, closing) = mark_and_close(self.table, seat, *place);
-            replies.push_reserved(reply);
-            push_closing(&mut closings, closing);
+            answers.replies.push_reserved(reply);
+            push_closing(&mut answers.closings, closing);
             let completed = completes_sheet(reply, closing);
-            hand_on_completed(rt, self.ready, pass, place.0, completed, &mut handed_back);
-        }
-        Marked {
-            replies,
-            closings,
-            handed_back,
+            hand_on_completed(
+                rt,
+                self.ready,
+                pass,
+                place.0,
+                completed,
+                &mut answers.handed_back,
+            );
         }
     }
 }
 
-/// What was answered at the places of a page, and the sheets that were handed back.
-#[derive(Drop)]
-struct Marked {
-    replies: Vec<Reply>,
-    closings: Vec<Closing>,
-    handed_back: Vec<u32>,
-}
-
-/// Memory for what a delivery is answered.
+/// What a delivery is answered at the places of a page, and the sheets that are handed back; and the memory for them.
 #[derive(Drop)]
 pub struct Answers {
     replies: Vec<Reply>,
@@ -254,27 +250,19 @@ impl Answers {
     }
 
     /// No answers yet, with room for those of this many places.
-    fn reserve(self, places: usize) -> Result<Marked, AllocError>
-        ensures replies { IfOk result (λ a. (a.replies.items ≡ []) × (places ≤ vec_capacity a.replies)) }
-        ensures closings { IfOk result (λ a. (a.closings.items ≡ []) × (places ≤ vec_capacity a.closings)) }
-        ensures handed_back { IfOk result (λ a. (a.handed_back.items ≡ []) × (places ≤ vec_capacity a.handed_back)) }
+    fn reserve(&mut self, places: usize) -> Result<(), AllocError>
+        ensures replies { OnOk result ((self.new.replies.items ≡ []) × (places ≤ vec_capacity self.new.replies)) }
+        ensures closings { OnOk result ((self.new.closings.items ≡ []) × (places ≤ vec_capacity self.new.closings)) }
+        ensures handed_back { OnOk result ((self.new.handed_back.items ≡ [])
+            × (places ≤ vec_capacity self.new.handed_back)) }
     {
-        let Answers {
-            mut replies,
-            mut closings,
-            mut handed_back,
-        } = self;
-        replies.clear();
-        replies.reserve(places)?;
-        closings.clear();
-        closings.reserve(places)?;
-        handed_back.clear();
-        handed_back.reserve(places)?;
-        Ok(Marked {
-            replies,
-            closings,
-            handed_back,
-        })
+        self.replies.clear();
+        self.replies.reserve(places)?;
+        self.closings.clear();
+        self.closings.reserve(places)?;
+        self.handed_back.clear();
+        self.handed_back.reserve(places)?;
+        Ok(())
     }
 }
 

@@ -65,10 +65,7 @@ pub fn impose<'d>(
         is_of_document: false,
     };
     let mut text = Rope::new(alloc);
-    match imposition.impose(&mut text, &mut Openings::new(alloc), seat, sheet) {
-        Ok(()) => {}
-        Err(error) => return Err(error),
-    }
+    imposition.impose(&mut text, &mut Openings::new(alloc), seat, sheet)?;
     let Ok(text) = text.to_vec(alloc) else {
         return Err(ImposeError::NoMemory);
     };
@@ -111,10 +108,7 @@ impl<'s, 'r, 't, 'd> Imposition<'s, 'r, 't, 'd> {
         let Ok(()) = begin_sheet(text, job, sheet) else {
             return Err(ImposeError::NoMemory);
         };
-        match self.append_shelved_slots(text, openings, seat, sheet) {
-            Ok(()) => {}
-            Err(error) => return Err(error),
-        }
+        self.append_shelved_slots(text, openings, seat, sheet)?;
         let Ok(()) = end_sheet(text, job, sheet) else {
             return Err(ImposeError::NoMemory);
         };
@@ -142,10 +136,7 @@ impl<'s, 'r, 't, 'd> Imposition<'s, 'r, 't, 'd> {
         let job = self.job;
         let plan = job.plan();
         for slot in 0..plan.slots(sheet) {
-            match self.append_shelved(text, openings, seat, sheet, slot) {
-                Ok(()) => {}
-                Err(error) => return Err(error),
-            }
+            self.append_shelved(text, openings, seat, sheet, slot)?;
         }
         Ok(())
     }
@@ -176,10 +167,7 @@ impl<'s, 'r, 't, 'd> Imposition<'s, 'r, 't, 'd> {
 
         // The seat shows that its front is a legal history, in which the pages of a complete sheet have an index.
         seat.share();
-        let shown = match self.find_shelved(seat, page) {
-            Ok(shown) => shown,
-            Err(error) => return Err(error),
-        };
+        let shown = self.find_shelved(seat, page)?;
         match append_placed(text, openings, job, sheet, slot, shown.body()) {
             Ok(()) => Ok(()),
             Err(_) => Err(ImposeError::NoMemory),

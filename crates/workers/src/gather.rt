@@ -3,7 +3,7 @@ ghost use Rattle.std.specs.Prelude.{◌≡◌, ◌+◌, ◌<◌, ◌⊎◌, IfSo
 ghost use Rattle.workers.specs.Growth.{GathersAll};
 
 use crate::join::{join_imposers, join_preparers};
-use crate::start::start;
+use crate::start::{start_imposers, start_preparers};
 use crate::work::{Collector, Imposing};
 use std::alloc::Global;
 use std::sync::Wait;
@@ -112,7 +112,12 @@ fn run_workers<
         mut held,
         ticket,
     } = supplies;
-    let Some((prepare, impose)) = start(rt, scope, shared, crew, &mut held, ticket) else {
+    // Imposers wait for all preparers, so none is started if a preparer was refused.
+    let Some(prepare) = start_preparers(rt, scope, shared, crew, &mut held) else {
+        shared.stop();
+        return None;
+    };
+    let Some(impose) = start_imposers(rt, scope, shared, crew, &mut held, ticket) else {
         shared.stop();
         return None;
     };

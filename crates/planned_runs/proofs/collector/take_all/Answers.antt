@@ -12,15 +12,15 @@ loop-preserved g c = record {
   same = c.take_turn.ensures.same ∙ c.loop.invariant.same;
   goes_on = λ start stands. c.take_turn.ensures.goes_on start (c.loop.invariant.goes_on start stands);
   steady = c.take_turn.ensures.steady (search rules) ∙ c.loop.invariant.steady;
-  early = c.take_turn.ensures.early;
+  desk = c.take_turn.ensures.desk;
 }
 
 pub returns-clause-goes_on : goal.returns-clause-goes_on
 returns-clause-goes_on g c = elim c.match-next.branch [
   | in-None w ↦
-      subst (λ d. GoesOn c.args.input.now.shared.now.job.now (g.S.Sink.seen c.args.state.now.sink.now) (g.S.Sink.seen d.sink.now) c.args.state.now.progress d.progress)
+      subst (λ d. GoesOn c.args.input.now.shared.now.floor.job.now (g.S.Sink.seen c.args.state.now.sink.now) (g.S.Sink.seen d.sink.now) c.args.state.now.progress d.progress)
       (sym w.state-is) c.loop.invariant.goes_on
   | in-Some+then-not-take_turn w ↦
-      subst (λ d. GoesOn c.args.input.now.shared.now.job.now (g.S.Sink.seen c.args.state.now.sink.now) (g.S.Sink.seen d.sink.now) c.args.state.now.progress d.progress)
+      subst (λ d. GoesOn c.args.input.now.shared.now.floor.job.now (g.S.Sink.seen c.args.state.now.sink.now) (g.S.Sink.seen d.sink.now) c.args.state.now.progress d.progress)
       (sym w.state-is) (λ start stands. w.take_turn.ensures.goes_on start (c.loop.invariant.goes_on start stands))
 ]

@@ -1,21 +1,25 @@
 use Rattle.std.proofs.Common.{◌≡◌, ◌∙◌, ap, sym, arith}
-use Rattle.std.specs.Prelude.{IsNone}
 use Rattle.std.proofs.lemmas.Bool.{le-leb}
 use Rattle.rules.specs.Sheets.{Plan, Layout, layout}
 use Rattle.run_steps.specs.Duty.{most_puts_in_all}
-use Rattle.run_steps.specs.Gathered.{IsGathered}
-use Rattle.planned_runs.proofs.Ends.{fresh_tokens, put_if_room}
+use Rattle.planned_runs.proofs.Ends.{fresh_tokens, leaves_if}
 use Rattle.planned_runs.proofs.gathering.gather_on.Goals as goal
 
 pub gather_as-requires-clause-tokens : goal.gather_as-requires-clause-tokens
 gather_as-requires-clause-tokens g c κs within = fresh_tokens _ _ _ c.requires.seat c.requires.pass c.share.ensures.seat c.share-2.ensures.pass
 
-pub returns-clause-whole : goal.returns-clause-whole
-returns-clause-whole g c =
+pub returns : goal.returns
+returns g c =
+    let floor = c.args.floor in
     let count = c.args.workers.preparers in
-    let same : most_puts_in_all (layout c.plan.result.now) count ≡ most_puts_in_all c.args.floor.now.table.now.layout count
-    = ap (λ (plan : Plan). most_puts_in_all (layout plan) count) c.plan.ensures.value ∙ ap (λ (l : Layout). most_puts_in_all l count) (sym c.args.floor.now.same_plan) in
-    put_if_room c.args.floor.now.table.now c.args.floor.now.ready.now c.args.floor.now.table.now.layout count c.args.tokens.pass c.gather_as.result.tokens
-    (λ t. IsNone c.gather_as.result.unshelved → IsGathered c.args.floor.now.table.now.layout t.0.front) _
-    (λ room. le-leb _ _ (omega (arith, room, same, c.most_puts_in_all.ensures, c.room-room.ensures, c.from.ensures)))
-    c.gather_as.ensures.whole
+    let gathered = c.gather_as.ensures in
+    let same : most_puts_in_all (layout c.plan.result.now) count ≡ most_puts_in_all floor.table.now.layout count
+    = ap (λ (plan : Plan). most_puts_in_all (layout plan) count) c.plan.ensures.value ∙ ap (λ (l : Layout). most_puts_in_all l count) (sym floor.same_plan) in
+    record {
+      outcome = gathered.outcome;
+      tokens = gathered.tokens;
+      whole = leaves_if _ _ _ _ c.gather_as.result
+          (λ room. le-leb _ _ (omega (arith, room, same, c.most_puts_in_all.ensures, c.room-room.ensures, c.from.ensures)))
+          gathered.whole;
+      unshelved = gathered.unshelved;
+    }

@@ -5,6 +5,6 @@ use Rattle.planned_runs.proofs.gathering.put_blank_sheets.Given as goal
 
 abbrev pub invariant-loop-k : goal.invariant-loop-k
 invariant-loop-k g l = record {
-  pass : IsPassOf l.shared.ready.now l.pass;
-  put : (back : List ℕ) × HandedOn l.shared.ready.now (take l.k l.sheets) back l.initial.pass l.pass;
+  pass : IsPassOf l.shared.floor.ready.now l.pass;
+  put : (back : List ℕ) × HandedOn l.shared.floor.ready.now (take l.k l.sheets) back l.initial.pass l.pass;
 }

@@ -6,5 +6,5 @@ use Rattle.planned_runs.proofs.rooms.most_puts.Given as goal
 abbrev pub invariant-loop-page : goal.invariant-loop-page
 invariant-loop-page l = record {
   value : l.puts ≡ min (share_below is_place (layout l.plan) l.count l.number (min l.page l.plan.pages)) (length l.plan.sheets);
-  own : l.page % l.count ≡ l.number % l.count;
+  own : l.page % l.count ≡ l.number;
 }

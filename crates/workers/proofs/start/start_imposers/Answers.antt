@@ -7,12 +7,12 @@ loop-preserved g c =
     let was = c.loop.invariant in record {
       len = search rules;
       room = search rules;
-      ticket = search rules;
+      ticket = c.another-sending.ensures.kept;
       each = pushed
           (λ k h. h.promise.shared.now ≡ c.args.shared.now)
-          (vec_items c.loop.handles) c.in-Ok.handle (vec_items c.push_reserved.new.self) c.loop.counter
-          c.push_reserved.ensures.items (search rules) was.each c.in-Ok.ensures;
-      held = search rules;
+          (vec_items c.loop.handles) c.in_ok-handle.handle (vec_items c.push_reserved.new.self) c.loop.counter
+          c.push_reserved.ensures.items (search rules) was.each c.in_ok-handle.ensures;
+      held = c.split-theirs.ensures.held;
       share = (let e = c.split-theirs.ensures.share in let f = was.share in omega arith);
       gathered = λ first n had. c.split-theirs.ensures.gathered first n (was.gathered first n had);
     }

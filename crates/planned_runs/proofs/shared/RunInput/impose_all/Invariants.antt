@@ -1,11 +1,10 @@
 use Rattle.crossbeam_channel.specs.Claims.{IsSeatAt}
 use Rattle.crossbeam_channel.specs.Ends.{sends_on}
-use Rattle.planned_runs.specs.Tokens.{AreTokens, OnlyImposes}
+use Rattle.planned_runs.specs.Promises.{OnlyImposes}
 use Rattle.planned_runs.proofs.shared.RunInput.impose_all.Given as goal
 
 abbrev pub invariant-loop : goal.invariant-loop
 invariant-loop g l =
     (goal.iterator-loop g).can_next l.iterator' × (goal.iterator-loop g).is_finite l.iterator'
-    × AreTokens l.self.shared.now.table.now l.self.shared.now.ready.now 1 l.tokens
     × IsSeatAt (sends_on l.self.channel.now.sender) l.ticket
-    × OnlyImposes l.fn.tokens l.tokens
+    × OnlyImposes l.self.shared.now l.fn.tokens l.tokens

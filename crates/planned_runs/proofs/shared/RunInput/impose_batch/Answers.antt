@@ -1,6 +1,6 @@
-use Rattle.std.proofs.Common.{rules, sym, subst}
+use Rattle.std.proofs.Common.{sym, subst}
 use Rattle.sheet_writer.specs.Writing.{HaveTexts}
-use Rattle.planned_runs.specs.Tokens.{AreTokens, OnlyImposes}
+use Rattle.planned_runs.specs.Promises.{OnlyImposes}
 use Rattle.planned_runs.proofs.Held.{imposes_both}
 use Rattle.planned_runs.proofs.Texts.{have_none}
 use Rattle.planned_runs.proofs.shared.RunInput.impose_batch.Goals as goal
@@ -12,27 +12,18 @@ impose_into-requires-clause-texts g c =
 
 pub loop-preserved : goal.loop-preserved
 loop-preserved g c = record {
-  tokens = c.impose_more.ensures.tokens;
-  imposes = imposes_both _ _ _ c.loop.invariant.imposes c.impose_more.ensures.imposes;
-  texts = search rules;
+  imposes = imposes_both _ _ _ _ c.loop.invariant.imposes c.in_ok-impose_more.ensures.imposes;
+  texts = c.in_ok-impose_more.ensures.texts;
 }
 
-pub returns-in_err-impose_more-clause-imposes : goal.returns-in_err-impose_more-clause-imposes
-returns-in_err-impose_more-clause-imposes g c = imposes_both _ _ _ c.loop.invariant.imposes c.impose_more.ensures.imposes
-
 pub returns-clause-imposes : goal.returns-clause-imposes
-returns-clause-imposes g c = elim c.loop-test.branch [
-  | else-loop-test w ↦ subst (OnlyImposes c.args.tokens.now) (sym w.tokens-is) c.loop.invariant.imposes
-  | then-loop-test+in_ok-impose_more+then-not-branch w ↦
-      subst (OnlyImposes c.args.tokens.now) (sym w.tokens-is) (imposes_both _ _ _ c.loop.invariant.imposes w.impose_more.ensures.imposes)
-]
-
-pub returns-clause-tokens : goal.returns-clause-tokens
-returns-clause-tokens g c = elim c.loop-test.branch [
-  | else-loop-test w ↦ subst (AreTokens c.args.self.now.shared.now.table.now c.args.self.now.shared.now.ready.now 1) (sym w.tokens-is) c.loop.invariant.tokens
-  | then-loop-test+in_ok-impose_more+then-not-branch w ↦
-      subst (AreTokens c.args.self.now.shared.now.table.now c.args.self.now.shared.now.ready.now 1) (sym w.tokens-is) w.impose_more.ensures.tokens
-]
+returns-clause-imposes g c =
+    let run = c.args.self.now.shared.now in
+    elim c.loop-test.branch [
+      | else-loop-test w ↦ subst (OnlyImposes run c.args.tokens.now) (sym w.tokens-is) c.loop.invariant.imposes
+      | then-loop-test+in_ok-impose_more+then-not-branch w ↦
+          subst (OnlyImposes run c.args.tokens.now) (sym w.tokens-is) (imposes_both _ _ _ _ c.loop.invariant.imposes w.in_ok-impose_more.ensures.imposes)
+    ]
 
 pub returns-clause-texts : goal.returns-clause-texts
 returns-clause-texts g c = elim c.loop-test.branch [

@@ -1,20 +1,20 @@
 use Rattle.planned_runs.proofs.Held.{imposes_nothing, imposes_same, imposes_taken}
 use Rattle.planned_runs.proofs.shared.Shared.find_sheet.Goals as goal
 
-pub returns-in-Some-clause-imposes : goal.returns-in-Some-clause-imposes
-returns-in-Some-clause-imposes g c = imposes_nothing _
+pub returns-in-Some : goal.returns-in-Some
+returns-in-Some g c = record { imposes = imposes_nothing c.args.self.now _ c.requires.tokens }
 
-pub returns-then-come_nearer-clause-imposes : goal.returns-then-come_nearer-clause-imposes
-returns-then-come_nearer-clause-imposes g c = imposes_nothing _
+pub returns-then-come_nearer : goal.returns-then-come_nearer
+returns-then-come_nearer g c = record { imposes = imposes_nothing c.args.self.now _ c.requires.tokens }
 
-pub returns-in_default-taken-clause-imposes : goal.returns-in_default-taken-clause-imposes
-returns-in_default-taken-clause-imposes g c = imposes_same c.args.tokens.now _ c.in_default-taken.ensures.none
+pub returns-in_default-taken : goal.returns-in_default-taken
+returns-in_default-taken g c = record { imposes = imposes_same c.args.self.now c.args.tokens.now _ c.requires.tokens c.in_default-taken.ensures.none }
 
-pub returns-then-sheet-end-clause-imposes : goal.returns-then-sheet-end-clause-imposes
-returns-then-sheet-end-clause-imposes g c = imposes_taken c.in-Some-taken.sheet _ _ c.in-Some-taken.ensures.taken
+pub returns-then-sheet-end : goal.returns-then-sheet-end
+returns-then-sheet-end g c = record { imposes = imposes_taken c.args.self.now c.in-Some-taken.sheet _ _ c.requires.tokens c.in-Some-taken.ensures.taken }
 
-pub returns-then-is_ok-clause-imposes : goal.returns-then-is_ok-clause-imposes
-returns-then-is_ok-clause-imposes g c = imposes_taken c.in-Some-taken.sheet _ _ c.in-Some-taken.ensures.taken
+pub returns-then-is_ok : goal.returns-then-is_ok
+returns-then-is_ok g c = record { imposes = imposes_taken c.args.self.now c.in-Some-taken.sheet _ _ c.requires.tokens c.in-Some-taken.ensures.taken }
 
-pub returns-clause-imposes : goal.returns-clause-imposes
-returns-clause-imposes g c = imposes_taken c.in-Some-taken.sheet _ _ c.in-Some-taken.ensures.taken
+pub returns : goal.returns
+returns g c = record { imposes = imposes_taken c.args.self.now c.in-Some-taken.sheet _ _ c.requires.tokens c.in-Some-taken.ensures.taken }

@@ -9,8 +9,8 @@ use Rattle.run_steps.proofs.Shares.{places_complete}
 use Rattle.run_steps.proofs.PlacesOf.{ready_published}
 use Rattle.run_steps.proofs.delivery.Delivery.deliver.Goals as goal
 
-pub mark_places-marked-requires-clause-places : goal.mark_places-marked-requires-clause-places
-mark_places-marked-requires-clause-places g c =
+pub mark_places-requires-clause-places : goal.mark_places-requires-clause-places
+mark_places-requires-clause-places g c =
     let page = c.page-page.result in
     ready_published c.args.self.now.table.now.layout c.args.seat.now c.publish-published.new.seat page _
     c.publish-published.result c.slots_of_page-places.result.now c.requires.seat.1 c.publish-published.ensures
@@ -18,20 +18,20 @@ mark_places-marked-requires-clause-places g c =
 
 pub returns-clause-seat : goal.returns-clause-seat
 returns-clause-seat g c =
-    let marked = c.mark_places-marked in
+    let marked = c.mark_places in
     still_seat c.args.self.now.table.now c.args.seat.now marked.new.seat
     (Publish _ _ _
-    ∷ place_calls c.slots_of_page-places.result.now marked.result.replies.items marked.result.closings.items)
+    ∷ place_calls c.slots_of_page-places.result.now marked.new.answers.replies.items marked.new.answers.closings.items)
     c.requires.seat (c.publish-published.new.seat, c.publish-published.ensures, marked.ensures.called)
 
 pub returns-clause-by_right : goal.returns-clause-by_right
 returns-clause-by_right g c = λ enough.
     let layout = c.args.self.now.table.now.layout in
     let places = c.slots_of_page-places.result.now in
-    let marked = c.mark_places-marked in
-    let few = places_complete places marked.result.replies.items marked.result.closings.items in
+    let marked = c.mark_places in
+    let few = places_complete places marked.new.answers.replies.items marked.new.answers.closings.items in
     let same : length places ≡ length (places_of layout c.args.prepared.page) =
     ap length (c.slots_of_page-places.ensures.value ∙ ap (λ (l : Layout). places_of l c.page-page.result) (sym c.args.self.now.same_plan))
     ∙ ap (λ p. length (places_of layout p)) c.page-page.ensures in
-    (none_handed_back c.args.self.now.ready.now _ marked.result.handed_back.items c.args.pass.now marked.new.pass
+    (none_handed_back c.args.self.now.ready.now _ marked.new.answers.handed_back.items c.args.pass.now marked.new.pass
     marked.ensures.handed_on (omega (arith, enough, few, same))).0

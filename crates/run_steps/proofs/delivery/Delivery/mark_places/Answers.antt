@@ -17,8 +17,8 @@ pub loop-place-preserved : goal.loop-place-preserved
 loop-place-preserved g c =
     let was = c.loop-place.invariant in
     let i = c.loop-place.place-index in
-    let rs = c.loop-place.replies.items in
-    let cs = c.loop-place.closings.items in
+    let rs = c.loop-place.answers.replies.items in
+    let cs = c.loop-place.answers.closings.items in
     let place = c.mark_and_close-reply in
     let replied = c.push_reserved.ensures.items in
     let closed = c.push_closing.ensures.items in
@@ -37,7 +37,7 @@ loop-place-preserved g c =
       room_closings = search rules;
       room_back = search rules;
       handed_on = handed_on c.args.self.now.ready.now c.args.places.now i (0, 0) rs _ place.result.0 cs _ place.result.1
-          c.completes_sheet-completed.result c.loop-place.handed_back.items turn.0 _ _ _ _
+          c.completes_sheet-completed.result c.loop-place.answers.handed_back.items turn.0 _ _ _ _
           (omega arith) was.answered was.closed replied closed c.completes_sheet-completed.ensures turn.1
           was.handed_on turn.2;
     }

@@ -7,16 +7,16 @@ use Rattle.run_steps.proofs.delivery.Delivery.mark_places.Given as goal
 
 abbrev pub invariant-loop-place : goal.invariant-loop-place
 invariant-loop-place g l = record {
-  called : Makes l.initial.seat (place_calls (take l.place-index l.places) l.replies.items l.closings.items) l.seat;
-  answered : length l.replies.items ≡ l.place-index;
-  closed : length l.closings.items ≡ length (filter is_filling l.replies.items);
+  called : Makes l.initial.seat (place_calls (take l.place-index l.places) l.answers.replies.items l.answers.closings.items) l.seat;
+  answered : length l.answers.replies.items ≡ l.place-index;
+  closed : length l.answers.closings.items ≡ length (filter is_filling l.answers.replies.items);
   pass : IsPassOf l.self.ready.now l.pass;
-  few_closings : length l.closings.items ≤ l.place-index;
-  few_back : length l.handed_back.items ≤ l.place-index;
-  room_replies : length l.places ≤ vec_capacity l.replies;
-  room_closings : length l.places ≤ vec_capacity l.closings;
-  room_back : length l.places ≤ vec_capacity l.handed_back;
+  few_closings : length l.answers.closings.items ≤ l.place-index;
+  few_back : length l.answers.handed_back.items ≤ l.place-index;
+  room_replies : length l.places ≤ vec_capacity l.answers.replies;
+  room_closings : length l.places ≤ vec_capacity l.answers.closings;
+  room_back : length l.places ≤ vec_capacity l.answers.handed_back;
   handed_on : HandedOn l.self.ready.now
-      (completed (place_calls (take l.place-index l.places) l.replies.items l.closings.items)) l.handed_back.items
+      (completed (place_calls (take l.place-index l.places) l.answers.replies.items l.answers.closings.items)) l.answers.handed_back.items
       l.initial.pass l.pass;
 }
