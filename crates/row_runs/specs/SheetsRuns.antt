@@ -1,18 +1,16 @@
--- What is written of sheets that were made, what is reported of it, and why they are refused.
-use Rattle.std.specs.Prelude.{◌≡◌, ℕ, ◌≤◌, List, length, Option, Ok}
+-- What is written of sheets that were made, and what is reported of it.
+use Rattle.std.specs.Prelude.{◌≡◌, ℕ, ◌≤◌, List, length, Option}
 use Rattle.rules.specs.Parts.{NestedUnit, pages}
-use Rattle.rules.specs.Output.{Border, border_within}
+use Rattle.rules.specs.Output.{Border}
 use Rattle.made_sheets.specs.Made.{MadeSheet}
 use Rattle.made_sheets.specs.MadeOutput.{made_output}
-use Rattle.made_sheets.specs.MadePlans.{made_layout, made_plan_of}
+use Rattle.made_sheets.specs.MadePlans.{made_layout}
 use Rattle.papers.specs.Told.{telling}
 use Rattle.dressing.specs.Numbered.{Drawn, drawn_on}
-use Rattle.sheet_plan.specs.MadeRefusals.{RefusesMade}
 use Rattle.sheet_plan.specs.Places.{born_complete}
+use Rattle.sheet_text.specs.Dressings.{dress_in}
 use Rattle.planned_runs.specs.declared.outcome.Report.{Report}
-use Rattle.row_runs.specs.declared.planned.SheetJob.{SheetJob}
-use Rattle.row_runs.specs.declared.error.AskedError.{AskedError}
-use Rattle.row_runs.specs.declared.error.AskedError.TheVariants as error
+use Rattle.row_runs.specs.declared.run.LaidRow.{LaidRow}
 
 -- the output of sheets that report their papers, with what is drawn at the end of each; if nothing is, it is that of sheets
 -- that report their papers and no more
@@ -28,23 +26,6 @@ pub record ReportsOn (border : Option Border) (drawn : Drawn) (all : List MadeSh
   pub swept_within : report.swept ≤ report.sheets
   pub byte_count : report.bytes ≡ length (told_output border drawn all us)
 
--- the border that each page has, if there is one
-abbrev pub border_in : SheetJob → Option Border
-border_in j = border_within j.inset j.border
-
--- what is drawn on its sheets
-abbrev pub drawn_in : SheetJob → Drawn
-drawn_in j = record { strokes = j.strokes.now; numbers = j.numbers.now }
-
--- the output of a job, and the numbers of a report on it
-abbrev pub output_in : SheetJob → List ℕ
-output_in j = told_output (border_in j) (drawn_in j) j.sheets.now j.document.now
-
-abbrev pub ReportsIn : SheetJob → Report → Type 0
-ReportsIn j report = ReportsOn (border_in j) (drawn_in j) j.sheets.now j.document.now report
-
--- a refusal names the first fault of the sheets; memory runs out once they are planned
-abbrev pub RefusesSheets : (pages : ℕ) → List MadeSheet → AskedError → Type 0
-RefusesSheets pages all (error.Sheets e) = RefusesMade pages all e
-RefusesSheets pages all error.NoMemory = made_plan_of pages all ≡ Ok all
-RefusesSheets pages all other = ⊥
+-- the lines of these sheets report their papers, and this is drawn at the end of each
+abbrev pub IsDressed : Drawn → LaidRow → Type 0
+IsDressed drawn row = dress_in row.dress ≡ drawn_on drawn (telling row.sheets)

@@ -5,7 +5,7 @@ ghost use Rattle.sheet_writer.specs.Sinks.{IsCountable};
 use crate::tests::checks::{assert_bytes, assert_that};
 use dsc::Document;
 use imposer::{
-    Dress, Job, Lines, MemorySink, Nobody, Numbers, Open, Report, Sink, Workers, run_plan,
+    Dress, Job, Lines, MemorySink, Nobody, Open, Report, Sink, Workers, run_plan,
 };
 use lengths::{Grains, Number, Paper, paper_by_name};
 use pagespec::{Item, Measure, Turn};
@@ -87,7 +87,7 @@ fn two_sheets(alloc: Global, first: Paper, second: Paper) -> Result<MadeSheets, 
 }
 
 /// The dress of sheets that report their papers, and end with the same line.
-fn lines<'n>(alloc: Global, numbers: &'n Option<Numbers>) -> Result<Dress<'n>, Fail> {
+fn lines(alloc: Global) -> Result<Dress, Fail> {
     let mut header = Lines::new(alloc);
     header.push(b"%%DocumentMedia: x")?;
     let mut finish = Lines::new(alloc);
@@ -96,7 +96,7 @@ fn lines<'n>(alloc: Global, numbers: &'n Option<Numbers>) -> Result<Dress<'n>, F
         header,
         tells_papers: true,
         finish,
-        numbers,
+        numbers: None,
     })
 }
 
@@ -105,7 +105,7 @@ fn run_dressed<R: Threads + Wait + Sync, S: Sink>(
     rt: &R,
     alloc: Global,
     sheets: &MadeSheets,
-    dress: &Dress<'_>,
+    dress: &Dress,
     sink: &mut S,
 ) -> Result<Report, Fail>
     requires { IsCountable (S.seen sink.old) }
@@ -125,8 +125,7 @@ fn run_two<R: Threads + Wait + Sync>(rt: &R, alloc: Global) -> Result<(MemorySin
     let a4 = paper_by_name("a4").ok_or(AllocError)?;
     let a5 = paper_by_name("a5").ok_or(AllocError)?;
     let sheets = two_sheets(alloc, a4, a5)?;
-    let numbers = None;
-    let dress = lines(alloc, &numbers)?;
+    let dress = lines(alloc)?;
     let mut sink = MemorySink::new(alloc, 3_000, 1_000, 100)?;
     let report = run_dressed(rt, alloc, &sheets, &dress, &mut sink)?;
     Ok((sink, report))
