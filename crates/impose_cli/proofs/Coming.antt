@@ -17,7 +17,7 @@ use Rattle.made_sheets.specs.MadeOutput.{made_output}
 use Rattle.made_sheets.specs.MadePlans.{made_layout}
 use Rattle.papers.specs.Told.{telling}
 use Rattle.dressing.specs.Numbered.{Drawn, drawn_on}
-use Rattle.row_runs.specs.SheetsRuns.{ReportsOn, told_output}
+use Rattle.row_runs.specs.SheetsRuns.{told_output}
 use Rattle.sheet_plan.specs.OfSheets.{made_plan}
 use Rattle.sheet_plan.specs.Places.{born_complete}
 use Rattle.planned_runs.specs.Gathering.{ReportsOf}
@@ -25,6 +25,7 @@ use Rattle.planned_runs.specs.Outcomes.{AfterError}
 use Rattle.planned_runs.specs.declared.outcome.Report.{Report}
 use Rattle.planned_runs.specs.declared.outcome.RunError.{RunError}
 use Rattle.planned_runs.specs.declared.outcome.RunError.TheVariants as run
+use Rattle.impose_cli.specs.RowRuns.{ReportsOn}
 use Rattle.impose_cli.specs.Abouts.{finished_by, reported_by}
 use Rattle.impose_cli.specs.Endings.{AfterWrite, Comes, HasFirst, HasFront, IsNotCreated, IsSaidOf, TellsCount, WritesJob}
 use Rattle.impose_cli.specs.declared.left.Rest.{Rest}

@@ -13,7 +13,7 @@ use Rattle.rules.specs.Run.{document_of}
 use Rattle.rows.specs.Sewing.{MayBeSewn}
 use Rattle.planned_runs.specs.declared.outcome.Report.{Report}
 use Rattle.row_runs.specs.declared.run.RowJob.{RowJob}
-use Rattle.row_runs.specs.Runs.{Imposes}
+use Rattle.impose_cli.specs.RowRuns.{Imposes}
 use Rattle.impose_cli.specs.Abouts.{reported_by}
 use Rattle.impose_cli.specs.Endings.{Comes, IsImposed, RefusesImposing, RefusesRow, RefusesRowJob, RefusesRowTaskRun, Runs}
 use Rattle.impose_cli.specs.declared.runs.About.{About}

@@ -4,8 +4,8 @@ use Rattle.std.specs.Prelude.{IfSome, option_map, string_bytes}
 use Rattle.rows.specs.Sewing.{MayBeSewn}
 use Rattle.rules.specs.Run.{document_of}
 use Rattle.planned_runs.specs.declared.outcome.Report.{Report}
-use Rattle.row_runs.specs.BySpec.{ImposesBySpec}
 use Rattle.row_runs.specs.declared.by_spec.SpecJob.{SpecJob}
+use Rattle.impose_cli.specs.RowRuns.{ImposesBySpec}
 use Rattle.impose_cli.specs.Abouts.{reported_by}
 use Rattle.impose_cli.specs.Endings.{Comes, IsImposed, RefusesImposing, Runs}
 use Rattle.impose_cli.specs.SpecRows.{FinishesSpecRow, ImposesSpecTask, IsSpecJobOf, IsSpecRowTask, LaysSpecRow, TakesNamed, RefusesSpecRowJob, RefusesSpecRowRun, RefusesSpecRowTask, RefusesSpecTaskRun}

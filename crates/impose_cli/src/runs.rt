@@ -8,10 +8,9 @@ ghost use Rattle.planned_runs.specs.Outcomes.{IsNoRefusal};
 ghost use Rattle.imposer.specs.Runs.{IsRefusal, IsUnwritten, request as asked};
 ghost use Rattle.imposer.specs.Options.{AreOptions};
 ghost use Rattle.planned_runs.specs.Workers.{AreWorkers};
-ghost use Rattle.row_runs.specs.BySpec.{ImposesBySpec};
-ghost use Rattle.row_runs.specs.Runs.{Imposes};
 ghost use Rattle.row_runs.specs.Sheets.{MayBeAsked};
 ghost use Rattle.impose_cli.specs.Tasks.{IsSpec};
+ghost use Rattle.impose_cli.specs.RowRuns.{Imposes, ImposesBySpec};
 ghost use Rattle.impose_cli.specs.RowTasks.{LaysRows};
 ghost use Rattle.impose_cli.specs.SpecRows.{LaysSpecRow, RefusesSpecRowJob};
 ghost use Rattle.impose_cli.specs.Endings.{Comes, IsNotCreated, RefusesRowJob, RefusesTaskRun, Runs, shown};
@@ -110,16 +109,15 @@ pub(crate) fn impose_job<R: Threads + Wait + Sync, W: World>(
         world result.rest (shown W.Output.contents result.rest) }
 {
     let pages = job.document.pages();
-    let row = match job.lay(alloc) {
-        Ok(row) => row,
+    let (sheets, dress) = match job.lay(alloc) {
+        Ok(laid) => laid,
         Err(error) => return stopped(asked_fault_of(error, pages), world),
     };
-    let plan = match Plan::of_sheets(alloc, pages, &row.sheets) {
+    let plan = match Plan::of_sheets(alloc, pages, &sheets) {
         Ok(plan) => plan,
         Err(error) => return stopped(asked_fault_of(plan_error(error), pages), world),
     };
-    let (border, inset) = (job.border, job.inset);
-    let made = Job::made(&plan, job.document, &row.sheets, border, inset, &row.dress);
+    let made = Job::made(&plan, job.document, &sheets, job.border, job.inset, &dress);
     write_job(rt, alloc, &made, name, world)
 }
 
@@ -170,17 +168,17 @@ pub(crate) fn impose_spec_job<R: Threads + Wait + Sync, W: World>(
     ensures { Comes (RefusesSpecRowJob job.now) (ImposesBySpec job.now) (option_map (λ n. n.now) name.entry) (W.tells world) result.outcome
         world result.rest (shown W.Output.contents result.rest) }
 {
-    let pages = job.document.pages();
-    let laid = match job.lay(alloc) {
+    let document = job.document;
+    let pages = document.pages();
+    let (sheets, dress) = match job.lay(alloc) {
         Ok(laid) => laid,
         Err(error) => return stopped(asked_fault_of(error, pages), world),
     };
-    let plan = match Plan::of_sheets(alloc, pages, &laid.sheets) {
+    let plan = match Plan::of_sheets(alloc, pages, &sheets) {
         Ok(plan) => plan,
         Err(error) => return stopped(asked_fault_of(plan_error(error), pages), world),
     };
-    let (border, inset) = (job.border, Grains::ZERO);
-    let made = Job::made(&plan, job.document, &laid.sheets, border, inset, &laid.dress);
+    let made = Job::made(&plan, document, &sheets, job.border, Grains::ZERO, &dress);
     write_job(rt, alloc, &made, name, world)
 }
 

@@ -21,5 +21,5 @@ pub use by_spec::SpecJob;
 pub use counted_pages::told_pages;
 pub use error::{AskedError, plan_error};
 pub use look::{row_plan, row_preview};
-pub use run::{LaidRow, RowJob};
+pub use run::RowJob;
 pub use turning::{turned_paper, turned_papers};

@@ -1,7 +1,7 @@
 //! A row of a document's pages, laid on sheets.
 ghost use Rattle.std.specs.Prelude.{IfErr, IfOk};
 ghost use Rattle.row_runs.specs.Sheets.{MayBeAsked};
-ghost use Rattle.row_runs.specs.SheetsRuns.{IsDressed};
+ghost use Rattle.row_runs.specs.SheetsRuns.{IsDressOf};
 ghost use Rattle.row_runs.specs.Runs.{AreTurned, RefusesRun, drawn_of};
 
 use crate::asked::{Asked, asked_sheets};
@@ -31,22 +31,14 @@ pub struct RowJob<'j, 'd> {
     pub marks: Marks,
 }
 
-/// The sheets on which a row is laid, and the lines that an output of them gets: those that report their papers, and what is
-/// drawn at the end of each.
-#[derive(Drop)]
-pub struct LaidRow {
-    pub sheets: MadeSheets,
-    pub dress: Dress,
-}
-
 impl<'j, 'd> RowJob<'j, 'd> {
-    /// The sheets that are asked for, with their pages turned, and with their marks and numbers. What is wrong with the row is
-    /// refused first, then a page that fits no cell. Whoever creates an output plans them before: `Plan::of_sheets` refuses
-    /// what is left.
-    pub fn lay(&self, alloc: Global) -> Result<LaidRow, AskedError>
+    /// The sheets that are asked for, with their pages turned, and the lines that report their papers and draw their marks and
+    /// numbers. What is wrong with the row is refused first, then a page that fits no cell. Whoever creates an output plans
+    /// them before: `Plan::of_sheets` refuses what is left.
+    pub fn lay(&self, alloc: Global) -> Result<(MadeSheets, Dress), AskedError>
         requires { MayBeAsked self.now.asked }
-        ensures turned { IfOk result (λ row. AreTurned self.now row.sheets) }
-        ensures dressed { IfOk result (IsDressed (drawn_of self.now)) }
+        ensures turned { IfOk result (λ laid. AreTurned self.now laid.0) }
+        ensures dressed { IfOk result (λ laid. IsDressOf (drawn_of self.now) laid.0 laid.1) }
         // A refusal names the first fault.
         ensures refused { IfErr result (RefusesRun self.now) }
     {
@@ -66,7 +58,7 @@ impl<'j, 'd> RowJob<'j, 'd> {
             return Err(AskedError::NoMemory);
         };
         match dress_of(alloc, &sheets, strokes.as_slice(), numbers) {
-            Ok(dress) => Ok(LaidRow { sheets, dress }),
+            Ok(dress) => Ok((sheets, dress)),
             Err(_) => Err(AskedError::NoMemory),
         }
     }

@@ -4,10 +4,11 @@ use Rattle.sheet_plan.specs.MadeRefusals.{RefusesMade}
 use Rattle.sheet_text.specs.Dressings.{dress_in}
 use Rattle.sheet_text.specs.Jobs.{JobView}
 use Rattle.row_runs.specs.Errors.{of_plan}
-use Rattle.row_runs.specs.Runs.{Imposes, border_on, drawn_of}
+use Rattle.row_runs.specs.Runs.{border_on, drawn_of}
 use Rattle.row_runs.proofs.Refused.{sheets_refused}
 use Rattle.impose_cli.specs.Endings.{RefusesRowJob, shown}
 use Rattle.impose_cli.specs.Faults.{of_asked}
+use Rattle.impose_cli.specs.RowRuns.{Imposes}
 use Rattle.impose_cli.proofs.Coming.{comes_refused, made_comes}
 use Rattle.impose_cli.proofs.runs.impose_job.Goals as goal
 
@@ -20,7 +21,7 @@ returns-in-Err g c =
 pub returns-in-Err-of_sheets : goal.returns-in-Err-of_sheets
 returns-in-Err-of_sheets g c =
     let job = c.args.job.now in
-    let made = c.in-Ok.row.sheets in
+    let made = c.in-Ok.laid.0 in
     let error = c.in-Err-of_sheets.error in
     let count = c.pages-pages.ensures.count in
     let left = c.stopped-in-Err-of_sheets in
@@ -32,15 +33,15 @@ returns-in-Err-of_sheets g c =
 pub returns : goal.returns
 returns g c =
     let job = c.args.job.now in
-    let row = c.in-Ok.row in
+    let sheets = c.in-Ok.laid.0 in
     let planned = c.in-Ok-of_sheets.ensures in
     let count = c.pages-pages.ensures.count in
-    made_comes (RefusesRowJob job) (Imposes job) c.made-made.result c.in-Ok-of_sheets.plan c.pages-pages.result (border_on job) (dress_in row.dress) (drawn_of job) row.sheets job.document.now
+    made_comes (RefusesRowJob job) (Imposes job) c.made-made.result c.in-Ok-of_sheets.plan c.pages-pages.result (border_on job) (dress_in c.in-Ok.laid.1) (drawn_of job) sheets job.document.now
     (option_map (λ n. n.now) c.args.name) (g.W.World.tells c.args.world) c.write_job.result.outcome c.args.world c.write_job.result.rest (shown g.W.Output.Write.contents c.write_job.result.rest)
     (ap (λ (j : JobView). j.plan) c.made-made.ensures.value) planned.planned planned.layout count c.made-made.ensures.output c.in-Ok.ensures.dressed
     (λ old new report wrote told. record {
-      made = row.sheets;
-      planned = record { are = c.in-Ok.ensures.turned; planned = subst (λ n. made_plan_of n row.sheets ≡ Ok row.sheets) count planned.accepted };
+      made = sheets;
+      planned = record { are = c.in-Ok.ensures.turned; planned = subst (λ n. made_plan_of n sheets ≡ Ok sheets) count planned.accepted };
       written = wrote;
       report = told;
     }) c.write_job.ensures

@@ -5,10 +5,11 @@ use Rattle.dressing.specs.Numbered.{nothing_drawn}
 use Rattle.sheet_text.specs.Dressings.{dress_in}
 use Rattle.sheet_text.specs.Jobs.{JobView}
 use Rattle.row_runs.specs.Errors.{of_plan}
-use Rattle.row_runs.specs.BySpec.{ImposesBySpec, border_by_spec}
+use Rattle.row_runs.specs.BySpec.{border_by_spec}
 use Rattle.row_runs.proofs.Refused.{spec_refused}
 use Rattle.impose_cli.specs.Endings.{shown}
 use Rattle.impose_cli.specs.Faults.{of_asked}
+use Rattle.impose_cli.specs.RowRuns.{ImposesBySpec}
 use Rattle.impose_cli.specs.SpecRows.{RefusesSpecRowJob}
 use Rattle.impose_cli.proofs.Coming.{comes_refused, made_comes}
 use Rattle.impose_cli.proofs.runs.impose_spec_job.Goals as goal
@@ -22,7 +23,7 @@ returns-in-Err g c =
 pub returns-in-Err-of_sheets : goal.returns-in-Err-of_sheets
 returns-in-Err-of_sheets g c =
     let job = c.args.job.now in
-    let made = c.in-Ok.laid.sheets in
+    let made = c.in-Ok.laid.0 in
     let error = c.in-Err-of_sheets.error in
     let count = c.pages-pages.ensures.count in
     let left = c.stopped-in-Err-of_sheets in
@@ -34,15 +35,15 @@ returns-in-Err-of_sheets g c =
 pub returns : goal.returns
 returns g c =
     let job = c.args.job.now in
-    let laid = c.in-Ok.laid in
+    let sheets = c.in-Ok.laid.0 in
     let planned = c.in-Ok-of_sheets.ensures in
     let count = c.pages-pages.ensures.count in
-    made_comes (RefusesSpecRowJob job) (ImposesBySpec job) c.made-made.result c.in-Ok-of_sheets.plan c.pages-pages.result (border_by_spec job) (dress_in laid.dress) nothing_drawn laid.sheets job.document.now
+    made_comes (RefusesSpecRowJob job) (ImposesBySpec job) c.made-made.result c.in-Ok-of_sheets.plan c.pages-pages.result (border_by_spec job) (dress_in c.in-Ok.laid.1) nothing_drawn sheets job.document.now
     (option_map (λ n. n.now) c.args.name) (g.W.World.tells c.args.world) c.write_job.result.outcome c.args.world c.write_job.result.rest (shown g.W.Output.Write.contents c.write_job.result.rest)
     (ap (λ (j : JobView). j.plan) c.made-made.ensures.value) planned.planned planned.layout count c.made-made.ensures.output c.in-Ok.ensures.dressed
     (λ old new report wrote told. record {
-      made = laid.sheets;
-      planned = record { sheets = c.in-Ok.ensures.made; planned = subst (λ n. made_plan_of n laid.sheets ≡ Ok laid.sheets) count planned.accepted };
+      made = sheets;
+      planned = record { sheets = c.in-Ok.ensures.made; planned = subst (λ n. made_plan_of n sheets ≡ Ok sheets) count planned.accepted };
       written = wrote;
       report = told;
     }) c.write_job.ensures
