@@ -26,9 +26,11 @@ returns-in-Err-of_sheets g c =
     let count = c.pages-pages.ensures.count in
     let left = c.stopped-in-Err-of_sheets in
     comes_refused (RefusesRowJob job) (Imposes job) _ (g.W.World.tells c.args.world) c.asked_fault_of-in-Err-of_sheets.result
-    left.result.outcome c.args.world left.result.rest (shown g.W.Output.Write.contents left.result.rest) left.ensures.outcome left.ensures.rest
-    (of_plan error, c.asked_fault_of-in-Err-of_sheets.ensures ∙ ap₂ of_asked count c.plan_error.ensures,
-    sheets_refused job made error c.in-Ok.ensures.turned (subst (λ n. RefusesMade n made error) count c.in-Err-of_sheets.ensures.refused))
+    left.result.outcome c.args.world left.result.rest (shown g.W.Output.Write.contents left.result.rest) left.ensures.outcome left.ensures.rest (
+      of_plan error,
+      c.asked_fault_of-in-Err-of_sheets.ensures ∙ ap₂ of_asked count c.plan_error.ensures,
+      sheets_refused job made error c.in-Ok.ensures.turned (subst (λ n. RefusesMade n made error) count c.in-Err-of_sheets.ensures.refused),
+    )
 
 pub returns : goal.returns
 returns g c =

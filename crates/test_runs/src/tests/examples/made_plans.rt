@@ -4,9 +4,7 @@ ghost use Rattle.sheet_writer.specs.Sinks.{IsCountable};
 
 use crate::tests::checks::{assert_bytes, assert_that};
 use dsc::Document;
-use imposer::{
-    Dress, Job, Lines, MemorySink, Nobody, Open, Report, Sink, Workers, run_plan,
-};
+use imposer::{Dress, Job, Lines, MemorySink, Nobody, Open, Report, Sink, Workers, run_plan};
 use lengths::{Grains, Number, Paper, paper_by_name};
 use pagespec::{Item, Measure, Turn};
 use sheet_plan::{MadeSheets, MadeSlot, Plan};
