@@ -22,9 +22,10 @@ pub fn dress_of(
         ≡ drawn_on (record { strokes = strokes.now; numbers = numbers }) (telling sheets.now)) }
 {
     let told = told_papers(alloc, sheets)?;
+    let papers = told.as_slice();
     Ok(Dress {
-        header: header_lines(alloc, told.as_slice())?,
-        tells_papers: told.len() > 1,
+        header: header_lines(alloc, papers)?,
+        tells_papers: papers.len() > 1,
         finish: mark_lines(alloc, strokes)?,
         numbers,
     })

@@ -7,7 +7,5 @@ use Rattle.dressing.proofs.dress.dress_of.Goals as goal
 
 pub returns : goal.returns
 returns c =
-    let told = c.in_ok-told.field-0.items in
-    let header = c.in_ok-header_lines.ensures ∙ ap (λ (ps : List Paper). (telling_of ps).header) c.as_slice.ensures.value in
-    drawn told c.args.strokes.now c.args.numbers c.in_ok-header_lines.field-0 c.in_ok-mark_lines.field-0 header c.in_ok-mark_lines.ensures
-    ∙ ap (λ (ps : List Paper). drawn_on (record { strokes = c.args.strokes.now; numbers = c.args.numbers }) (telling_of ps)) c.in_ok-told.ensures
+    drawn c.as_slice-papers.result.now c.args.strokes.now c.args.numbers c.in_ok-header_lines.field-0 c.in_ok-mark_lines.field-0 c.in_ok-header_lines.ensures c.in_ok-mark_lines.ensures
+    ∙ ap (λ (ps : List Paper). drawn_on (record { strokes = c.args.strokes.now; numbers = c.args.numbers }) (telling_of ps)) (c.as_slice-papers.ensures.value ∙ c.in_ok-told.ensures)
