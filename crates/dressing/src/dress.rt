@@ -1,29 +1,31 @@
 //! The dress by which sheets report their papers, with the marks and the numbers at their ends.
 ghost use Rattle.std.specs.Prelude.{◌≡◌, IfOk};
-ghost use Rattle.papers.specs.Told.{telling_of};
+ghost use Rattle.papers.specs.Told.{telling};
 ghost use Rattle.sheet_text.specs.Dressings.{dress_in};
 ghost use Rattle.dressing.specs.Numbered.{drawn_on};
 
 use crate::paper_lines::header_lines;
+use crate::told::told_papers;
 use crate::{Stroke, mark_lines};
-use lengths::Paper;
+use sheet_plan::MadeSheets;
 use sheet_text::{Dress, Numbers};
 use std::alloc::{AllocError, Global};
 
-/// The dress by which sheets report their papers, if these are the papers, with the strokes and the numbers at the end of
-/// each.
-pub fn dress_of<'n>(
+/// The dress by which these sheets report their papers, with the strokes and the numbers at the end of each.
+pub fn dress_of(
     alloc: Global,
-    told: &[Paper],
+    sheets: &MadeSheets,
     strokes: &[Stroke],
-    numbers: &'n Option<Numbers>,
-) -> Result<Dress<'n>, AllocError>
+    numbers: Option<Numbers>,
+) -> Result<Dress, AllocError>
     ensures { IfOk result (λ dress. dress_in dress
-        ≡ drawn_on (record { strokes = strokes.now; numbers = numbers.now }) (telling_of told.now)) }
+        ≡ drawn_on (record { strokes = strokes.now; numbers = numbers }) (telling sheets.now)) }
 {
+    let told = told_papers(alloc, sheets)?;
+    let papers = told.as_slice();
     Ok(Dress {
-        header: header_lines(alloc, told)?,
-        tells_papers: told.len() > 1,
+        header: header_lines(alloc, papers)?,
+        tells_papers: papers.len() > 1,
         finish: mark_lines(alloc, strokes)?,
         numbers,
     })

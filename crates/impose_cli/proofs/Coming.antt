@@ -1,27 +1,31 @@
 -- What comes of what is to be written.
-use Rattle.std.proofs.Common.{◌≡◌, ◌⊎◌, ℕ, ◌≤◌, List, [], Bool, true, false, Option, Some, Result, Ok, Err, arith, inl, inr, length, refl, subst, sym, take}
+use Rattle.std.proofs.Common.{◌≡◌, ◌∙◌, ◌⊎◌, ℕ, ◌≤◌, List, [], Bool, true, false, Option, Some, Result, Ok, Err, ap, arith, inl, inr, length, refl, subst, sym, take}
 use Rattle.std.specs.Prelude.{MatchResult}
 use Rattle.std.specs.Io.KnownBytes.{Appends, Keeps}
 use Rattle.std.proofs.KnownBytes.{Appends-kept}
 use Rattle.std.proofs.Math.Seq.{take-length}
+use Rattle.std.proofs.lemmas.List.{length-map}
 use Rattle.world.specs.Outputs.{IsFrontOf, counted, told_if}
 use Rattle.world.proofs.Counting.{counted_front, uncounted_kept}
 use Rattle.sheet_text.specs.Jobs.{JobView, output_of}
-use Rattle.rules.specs.Sheets.{layout}
-use Rattle.rules.specs.Parts.{NestedUnit}
+use Rattle.rules.specs.Sheets.{Plan, layout}
+use Rattle.rules.specs.Parts.{NestedUnit, pages}
 use Rattle.rules.specs.Output.{Border}
 use Rattle.made_sheets.specs.Made.{MadeSheet}
-use Rattle.made_sheets.specs.MadePlans.{made_plan_of}
-use Rattle.dressing.specs.Numbered.{Drawn}
-use Rattle.row_runs.specs.SheetsRuns.{RefusesSheets, ReportsOn, told_output}
-use Rattle.row_runs.specs.declared.error.AskedError.{AskedError}
-use Rattle.impose_cli.specs.Faults.{of_asked}
+use Rattle.made_sheets.specs.Dress.{Dress}
+use Rattle.made_sheets.specs.MadeOutput.{made_output}
+use Rattle.made_sheets.specs.MadePlans.{made_layout}
+use Rattle.papers.specs.Told.{telling}
+use Rattle.dressing.specs.Numbered.{Drawn, drawn_on}
+use Rattle.row_runs.specs.SheetsRuns.{told_output}
+use Rattle.sheet_plan.specs.OfSheets.{made_plan}
 use Rattle.sheet_plan.specs.Places.{born_complete}
 use Rattle.planned_runs.specs.Gathering.{ReportsOf}
 use Rattle.planned_runs.specs.Outcomes.{AfterError}
 use Rattle.planned_runs.specs.declared.outcome.Report.{Report}
 use Rattle.planned_runs.specs.declared.outcome.RunError.{RunError}
 use Rattle.planned_runs.specs.declared.outcome.RunError.TheVariants as run
+use Rattle.impose_cli.specs.RowRuns.{ReportsOn}
 use Rattle.impose_cli.specs.Abouts.{finished_by, reported_by}
 use Rattle.impose_cli.specs.Endings.{AfterWrite, Comes, HasFirst, HasFront, IsNotCreated, IsSaidOf, TellsCount, WritesJob}
 use Rattle.world.specs.declared.rest.Rest.{Rest}
@@ -74,11 +78,28 @@ comes_reported R R' W W' about name tells (Err f) world rest written refused wro
 
 -- ---- made sheets
 
-abbrev pub RefusesThese : (pages : ℕ) → List MadeSheet → ImposeFault → Type 0
-RefusesThese pages made f = (error : AskedError) × (f ≡ of_asked pages error) × RefusesSheets pages made error
+-- the report on them, if they are so many pages' and each sheet has the lines that report its paper
+report_told : (j : JobView) (plan : Plan) (n : ℕ) (border : Option Border) (drawn : Drawn) (all : List MadeSheet) (us : List NestedUnit) (report : Report)
+    → j.plan ≡ plan → plan ≡ made_plan n all → layout plan ≡ made_layout n all → n ≡ length (pages us)
+    → output_of j ≡ told_output border drawn all us → ReportsOf j report → ReportsOn border drawn all us report
+report_told j plan n border drawn all us report of planned laid count out told = record {
+  page_count = told.page_count ∙ ap (λ (p : Plan). p.pages) (of ∙ planned) ∙ count;
+  sheet_count = told.sheet_count ∙ ap (λ (p : Plan). length p.sheets) (of ∙ planned) ∙ length-map all _;
+  born_blank = told.born_blank ∙ ap (λ (p : Plan). length (born_complete (layout p))) of ∙ ap (λ l. length (born_complete l)) laid ∙ ap (λ k. length (born_complete (made_layout k all))) count;
+  swept_within = told.swept_within;
+  byte_count = told.byte_count ∙ ap length out;
+}
 
-abbrev pub WritesThese : (pages : ℕ) → (border : Option Border) → Drawn → List MadeSheet → List NestedUnit → (old new : Option (List ℕ)) → Report → Type 0
-WritesThese pages border drawn made us old new report = (made_plan_of pages made ≡ Ok made) × Appends old new (told_output border drawn made us) × ReportsOn border drawn made us report
+-- what comes of their job comes of them
+pub made_comes : {V O : Type 0} (R : ImposeFault → Type 0) (W : (old new : Option (List ℕ)) → Report → Type 0) (j : JobView) (plan : Plan) (n : ℕ) (border : Option Border) (dress : Dress) (drawn : Drawn) (all : List MadeSheet) (us : List NestedUnit)
+    (name : Option (List ℕ)) (tells : Bool) (outcome : Result Report ImposeFault) (world : V) (rest : Rest V O) (written : Option (List ℕ))
+    → j.plan ≡ plan → plan ≡ made_plan n all → layout plan ≡ made_layout n all → n ≡ length (pages us) → output_of j ≡ made_output border dress all us → dress ≡ drawn_on drawn (telling all)
+    → ((old new : Option (List ℕ)) (report : Report) → Appends old new (told_output border drawn all us) → ReportsOn border drawn all us report → W old new report)
+    → Comes (λ f. ⊥) (WritesJob j) name tells outcome world rest written → Comes R W name tells outcome world rest written
+made_comes R W j plan n border dress drawn all us name tells outcome world rest written of planned laid count output dressed wrote h =
+    let out : output_of j ≡ told_output border drawn all us = output ∙ ap (λ (d : Dress). made_output border d all us) dressed in
+    comes_as (λ f. ⊥) R (WritesJob j) W name tells outcome world rest written (λ f none. absurd none)
+    (λ old new report done. wrote old new report (subst (Appends old new) out done.0) (report_told j plan n border drawn all us report of planned laid count out done.1)) h
 
 -- ---- the sheets of a job
 

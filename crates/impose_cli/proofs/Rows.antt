@@ -1,12 +1,7 @@
 -- What comes of a task with a row, and of a request.
-use Rattle.std.proofs.Common.{◌≡◌, ◌⊎◌, ◌∙◌, ap, sym, subst, refl, inl, inr, Bool, true, List, ℕ, Option, Some, None, Result, Ok, Err, ap₂}
+use Rattle.std.proofs.Common.{◌≡◌, ◌⊎◌, ◌∙◌, ap, sym, subst, refl, inl, inr, Bool, true, List, ℕ, Option, Some, None, Result, Ok, Err}
 use Rattle.std.specs.Prelude.{IfSome, length, map, option_map, string_bytes}
-use Rattle.std.specs.Io.KnownBytes.{Appends}
-use Rattle.made_sheets.specs.Made.{MadeSheet}
 use Rattle.made_sheets.specs.Rows.{Row}
-use Rattle.dressing.specs.Numbered.{Drawn}
-use Rattle.sheet_text.specs.declared.numbers.Numbers.{Numbers}
-use Rattle.dressing.specs.declared.strokes.Stroke.{Stroke}
 use Rattle.rules.specs.Papers.{Paper}
 use Rattle.std.proofs.lemmas.List.{length-map}
 use Rattle.papers.specs.Media.{header, trailer_lines}
@@ -18,13 +13,11 @@ use Rattle.rules.specs.Run.{document_of}
 use Rattle.rows.specs.Sewing.{MayBeSewn}
 use Rattle.planned_runs.specs.declared.outcome.Report.{Report}
 use Rattle.row_runs.specs.declared.run.RowJob.{RowJob}
-use Rattle.row_runs.specs.Runs.{AreTurned, Imposes, border_on, drawn_of, page_count}
-use Rattle.row_runs.specs.SheetsRuns.{ReportsOn, told_output}
-use Rattle.row_runs.proofs.Refused.{sheets_refused}
+use Rattle.impose_cli.specs.RowRuns.{Imposes}
 use Rattle.impose_cli.specs.Abouts.{reported_by}
 use Rattle.impose_cli.specs.Endings.{Comes, IsImposed, RefusesImposing, RefusesRow, RefusesRowJob, RefusesRowTaskRun, Runs}
 use Rattle.impose_cli.specs.declared.runs.About.{About}
-use Rattle.impose_cli.proofs.Coming.{RefusesThese, WritesThese, comes_as, comes_refused, comes_reported}
+use Rattle.impose_cli.proofs.Coming.{comes_as, comes_refused, comes_reported}
 use Rattle.papers.specs.AsOne.{kinds, most_kinds, paper_among}
 use Rattle.papers.specs.declared.cuts.Cut.{Cut}
 use Rattle.papers.specs.Names.{paper_named}
@@ -166,28 +159,6 @@ row_runs r input t told tells outcome left world rest written rows is tells_it r
     (comes_reported (RefusesRowTaskRun r t) (RefusesImposing r.layout r input) (ImposesTask r t) (IsImposed r input) (about_row t told) (option_map string_bytes r.outfile) tells left world rest written
     (λ f why. on_row r.layout r input f rows (inr (record { task = t; is_task = is; refused = why })))
     (λ old new report done. inr (inl (finishes_row r input t told old new report is tells_it done))) h)
-
--- what is drawn is what these strokes and these numbers are
-abbrev pub with_both : List Stroke → Option Numbers → Drawn
-with_both strokes numbers = record { strokes = strokes; numbers = numbers }
-
-pub both_drawn : {s t : List Stroke} {n m : Option Numbers} → s ≡ t → n ≡ m → with_both s n ≡ with_both t m
-both_drawn e f = ap₂ with_both e f
-
--- what comes of its sheets, if these are asked for, comes of a job
-pub made_comes : {V O : Type 0} (job : RowJob) (made : List MadeSheet) (drawn : Drawn) (name : Option (List ℕ)) (tells : Bool) (outcome : Result Report ImposeFault) (world : V) (rest : Rest V O) (written : Option (List ℕ))
-    → AreTurned job made → drawn ≡ drawn_of job
-    → Comes (RefusesThese (page_count job) made) (WritesThese (page_count job) (border_on job) drawn made job.document.now) name tells outcome world rest written
-    → Comes (RefusesRowJob job) (Imposes job) name tells outcome world rest written
-made_comes job made drawn name tells outcome world rest written are marked h =
-    comes_as (RefusesThese (page_count job) made) (RefusesRowJob job) (WritesThese (page_count job) (border_on job) drawn made job.document.now) (Imposes job) name tells outcome world rest written
-    (λ f why. (why.0, why.1, sheets_refused job made why.0 are why.2))
-    (λ old new report done. record {
-      made = made;
-      planned = record { are = are; planned = done.0 };
-      written = subst (λ s. Appends old new (told_output (border_on job) s made job.document.now)) marked done.1;
-      report = subst (λ s. ReportsOn (border_on job) s made job.document.now report) marked done.2;
-    }) h
 
 -- what comes of its job comes of a task
 pub task_comes : {V O : Type 0} (r : ImposeRequest) (t : RowTask) (job : RowJob) (name other : Option (List ℕ)) (tells : Bool) (outcome : Result Report ImposeFault) (world : V) (rest : Rest V O) (written : Option (List ℕ))

@@ -1,14 +1,11 @@
 -- What comes of a task by a specification on a row.
 use Rattle.std.proofs.Common.{◌≡◌, ◌∙◌, ap, sym, subst, refl, inl, inr, Bool, List, ℕ, Option, None, Result, Err}
 use Rattle.std.specs.Prelude.{IfSome, option_map, string_bytes}
-use Rattle.made_sheets.specs.Made.{MadeSheet}
 use Rattle.rows.specs.Sewing.{MayBeSewn}
 use Rattle.rules.specs.Run.{document_of}
 use Rattle.planned_runs.specs.declared.outcome.Report.{Report}
-use Rattle.dressing.specs.Numbered.{nothing_drawn}
-use Rattle.row_runs.specs.BySpec.{AreBySpec, ImposesBySpec, border_by_spec, pages_of}
 use Rattle.row_runs.specs.declared.by_spec.SpecJob.{SpecJob}
-use Rattle.row_runs.proofs.Refused.{spec_refused}
+use Rattle.impose_cli.specs.RowRuns.{ImposesBySpec}
 use Rattle.impose_cli.specs.Abouts.{reported_by}
 use Rattle.impose_cli.specs.Endings.{Comes, IsImposed, RefusesImposing, Runs}
 use Rattle.impose_cli.specs.SpecRows.{FinishesSpecRow, ImposesSpecTask, IsSpecJobOf, IsSpecRowTask, LaysSpecRow, TakesNamed, RefusesSpecRowJob, RefusesSpecRowRun, RefusesSpecRowTask, RefusesSpecTaskRun}
@@ -24,7 +21,7 @@ use Rattle.impose_words.specs.declared.request.Layout.TheVariants as layout
 use Rattle.impose_words.specs.declared.request.ImposeRequest.{ImposeRequest}
 use Rattle.impose_cli.specs.declared.spec_row.SpecRowTask.{SpecRowTask}
 use Rattle.impose_said.specs.declared.finished.Done.{Done}
-use Rattle.impose_cli.proofs.Coming.{RefusesThese, WritesThese, comes_as, comes_refused, comes_reported}
+use Rattle.impose_cli.proofs.Coming.{comes_as, comes_refused, comes_reported}
 
 pub finishes_spec_row : (r : ImposeRequest) (input : List ℕ) (t : SpecRowTask) (told : Told) (old new : Option (List ℕ)) (report : Report) → IsSpecRowTask r input t → IsToldBy r input told → ImposesSpecTask r t old new report
     → FinishesSpecRow r input old new (record { report = report; page_paper = t.page_paper; origin = t.origin; cut = None; reach = t.counted.reach; behind = t.counted.behind; told = told })
@@ -72,15 +69,6 @@ spec_row_runs r input t told tells outcome left world rest written rows is tells
     (comes_reported (RefusesSpecTaskRun r t) (RefusesImposing r.layout r input) (ImposesSpecTask r t) (IsImposed r input) (about_spec_row t told) (option_map string_bytes r.outfile) tells left world rest written
     (λ f why. on_spec_row r.layout r input f rows (inr (record { task = t; is_task = is; refused = why })))
     (λ old new report done. inr (inr (finishes_spec_row r input t told old new report is tells_it done))) h)
-
--- what comes of its sheets comes of a job
-pub spec_made_comes : {V O : Type 0} (job : SpecJob) (made : List MadeSheet) (name : Option (List ℕ)) (tells : Bool) (outcome : Result Report ImposeFault) (world : V) (rest : Rest V O) (written : Option (List ℕ)) → AreBySpec job made
-    → Comes (RefusesThese (pages_of job) made) (WritesThese (pages_of job) (border_by_spec job) nothing_drawn made job.document.now) name tells outcome world rest written
-    → Comes (RefusesSpecRowJob job) (ImposesBySpec job) name tells outcome world rest written
-spec_made_comes job made name tells outcome world rest written are h =
-    comes_as (RefusesThese (pages_of job) made) (RefusesSpecRowJob job) (WritesThese (pages_of job) (border_by_spec job) nothing_drawn made job.document.now) (ImposesBySpec job) name tells outcome world rest written
-    (λ f why. (why.0, why.1, spec_refused job made why.0 are why.2))
-    (λ old new report done. record { made = made; planned = record { sheets = are; planned = done.0 }; written = done.1; report = done.2 }) h
 
 -- what comes of its job comes of a task
 pub spec_task_comes : {V O : Type 0} (r : ImposeRequest) (t : SpecRowTask) (job : SpecJob) (name other : Option (List ℕ)) (tells : Bool) (outcome : Result Report ImposeFault) (world : V) (rest : Rest V O) (written : Option (List ℕ))

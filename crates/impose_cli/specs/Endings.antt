@@ -2,9 +2,7 @@
 -- written, or its first bytes were, or no output could be created.
 use Rattle.std.specs.Prelude.{◌≡◌, ◌⊎◌, ℕ, ◌≤◌, ◌++◌, List, [], length, take, Bool, false, Option, Some, Result, Ok, Err, IfSome, option_map, string_bytes}
 use Rattle.std.specs.Io.KnownBytes.{Appends}
-use Rattle.rules.specs.Parts.{pages}
 use Rattle.rules.specs.Output.{output}
-use Rattle.made_sheets.specs.MadePlans.{made_plan_of}
 use Rattle.sheet_text.specs.Jobs.{JobView, output_of}
 use Rattle.world.specs.Outputs.{told_if}
 pub use Rattle.world.specs.Rests.{has_output, shown}
@@ -14,9 +12,7 @@ use Rattle.planned_runs.specs.declared.outcome.Report.{Report}
 use Rattle.planned_runs.specs.declared.outcome.RunError.{RunError}
 use Rattle.planned_runs.specs.declared.outcome.RunError.TheVariants as run
 use Rattle.row_runs.specs.Runs.{RefusesRun, page_count}
-use Rattle.row_runs.specs.SheetsRuns.{RefusesSheets, ReportsIn, output_in}
 use Rattle.row_runs.specs.declared.error.AskedError.{AskedError}
-use Rattle.row_runs.specs.declared.planned.SheetJob.{SheetJob}
 use Rattle.row_runs.specs.declared.run.RowJob.{RowJob}
 use Rattle.impose_said.specs.Faults.{without_memory}
 use Rattle.impose_cli.specs.Faults.{of_asked}
@@ -87,14 +83,6 @@ Comes {T} Refuses Wrote name tells (Err f) world rest written =
 
 abbrev pub WritesJob : JobView → (old new : Option (List ℕ)) → Report → Type 0
 WritesJob j old new report = Appends old new (output_of j) × ReportsOf j report
-
-abbrev pub RefusesPlan : SheetJob → ImposeFault → Type 0
-RefusesPlan j f = let n = length (pages j.document.now) in
-    (error : AskedError) × (f ≡ of_asked n error) × RefusesSheets n j.sheets.now error
-
-abbrev pub WritesSheets : SheetJob → (old new : Option (List ℕ)) → Report → Type 0
-WritesSheets j old new report = (made_plan_of (length (pages j.document.now)) j.sheets.now ≡ Ok j.sheets.now)
-    × Appends old new (output_in j) × ReportsIn j report
 
 -- ---- by a specification
 

@@ -22,7 +22,7 @@ use Rattle.papers.specs.Own.{own_papers}
 use Rattle.papers.specs.AsOne.{as_one, first_instead_of}
 use Rattle.papers.specs.Cuts.{cut_of}
 use Rattle.papers.specs.declared.cuts.Cut.{Cut}
-use Rattle.row_runs.specs.Runs.{Imposes}
+use Rattle.impose_cli.specs.RowRuns.{Imposes}
 use Rattle.row_runs.specs.Sheets.{MayBeLaid}
 use Rattle.sheet_text.specs.Jobs.{is_border}
 use Rattle.planned_runs.specs.declared.outcome.Report.{Report}

@@ -7,7 +7,8 @@ use Rattle.rows.specs.Choices.{choice_of}
 use Rattle.rows.specs.Sewing.{MayBeSewn}
 use Rattle.sheet_text.specs.Jobs.{is_border}
 use Rattle.planned_runs.specs.declared.outcome.Report.{Report}
-use Rattle.row_runs.specs.BySpec.{ImposesBySpec, RefusesBySpec, pages_of}
+use Rattle.row_runs.specs.BySpec.{RefusesBySpec, pages_of}
+use Rattle.impose_cli.specs.RowRuns.{ImposesBySpec}
 use Rattle.row_runs.specs.declared.by_spec.SpecJob.{SpecJob}
 use Rattle.row_runs.specs.declared.error.AskedError.{AskedError}
 use Rattle.impose_words.specs.Choices.{choice_in}

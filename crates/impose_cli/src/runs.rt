@@ -8,14 +8,13 @@ ghost use Rattle.planned_runs.specs.Outcomes.{IsNoRefusal};
 ghost use Rattle.imposer.specs.Runs.{IsRefusal, IsUnwritten, request as asked};
 ghost use Rattle.imposer.specs.Options.{AreOptions};
 ghost use Rattle.planned_runs.specs.Workers.{AreWorkers};
-ghost use Rattle.row_runs.specs.BySpec.{ImposesBySpec};
-ghost use Rattle.row_runs.specs.Runs.{Imposes};
 ghost use Rattle.row_runs.specs.Sheets.{MayBeAsked};
 ghost use Rattle.impose_cli.specs.Tasks.{IsSpec};
+ghost use Rattle.impose_cli.specs.RowRuns.{Imposes, ImposesBySpec};
 ghost use Rattle.impose_cli.specs.RowTasks.{LaysRows};
 ghost use Rattle.impose_cli.specs.SpecRows.{LaysSpecRow, RefusesSpecRowJob};
-ghost use Rattle.impose_cli.specs.Endings.{Comes, IsNotCreated, RefusesPlan, RefusesRowJob, RefusesTaskRun, Runs, shown};
-ghost use Rattle.impose_cli.specs.Endings.{IsSaidOf, WritesJob, WritesSheets, WritesTask};
+ghost use Rattle.impose_cli.specs.Endings.{Comes, IsNotCreated, RefusesRowJob, RefusesTaskRun, Runs, shown};
+ghost use Rattle.impose_cli.specs.Endings.{IsSaidOf, WritesJob, WritesTask};
 ghost use Rattle.impose_cli.specs.Abouts.{reported_by};
 ghost use Rattle.impose_said.specs.declared.fault.ImposeFault.TheVariants as faults;
 ghost use Rattle.world.specs.declared.rest.Rest.TheVariants as rests;
@@ -35,7 +34,7 @@ use imposer::{Job, Nobody, Open, Options, Report, RunError, run_plan};
 use lengths::{Grains, Paper};
 use pagespec::{Spec, read_spec};
 use papers::{Cut, Reach};
-use row_runs::{PlannedSheets, RowJob, SheetJob, SpecJob, told_pages};
+use row_runs::{RowJob, SpecJob, plan_error};
 use sheet_plan::Plan;
 use std::alloc::Global;
 use std::io::ErrorKind;
@@ -109,19 +108,17 @@ pub(crate) fn impose_job<R: Threads + Wait + Sync, W: World>(
     ensures { Comes (RefusesRowJob job.now) (Imposes job.now) (option_map (λ n. n.now) name.entry) (W.tells world) result.outcome
         world result.rest (shown W.Output.contents result.rest) }
 {
-    let row = match job.lay(alloc) {
-        Ok(row) => row,
-        Err(error) => return stopped(asked_fault_of(error, job.document.pages()), world),
+    let pages = job.document.pages();
+    let (sheets, dress) = match job.lay(alloc) {
+        Ok(laid) => laid,
+        Err(error) => return stopped(asked_fault_of(error, pages), world),
     };
-    let made = SheetJob {
-        document: job.document,
-        sheets: &row.sheets,
-        border: job.border,
-        inset: job.inset,
-        strokes: row.strokes.as_slice(),
-        numbers: &row.numbers,
+    let plan = match Plan::of_sheets(alloc, pages, &sheets) {
+        Ok(plan) => plan,
+        Err(error) => return stopped(asked_fault_of(plan_error(error), pages), world),
     };
-    write_sheets(rt, alloc, &made, name, world)
+    let made = Job::made(&plan, job.document, &sheets, job.border, job.inset, &dress);
+    write_job(rt, alloc, &made, name, world)
 }
 
 // ---- by a specification on a row
@@ -171,19 +168,18 @@ pub(crate) fn impose_spec_job<R: Threads + Wait + Sync, W: World>(
     ensures { Comes (RefusesSpecRowJob job.now) (ImposesBySpec job.now) (option_map (λ n. n.now) name.entry) (W.tells world) result.outcome
         world result.rest (shown W.Output.contents result.rest) }
 {
-    let sheets = match job.lay(alloc) {
-        Ok(sheets) => sheets,
-        Err(error) => return stopped(asked_fault_of(error, job.document.pages()), world),
+    let document = job.document;
+    let pages = document.pages();
+    let (sheets, dress) = match job.lay(alloc) {
+        Ok(laid) => laid,
+        Err(error) => return stopped(asked_fault_of(error, pages), world),
     };
-    let made = SheetJob {
-        document: job.document,
-        sheets: &sheets,
-        border: job.border,
-        inset: Grains::ZERO,
-        strokes: &[],
-        numbers: &None,
+    let plan = match Plan::of_sheets(alloc, pages, &sheets) {
+        Ok(plan) => plan,
+        Err(error) => return stopped(asked_fault_of(plan_error(error), pages), world),
     };
-    write_sheets(rt, alloc, &made, name, world)
+    let made = Job::made(&plan, document, &sheets, job.border, Grains::ZERO, &dress);
+    write_job(rt, alloc, &made, name, world)
 }
 
 // ---- by a specification
@@ -299,25 +295,6 @@ fn reported(outcome: Result<Report, ImposeFault>, about: About) -> Result<Done, 
 }
 
 // ---- what is written
-
-/// Plans the sheets, and writes them into the output of this name.
-fn write_sheets<R: Threads + Wait + Sync, W: World>(
-    rt: &R,
-    alloc: Global,
-    made: &SheetJob<'_, '_>,
-    name: Option<&str>,
-    world: W,
-) -> Left<W, Report>
-    requires border { IsTrue (is_border made.now.border) }
-    ensures { Comes (RefusesPlan made.now) (WritesSheets made.now) (option_map (λ n. n.now) name.entry) (W.tells world) result.outcome
-        world result.rest (shown W.Output.contents result.rest) }
-{
-    let planned = match PlannedSheets::of_job(alloc, made) {
-        Ok(planned) => planned,
-        Err(error) => return stopped(asked_fault_of(error, made.document.pages()), world),
-    };
-    write_job(rt, alloc, &planned.as_job(), name, world)
-}
 
 /// How much of the output is written at once, in bytes, if sheets are smaller.
 const WRITTEN_AT_ONCE: usize = 16_384;

@@ -1,4 +1,3 @@
-pub mod Told
 pub mod BySpec
 pub mod Examples
 pub mod Lines

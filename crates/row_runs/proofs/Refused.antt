@@ -4,13 +4,15 @@ use Rattle.std.specs.Prelude.{IsOk}
 use Rattle.row_runs.specs.declared.error.AskedError.{AskedError}
 use Rattle.row_runs.specs.declared.error.AskedError.TheVariants as error
 use Rattle.row_runs.specs.declared.run.RowJob.{RowJob}
-use Rattle.row_runs.specs.SheetsRuns.{RefusesSheets}
+use Rattle.row_runs.specs.Errors.{of_plan}
 use Rattle.row_runs.specs.Runs.{AreTurned, RefusesRun, page_count}
 use Rattle.row_runs.specs.BySpec.{AreBySpec, RefusesBySpec, pages_of}
 use Rattle.row_runs.specs.declared.by_spec.SpecJob.{SpecJob}
 use Rattle.made_sheets.specs.Made.{MadeSheet}
 use Rattle.pagespec.specs.Items.{turn_of}
 use Rattle.sheet_plan.specs.MadeRefusals.{RefusesMade}
+use Rattle.sheet_plan.specs.declared.error.MadeError.{MadeError}
+use Rattle.sheet_plan.specs.declared.error.MadeError.TheVariants as plan
 use Rattle.row_runs.proofs.Turned.{turned_refused}
 use Rattle.row_runs.specs.Sheets.{RefusesAsked}
 
@@ -22,18 +24,22 @@ of_asked j other h = h
 pub run_refused : (j : RowJob) (n : ℕ) (e : AskedError) → n ≡ page_count j → RefusesAsked n j.papers.now j.asked e → RefusesRun j e
 run_refused j n e is h = of_asked j e (subst (λ (k : ℕ). RefusesAsked k j.papers.now j.asked e) is h)
 
+-- what holds of each fault of a plan, and if memory runs out, holds of what an error of the plan is called
+of_plan_holds : (P : AskedError → Type 0) (R : MadeError → Type 0) (e : MadeError) → ((m : MadeError) → R m → P (error.Sheets m)) → P error.NoMemory → R e → P (of_plan e)
+of_plan_holds P R plan.NoMemory fault spent h = spent
+of_plan_holds P R plan.TooManyPages fault spent h = fault plan.TooManyPages h
+of_plan_holds P R plan.TooManySheets fault spent h = fault plan.TooManySheets h
+of_plan_holds P R (plan.SlotsOutOfRange sheet) fault spent h = fault (plan.SlotsOutOfRange sheet) h
+of_plan_holds P R plan.TooManyPlaces fault spent h = fault plan.TooManyPlaces h
+of_plan_holds P R (plan.NoSuchPage sheet) fault spent h = fault (plan.NoSuchPage sheet) h
+
 -- sheets that are asked for, and can't be planned
-pub sheets_refused : (j : RowJob) (made : List MadeSheet) (e : AskedError) → AreTurned j made → RefusesSheets (page_count j) made e → RefusesRun j e
-sheets_refused j made (error.Sheets e) are h = (are.laid, are.asked, subst (λ all. RefusesMade (page_count j) all e) are.turned h)
-sheets_refused j made error.NoMemory are h = subst IsOk (sym are.asked.is_chosen) refl
-sheets_refused j made (error.Row e) are h = absurd h
-sheets_refused j made (error.Arrangement e) are h = absurd h
-sheets_refused j made (error.Poster e) are h = absurd h
+pub sheets_refused : (j : RowJob) (made : List MadeSheet) (e : MadeError) → AreTurned j made → RefusesMade (page_count j) made e → RefusesRun j (of_plan e)
+sheets_refused j made e are h =
+    of_plan_holds (RefusesRun j) (RefusesMade (page_count j) made) e
+    (λ m refused. (are.laid, are.asked, subst (λ all. RefusesMade (page_count j) all m) are.turned refused)) (subst IsOk (sym are.asked.is_chosen) refl) h
 
 -- the same of sheets of a specification on a row
-pub spec_refused : (j : SpecJob) (made : List MadeSheet) (e : AskedError) → AreBySpec j made → RefusesSheets (pages_of j) made e → RefusesBySpec j e
-spec_refused j made (error.Sheets e) are h = (made, are, h)
-spec_refused j made error.NoMemory are h = subst IsOk (sym are.is_chosen) refl
-spec_refused j made (error.Row e) are h = absurd h
-spec_refused j made (error.Arrangement e) are h = absurd h
-spec_refused j made (error.Poster e) are h = absurd h
+pub spec_refused : (j : SpecJob) (made : List MadeSheet) (e : MadeError) → AreBySpec j made → RefusesMade (pages_of j) made e → RefusesBySpec j (of_plan e)
+spec_refused j made e are h =
+    of_plan_holds (RefusesBySpec j) (RefusesMade (pages_of j) made) e (λ m refused. (made, are, refused)) (subst IsOk (sym are.is_chosen) refl) h

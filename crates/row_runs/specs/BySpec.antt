@@ -1,6 +1,5 @@
--- What a run by a specification on a row writes, and why it is refused.
+-- What is written of a row by a specification, and why it is refused.
 use Rattle.std.specs.Prelude.{◌≡◌, ℕ, List, length, pos, IsOk, Ok, Option, Result, option_map}
-use Rattle.std.specs.Io.KnownBytes.{Appends}
 use Rattle.rules.specs.Parts.{pages}
 use Rattle.rules.specs.Output.{Border, border_within}
 use Rattle.made_sheets.specs.Choice.{RowFault, chosen, signed}
@@ -12,9 +11,8 @@ use Rattle.rows.specs.Refusals.{RefusesRow}
 use Rattle.rows.specs.Sewing.{signing_of}
 use Rattle.row_sheets.specs.BySpec.{by_spec}
 use Rattle.sheet_plan.specs.MadeRefusals.{RefusesMade}
-use Rattle.planned_runs.specs.declared.outcome.Report.{Report}
 use Rattle.dressing.specs.Numbered.{nothing_drawn}
-use Rattle.row_runs.specs.SheetsRuns.{ReportsOn, told_output}
+use Rattle.row_runs.specs.SheetsRuns.{told_output}
 use Rattle.row_runs.specs.declared.by_spec.SpecJob.{SpecJob}
 use Rattle.row_runs.specs.declared.error.AskedError.{AskedError}
 use Rattle.row_runs.specs.declared.error.AskedError.TheVariants as error
@@ -45,13 +43,6 @@ border_by_spec j = border_within (pos 0) j.border
 -- the output of such sheets, without marks
 abbrev pub output_by_spec : SpecJob → List MadeSheet → List ℕ
 output_by_spec j made = told_output (border_by_spec j) nothing_drawn made j.document.now
-
--- exactly the output of these sheets was appended, with the lines that report their papers, and the report has its numbers
-pub record ImposesBySpec (j : SpecJob) (old new : Option (List ℕ)) (done : Report) : Type 0 where
-  pub made : List MadeSheet
-  pub planned : AreSpecPlan j made
-  pub written : Appends old new (output_by_spec j made)
-  pub report : ReportsOn (border_by_spec j) nothing_drawn made j.document.now done
 
 -- a refusal names the first fault: of the row; if there is one, of the sheets. Out of memory comes after the checks of the
 -- row

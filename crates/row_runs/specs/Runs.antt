@@ -1,6 +1,5 @@
--- What a run on a row writes, and why it is refused.
+-- What is written of a row, and why it is refused.
 use Rattle.std.specs.Prelude.{◌≡◌, ℕ, List, length, map, Option, IsOk, Ok}
-use Rattle.std.specs.Io.KnownBytes.{Appends}
 use Rattle.rules.specs.Parts.{pages}
 use Rattle.rules.specs.Output.{Border, border_within}
 use Rattle.made_sheets.specs.Made.{MadeSheet}
@@ -8,8 +7,7 @@ use Rattle.made_sheets.specs.MadePlans.{made_plan_of}
 use Rattle.pagespec.specs.Items.{turn_of}
 use Rattle.row_runs.specs.Turning.{turned_sheet}
 use Rattle.sheet_plan.specs.MadeRefusals.{RefusesMade}
-use Rattle.planned_runs.specs.declared.outcome.Report.{Report}
-use Rattle.row_runs.specs.SheetsRuns.{ReportsOn, told_output}
+use Rattle.row_runs.specs.SheetsRuns.{told_output}
 use Rattle.row_runs.specs.Sheets.{AreAsked, row_chosen}
 use Rattle.row_runs.specs.Sheets as sheets
 use Rattle.row_runs.specs.Marked.{strokes_in}
@@ -62,14 +60,6 @@ border_on j = border_within j.inset j.border
 -- the output of such sheets
 abbrev pub output_on : RowJob → List MadeSheet → List ℕ
 output_on j made = told_output (border_on j) (drawn_of j) made j.document.now
-
--- exactly the output of the sheets that are asked for was appended, and the report has its numbers: so these pages are
--- printed in this order, each at its place, and nothing else; but on posters they lie inside and apart
-pub record Imposes (j : RowJob) (old new : Option (List ℕ)) (done : Report) : Type 0 where
-  pub made : List MadeSheet
-  pub planned : ArePlanned j made
-  pub written : Appends old new (output_on j made)
-  pub report : ReportsOn (border_on j) (drawn_of j) made j.document.now done
 
 -- a refusal names the first fault: of the row; if there is one, of a page in its cell or as a poster; if its pages have their places, of
 -- the sheets. Out of memory comes after the checks of the row

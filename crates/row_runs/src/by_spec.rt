@@ -1,16 +1,20 @@
 //! The sheets of a specification on a row of a document's pages.
 ghost use Rattle.std.specs.Prelude.{IfErr, IfOk, IfSome};
 ghost use Rattle.rows.specs.Sewing.{MayBeSewn};
+ghost use Rattle.dressing.specs.Numbered.{nothing_drawn};
+ghost use Rattle.row_runs.specs.SheetsRuns.{IsDressOf};
 ghost use Rattle.row_runs.specs.BySpec.{AreBySpec, RefusesBySpec};
 
 use crate::asked::row_error;
 use crate::error::{AskedError, plan_error};
+use dressing::dress_of;
 use dsc::Document;
 use lengths::{Grains, Paper};
 use pagespec::Spec;
 use row_sheets::{SpecOnRow, spec_sheets};
 use rows::{Choice, Signing, chosen_row, signed_row};
 use sheet_plan::MadeSheets;
+use sheet_text::Dress;
 use std::alloc::Global;
 
 /// What is imposed of a document, which was read before, by a specification: which of its pages, in signatures or not, on
@@ -27,11 +31,13 @@ pub struct SpecJob<'j, 'd> {
 }
 
 impl<'j, 'd> SpecJob<'j, 'd> {
-    /// The sheets of the specification on the row. What is wrong with the row is refused first, then a limit that they pass.
-    /// Whoever creates an output plans them before: `PlannedSheets::of_job` refuses what is left.
-    pub fn lay(&self, alloc: Global) -> Result<MadeSheets, AskedError>
+    /// The sheets of the specification on the row, and the lines that report their papers. What is wrong with the row is
+    /// refused first, then a limit that they pass.
+    /// Whoever creates an output plans them before: `Plan::of_sheets` refuses what is left.
+    pub fn lay(&self, alloc: Global) -> Result<(MadeSheets, Dress), AskedError>
         requires { IfSome self.now.signing MayBeSewn }
-        ensures made { IfOk result (AreBySpec self.now) }
+        ensures made { IfOk result (λ laid. AreBySpec self.now laid.0) }
+        ensures dressed { IfOk result (λ laid. IsDressOf nothing_drawn laid.0 laid.1) }
         ensures refused { IfErr result (RefusesBySpec self.now) }
     {
         let row = match chosen_row(alloc, self.document.pages(), &self.choice) {
@@ -48,9 +54,13 @@ impl<'j, 'd> SpecJob<'j, 'd> {
             sheet: self.sheet,
             page: self.page,
         };
-        match spec_sheets(alloc, &on) {
-            Ok(sheets) => Ok(sheets),
-            Err(error) => Err(plan_error(error)),
+        let sheets = match spec_sheets(alloc, &on) {
+            Ok(sheets) => sheets,
+            Err(error) => return Err(plan_error(error)),
+        };
+        match dress_of(alloc, &sheets, &[], None) {
+            Ok(dress) => Ok((sheets, dress)),
+            Err(_) => Err(AskedError::NoMemory),
         }
     }
 }

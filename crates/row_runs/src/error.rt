@@ -29,7 +29,7 @@ pub enum AskedError {
 }
 
 /// What an error of the plan is called.
-pub(crate) fn plan_error(error: MadeError) -> AskedError
+pub fn plan_error(error: MadeError) -> AskedError
     ensures { result ≡ of_plan error }
 {
     match error {

@@ -1,19 +1,20 @@
 //! A row of a document's pages, laid on sheets.
-ghost use Rattle.std.specs.Prelude.{◌≡◌, IfErr, IfOk};
+ghost use Rattle.std.specs.Prelude.{IfErr, IfOk};
 ghost use Rattle.row_runs.specs.Sheets.{MayBeAsked};
-ghost use Rattle.row_runs.specs.Runs.{AreTurned, RefusesRun, numbers_on, strokes_on};
+ghost use Rattle.row_runs.specs.SheetsRuns.{IsDressOf};
+ghost use Rattle.row_runs.specs.Runs.{AreTurned, RefusesRun, drawn_of};
 
 use crate::asked::{Asked, asked_sheets};
 use crate::error::AskedError;
 use crate::marked::strokes_of;
 use crate::numbered::numbers_of;
 use crate::turning::turned_sheets;
-use dressing::{Marks, Stroke};
+use dressing::{Marks, dress_of};
 use dsc::Document;
 use lengths::{Grains, Paper};
 use pagespec::Turn;
 use sheet_plan::MadeSheets;
-use sheet_text::Numbers;
+use sheet_text::Dress;
 use std::alloc::Global;
 
 /// What is imposed of a document, which was read before; how its pages are turned, and the papers that they have then, in
@@ -30,22 +31,14 @@ pub struct RowJob<'j, 'd> {
     pub marks: Marks,
 }
 
-/// The sheets on which a row is laid, the strokes at the end of each, and the numbers of its pages.
-#[derive(Drop)]
-pub struct LaidRow {
-    pub sheets: MadeSheets,
-    pub strokes: Vec<Stroke>,
-    pub numbers: Option<Numbers>,
-}
-
 impl<'j, 'd> RowJob<'j, 'd> {
-    /// The sheets that are asked for, with their pages turned, and with their marks. What is wrong with the row is refused first, then a page that fits no
-    /// cell. Whoever creates an output plans them before: `PlannedSheets::of_job` refuses what is left.
-    pub fn lay(&self, alloc: Global) -> Result<LaidRow, AskedError>
+    /// The sheets that are asked for, with their pages turned, and the lines that report their papers and draw their marks and
+    /// numbers. What is wrong with the row is refused first, then a page that fits no cell. Whoever creates an output plans
+    /// them before: `Plan::of_sheets` refuses what is left.
+    pub fn lay(&self, alloc: Global) -> Result<(MadeSheets, Dress), AskedError>
         requires { MayBeAsked self.now.asked }
-        ensures turned { IfOk result (λ row. AreTurned self.now row.sheets) }
-        ensures marked { IfOk result (λ row. row.strokes.items ≡ strokes_on self.now) }
-        ensures numbered { IfOk result (λ row. row.numbers ≡ numbers_on self.now) }
+        ensures turned { IfOk result (λ laid. AreTurned self.now laid.0) }
+        ensures dressed { IfOk result (λ laid. IsDressOf (drawn_of self.now) laid.0 laid.1) }
         // A refusal names the first fault.
         ensures refused { IfErr result (RefusesRun self.now) }
     {
@@ -61,12 +54,11 @@ impl<'j, 'd> RowJob<'j, 'd> {
         else {
             return Err(AskedError::NoMemory);
         };
-        match turned_sheets(alloc, self.turn, sheets) {
-            Ok(sheets) => Ok(LaidRow {
-                sheets,
-                strokes,
-                numbers,
-            }),
+        let Ok(sheets) = turned_sheets(alloc, self.turn, sheets) else {
+            return Err(AskedError::NoMemory);
+        };
+        match dress_of(alloc, &sheets, strokes.as_slice(), numbers) {
+            Ok(dress) => Ok((sheets, dress)),
             Err(_) => Err(AskedError::NoMemory),
         }
     }

@@ -56,14 +56,14 @@ pub start_at : (d : code.Dress) (all : List MadeSheet) (s : ℕ) (p : Paper) →
 start_at d all s p at = start_in d 0 all s p at
 
 finish_in : (d : code.Dress) (n : ℕ) (all : List MadeSheet) (i s : ℕ) → i < length all → s ≡ n + i
-    → with_numbers d.numbers.now d.finish s ≡ (slice_index_or (from (dress_in d) n all) i no_sheet).finish
+    → with_numbers d.numbers d.finish s ≡ (slice_index_or (from (dress_in d) n all) i no_sheet).finish
 finish_in d n [] i s lt is = absurd (omega (arith, lt))
-finish_in d n (x ∷ all) zero s lt is = let same : s ≡ n = omega (arith, is) in ap (with_numbers d.numbers.now d.finish) same
+finish_in d n (x ∷ all) zero s lt is = let same : s ≡ n = omega (arith, is) in ap (with_numbers d.numbers d.finish) same
 finish_in d n (x ∷ all) (suc i) s lt is = finish_in d (n + 1) all i s (omega (arith, lt)) (omega (arith, is))
 
 -- those at its end
 pub finish_at : (d : code.Dress) (all : List MadeSheet) (s : ℕ) → s < length all
-    → with_numbers d.numbers.now d.finish s ≡ (slice_index_or (dressed_sheets (dress_in d) all) s no_sheet).finish
+    → with_numbers d.numbers d.finish s ≡ (slice_index_or (dressed_sheets (dress_in d) all) s no_sheet).finish
 finish_at d all s lt = finish_in d 0 all s s lt (omega arith)
 
 slots_in : (dress : Dress) (n : ℕ) (all : List MadeSheet) (s : ℕ) → (slice_index_or (from dress n all) s no_sheet).slots ≡ slots_at all s

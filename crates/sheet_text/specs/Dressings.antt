@@ -22,5 +22,5 @@ abbrev pub dress_in : code.Dress → Dress
 dress_in d = record {
   header = d.header;
   start = λ s paper. told_if d.tells_papers paper;
-  finish = λ s paper. with_numbers d.numbers.now d.finish s;
+  finish = λ s paper. with_numbers d.numbers d.finish s;
 }

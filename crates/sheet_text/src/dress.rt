@@ -13,17 +13,17 @@ use std::alloc::AllocError;
 /// The lines of an output: those of its header, after the count of sheets, and those of its sheets. Of these only what all
 /// have is kept: the others are made when a sheet is written.
 #[derive(Drop)]
-pub struct Dress<'n> {
+pub struct Dress {
     pub header: Lines,
     /// Whether each sheet names its paper at its start, after its page line, and sets the device's page size.
     pub tells_papers: bool,
     /// The lines at the end of each sheet, before its `showpage`.
     pub finish: Lines,
     /// The numbers of its pages, which are drawn after these.
-    pub numbers: &'n Option<Numbers>,
+    pub numbers: Option<Numbers>,
 }
 
-impl<'n> Dress<'n> {
+impl Dress {
     /// Appends the lines at the start of a sheet of this paper.
     pub(crate) fn append_start(&self, paper: &Paper, text: &mut Rope<'_>) -> Result<(), AllocError>
         ensures { OnOk result (text.new ≡ text.old ++ lines_text (told_if self.now.tells_papers paper.now)) }
@@ -35,11 +35,15 @@ impl<'n> Dress<'n> {
     }
 
     /// Appends the lines at the end of a sheet. What all sheets have isn't copied if it has 4,096 bytes or more.
-    pub(crate) fn append_finish(&'n self, sheet: u32, text: &mut Rope<'n>) -> Result<(), AllocError>
-        ensures { OnOk result (text.new ≡ text.old ++ lines_text (with_numbers self.now.numbers.now self.now.finish sheet)) }
+    pub(crate) fn append_finish<'n>(
+        &'n self,
+        sheet: u32,
+        text: &mut Rope<'n>,
+    ) -> Result<(), AllocError>
+        ensures { OnOk result (text.new ≡ text.old ++ lines_text (with_numbers self.now.numbers self.now.finish sheet)) }
     {
         text.append_borrowed(self.finish.text())?;
-        match self.numbers {
+        match &self.numbers {
             Some(numbers) => append_numbers(numbers, sheet, text),
             None => Ok(()),
         }

@@ -93,7 +93,7 @@ impl<'j, 'd> Job<'j, 'd> {
         sheets: &'j MadeSheets,
         border: Option<Grains>,
         inset: Grains,
-        dress: &'j Dress<'j>,
+        dress: &'j Dress,
     ) -> Self
         requires same_pages { plan.now.pages ≡ length (pages document.now) }
         requires same_sheets { plan.now ≡ made_plan plan.now.pages sheets.now }

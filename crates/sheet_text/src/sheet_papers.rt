@@ -7,5 +7,5 @@ use sheet_plan::MadeSheets;
 #[derive(Drop)]
 pub(crate) enum SheetPapers<'j> {
     One(Paper),
-    Made(&'j MadeSheets, &'j Dress<'j>),
+    Made(&'j MadeSheets, &'j Dress),
 }

@@ -1,7 +1,7 @@
 //! A run over sheets that were made: pages and sheets with papers of their own, and lines in the header and on each sheet.
 use crate::tests::checks::{assert_bytes, assert_that};
 use dsc::Document;
-use imposer::{Dress, Job, Lines, MemorySink, Nobody, Numbers, Open, Report, Workers, run_plan};
+use imposer::{Dress, Job, Lines, MemorySink, Nobody, Open, Report, Workers, run_plan};
 use lengths::{Grains, Number, Paper, a4, paper_by_name};
 use pagespec::{Item, Measure, Turn};
 use sheet_plan::{MadeSheets, MadeSlot, Plan};
@@ -88,7 +88,7 @@ fn two_sheets(alloc: Global) -> Result<MadeSheets, Fail> {
 }
 
 /// The dress of sheets that report their papers, and end with the same line.
-fn lines<'n>(alloc: Global, numbers: &'n Option<Numbers>) -> Result<Dress<'n>, Fail> {
+fn lines(alloc: Global) -> Result<Dress, Fail> {
     let mut header = Lines::new(alloc);
     header.push(b"%%DocumentMedia: x")?;
     let mut finish = Lines::new(alloc);
@@ -97,7 +97,7 @@ fn lines<'n>(alloc: Global, numbers: &'n Option<Numbers>) -> Result<Dress<'n>, F
         header,
         tells_papers: true,
         finish,
-        numbers,
+        numbers: None,
     })
 }
 
@@ -121,7 +121,7 @@ fn run_dressed<R: Threads + Wait + Sync>(
     rt: &R,
     alloc: Global,
     sheets: &MadeSheets,
-    dress: &Dress<'_>,
+    dress: &Dress,
 ) -> Result<(MemorySink, Report), Fail> {
     let document = Document::read(alloc, TWO_PAGES.as_bytes())?;
     let plan = Plan::of_sheets(alloc, document.pages(), sheets)?;
@@ -132,8 +132,7 @@ fn run_dressed<R: Threads + Wait + Sync>(
 #[test]
 fn sheets_that_were_made(rt: HostRuntime) -> Result<(), Fail> {
     let sheets = two_sheets(rt.alloc())?;
-    let numbers = None;
-    let dress = lines(rt.alloc(), &numbers)?;
+    let dress = lines(rt.alloc())?;
     let (sink, report) = run_dressed(&rt, rt.alloc(), &sheets, &dress)?;
     assert_bytes(&rt, sink.bytes(), OUTPUT.as_bytes());
     assert_that(&rt, (report.pages, report.sheets, report.born) == (2, 2, 0));

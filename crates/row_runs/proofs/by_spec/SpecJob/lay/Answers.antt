@@ -4,8 +4,8 @@ use Rattle.row_runs.specs.BySpec.{RefusesBySpec, pages_of, row_by}
 use Rattle.row_runs.proofs.BySpec.{no_sheets}
 use Rattle.row_runs.proofs.by_spec.SpecJob.lay.Goals as goal
 
-pub returns-clause-refused : goal.returns-clause-refused
-returns-clause-refused c =
+pub returns-in-Err-spec_sheets-clause-refused : goal.returns-in-Err-spec_sheets-clause-refused
+returns-in-Err-spec_sheets-clause-refused c =
     let j = c.args.self.now in
     let chosen : row_by j ≡ Ok c.in-Ok.row.items = search rules in
     let few : pages_of j ≤ 1_000_000 = subst (λ n. n ≤ 1_000_000) c.pages.ensures.count c.pages.ensures.few in

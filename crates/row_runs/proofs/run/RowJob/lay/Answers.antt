@@ -1,3 +1,9 @@
+use Rattle.std.proofs.Common.{◌∙◌, ap, ap₂, List, Option}
+use Rattle.papers.specs.Told.{telling}
+use Rattle.sheet_text.specs.declared.numbers.Numbers.{Numbers}
+use Rattle.dressing.specs.Numbered.{drawn_on}
+use Rattle.dressing.specs.declared.strokes.Stroke.{Stroke}
+use Rattle.row_runs.specs.Numbers.{numbers_asked}
 use Rattle.row_runs.proofs.Refused.{run_refused}
 use Rattle.row_runs.proofs.run.RowJob.lay.Goals as goal
 
@@ -5,10 +11,18 @@ pub returns-in-Err-clause-refused : goal.returns-in-Err-clause-refused
 returns-in-Err-clause-refused c =
     run_refused c.args.self.now c.pages-count.result c.in-Err.error c.pages-count.ensures.count c.in-Err.ensures.refused
 
-pub returns-in-Ok-turned_sheets-clause-turned : goal.returns-in-Ok-turned_sheets-clause-turned
-returns-in-Ok-turned_sheets-clause-turned c = record {
+pub returns-in-Ok-dress_of-clause-turned : goal.returns-in-Ok-dress_of-clause-turned
+returns-in-Ok-dress_of-clause-turned c = record {
   laid = c.in-Ok.sheets;
   asked = rw c.pages-count.ensures.count at c.in-Ok.ensures.made;
   stand = c.in-Ok.ensures.stands;
   turned = c.in-Ok-turned_sheets.ensures;
 }
+
+pub returns-in-Ok-dress_of-clause-dressed : goal.returns-in-Ok-dress_of-clause-dressed
+returns-in-Ok-dress_of-clause-dressed c =
+    let j = c.args.self.now in
+    let strokes = c.as_slice.ensures.value ∙ c.in-Ok-strokes_of.ensures in
+    let numbers = c.in-Ok-numbers_of.ensures ∙ ap (λ n. numbers_asked n j.papers.now j.asked j.marks.numbers) c.pages-count.ensures.count in
+    c.in-Ok-dress_of.ensures
+    ∙ ap₂ (λ (s : List Stroke) (n : Option Numbers). drawn_on (record { strokes = s; numbers = n }) (telling c.in-Ok-turned_sheets.sheets)) strokes numbers
