@@ -10,6 +10,7 @@ mod OneScale
 mod NotLaid
 mod Turned
 mod Turns
+mod Mirrored
 pub mod Refused
 mod Fit
 mod ReadInOrder

@@ -6,7 +6,7 @@ use Rattle.row_runs.specs.declared.error.AskedError.{AskedError}
 use Rattle.row_runs.specs.declared.error.AskedError.TheVariants as error
 use Rattle.row_runs.specs.declared.run.RowJob.{RowJob}
 use Rattle.row_runs.specs.SheetsRuns.{RefusesSheets}
-use Rattle.row_runs.specs.Runs.{AreTurned, RefusesRun, page_count}
+use Rattle.row_runs.specs.Runs.{AreTurned, RefusesRun, mirror_for, page_count}
 use Rattle.row_runs.specs.BySpec.{AreBySpec, RefusesBySpec, pages_of}
 use Rattle.row_runs.specs.declared.by_spec.SpecJob.{SpecJob}
 use Rattle.made_sheets.specs.Made.{MadeSheet}
@@ -23,7 +23,7 @@ of_asked j (error.Poster e) h = h
 of_asked j (error.Sheets e) h = (
   sheets_laid (laying_for j.asked j.papers.now h.0) (leaves_in (sewn j.asked) h.0) j.papers.now (signed (sewn j.asked) h.0),
   record { row = h.0; is_chosen = h.1; are_laid = refl; fits = have_space (laying_for j.asked j.papers.now h.0) (leaves_in (sewn j.asked) h.0) j.papers.now (signed (sewn j.asked) h.0) h.3; accepted = h.2 },
-  turned_refused (turn_of j.turn) (page_count j) (sheets_laid (laying_for j.asked j.papers.now h.0) (leaves_in (sewn j.asked) h.0) j.papers.now (signed (sewn j.asked) h.0)) e h.4,
+  turned_refused (turn_of j.turn) (mirror_for j) (page_count j) (sheets_laid (laying_for j.asked j.papers.now h.0) (leaves_in (sewn j.asked) h.0) j.papers.now (signed (sewn j.asked) h.0)) e h.4,
 )
 of_asked j error.NoMemory h = h
 

@@ -1,6 +1,6 @@
 -- Read in this order: what the errors of a run on made sheets are called, and what its answers mean. Then, of a row: what
 -- errors are called; layings with one scale; limits; the sheets that are asked for, how their pages are placed and
--- read, their marks and numbers; turned pages; what the answers mean, also those of a run by a specification; lines on sheets;
+-- read; turned pages; backs; marks and numbers; what the answers mean, also those of a run by a specification; lines on sheets;
 -- how sheets are read; what is shown of them before they are imposed. At last, how many pages a document says that it has.
 pub mod SheetsRuns
 pub mod Errors
@@ -10,9 +10,10 @@ pub mod Sheets
 pub mod Standing
 pub mod InPlaces
 pub mod ReadAsBound
+pub mod Turning
+pub mod Mirrored
 pub mod Marked
 pub mod Numbers
-pub mod Turning
 pub mod Runs
 pub mod BySpec
 pub mod Guides

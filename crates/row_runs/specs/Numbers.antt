@@ -5,10 +5,12 @@ use Rattle.made_sheets.specs.Choice.{RowFault, signed}
 use Rattle.made_sheets.specs.Made.{MadeSheet}
 use Rattle.made_sheets.specs.Rows.{Row}
 use Rattle.layouts.specs.Cells.{high}
+use Rattle.layouts.specs.Placed.{Room}
 use Rattle.row_sheets.specs.RowSheets.{paper_of}
 use Rattle.dressing.specs.declared.numbers.Numbering.{Numbering}
 use Rattle.sheet_text.specs.declared.numbers.Numbers.{Numbers}
 use Rattle.row_runs.specs.Evened.{setting_in}
+use Rattle.row_runs.specs.Mirrored.{mirrored}
 use Rattle.row_runs.specs.Sheets.{laying_for, leaves_in, row_chosen, sewn, sheets_laid}
 use Rattle.row_runs.specs.declared.asked.Asked.{Asked}
 use Rattle.row_runs.specs.declared.asked.Laying.{Laying}
@@ -52,11 +54,11 @@ places_by papers a (Err fault) = []
 abbrev pub below_middle : Laying → Option ℤ
 below_middle l = option_map (λ t. pos (635_000 * high t.room t.grid)) (setting_in l)
 
--- the numbers that are asked for of a document with so many pages, if any are (RULES, 15)
-abbrev pub numbers_asked : (pages : ℕ) → List Paper → Asked → Option Numbering → Option Numbers
-numbers_asked pages papers a asked = option_map (λ how. record {
+-- the numbers that are asked for of a document with so many pages, if any are, which are moved as their pages are (RULES, 15)
+abbrev pub numbers_asked : (pages : ℕ) → List Paper → Asked → (mirror : Option Room) → Option Numbering → Option Numbers
+numbers_asked pages papers a mirror asked = option_map (λ how. record {
   size = how.size;
   first = how.first;
-  places = places_by papers a (row_chosen pages a);
+  places = mirrored mirror (places_by papers a (row_chosen pages a));
   below = below_middle a.laying;
 }) asked

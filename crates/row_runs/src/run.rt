@@ -6,6 +6,7 @@ ghost use Rattle.row_runs.specs.Runs.{AreTurned, RefusesRun, numbers_on, strokes
 use crate::asked::{Asked, asked_sheets};
 use crate::error::AskedError;
 use crate::marked::strokes_of;
+use crate::mirrored::mirror_in;
 use crate::numbered::numbers_of;
 use crate::turning::turned_sheets;
 use dressing::{Marks, Stroke};
@@ -17,7 +18,8 @@ use sheet_text::Numbers;
 use std::alloc::Global;
 
 /// What is imposed of a document, which was read before; how its pages are turned, and the papers that they have then, in
-/// their order, where those that aren't known have the sheet's; a border round each page, wider than nothing, if one is asked for, and how far within the
+/// their order, where those that aren't known have the sheet's; whether left and right margins are exchanged on every second
+/// sheet; a border round each page, wider than nothing, if one is asked for, and how far within the
 /// page's edges it is drawn; and which marks are drawn at the end of each sheet.
 #[derive(Clone, Copy)]
 pub struct RowJob<'j, 'd> {
@@ -25,6 +27,7 @@ pub struct RowJob<'j, 'd> {
     pub turn: Turn,
     pub papers: &'j [Paper],
     pub asked: Asked<'j>,
+    pub mirrored: bool,
     pub border: Option<Grains>,
     pub inset: Grains,
     pub marks: Marks,
@@ -39,7 +42,7 @@ pub struct LaidRow {
 }
 
 impl<'j, 'd> RowJob<'j, 'd> {
-    /// The sheets that are asked for, with their pages turned, and with their marks. What is wrong with the row is refused first, then a page that fits no
+    /// The sheets that are asked for, with backs moved, with their pages turned, and with their marks. What is wrong with the row is refused first, then a page that fits no
     /// cell. Whoever creates an output plans them before: `PlannedSheets::of_job` refuses what is left.
     pub fn lay(&self, alloc: Global) -> Result<LaidRow, AskedError>
         requires { MayBeAsked self.now.asked }
@@ -57,11 +60,20 @@ impl<'j, 'd> RowJob<'j, 'd> {
         let Ok(strokes) = strokes_of(alloc, self.marks, &self.asked.laying) else {
             return Err(AskedError::NoMemory);
         };
-        let Ok(numbers) = numbers_of(alloc, count, self.papers, &self.asked, self.marks.numbers)
+        let mirror = mirror_in(self.mirrored, &self.asked.laying);
+        let marks = self.marks;
+        let Ok(numbers) = numbers_of(
+            alloc,
+            count,
+            self.papers,
+            &self.asked,
+            mirror,
+            marks.numbers,
+        )
         else {
             return Err(AskedError::NoMemory);
         };
-        match turned_sheets(alloc, self.turn, sheets) {
+        match turned_sheets(alloc, self.turn, mirror, sheets) {
             Ok(sheets) => Ok(LaidRow {
                 sheets,
                 strokes,

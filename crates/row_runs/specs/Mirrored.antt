@@ -1,0 +1,60 @@
+-- Sheets that are printed on both sides, fronts and backs in turn: on backs left and right margins are exchanged. They are laid
+-- as fronts are, and then moved. All here is this project's own rules.
+use Rattle.std.specs.Prelude.{◌≡◌, ⊤, ℕ, ◌+◌, ◌%◌, ◌==◌, ℤ, pos, ◌-ℤ◌, Bool, if◌then◌else◌, List, [], ◌∷◌, map, All, Option, Some, None, option_map}
+use Rattle.rules.specs.Papers.{Pt}
+use Rattle.rules.specs.Specification.{Item}
+use Rattle.made_sheets.specs.Made.{MadeSlot, Blank, Placed, MadeSheet}
+use Rattle.layouts.specs.Placed.{Room}
+use Rattle.row_sheets.specs.Standing.{StandsIn}
+use Rattle.row_runs.specs.Evened.{setting_in}
+use Rattle.row_runs.specs.Turning.{farther}
+use Rattle.row_runs.specs.declared.asked.Laying.{Laying}
+
+-- the same sheet with left and right exchanged
+abbrev pub exchanged : Room → Room
+exchanged room = record room { left = room.right; right = room.left }
+
+-- how far it is from there to here, in 10^-5 of a point (RULES, 13.1)
+abbrev pub shift : Room → ℤ
+shift room = pos room.right -ℤ pos room.left
+
+-- the room of a laying's cells, if it is to be exchanged on backs
+abbrev pub mirror_in : (mirrored : Bool) → Laying → Option Room
+mirror_in mirrored l = if mirrored then option_map (λ t. t.room) (setting_in l) else None
+
+-- what lies in this room is moved into the exchanged one, if there is one
+abbrev pub moved_item : Option Room → Item → Item
+moved_item None item = item
+moved_item (Some room) item = record item { x = farther (shift room) item.x }
+
+abbrev pub moved_slot : Option Room → MadeSlot → MadeSlot
+moved_slot mirror Blank = Blank
+moved_slot mirror (Placed page item paper) = Placed page (moved_item mirror item) paper
+
+abbrev pub moved_sheet : Option Room → MadeSheet → MadeSheet
+moved_sheet mirror sheet = record { paper = sheet.paper; slots = map (moved_slot mirror) sheet.slots }
+
+-- every second sheet is a back, and only backs are moved
+abbrev pub mirror_on : Option Room → (s : ℕ) → Option Room
+mirror_on mirror s = if s % 2 == 1 then mirror else None
+
+-- sheets from this one on
+abbrev pub mirrored_from : Option Room → (s : ℕ) → List MadeSheet → List MadeSheet
+mirrored_from mirror s [] = []
+mirrored_from mirror s (sheet ∷ made) = moved_sheet (mirror_on mirror s) sheet ∷ mirrored_from mirror (s + 1) made
+
+abbrev pub mirrored : Option Room → List MadeSheet → List MadeSheet
+mirrored mirror made = mirrored_from mirror 0 made
+
+-- ---- laws
+
+-- a page is moved by points, as all are that are fitted into cells
+abbrev pub IsInPoints : MadeSlot → Type 0
+IsInPoints Blank = ⊤
+IsInPoints (Placed page item paper) = item.x.unit ≡ Pt
+
+-- fronts stay as they are; and what lies in a room, inside and apart, lies so in the exchanged one on a back
+abbrev pub MirroredStands : Type 0
+MirroredStands = ((sheet : MadeSheet) → moved_sheet None sheet ≡ sheet)
+    × ((room : Room) (sheet : MadeSheet) → All IsInPoints sheet.slots → StandsIn room sheet
+    → StandsIn (exchanged room) (moved_sheet (Some room) sheet))
