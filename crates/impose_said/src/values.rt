@@ -17,7 +17,7 @@ pub(crate) fn value_text(alloc: Global, option: Opt, text: &str) -> Result<Strin
             alloc,
             option,
             text,
-            "give it as 5mm, SIDES,ENDS, TOP,RIGHT,BOTTOM,LEFT, or left=2cm,top=1cm",
+            "give it as 5mm, SIDES,ENDS, TOP,RIGHT,BOTTOM,LEFT, left=2cm,top=1cm or inner=2cm",
         ),
         Opt::Gap => length_text(alloc, option, text, "give it as 5mm, or 5mm,1cm"),
         Opt::Numbers => length_text(alloc, option, text, "give it as 10pt or 4mm, up to 72pt"),

@@ -4,6 +4,8 @@ ghost use Rattle.rows.specs.Choices.{choice_of};
 ghost use Rattle.impose_words.specs.Choices.{choice_in, is_whole};
 ghost use Rattle.impose_words.specs.Products.{lays_rows};
 ghost use Rattle.impose_words.specs.Spacings.{arrangement_in, binding_in, keeps_room, notes_in, nothing_kept, some_gap as some_gap_of, zine_in};
+ghost use Rattle.impose_words.specs.Spacings.{at_fold as free_at_fold, fold_gap as gap_at_fold, on_fronts as free_on_fronts, is_mirrored};
+ghost use Rattle.layouts.specs.Refusals.{is_length as may_be_length};
 ghost use Rattle.impose_words.specs.Words.{has_numbers};
 
 use dressing::Marks;
@@ -93,6 +95,9 @@ impl Layout {
 #[derive(Clone, Copy)]
 pub struct Spacing {
     pub free: Free,
+    /// Along the edge at which leaves are bound: on sheets with cells it is the left one of fronts and the right one of
+    /// backs, in a booklet the fold.
+    pub inner: Option<Grains>,
     /// Pages of a booklet's innermost leaves are moved towards the fold by this.
     pub creep: Grains,
     /// Neighbouring sheets of a poster overlap by this.
@@ -114,6 +119,7 @@ impl Spacing {
         let free = plain.free;
         Spacing {
             free,
+            inner: None,
             creep: free.trim,
             overlap: free.trim,
             order: plain.order,
@@ -122,15 +128,24 @@ impl Spacing {
         }
     }
 
-    /// These cells, with this kept free, in this order and at this scale.
+    /// These cells, with this kept free on fronts, in this order and at this scale.
     pub fn arrangement(&self, cells: Cells) -> Arrangement
         ensures { result ≡ arrangement_in self.now cells }
     {
         Arrangement {
             cells,
-            free: self.free,
+            free: self.on_fronts(),
             order: self.order,
             scale: self.scale,
+        }
+    }
+
+    fn on_fronts(&self) -> Free
+        ensures { result ≡ free_on_fronts self.now }
+    {
+        Free {
+            left: self.inner.unwrap_or(self.free.left),
+            ..self.free
         }
     }
 
@@ -185,11 +200,47 @@ impl Spacing {
         ensures { result ≡ binding_in self.now long_edge }
     {
         Binding {
-            free: self.free,
+            free: at_fold(self.inner, self.free),
             right_to_left: self.order.right_to_left,
             long_edge,
         }
     }
+}
+
+/// What is kept free on leaves: the inner margin on both sides of the fold, if there is one.
+fn at_fold(inner: Option<Grains>, free: Free) -> Free
+    ensures { result ≡ free_at_fold inner free.now }
+{
+    match inner {
+        None => free,
+        Some(inner) => Free {
+            up: fold_gap(free.up, inner),
+            ..free
+        },
+    }
+}
+
+/// A gap with so much on both sides of it. What is no length gives one below 0, which is none either.
+fn fold_gap(gap: Grains, inner: Grains) -> Grains
+    ensures { result ≡ gap_at_fold gap inner }
+{
+    let (gap, inner) = (gap.get(), inner.get());
+    let wide = if is_length(gap) && is_length(inner) {
+        gap + inner + inner
+    } else {
+        -1
+    };
+    match Grains::new(wide) {
+        Some(wide) => wide,
+        None => unreachable!(),
+    }
+}
+
+/// Whether so many grains are a length that layouts keep free.
+fn is_length(grains: i128) -> bool
+    ensures { result ≡ may_be_length grains }
+{
+    0 <= grains && grains < 12_700_000_000_000_000
 }
 
 /// A gap, or else the least length.
@@ -299,4 +350,16 @@ pub struct ImposeRequest {
     pub infile: Option<String>,
     /// The file into which sheets are written; standard output if there is none.
     pub outfile: Option<String>,
+}
+
+impl ImposeRequest {
+    /// Whether left and right margins are exchanged on every second sheet.
+    pub fn is_mirrored(&self) -> bool
+        ensures { result ≡ is_mirrored self.now.layout self.now.spacing }
+    {
+        match &self.layout {
+            Layout::NUp(_) => self.spacing.inner.is_some(),
+            _ => false,
+        }
+    }
 }
