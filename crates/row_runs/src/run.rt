@@ -62,14 +62,7 @@ impl<'j, 'd> RowJob<'j, 'd> {
         };
         let mirror = mirror_in(self.mirrored, &self.asked.laying);
         let marks = self.marks;
-        let Ok(numbers) = numbers_of(
-            alloc,
-            count,
-            self.papers,
-            &self.asked,
-            mirror,
-            marks.numbers,
-        )
+        let Ok(numbers) = numbers_of(alloc, count, self.papers, &self.asked, mirror, marks.numbers)
         else {
             return Err(AskedError::NoMemory);
         };
