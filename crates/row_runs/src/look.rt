@@ -4,15 +4,15 @@ ghost use Rattle.made_sheets.specs.MadePlans.{made_plan_of};
 ghost use Rattle.sheet_plan.specs.MadeRefusals.{RefusesMade};
 ghost use Rattle.preview.specs.Drawing.{preview_text as picture_of};
 ghost use Rattle.row_runs.specs.Sheets.{MayBeAsked};
-ghost use Rattle.row_runs.specs.Runs.{ArePlanned, RefusesRun};
+ghost use Rattle.row_runs.specs.Runs.{ArePlanned, RefusesRun, mirror_for};
 ghost use Rattle.row_runs.specs.Looks.{TellsPicture, TellsPlan, guides_on};
-ghost use Rattle.row_runs.specs.Readings.{sides_in};
+ghost use Rattle.row_runs.specs.Readings.{sides_by as sides_of_mirror};
 
 use crate::asked::asked_sheets;
 use crate::error::{AskedError, plan_error};
 use crate::guides::guides_of;
 use crate::mirrored::mirror_in;
-use crate::reading::{reading_of, sides_of};
+use crate::reading::{reading_of, sides_by};
 use crate::run::RowJob;
 use crate::turning::turned_sheets;
 use preview::{Guide, plan_text, preview_text};
@@ -30,7 +30,8 @@ pub fn row_plan(alloc: Global, job: &RowJob<'_, '_>, most: u32) -> Result<Vec<u8
         Ok(sheets) => sheets,
         Err(error) => return Err(error),
     };
-    match plan_text(alloc, &sheets, &reading_of(&job.asked.laying), most) {
+    let mirror = mirror_in(job.mirrored, &job.asked.laying);
+    match plan_text(alloc, &sheets, &reading_of(mirror, &job.asked.laying), most) {
         Ok(text) => Ok(text),
         Err(_) => Err(AskedError::NoMemory),
     }
@@ -63,16 +64,12 @@ fn drawn(
 ) -> Result<Vec<u8>, AllocError>
     requires { MayBeAsked job.now.asked }
     ensures { IfOk result (λ text. text.items
-        ≡ picture_of (sides_in job.now.asked.laying) (guides_on job.now) most sheets.now) }
+        ≡ picture_of (sides_of_mirror (mirror_for job.now) job.now.asked.laying) (guides_on job.now) most sheets.now) }
 {
     let guides = guides_for(alloc, job)?;
-    let text = preview_text(
-        alloc,
-        sheets,
-        sides_of(&job.asked.laying),
-        guides.as_slice(),
-        most,
-    )?;
+    let mirror = mirror_in(job.mirrored, &job.asked.laying);
+    let sides = sides_by(mirror, &job.asked.laying);
+    let text = preview_text(alloc, sheets, sides, guides.as_slice(), most)?;
     Ok(text)
 }
 
