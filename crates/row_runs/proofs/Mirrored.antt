@@ -1,5 +1,6 @@
 -- Backs: fronts stay as they are; sheets that were moved and turned so far; and where pages stand.
 use Rattle.std.proofs.Common.{arith, ◌≡◌, ◌∙◌, ℕ, suc, zero, ◌+◌, ◌<◌, inl, inr, Bool, true, false, List, [], ◌∷◌, ◌++◌, Option, Some, None, ap, ap₂, refl, subst, sym, length, map, take}
+use Rattle.std.specs.List.{range_with_len}
 use Rattle.std.specs.Prelude.{ℤ, pos, ◌+ℤ◌, ◌-ℤ◌, ◌*ℤ◌, All, AllPairs, ◌==◌, ◌%◌, if◌then◌else◌, slice_get, slice_index_or}
 use Rattle.std.proofs.lemmas.Int.{ints}
 use Rattle.std.proofs.lemmas.List.{get_or-map, length-map}
@@ -9,9 +10,14 @@ use Rattle.rules.specs.Papers.{Paper, Pt, grains}
 use Rattle.rules.specs.Placement.{Point}
 use Rattle.rules.specs.Specification.{Item, Turn}
 use Rattle.made_sheets.specs.Made.{MadeSlot, Blank, Placed, MadeSheet}
+use Rattle.rules.specs.Sheets.{blocks}
+use Rattle.layouts.specs.Cells.{item_in}
+use Rattle.layouts.specs.Fitted.{is_whole, scale_on}
+use Rattle.layouts.specs.Grids.{alone}
 use Rattle.layouts.specs.Placed.{AreApart, ComesFirst, IsInside, Room, across, fine, stands}
-use Rattle.row_sheets.specs.Filled.{SlotIsInside, SlotsAreApart}
-use Rattle.row_runs.specs.Mirrored.{IsInPoints, MirroredStands, exchanged, mirror_on, mirrored, mirrored_from, moved_item, moved_sheet, moved_slot, shift}
+use Rattle.row_sheets.specs.Filled.{Filling, SlotIsInside, SlotsAreApart, grid_entry, slot_in}
+use Rattle.row_sheets.specs.Standing.{StandsIn}
+use Rattle.row_runs.specs.Mirrored.{FittedAreInPoints, IsInPoints, MirroredStands, exchanged, mirror_on, mirrored, mirrored_from, moved_item, moved_sheet, moved_slot, room_on, shift}
 use Rattle.row_runs.specs.Turning.{turned_sheet}
 
 -- ---- nothing is moved
@@ -123,13 +129,52 @@ all_apart room slots points apart i j d before less =
     (subst (SlotsAreApart (exchanged room) (f a)) (sym (get_or-map f slots j Blank d second))
     (slots_apart room a b (points i Blank first) (points j Blank second) (apart i j Blank before second)))
 
+back_stands : (room : Room) (sheet : MadeSheet) → All IsInPoints sheet.slots → StandsIn room sheet → StandsIn (exchanged room) (moved_sheet (Some room) sheet)
+back_stands room sheet points h = record {
+  paper = h.paper;
+  inside = All-map (SlotIsInside (exchanged room)) (moved_slot (Some room)) sheet.slots
+      (λ k d less. slot_inside room (slice_index_or sheet.slots k d) (points k d less) (h.inside k d less));
+  apart = all_apart room sheet.slots points h.apart;
+}
+
+side_stands : (back : Bool) (room : Room) (sheet : MadeSheet) → All IsInPoints sheet.slots → StandsIn room sheet
+    → StandsIn (if back then exchanged room else room) (moved_sheet (if back then Some room else None) sheet)
+side_stands true room sheet points h = back_stands room sheet points h
+side_stands false room sheet points h = subst (StandsIn room) (sym (unmoved_sheet sheet)) h
+
+-- sheet i of those that are mirrored
+at_place : (m : Option Room) (s i : ℕ) (made : List MadeSheet) (d : MadeSheet) → i < length made
+    → slice_index_or (mirrored_from m s made) i d ≡ moved_sheet (mirror_on m (s + i)) (slice_index_or made i d)
+at_place m s i [] d less = absurd (omega (arith, less))
+at_place m s zero (x ∷ made) d less =
+    let here : s ≡ s + 0 = omega arith in
+    ap (λ k. moved_sheet (mirror_on m k) x) here
+at_place m s (suc i) (x ∷ made) d less =
+    let next : (s + 1) + i ≡ s + suc i = omega arith in
+    at_place m (s + 1) i made d (omega (arith, less)) ∙ ap (λ k. moved_sheet (mirror_on m k) (slice_index_or made i d)) next
+
 pub mirrored_stands : MirroredStands
-mirrored_stands = (
-  unmoved_sheet,
-  λ room sheet points h. record {
-    paper = h.paper;
-    inside = All-map (SlotIsInside (exchanged room)) (moved_slot (Some room)) sheet.slots
-        (λ k d less. slot_inside room (slice_index_or sheet.slots k d) (points k d less) (h.inside k d less));
-    apart = all_apart room sheet.slots points h.apart;
-  },
-)
+mirrored_stands room made points stand s d less =
+    let here : 0 + s ≡ s = omega arith in
+    let sheet = slice_index_or made s d in
+    subst (StandsIn (room_on room s)) (sym (at_place (Some room) 0 s made d less ∙ ap (λ k. moved_sheet (mirror_on (Some room) k) sheet) here))
+    (side_stands (s % 2 == 1) room sheet (points s d less) (stand s d less))
+
+-- ---- pages in cells are moved by points
+
+of_two : (whole : Bool) (k : ℕ) (item : Item) → item.x.unit ≡ Pt → (if whole then alone k else item).x.unit ≡ Pt
+of_two true k item points = refl
+of_two false k item points = points
+
+slot_in_points : (f : Filling) (c : ℕ) (entry : Option ℕ) → IsInPoints (slot_in f c entry)
+slot_in_points f c None = tt
+slot_in_points f c (Some page) = let t = f.setting in let paper = f.paper_of page in
+    of_two (is_whole t paper) c (item_in paper t.room t.grid t.order (scale_on t paper) c) refl
+
+pub fitted_in_points : FittedAreInPoints
+fitted_in_points f cells row =
+    All-map (λ sheet. All IsInPoints sheet.slots)
+    (λ s. record { paper = f.setting.room.paper; slots = map (λ c. slot_in f c (grid_entry cells row s c)) (range_with_len 0 cells) })
+    (range_with_len 0 (blocks cells (length row)))
+    (λ k d less. All-map IsInPoints (λ c. slot_in f c (grid_entry cells row (slice_index_or (range_with_len 0 (blocks cells (length row))) k d) c)) (range_with_len 0 cells)
+    (λ i e within. slot_in_points f (slice_index_or (range_with_len 0 cells) i e) _))

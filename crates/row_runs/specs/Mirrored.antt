@@ -1,11 +1,14 @@
 -- Sheets that are printed on both sides, fronts and backs in turn: on backs left and right margins are exchanged. They are laid
 -- as fronts are, and then moved. All here is this project's own rules.
-use Rattle.std.specs.Prelude.{◌≡◌, ⊤, ℕ, ◌+◌, ◌%◌, ◌==◌, ℤ, pos, ◌-ℤ◌, Bool, if◌then◌else◌, List, [], ◌∷◌, map, All, Option, Some, None, option_map}
+use Rattle.std.specs.Prelude.{◌≡◌, ⊤, ℕ, ◌+◌, ◌%◌, ◌==◌, ◌<◌, ℤ, pos, ◌-ℤ◌, Bool, if◌then◌else◌, List, [], ◌∷◌, length, map, All, Option, Some, None, option_map}
+use Rattle.std.specs.Prelude.{slice_index_or}
 use Rattle.rules.specs.Papers.{Pt}
 use Rattle.rules.specs.Specification.{Item}
 use Rattle.made_sheets.specs.Made.{MadeSlot, Blank, Placed, MadeSheet}
+use Rattle.made_sheets.specs.Rows.{Row}
 use Rattle.layouts.specs.Placed.{Room}
-use Rattle.row_sheets.specs.Standing.{StandsIn}
+use Rattle.row_sheets.specs.Filled.{Filling, grid_sheets}
+use Rattle.row_sheets.specs.Standing.{AllStand, StandsIn}
 use Rattle.row_runs.specs.Evened.{setting_in}
 use Rattle.row_runs.specs.Turning.{farther}
 use Rattle.row_runs.specs.declared.asked.Laying.{Laying}
@@ -48,13 +51,20 @@ mirrored mirror made = mirrored_from mirror 0 made
 
 -- ---- laws
 
--- a page is moved by points, as all are that are fitted into cells
+-- a page is moved by points
 abbrev pub IsInPoints : MadeSlot → Type 0
 IsInPoints Blank = ⊤
 IsInPoints (Placed page item paper) = item.x.unit ≡ Pt
 
--- fronts stay as they are; and what lies in a room, inside and apart, lies so in the exchanged one on a back
+-- pages that are fitted into cells are: a law
+abbrev pub FittedAreInPoints : Type 0
+FittedAreInPoints = (f : Filling) (cells : ℕ) (row : Row) → All (λ sheet. All IsInPoints sheet.slots) (grid_sheets f cells row)
+
+-- the room in which sheet s is
+abbrev pub room_on : Room → (s : ℕ) → Room
+room_on room s = if s % 2 == 1 then exchanged room else room
+
+-- what lies in a room, inside and apart, does so on fronts, and in the exchanged room on backs: a law
 abbrev pub MirroredStands : Type 0
-MirroredStands = ((sheet : MadeSheet) → moved_sheet None sheet ≡ sheet)
-    × ((room : Room) (sheet : MadeSheet) → All IsInPoints sheet.slots → StandsIn room sheet
-    → StandsIn (exchanged room) (moved_sheet (Some room) sheet))
+MirroredStands = (room : Room) (made : List MadeSheet) → All (λ sheet. All IsInPoints sheet.slots) made → AllStand room made
+    → (s : ℕ) (d : MadeSheet) → s < length made → StandsIn (room_on room s) (slice_index_or (mirrored (Some room) made) s d)

@@ -1,7 +1,7 @@
 //! Laws of the definitions. The functions do nothing.
 ghost use Rattle.row_runs.specs.InPlaces.{AskedStandInPlaces};
 ghost use Rattle.row_runs.specs.ReadAsBound.{AskedIsRead};
-ghost use Rattle.row_runs.specs.Mirrored.{MirroredStands};
+ghost use Rattle.row_runs.specs.Mirrored.{FittedAreInPoints, MirroredStands};
 ghost use Rattle.row_runs.specs.Turning.{TurnedStands, TurnsAddUp};
 
 /// The pages of the sheets that are asked for are fitted into their cells and read in order, stacks and zines are the row once
@@ -25,7 +25,9 @@ pub fn turned_stands()
     ensures { TurnedStands }
 {}
 
-/// What lies on fronts, inside and apart, lies so on backs, with left and right margins exchanged. Fronts stay as they are.
+/// What lies in a room, inside and apart, does so on fronts, and with left and right margins exchanged on backs, if pages are
+/// moved by points, as those are that are fitted into cells.
 pub fn mirrored_stands()
-    ensures { MirroredStands }
+    ensures stands { MirroredStands }
+    ensures points { FittedAreInPoints }
 {}
