@@ -10,7 +10,7 @@ mod OneScale
 mod NotLaid
 mod Turned
 mod Turns
-mod Mirrored
+mod Backs
 pub mod Refused
 mod Fit
 mod ReadInOrder

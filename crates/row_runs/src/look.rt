@@ -31,7 +31,7 @@ pub fn row_plan(alloc: Global, job: &RowJob<'_, '_>, most: u32) -> Result<Vec<u8
         Err(error) => return Err(error),
     };
     let mirror = mirror_in(job.mirrored, &job.asked.laying);
-    match plan_text(alloc, &sheets, &reading_of(mirror, &job.asked.laying), most) {
+    match plan_text(alloc, &sheets, &reading_of(&mirror, &job.asked.laying), most) {
         Ok(text) => Ok(text),
         Err(_) => Err(AskedError::NoMemory),
     }
@@ -68,7 +68,7 @@ fn drawn(
 {
     let guides = guides_for(alloc, job)?;
     let mirror = mirror_in(job.mirrored, &job.asked.laying);
-    let sides = sides_by(mirror, &job.asked.laying);
+    let sides = sides_by(&mirror, &job.asked.laying);
     let text = preview_text(alloc, sheets, sides, guides.as_slice(), most)?;
     Ok(text)
 }
@@ -97,7 +97,7 @@ fn planned_sheets(alloc: Global, job: &RowJob<'_, '_>) -> Result<MadeSheets, Ask
         Err(error) => return Err(error),
     };
     let mirror = mirror_in(job.mirrored, &job.asked.laying);
-    let Ok(sheets) = turned_sheets(alloc, job.turn, mirror, sheets) else {
+    let Ok(sheets) = turned_sheets(alloc, job.turn, &mirror, sheets) else {
         return Err(AskedError::NoMemory);
     };
     match check_plan(alloc, count, &sheets) {

@@ -15,39 +15,38 @@ use std::alloc::{AllocError, Global};
 pub(crate) fn mirror_in(mirrored: bool, laying: &Laying) -> Option<Room>
     ensures { result ≡ meaning.mirror_in mirrored laying.now }
 {
-    if !mirrored {
-        return None;
+    match setting_in(laying) {
+        Some(setting) if mirrored => Some(setting.room),
+        _ => None,
     }
-    let setting = setting_in(laying)?;
-    Some(setting.room)
 }
 
 /// The same sheets with left and right exchanged on backs.
 pub(crate) fn mirrored_sheets(
     alloc: Global,
-    mirror: Option<Room>,
+    mirror: &Option<Room>,
     sheets: MadeSheets,
 ) -> Result<MadeSheets, AllocError>
-    ensures { IfOk result (λ made. made ≡ meaning.mirrored mirror sheets) }
+    ensures { IfOk result (λ made. made ≡ meaning.mirrored mirror.now sheets) }
 {
     turned_sheets(alloc, Turn::None, mirror, sheets)
 }
 
 /// Only backs, which are every second sheet, are moved into the exchanged room.
-pub(crate) fn mirror_on(mirror: Option<Room>, sheet: u32) -> Option<Room>
-    ensures { result ≡ meaning.mirror_on mirror sheet }
+pub(crate) fn mirror_on(mirror: &Option<Room>, sheet: u32) -> Option<Room>
+    ensures { result ≡ meaning.mirror_on mirror.now sheet }
 {
-    if sheet % 2 == 1 { mirror } else { None }
+    if sheet % 2 == 1 { *mirror } else { None }
 }
 
 /// The item by which a page is placed once it is moved from this room into the exchanged one, if there is one.
-pub(crate) fn moved_item(mirror: Option<Room>, item: &Item) -> Option<Item>
-    ensures { IfSome result (λ moved. item_of moved ≡ meaning.moved_item mirror (item_of item.now)) }
+pub(crate) fn moved_item(mirror: &Option<Room>, item: &Item) -> Option<Item>
+    ensures { IfSome result (λ moved. item_of moved ≡ meaning.moved_item mirror.now (item_of item.now)) }
 {
     match mirror {
         None => Some(*item),
         Some(room) => {
-            let right = farther(shift(&room), item.offset.0)?;
+            let right = farther(shift(room), item.offset.0)?;
             Some(Item {
                 offset: (right, item.offset.1),
                 ..*item

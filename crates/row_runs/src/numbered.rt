@@ -23,12 +23,12 @@ pub(crate) fn numbers_of(
     pages: u32,
     papers: &[Paper],
     asked: &Asked<'_>,
-    mirror: Option<Room>,
+    mirror: &Option<Room>,
     how: Option<Numbering>,
 ) -> Result<Option<Numbers>, AllocError>
     requires pages { pages ≤ most_entries }
     requires asked { MayBeAsked asked.now }
-    ensures { IfOk result (λ numbers. numbers ≡ numbers_asked pages papers.now asked.now mirror how) }
+    ensures { IfOk result (λ numbers. numbers ≡ numbers_asked pages papers.now asked.now mirror.now how) }
 {
     let Some(how) = how else {
         return Ok(None);

@@ -15,8 +15,8 @@ use preview::{Edge, Places, Reading, Sides};
 use row_sheets::Poster;
 
 /// On which sides the sheets of a laying are printed, and where their places are.
-pub(crate) fn reading_of(mirror: Option<Room>, laying: &Laying) -> Reading
-    ensures { result ≡ reading_in mirror laying.now }
+pub(crate) fn reading_of(mirror: &Option<Room>, laying: &Laying) -> Reading
+    ensures { result ≡ reading_in mirror.now laying.now }
 {
     Reading {
         sides: sides_by(mirror, laying),
@@ -25,8 +25,8 @@ pub(crate) fn reading_of(mirror: Option<Room>, laying: &Laying) -> Reading
 }
 
 /// On which sides they are printed if this room is exchanged on backs, or else as they are laid.
-pub(crate) fn sides_by(mirror: Option<Room>, laying: &Laying) -> Sides
-    ensures { result ≡ sides_of_mirror mirror laying.now }
+pub(crate) fn sides_by(mirror: &Option<Room>, laying: &Laying) -> Sides
+    ensures { result ≡ sides_of_mirror mirror.now laying.now }
 {
     match mirror {
         None => sides_of(laying),

@@ -60,13 +60,13 @@ impl<'j, 'd> RowJob<'j, 'd> {
         let Ok(strokes) = strokes_of(alloc, self.marks, &self.asked.laying) else {
             return Err(AskedError::NoMemory);
         };
+        let numbering = self.marks.numbers;
         let mirror = mirror_in(self.mirrored, &self.asked.laying);
-        let marks = self.marks;
-        let Ok(numbers) = numbers_of(alloc, count, self.papers, &self.asked, mirror, marks.numbers)
+        let Ok(numbers) = numbers_of(alloc, count, self.papers, &self.asked, &mirror, numbering)
         else {
             return Err(AskedError::NoMemory);
         };
-        match turned_sheets(alloc, self.turn, mirror, sheets) {
+        match turned_sheets(alloc, self.turn, &mirror, sheets) {
             Ok(sheets) => Ok(LaidRow {
                 sheets,
                 strokes,

@@ -54,10 +54,10 @@ fn all_papers(alloc: Global, turn: Turn, papers: &[Paper]) -> Result<Vec<Paper>,
 pub(crate) fn turned_sheets(
     alloc: Global,
     turn: Turn,
-    mirror: Option<Room>,
+    mirror: &Option<Room>,
     sheets: MadeSheets,
 ) -> Result<MadeSheets, AllocError>
-    ensures { IfOk result (λ turned. turned ≡ map (meaning.turned_sheet (turn_of turn)) (mirrored mirror sheets)) }
+    ensures { IfOk result (λ turned. turned ≡ map (meaning.turned_sheet (turn_of turn)) (mirrored mirror.now sheets)) }
 {
     match (turn, mirror) {
         (Turn::None, None) => Ok(sheets),
@@ -68,10 +68,10 @@ pub(crate) fn turned_sheets(
 fn all_sheets(
     alloc: Global,
     turn: Turn,
-    mirror: Option<Room>,
+    mirror: &Option<Room>,
     sheets: &MadeSheets,
 ) -> Result<MadeSheets, AllocError>
-    ensures { IfOk result (λ turned. turned ≡ map (meaning.turned_sheet (turn_of turn)) (mirrored mirror sheets.now)) }
+    ensures { IfOk result (λ turned. turned ≡ map (meaning.turned_sheet (turn_of turn)) (mirrored mirror.now sheets.now)) }
 {
     let Ok(count) = u32::try_from(sheets.len()) else {
         return Err(AllocError);
@@ -79,7 +79,8 @@ fn all_sheets(
     let mut turned = MadeSheets::new(alloc);
     let mut slots = Vec::new(alloc);
     for sheet in 0..count {
-        turn_slots(&mut slots, turn, mirror_on(mirror, sheet), sheets, sheet)?;
+        let side = mirror_on(mirror, sheet);
+        turn_slots(&mut slots, turn, &side, sheets, sheet)?;
         turned.push(sheets.paper(sheet), slots.as_slice())?;
     }
     Ok(turned)
@@ -89,13 +90,13 @@ fn all_sheets(
 fn turn_slots(
     slots: &mut Vec<MadeSlot>,
     turn: Turn,
-    mirror: Option<Room>,
+    mirror: &Option<Room>,
     sheets: &MadeSheets,
     sheet: u32,
 ) -> Result<(), AllocError>
     requires { sheet < length sheets.now }
     ensures { OnOk result (map slot_of slots.new.items
-        ≡ map (λ slot. meaning.turned_slot (turn_of turn) (moved_slot mirror slot)) (slots_at sheets.now sheet)) }
+        ≡ map (λ slot. meaning.turned_slot (turn_of turn) (moved_slot mirror.now slot)) (slots_at sheets.now sheet)) }
 {
     slots.clear();
     for slot in 0..sheets.slots(sheet) {
@@ -106,11 +107,11 @@ fn turn_slots(
 
 fn turned_slot(
     turn: Turn,
-    mirror: Option<Room>,
+    mirror: &Option<Room>,
     slot: Option<PlacedSlot<'_>>,
 ) -> Result<MadeSlot, AllocError>
     ensures { IfOk result (λ turned.
-        slot_of turned ≡ meaning.turned_slot (turn_of turn) (moved_slot mirror (placed_of slot.entry))) }
+        slot_of turned ≡ meaning.turned_slot (turn_of turn) (moved_slot mirror.now (placed_of slot.entry))) }
 {
     match slot {
         None => Ok(MadeSlot::Blank),
@@ -126,9 +127,9 @@ fn turned_slot(
 }
 
 /// An item whose page is moved first, and then turned.
-fn changed_item(turn: Turn, mirror: Option<Room>, paper: &Paper, item: &Item) -> Option<Item>
+fn changed_item(turn: Turn, mirror: &Option<Room>, paper: &Paper, item: &Item) -> Option<Item>
     ensures { IfSome result (λ changed.
-        item_of changed ≡ meaning.turned_item (turn_of turn) paper.now (moved_of mirror (item_of item.now))) }
+        item_of changed ≡ meaning.turned_item (turn_of turn) paper.now (moved_of mirror.now (item_of item.now))) }
 {
     let moved = moved_item(mirror, item)?;
     turned_item(turn, paper, &moved)

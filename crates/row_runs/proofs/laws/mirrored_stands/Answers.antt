@@ -1,4 +1,4 @@
-use Rattle.row_runs.proofs.Mirrored.{fitted_in_points, mirrored_stands}
+use Rattle.row_runs.proofs.Backs.{fitted_in_points, mirrored_stands}
 use Rattle.row_runs.proofs.laws.mirrored_stands.Goals as goal
 
 pub returns-clause-stands : goal.returns-clause-stands

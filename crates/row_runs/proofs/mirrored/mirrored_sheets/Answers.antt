@@ -5,4 +5,4 @@ use Rattle.row_runs.proofs.Turns.{unturned_sheets}
 use Rattle.row_runs.proofs.mirrored.mirrored_sheets.Goals as goal
 
 pub returns : goal.returns
-returns c = IfOk-weaker c.turned_sheets.result _ _ (λ made is. is ∙ unturned_sheets (mirrored c.args.mirror c.args.sheets)) c.turned_sheets.ensures
+returns c = IfOk-weaker c.turned_sheets.result _ _ (λ made is. is ∙ unturned_sheets (mirrored c.args.mirror.now c.args.sheets)) c.turned_sheets.ensures

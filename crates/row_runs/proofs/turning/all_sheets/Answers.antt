@@ -5,7 +5,7 @@ use Rattle.made_sheets.specs.Made.{MadeSlot}
 use Rattle.sheet_plan.specs.OfSheets.{slot_of, slots_at}
 use Rattle.row_runs.specs.Mirrored.{mirror_on, moved_slot}
 use Rattle.row_runs.specs.Turning.{turned_slot}
-use Rattle.row_runs.proofs.Mirrored.{fused, sheet_more}
+use Rattle.row_runs.proofs.Backs.{fused, sheet_more}
 use Rattle.row_runs.proofs.Turns.{sheet_at}
 use Rattle.row_runs.proofs.turning.all_sheets.Goals as goal
 
@@ -14,10 +14,10 @@ loop-sheet-preserved c =
     let all = c.args.sheets.now in
     let s = c.loop-sheet.sheet in
     let t = turn_of c.args.turn in
-    let m = mirror_on c.args.mirror s in
+    let m = mirror_on c.args.mirror.now s in
     let slots = ap (map slot_of) c.as_slice.ensures.value ∙ c.in_ok-turn_slots.ensures
-        ∙ ap (λ k. map (λ slot. turned_slot t (moved_slot k slot)) (slots_at all s)) c.mirror_on.ensures
+        ∙ ap (λ k. map (λ slot. turned_slot t (moved_slot k slot)) (slots_at all s)) c.mirror_on-side.ensures
         ∙ fused (turned_slot t) (moved_slot m) (slots_at all s) in
-    sheet_more t c.args.mirror c.loop-sheet.turned _ s all _ _ (sheet_at all s c.paper.result.now c.paper.ensures)
+    sheet_more t c.args.mirror.now c.loop-sheet.turned _ s all _ _ (sheet_at all s c.paper.result.now c.paper.ensures)
     c.loop-sheet.invariant c.in_ok-push.ensures.pushed
     (ap (λ (xs : List MadeSlot). record { paper = c.paper.result.now; slots = xs }) slots)

@@ -33,14 +33,14 @@ unmoved_slots (slot ∷ slots) = ap₂ (λ (s : MadeSlot) (all : List MadeSlot).
 unmoved_sheet : (sheet : MadeSheet) → moved_sheet None sheet ≡ sheet
 unmoved_sheet sheet = ap (λ (slots : List MadeSlot). record { paper = sheet.paper; slots = slots }) (unmoved_slots sheet.slots)
 
-no_mirror : (back : Bool) → (if back then None else None) ≡ None {Room}
-no_mirror true = refl
-no_mirror false = refl
+either_way : (back : Bool) (m : Option Room) → (if back then m else m) ≡ m
+either_way true m = refl
+either_way false m = refl
 
 pub unmirrored : (s : ℕ) (made : List MadeSheet) → mirrored_from None s made ≡ made
 unmirrored s [] = refl
 unmirrored s (sheet ∷ made) = ap₂ (λ (x : MadeSheet) (all : List MadeSheet). x ∷ all)
-    (ap (λ m. moved_sheet m sheet) (no_mirror (s % 2 == 1)) ∙ unmoved_sheet sheet) (unmirrored (s + 1) made)
+    (ap (λ m. moved_sheet m sheet) (either_way (s % 2 == 1) None) ∙ unmoved_sheet sheet) (unmirrored (s + 1) made)
 
 -- ---- sheets that were moved and turned so far
 
