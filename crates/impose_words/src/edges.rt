@@ -18,7 +18,7 @@ pub struct Margins {
 impl Margins {
     /// So much, and no edge is the inner one.
     pub fn of(free: Free) -> Margins
-        ensures { result ≡ meaning.margins_in free.now }
+        ensures { result ≡ meaning.margins_in free }
     {
         Margins { free, inner: None }
     }

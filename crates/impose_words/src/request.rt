@@ -209,7 +209,7 @@ impl Spacing {
 
 /// What is kept free on leaves: the inner margin on both sides of the fold, if there is one.
 fn at_fold(inner: Option<Grains>, free: Free) -> Free
-    ensures { result ≡ free_at_fold inner free.now }
+    ensures { result ≡ free_at_fold inner free }
 {
     match inner {
         None => free,

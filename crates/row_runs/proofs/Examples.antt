@@ -3,7 +3,7 @@ use Rattle.std.proofs.Common.{◌≡◌, [], ◌∷◌, false, true, map, refl}
 use Rattle.std.specs.Prelude.{codes, pos, ℤ, None, Some}
 use Rattle.std.specs.Fmt.{digits}
 use Rattle.rules.specs.Papers.{points}
-use Rattle.rules.specs.Specification.{Item, Upright}
+use Rattle.rules.specs.Specification.{Upright}
 use Rattle.made_sheets.specs.Rows.{all_pages}
 use Rattle.made_sheets.specs.Made.{MadeSlot, Blank, Placed, MadeSheet}
 use Rattle.made_sheets.specs.Choice.{InOne, OfSides}
