@@ -6,6 +6,7 @@ ghost use Rattle.impose_words.specs.Products.{lays_rows};
 ghost use Rattle.impose_words.specs.Spacings.{arrangement_in, binding_in, keeps_room, notes_in, nothing_kept, some_gap as some_gap_of, zine_in};
 ghost use Rattle.impose_words.specs.Spacings.{at_fold as free_at_fold, fold_gap as gap_at_fold, on_fronts as free_on_fronts, is_mirrored};
 ghost use Rattle.layouts.specs.Refusals.{is_length as may_be_length};
+ghost use Rattle.lengths.specs.Ranges.{FitsGrains};
 ghost use Rattle.impose_words.specs.Words.{has_numbers};
 
 use dressing::Marks;
@@ -224,23 +225,30 @@ fn at_fold(inner: Option<Grains>, free: Free) -> Free
 fn fold_gap(gap: Grains, inner: Grains) -> Grains
     ensures { result ≡ gap_at_fold gap inner }
 {
-    let (gap, inner) = (gap.get(), inner.get());
-    let wide = if is_length(gap) && is_length(inner) {
-        gap + inner + inner
+    if is_length(gap) && is_length(inner) {
+        grains(gap.get() + inner.get() + inner.get())
     } else {
-        -1
-    };
-    match Grains::new(wide) {
-        Some(wide) => wide,
-        None => unreachable!(),
+        grains(-1)
     }
 }
 
-/// Whether so many grains are a length that layouts keep free.
-fn is_length(grains: i128) -> bool
-    ensures { result ≡ may_be_length grains }
+/// Whether it is a length that layouts keep free.
+fn is_length(length: Grains) -> bool
+    ensures { result ≡ may_be_length length }
 {
+    let grains = length.get();
     0 <= grains && grains < 12_700_000_000_000_000
+}
+
+/// So many grains.
+fn grains(count: i128) -> Grains
+    requires { FitsGrains count }
+    ensures { result ≡ count }
+{
+    match Grains::new(count) {
+        Some(length) => length,
+        None => unreachable!(),
+    }
 }
 
 /// A gap, or else the least length.
@@ -250,10 +258,7 @@ fn some_gap(gap: Grains) -> Grains
     if 0 < gap.get() {
         return gap;
     }
-    match Grains::new(1) {
-        Some(least) => least,
-        None => unreachable!(),
-    }
+    grains(1)
 }
 
 /// Which pages are imposed, and in which order.
