@@ -116,11 +116,7 @@ fn blanks_text(alloc: Global, blanks: u128) -> Result<String, AllocError>
 }
 
 /// How many leaves of paper it takes, where sheets are printed on both sides.
-fn leaves_text(
-    alloc: Global,
-    request: &ImposeRequest,
-    sheets: u32,
-) -> Result<String, AllocError>
+fn leaves_text(alloc: Global, request: &ImposeRequest, sheets: u32) -> Result<String, AllocError>
     ensures { IfOk result (λ text. string_bytes text ≡ (if are_sides_of request.now.layout request.now.spacing
         then text_of_leaves ((sheets + 1) / 2) else [])) }
 {

@@ -31,7 +31,8 @@ pub fn row_plan(alloc: Global, job: &RowJob<'_, '_>, most: u32) -> Result<Vec<u8
         Err(error) => return Err(error),
     };
     let mirror = mirror_in(job.mirrored, &job.asked.laying);
-    match plan_text(alloc, &sheets, &reading_of(&mirror, &job.asked.laying), most) {
+    let reading = reading_of(&mirror, &job.asked.laying);
+    match plan_text(alloc, &sheets, &reading, most) {
         Ok(text) => Ok(text),
         Err(_) => Err(AskedError::NoMemory),
     }

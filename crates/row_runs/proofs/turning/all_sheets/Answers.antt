@@ -16,8 +16,8 @@ loop-sheet-preserved c =
     let t = turn_of c.args.turn in
     let m = mirror_on c.args.mirror.now s in
     let slots = ap (map slot_of) c.as_slice.ensures.value ∙ c.in_ok-turn_slots.ensures
-        ∙ ap (λ k. map (λ slot. turned_slot t (moved_slot k slot)) (slots_at all s)) c.mirror_on-side.ensures
-        ∙ fused (turned_slot t) (moved_slot m) (slots_at all s) in
+    ∙ ap (λ k. map (λ slot. turned_slot t (moved_slot k slot)) (slots_at all s)) c.mirror_on-side.ensures
+    ∙ fused (turned_slot t) (moved_slot m) (slots_at all s) in
     sheet_more t c.args.mirror.now c.loop-sheet.turned _ s all _ _ (sheet_at all s c.paper.result.now c.paper.ensures)
     c.loop-sheet.invariant c.in_ok-push.ensures.pushed
     (ap (λ (xs : List MadeSlot). record { paper = c.paper.result.now; slots = xs }) slots)
