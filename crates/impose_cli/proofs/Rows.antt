@@ -53,6 +53,7 @@ is_row_job r input t job is of = record {
   border = of.border;
   inset = of.inset;
   marks = of.marks;
+  mirrored = of.mirrored;
 }
 
 -- an accepted document is the whole of its text

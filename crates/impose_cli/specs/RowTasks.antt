@@ -34,7 +34,7 @@ use Rattle.row_runs.specs.declared.run.RowJob.{RowJob}
 use Rattle.impose_words.specs.Choices.{choice_in}
 use Rattle.row_sheets.specs.Posters.{why_no_poster}
 use Rattle.row_sheets.specs.declared.poster.Poster.{Poster}
-use Rattle.impose_words.specs.Spacings.{arrangement_in, binding_in, notes_in, zine_in}
+use Rattle.impose_words.specs.Spacings.{arrangement_in, binding_in, is_mirrored, notes_in, zine_in}
 use Rattle.impose_words.specs.declared.request.Spacing.{Spacing}
 use Rattle.impose_cli.specs.Claims.{IsToldBy}
 use Rattle.impose_cli.specs.Reaches.{reach_in, takes}
@@ -299,6 +299,7 @@ pub record IsJobOf (r : ImposeRequest) (t : RowTask) (job : RowJob) : Type 0 whe
   pub border : job.border ≡ r.border
   pub inset : job.inset ≡ r.spacing.free.trim
   pub marks : job.marks ≡ r.marks
+  pub mirrored : job.mirrored ≡ is_mirrored r.layout r.spacing
 
 abbrev pub ImposesTask : ImposeRequest → RowTask → (old new : Option (List ℕ)) → Report → Type 0
 ImposesTask r t old new report = (job : RowJob) × IsJobOf r t job × Imposes job old new report
@@ -317,6 +318,7 @@ pub record IsRowJob (r : ImposeRequest) (input : List ℕ) (page_paper : Paper) 
   pub border : job.border ≡ r.border
   pub inset : job.inset ≡ r.spacing.free.trim
   pub marks : job.marks ≡ r.marks
+  pub mirrored : job.mirrored ≡ is_mirrored r.layout r.spacing
 
 -- The request was carried out for this document: exactly the output was appended of the sheets on which its layout lays
 -- its row, with the lines by which they report their papers and the marks that it asks for.

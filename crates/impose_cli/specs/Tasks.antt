@@ -28,7 +28,7 @@ use Rattle.impose_words.specs.Choices.{is_whole}
 use Rattle.pagespec.specs.declared.item.Turn.{Turn}
 use Rattle.pagespec.specs.declared.item.Turn.TheVariants as turned
 use Rattle.sheet_text.specs.Jobs.{is_border}
-use Rattle.impose_words.specs.Spacings.{arrangement_in, binding_in}
+use Rattle.impose_words.specs.Spacings.{arrangement_in, binding_in, is_mirrored}
 use Rattle.impose_words.specs.declared.request.Spacing.{Spacing}
 use Rattle.impose_words.specs.declared.request.Layout.{Layout}
 use Rattle.impose_words.specs.declared.request.Layout.TheVariants as layout
@@ -91,10 +91,11 @@ is_unturned other = false
 abbrev pub is_unmarked : Marks → Bool
 is_unmarked m = not (m.fold || m.cut || m.ruled || is_some m.numbers)
 
--- beside the layout a specification says what is asked for: all pages, in their order, unturned, unmarked, and each in its own
--- scale (RULES, 16, step 8)
+-- beside the layout a specification says what is asked for: all pages, in their order, unturned, unmarked, each in its own
+-- scale, and backs as fronts (RULES, 16, step 8)
 abbrev pub is_said : ImposeRequest → Bool
 is_said r = is_whole r.choice && is_unturned r.turn && is_unmarked r.marks && not r.spacing.same_scale
+    && not (is_mirrored r.layout r.spacing)
 
 -- the task is what the request asks for with this document
 pub record IsTask (request : ImposeRequest) (input : List ℕ) (task : Task) : Type 0 where

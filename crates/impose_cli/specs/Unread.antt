@@ -21,7 +21,7 @@ use Rattle.impose_words.specs.declared.request.ImposeRequest.{ImposeRequest}
 use Rattle.layouts.specs.Grids.{count_of}
 use Rattle.layouts.specs.declared.arrangement.Free.{Free}
 use Rattle.impose_said.specs.declared.fault.IdleOption.{IdleOption}
-use Rattle.impose_said.specs.declared.fault.IdleOption.TheVariants.{Sheet, CutMarks}
+use Rattle.impose_said.specs.declared.fault.IdleOption.TheVariants.{Sheet, CutMarks, Inner, InnerMarks}
 use Rattle.impose_said.specs.declared.fault.ImposeFault.{ImposeFault}
 use Rattle.impose_said.specs.declared.fault.ImposeFault.TheVariants as fault
 
@@ -81,11 +81,19 @@ has_room margin gap = int_lt (pos 0) margin && int_le gap (margin +ℤ margin)
 abbrev pub has_margins : Free → Bool
 has_margins f = (has_room f.left f.across && has_room f.right f.across) && (has_room f.bottom f.up && has_room f.top f.up)
 
--- the first such option: a paper for sheets that keep their own, and marks outside of pages that have no room for them
--- (RULES, 16, step 4)
+-- what is laid so is bound, and has an inner edge there
+abbrev pub is_bound : Layout → Bool
+is_bound (layout.NUp cells) = true
+is_bound (layout.Booklet signing long_edge) = true
+is_bound other = false
+
+-- the first such option: a paper for sheets that keep their own; a margin at an edge that there isn't; marks that aren't where
+-- that margin is; and marks outside of pages that have no room for them (RULES, 16, step 4)
 abbrev pub idle_option : ImposeRequest → Option IdleOption
 idle_option r = if keeps_papers r.layout && is_some r.sheet_paper then Some Sheet
-    else (if r.marks.cut && (is_cut_outside r.layout && not (has_margins r.spacing.free)) then Some CutMarks else None)
+    else (if is_some r.spacing.inner && not (is_bound r.layout) then Some Inner
+    else (if r.marks.cut && is_some r.spacing.inner then Some InnerMarks
+    else (if r.marks.cut && (is_cut_outside r.layout && not (has_margins r.spacing.free)) then Some CutMarks else None)))
 
 -- ---- a file that is read and written
 

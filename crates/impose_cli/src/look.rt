@@ -77,6 +77,7 @@ fn task_text(
             laying: task.laying,
             same_scale: request.spacing.same_scale,
         },
+        mirrored: request.is_mirrored(),
         border: request.border,
         inset: request.spacing.free.trim,
         marks: request.marks,

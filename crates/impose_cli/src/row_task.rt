@@ -359,6 +359,7 @@ pub(crate) fn impose_task<R: Threads + Wait + Sync, W: World>(
             laying: task.laying,
             same_scale: request.spacing.same_scale,
         },
+        mirrored: request.is_mirrored(),
         border: request.border,
         inset: request.spacing.free.trim,
         marks: request.marks,

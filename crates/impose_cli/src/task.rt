@@ -97,7 +97,7 @@ fn check_spec(alloc: Global, specs: &str) -> Result<(), ImposeFault>
 }
 
 /// Whether a specification says what is asked for beside the layout: which pages there are, how they are turned, with which
-/// marks, and in which scale.
+/// marks, in which scale, and where on backs.
 fn is_said(request: &ImposeRequest) -> bool
     ensures { result ≡ says request.now }
 {
@@ -106,10 +106,11 @@ fn is_said(request: &ImposeRequest) -> bool
         && request.turn == Turn::None
         && !(marks.fold || marks.cut || marks.ruled || marks.numbers.is_some())
         && !request.spacing.same_scale
+        && !request.is_mirrored()
 }
 
 /// The specification that says what a request asks for, with what a run by it takes; and the fault if there is none: a
-/// document that is refused, then pages that are chosen or turned, marks, or one scale, then pages of other papers than the
+/// document that is refused, then pages that are chosen or turned, marks, one scale, or an inner edge, then pages of other papers than the
 /// specification would have, then a layout that there isn't, or that no specification says.
 pub fn task_for(
     alloc: Global,

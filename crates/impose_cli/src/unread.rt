@@ -60,13 +60,17 @@ fn is_one_file(one: Option<&str>, other: Option<&str>) -> bool
     }
 }
 
-/// The first option that would do nothing: a paper for sheets that keep their own, and marks outside of pages that have no
-/// room for them.
+/// The first option that would do nothing, or not what it says: a paper for sheets that keep their own; a margin at an edge
+/// that there isn't; marks that aren't where that margin is; and marks outside of pages that have no room for them.
 fn idle_option(request: &ImposeRequest) -> Option<IdleOption>
     ensures { result ≡ meaning.idle_option request.now }
 {
     if keeps_papers(&request.layout) && request.sheet_paper.is_some() {
         Some(IdleOption::Sheet)
+    } else if request.spacing.inner.is_some() && !is_bound(&request.layout) {
+        Some(IdleOption::Inner)
+    } else if request.marks.cut && request.spacing.inner.is_some() {
+        Some(IdleOption::InnerMarks)
     } else if request.marks.cut
         && (is_cut_outside(&request.layout) && !has_margins(&request.spacing.free))
     {
@@ -81,6 +85,13 @@ fn keeps_papers(layout: &Layout) -> bool
     ensures { result ≡ meaning.keeps_papers layout.now }
 {
     matches!(layout, Layout::Selection)
+}
+
+/// Whether what is laid so is bound, and has an inner edge there.
+fn is_bound(layout: &Layout) -> bool
+    ensures { result ≡ meaning.is_bound layout.now }
+{
+    matches!(layout, Layout::NUp(_) | Layout::Booklet { .. })
 }
 
 /// Whether sheets are cut outside their cells alone: they have one cell, or are folded between them.

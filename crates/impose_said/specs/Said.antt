@@ -28,6 +28,8 @@ use Rattle.impose_said.specs.declared.finished.Done.{Done}
 use Rattle.impose_said.specs.declared.finished.Done.TheVariants as done
 use Rattle.impose_words.specs.Choices.{is_whole}
 use Rattle.impose_words.specs.declared.request.ImposeRequest.{ImposeRequest}
+use Rattle.impose_words.specs.Spacings.{is_mirrored}
+use Rattle.impose_words.specs.declared.request.Spacing.{Spacing}
 use Rattle.impose_words.specs.declared.request.Layout.{Layout}
 use Rattle.impose_words.specs.declared.request.Layout.TheVariants as layout
 use Rattle.impose_said.specs.declared.finished.Finished.{Finished}
@@ -68,10 +70,10 @@ abbrev pub blanks_text : (blanks : ℕ) → List ℕ
 blanks_text blanks = if blanks == 0 then [] else codes ", blanks " ++ decimal blanks
 
 -- the sheets are sides of leaves of paper
-abbrev pub are_sides : Layout → Bool
-are_sides (layout.Booklet signing long_edge) = true
-are_sides (layout.Stack cells duplex) = duplex
-are_sides other = false
+abbrev pub are_sides : Layout → Spacing → Bool
+are_sides (layout.Booklet signing long_edge) s = true
+are_sides (layout.Stack cells duplex) s = duplex
+are_sides other s = is_mirrored other s
 
 -- so many of something: a text of its own for one, or else the number with these texts before and after it
 abbrev pub counted : (count : ℕ) → (one before behind : List ℕ) → List ℕ
@@ -83,7 +85,7 @@ leaves_text leaves = counted leaves (codes " (1 leaf)") (codes " (") (codes " le
 -- how many pages, sheets and bytes there are; after the pages the blanks, and after the sheets the leaves
 abbrev pub counts_text : Report → ImposeRequest → List ℕ
 counts_text report r = codes "pages " ++ (decimal report.pages ++ (blanks_text (blanks_of r report)
-    ++ (codes ", sheets " ++ (decimal report.sheets ++ ((if are_sides r.layout then leaves_text ((report.sheets + 1) / 2) else [])
+    ++ (codes ", sheets " ++ (decimal report.sheets ++ ((if are_sides r.layout r.spacing then leaves_text ((report.sheets + 1) / 2) else [])
     ++ (codes ", bytes " ++ decimal report.bytes))))))
 
 -- two papers are one

@@ -17,13 +17,17 @@ pub enum Packing {
     Zip,
 }
 
-/// An option that would do nothing.
+/// An option that would do nothing, or not what it says.
 #[derive(Clone, Copy)]
 pub enum IdleOption {
     /// The paper of the sheets, where each page is left on its own.
     Sheet,
     /// Marks where sheets are cut, where nothing is left free for them.
     CutMarks,
+    /// A margin at the inner edge, where sheets have none.
+    Inner,
+    /// Marks where sheets are cut, which are the same on fronts and backs, where margins aren't.
+    InnerMarks,
 }
 
 /// Why nothing, or not all, was imposed.

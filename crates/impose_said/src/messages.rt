@@ -59,7 +59,7 @@ pub fn fault_text(
 
 const NO_SPECIFICATION: &str =
     "--print-spec: no specification says a selection, a zine, cards, a stack, notes or a poster, nor --pages, --odd, --even, --reverse, \
-    --turn, --creep, --same-scale, --marks or --numbers; leave it out";
+    --turn, --creep, --margin inner, --same-scale, --marks or --numbers; leave it out";
 
 const SEVERAL_PAPERS: &str =
     "--print-spec: a specification has one paper, and not all pages have the document's: name one by --paper, or leave \
@@ -68,7 +68,7 @@ const SEVERAL_PAPERS: &str =
 const OVER_INPUT: &str =
     ", which is read: name another file, as sheets.svg, or - for standard output";
 
-/// What is said of an option that would do nothing.
+/// What is said of an option that would do nothing, or not what it says.
 fn idle_message(option: IdleOption) -> &'static str {
     match option {
         IdleOption::Sheet => {
@@ -77,6 +77,10 @@ fn idle_message(option: IdleOption) -> &'static str {
         }
         IdleOption::CutMarks =>
             "--marks cut draws nothing without room outside the pages: give a --margin of half the --gap at least, as --margin 5mm",
+        IdleOption::Inner =>
+            "only nup and booklet have an inner edge: name left, right, top or bottom in its place, as --margin left=2cm",
+        IdleOption::InnerMarks =>
+            "--marks cut is drawn where margins are the same on fronts and backs: leave it out, or name left or right in place of inner",
     }
 }
 

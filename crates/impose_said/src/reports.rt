@@ -71,7 +71,7 @@ fn counts_text(
     let sheets = report.sheets;
     let bytes = report.bytes;
     let blanks = blanks_text(alloc, blanks_of(request, report))?;
-    let leaves = leaves_text(alloc, &request.layout, sheets)?;
+    let leaves = leaves_text(alloc, request, sheets)?;
     format!(in alloc; "pages {pages}{blanks}, sheets {sheets}{leaves}, bytes {bytes}")
 }
 
@@ -109,11 +109,11 @@ fn blanks_text(alloc: Global, blanks: u128) -> Result<String, AllocError>
 }
 
 /// How many leaves of paper it takes, where sheets are printed on both sides.
-fn leaves_text(alloc: Global, layout: &Layout, sheets: u32) -> Result<String, AllocError>
-    ensures { IfOk result (λ text. string_bytes text
-        ≡ (if are_sides_of layout.now then text_of_leaves ((sheets + 1) / 2) else [])) }
+fn leaves_text(alloc: Global, request: &ImposeRequest, sheets: u32) -> Result<String, AllocError>
+    ensures { IfOk result (λ text. string_bytes text ≡ (if are_sides_of request.now.layout request.now.spacing
+        then text_of_leaves ((sheets + 1) / 2) else [])) }
 {
-    if !are_sides(layout) {
+    if !are_sides(request) {
         return Ok(String::new(alloc));
     }
     let leaves = (u64::from(sheets) + 1) / 2;
@@ -137,13 +137,13 @@ fn counted_text(
 }
 
 /// Whether sheets are the sides of leaves.
-fn are_sides(layout: &Layout) -> bool
-    ensures { result ≡ are_sides_of layout.now }
+fn are_sides(request: &ImposeRequest) -> bool
+    ensures { result ≡ are_sides_of request.now.layout request.now.spacing }
 {
-    match layout {
+    match &request.layout {
         Layout::Booklet { .. } => true,
         Layout::Stack { duplex, .. } => *duplex,
-        _ => false,
+        _ => request.is_mirrored(),
     }
 }
 

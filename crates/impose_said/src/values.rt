@@ -45,7 +45,7 @@ fn refusal(option: Opt) -> (&'static str, &'static str) {
         Opt::Border => ("bad length", "give it as 1pt, .5mm or .02in"),
         Opt::Margin => (
             "bad length",
-            "give it as 5mm, SIDES,ENDS, TOP,RIGHT,BOTTOM,LEFT, or left=2cm,top=1cm",
+            "give it as 5mm, SIDES,ENDS, TOP,RIGHT,BOTTOM,LEFT, left=2cm,top=1cm or inner=2cm",
         ),
         Opt::Gap => ("bad length", "give it as 5mm, or 5mm,1cm"),
         Opt::Numbers => ("bad length", "give it as 10pt or 4mm, up to 72pt"),

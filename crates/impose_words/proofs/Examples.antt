@@ -12,7 +12,7 @@ use Rattle.layouts.specs.declared.arrangement.Turned.TheVariants.{Upright, Left,
 use Rattle.rows.specs.declared.choices.Part.TheVariants.{All, Odd, Even}
 use Rattle.rows.specs.declared.sewing.Signing.TheVariants.{OfSides, Auto}
 use Rattle.papers.specs.Names.{papers}
-use Rattle.impose_words.specs.Edges.{gaps_named, margins_named}
+use Rattle.impose_words.specs.Edges.{gaps_named, margins_in, margins_named}
 use Rattle.impose_words.specs.Signatures.{signing_named}
 use Rattle.impose_words.specs.Sizes.{border_with_unit, length_with_unit, number_alone, size_named}
 use Rattle.impose_words.specs.Arranging.{booklet_marks_named, cells_named, cut_marks_named, noted_alone, number_size_named, run_named, turned_named}
@@ -45,27 +45,31 @@ borders = refl
 
 -- What is kept free: one length, several, or edges by their names.
 
-one_margin : margins_named (codes "1in") ≡ Some (record nothing_free { left = pos 9_144_000_000_000; right = pos 9_144_000_000_000; bottom = pos 9_144_000_000_000; top = pos 9_144_000_000_000 })
+one_margin : margins_named (codes "1in") ≡ Some (margins_in (record nothing_free { left = pos 9_144_000_000_000; right = pos 9_144_000_000_000; bottom = pos 9_144_000_000_000; top = pos 9_144_000_000_000 }))
 unfolding number_at
 one_margin = refl
 
-two_margins : margins_named (codes "1in,2in") ≡ Some (record nothing_free { left = pos 9_144_000_000_000; right = pos 9_144_000_000_000; bottom = pos 18_288_000_000_000; top = pos 18_288_000_000_000 })
+two_margins : margins_named (codes "1in,2in") ≡ Some (margins_in (record nothing_free { left = pos 9_144_000_000_000; right = pos 9_144_000_000_000; bottom = pos 18_288_000_000_000; top = pos 18_288_000_000_000 }))
 unfolding number_at
 two_margins = refl
 
-four_margins : margins_named (codes "1in,2in,3in,0") ≡ Some (record nothing_free { left = pos 0; right = pos 18_288_000_000_000; bottom = pos 27_432_000_000_000; top = pos 9_144_000_000_000 })
+four_margins : margins_named (codes "1in,2in,3in,0") ≡ Some (margins_in (record nothing_free { left = pos 0; right = pos 18_288_000_000_000; bottom = pos 27_432_000_000_000; top = pos 9_144_000_000_000 }))
 unfolding number_at
 four_margins = refl
 
-some_edges : margins_named (codes "left=1in,top=2in") ≡ Some (record nothing_free { left = pos 9_144_000_000_000; right = pos 0; bottom = pos 0; top = pos 18_288_000_000_000 })
+some_edges : margins_named (codes "left=1in,top=2in") ≡ Some (margins_in (record nothing_free { left = pos 9_144_000_000_000; right = pos 0; bottom = pos 0; top = pos 18_288_000_000_000 }))
 unfolding number_at
 some_edges = refl
 
-all_edges : margins_named (codes "bottom=1in,left=0,right=2in,top=3in") ≡ Some (record nothing_free { left = pos 0; right = pos 18_288_000_000_000; bottom = pos 9_144_000_000_000; top = pos 27_432_000_000_000 })
+all_edges : margins_named (codes "bottom=1in,left=0,right=2in,top=3in") ≡ Some (margins_in (record nothing_free { left = pos 0; right = pos 18_288_000_000_000; bottom = pos 9_144_000_000_000; top = pos 27_432_000_000_000 }))
 unfolding number_at
 all_edges = refl
 
-no_margin : map margins_named (codes "1" ∷ codes "1in," ∷ codes "1in,2in,3in" ∷ codes "1in,2in,3in,4in,5in" ∷ codes "left=1" ∷ codes "middle=1in" ∷ codes "left=1in,2in" ∷ []) ≡ None ∷ None ∷ None ∷ None ∷ None ∷ None ∷ None ∷ []
+inner_edge : margins_named (codes "inner=1in,right=2in") ≡ Some (record (margins_in (record nothing_free { right = pos 18_288_000_000_000 })) { inner = Some (pos 9_144_000_000_000) })
+unfolding number_at
+inner_edge = refl
+
+no_margin : map margins_named (codes "1" ∷ codes "1in," ∷ codes "1in,2in,3in" ∷ codes "1in,2in,3in,4in,5in" ∷ codes "left=1" ∷ codes "middle=1in" ∷ codes "left=1in,2in" ∷ codes "inner=1" ∷ []) ≡ None ∷ None ∷ None ∷ None ∷ None ∷ None ∷ None ∷ None ∷ []
 unfolding number_at
 no_margin = refl
 

@@ -14,6 +14,7 @@ use Rattle.impose_words.specs.Words.{first_found, has_numbers, lines_found, numb
 use Rattle.impose_words.specs.Words.{gaps_found, length_found, margins_found, marks_found, order_by, order_found, run_found, scale_found, turned_found}
 use Rattle.layouts.specs.declared.arrangement.Free.{Free}
 use Rattle.impose_words.specs.Edges.{spaced}
+use Rattle.impose_words.specs.declared.edges.Margins.{Margins}
 use Rattle.impose_words.specs.declared.request.Layout.{Layout}
 use Rattle.impose_words.specs.declared.request.Layout.TheVariants as layout
 use Rattle.impose_words.specs.declared.request.PageChoice.{PageChoice}
@@ -126,7 +127,7 @@ pub order_right : (found : List Row) (order : Order) → order_found found ≡ S
 order_right found order e = order_parts (run_found found) (has_flag (codes "rtl") found) (turned_found found) order _ _ e
 
 -- so has what is kept free
-free_parts : (margins gaps : Option Free) (trim : Option ℤ) (free : Free) (w v u : Wrong) {e : Option Wrong} → spaced margins gaps trim ≡ Some free → e ≡ None
+free_parts : (margins : Option Margins) (gaps : Option Free) (trim : Option ℤ) (free : Free) (w v u : Wrong) {e : Option Wrong} → spaced margins gaps trim ≡ Some free → e ≡ None
     → (if is_some margins then (if is_some gaps then (if is_some trim then e else Some w) else Some v) else Some u) ≡ None
 free_parts None gaps trim free w v u s h = cc
 free_parts (Some margins) None trim free w v u s h = cc
@@ -140,7 +141,7 @@ spacing_right true found s k =
     (next (order_right found s.order k.3) (past _ k.4 refl))
 
 -- the scale alone is wrong
-pub scale_wrong : (keeps : Bool) (found : List Row) (margins gaps : Free) (trim creep overlap : ℤ) (order : Order) → true ≡ keeps
+pub scale_wrong : (keeps : Bool) (found : List Row) (margins : Margins) (gaps : Free) (trim creep overlap : ℤ) (order : Order) → true ≡ keeps
     → margins_found found ≡ Some margins → gaps_found found ≡ Some gaps → length_found opt.Trim found ≡ Some trim
     → length_found opt.Creep found ≡ Some creep → length_found opt.Overlap found ≡ Some overlap → order_found found ≡ Some order → scale_found found ≡ None
     → wrong_spacing keeps found ≡ Some (NoValue opt.Scale)

@@ -1,10 +1,11 @@
 -- What is kept free along the edges of a sheet, and between its cells, as people write it.
-use Rattle.std.specs.Prelude.{ℕ, ℤ, ◌==◌, nat_lt, if◌then◌else◌, is_some, List, length, Option, Some, None, codes}
+use Rattle.std.specs.Prelude.{ℕ, ℤ, ◌==◌, nat_lt, if◌then◌else◌, is_some, List, length, Option, Some, None, codes, option_map}
 use Rattle.std.specs.List.{after_first, before_first, position_or_len}
 use Rattle.std.specs.Str.{bytes_eq}
 use Rattle.layouts.specs.Grids.{nothing_free}
 use Rattle.layouts.specs.declared.arrangement.Free.{Free}
 use Rattle.impose_words.specs.Sizes.{length_with_unit}
+use Rattle.impose_words.specs.declared.edges.Margins.{Margins}
 
 -- the text before the first such byte, and the text after it, if there is one
 abbrev pub cut_at : (byte : ℕ) → List ℕ → Option (List ℕ × List ℕ)
@@ -54,43 +55,52 @@ lengths_by (Some (one, rest)) text = of_more (length_with_unit one) (cut_at comm
 
 -- ---- or edges by their names, of which the others have no margin
 
-abbrev pub with_edge : Free → (name : List ℕ) → Option ℤ → Option Free
-with_edge f name None = None
-with_edge f name (Some margin) =
+abbrev pub with_edge : Free → (name : List ℕ) → (margin : ℤ) → Option Free
+with_edge f name margin =
     if bytes_eq name (codes "left") then Some (record f { left = margin })
     else (if bytes_eq name (codes "right") then Some (record f { right = margin })
     else (if bytes_eq name (codes "top") then Some (record f { top = margin })
     else (if bytes_eq name (codes "bottom") then Some (record f { bottom = margin }) else None)))
 
-abbrev pub named_by : Option Free → Option (List ℕ × List ℕ) → Option Free
+-- and the inner edge, which is another one on fronts than on backs
+abbrev pub with_margin : Margins → (name : List ℕ) → Option ℤ → Option Margins
+with_margin m name None = None
+with_margin m name (Some margin) = if bytes_eq name (codes "inner") then Some (record m { inner = Some margin })
+    else option_map (λ f. record m { free = f }) (with_edge m.free name margin)
+
+abbrev pub named_by : Option Margins → Option (List ℕ × List ℕ) → Option Margins
 named_by None part = None
-named_by (Some f) None = None
-named_by (Some f) (Some (name, text)) = with_edge f name (length_with_unit text)
+named_by (Some m) None = None
+named_by (Some m) (Some (name, text)) = with_margin m name (length_with_unit text)
 
 -- the name and the length of an edge, with an equals sign between them
-abbrev pub edge_in : Option Free → List ℕ → Option Free
-edge_in f text = named_by f (cut_at equals text)
+abbrev pub edge_in : Option Margins → List ℕ → Option Margins
+edge_in m text = named_by m (cut_at equals text)
 
 -- up to four of them, with commas between them
-abbrev pub last_edges : Option Free → Option (List ℕ × List ℕ) → List ℕ → Option Free
-last_edges f None text = edge_in f text
-last_edges f (Some (part, rest)) text = edge_in (edge_in f part) rest
+abbrev pub last_edges : Option Margins → Option (List ℕ × List ℕ) → List ℕ → Option Margins
+last_edges m None text = edge_in m text
+last_edges m (Some (part, rest)) text = edge_in (edge_in m part) rest
 
-abbrev pub more_edges : Option Free → Option (List ℕ × List ℕ) → List ℕ → Option Free
-more_edges f None text = edge_in f text
-more_edges f (Some (part, rest)) text = last_edges (edge_in f part) (cut_at comma rest) rest
+abbrev pub more_edges : Option Margins → Option (List ℕ × List ℕ) → List ℕ → Option Margins
+more_edges m None text = edge_in m text
+more_edges m (Some (part, rest)) text = last_edges (edge_in m part) (cut_at comma rest) rest
 
-abbrev pub edges_by : Option (List ℕ × List ℕ) → List ℕ → Option Free
-edges_by None text = edge_in (Some nothing_free) text
-edges_by (Some (part, rest)) text = more_edges (edge_in (Some nothing_free) part) (cut_at comma rest) rest
+-- no edge is the inner one
+abbrev pub margins_in : Free → Margins
+margins_in f = record { free = f; inner = None }
+
+abbrev pub edges_by : Option (List ℕ × List ℕ) → List ℕ → Option Margins
+edges_by None text = edge_in (Some (margins_in nothing_free)) text
+edges_by (Some (part, rest)) text = more_edges (edge_in (Some (margins_in nothing_free)) part) (cut_at comma rest) rest
 
 -- RULES, 13.1
-abbrev pub margins_named : List ℕ → Option Free
-margins_named text =
-    if is_some (cut_at equals text) then edges_by (cut_at comma text) text else lengths_by (cut_at comma text) text
+abbrev pub margins_named : List ℕ → Option Margins
+margins_named text = if is_some (cut_at equals text) then edges_by (cut_at comma text) text
+    else option_map margins_in (lengths_by (cut_at comma text) text)
 
 -- ---- all that is kept free
 
-abbrev pub spaced : (margins gaps : Option Free) → (trim : Option ℤ) → Option Free
-spaced (Some margins) (Some gaps) (Some trim) = Some (record margins { across = gaps.across; up = gaps.up; trim = trim })
+abbrev pub spaced : Option Margins → (gaps : Option Free) → (trim : Option ℤ) → Option Free
+spaced (Some m) (Some gaps) (Some trim) = Some (record m.free { across = gaps.across; up = gaps.up; trim = trim })
 spaced margins gaps trim = None

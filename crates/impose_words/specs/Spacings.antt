@@ -1,11 +1,13 @@
 -- What is kept free on the sheets of a request, how far leaves creep and sheets overlap, in which order one reads sheets, and
 -- at which scale the pages are.
-use Rattle.std.specs.Prelude.{ℕ, ℤ, pos, int_lt, Bool, true, false, if◌then◌else◌, None}
+use Rattle.std.specs.Prelude.{ℕ, ℤ, pos, negsuc, ◌+ℤ◌, int_lt, Bool, true, false, ◌&&◌, if◌then◌else◌, is_some, Option, Some, None, unwrap_or}
 use Rattle.layouts.specs.Grids.{leaf_order, nothing_free, plain, plain_order}
+use Rattle.layouts.specs.Refusals.{is_length}
 use Rattle.layouts.specs.declared.arrangement.Arrangement.{Arrangement}
 use Rattle.layouts.specs.declared.arrangement.Binding.{Binding}
 use Rattle.layouts.specs.declared.arrangement.Cells.{Cells}
 use Rattle.layouts.specs.declared.arrangement.Cells.TheVariants.{Exactly}
+use Rattle.layouts.specs.declared.arrangement.Free.{Free}
 use Rattle.layouts.specs.declared.arrangement.Order.{Order}
 use Rattle.layouts.specs.declared.arrangement.Run.TheVariants.{Columns}
 use Rattle.layouts.specs.declared.arrangement.Turned.TheVariants.{Upright}
@@ -31,6 +33,7 @@ abbrev pub nothing_kept : Spacing
 nothing_kept =
     record {
       free = nothing_free;
+      inner = None;
       creep = pos 0;
       overlap = pos 0;
       order = plain_order;
@@ -38,9 +41,18 @@ nothing_kept =
       same_scale = false;
     }
 
+-- the inner edge of a sheet is its left one, as sheets lie that are fronts (RULES, 13.1)
+abbrev pub on_fronts : Spacing → Free
+on_fronts s = record s.free { left = unwrap_or s.inner s.free.left }
+
+-- and on backs it is the right one: left and right margins are exchanged. Booklets alone have another inner edge
+abbrev pub is_mirrored : Layout → Spacing → Bool
+is_mirrored (layout.NUp cells) s = is_some s.inner
+is_mirrored other s = false
+
 -- these cells
 abbrev pub arrangement_in : Spacing → Cells → Arrangement
-arrangement_in s cells = record { cells = cells; free = s.free; order = s.order; scale = s.scale }
+arrangement_in s cells = record { cells = cells; free = on_fronts s; order = s.order; scale = s.scale }
 
 -- from the top down, and then in the next column
 abbrev pub down_right : Order
@@ -62,6 +74,16 @@ zine_in s = record (plain (Exactly 4 2)) {
   order = leaf_order s.order.right_to_left;
 }
 
--- the halves of a sheet (RULES, 14.1)
+-- the inner edge of each half is at the fold, so the gap there has that margin on both sides; what is no length gives none
+-- (RULES, 14.1)
+abbrev pub fold_gap : (gap inner : ℤ) → ℤ
+fold_gap gap inner = if is_length gap && is_length inner then gap +ℤ (inner +ℤ inner) else negsuc 0
+
+abbrev pub at_fold : (inner : Option ℤ) → Free → Free
+at_fold None f = f
+at_fold (Some inner) f = record f { up = fold_gap f.up inner }
+
+-- the halves of a sheet
 abbrev pub binding_in : Spacing → (long_edge : Bool) → Binding
-binding_in s long_edge = record { free = s.free; right_to_left = s.order.right_to_left; long_edge = long_edge }
+binding_in s long_edge =
+    record { free = at_fold s.inner s.free; right_to_left = s.order.right_to_left; long_edge = long_edge }

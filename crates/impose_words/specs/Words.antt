@@ -26,7 +26,8 @@ use Rattle.impose_words.specs.Arranging.{number_size_named, numbering, run_named
 use Rattle.impose_words.specs.Choices.{is_whole}
 use Rattle.layouts.specs.Grids.{nothing_free}
 use Rattle.layouts.specs.declared.arrangement.Free.{Free}
-use Rattle.impose_words.specs.Edges.{gaps_named, margins_named, spaced}
+use Rattle.impose_words.specs.Edges.{gaps_named, margins_in, margins_named, spaced}
+use Rattle.impose_words.specs.declared.edges.Margins.{Margins}
 use Rattle.impose_words.specs.declared.request.PageChoice.{PageChoice}
 use Rattle.impose_words.specs.Command.{impose}
 use Rattle.impose_words.specs.Signatures.{signing_named}
@@ -96,8 +97,8 @@ abbrev pub length_found : Opt → (found : List Row) → Option ℤ
 length_found option found = asked (pos 0) length_with_unit (given option found)
 
 -- what is kept free along edges, and between cells
-abbrev pub margins_found : (found : List Row) → Option Free
-margins_found found = asked nothing_free margins_named (given opt.Margin found)
+abbrev pub margins_found : (found : List Row) → Option Margins
+margins_found found = asked (margins_in nothing_free) margins_named (given opt.Margin found)
 
 abbrev pub gaps_found : (found : List Row) → Option Free
 gaps_found found = asked nothing_free gaps_named (given opt.Gap found)
@@ -275,6 +276,7 @@ SpacesBy false found s = s ≡ nothing_kept
 SpacesBy true found s = (free_found found ≡ Some s.free) × (length_found opt.Creep found ≡ Some s.creep)
     × (length_found opt.Overlap found ≡ Some s.overlap) × (order_found found ≡ Some s.order) × (scale_found found ≡ Some s.scale)
     × (has_flag (codes "same-scale") found ≡ s.same_scale)
+    × (option_map (λ m. m.inner) (margins_found found) ≡ Some s.inner)
 
 -- this is made by what was found; by a layout that doesn't lay rows no plan and no picture is
 pub record MakesBy (rows : Bool) (found : List Row) (p : Product) : Type 0 where

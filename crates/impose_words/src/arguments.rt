@@ -239,7 +239,7 @@ const SAME_SCALE: Argument = Argument::Flag(
 const MARGIN: Argument = Argument::Valued(
     "margin",
     "LENGTHS",
-    "Keep so much free along the edges of a sheet: 5mm, SIDES,ENDS, TOP,RIGHT,BOTTOM,LEFT, or left=2cm",
+    "Keep so much free along the edges of a sheet: 5mm, SIDES,ENDS, TOP,RIGHT,BOTTOM,LEFT, left=2cm, or inner=2cm where leaves are bound",
 );
 
 const TRIM: Argument = Argument::Valued(

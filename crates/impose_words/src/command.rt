@@ -21,7 +21,7 @@ use crate::arranging::{
     NO_MARKS, booklet_marks_named, cells_named, cut_marks_named, exact_cells, noted_cells,
     number_size_named, run_named, turn_named, turned_named,
 };
-use crate::edges::{gaps_named, margins_named};
+use crate::edges::{Margins, gaps_named, margins_named};
 use crate::fault::{GridCommand, Opt, ProductOption, RequestFault};
 use crate::request::{ImposeRequest, Layout, PageChoice, Product, Spacing};
 use crate::signature::{number_in, signing_named};
@@ -403,8 +403,9 @@ fn spacing_of(layout: &Layout, found: &ArgMatches<'_>) -> Result<Spacing, Opt>
             across: gaps.across,
             up: gaps.up,
             trim,
-            ..margins
+            ..margins.free
         },
+        inner: margins.inner,
         creep,
         overlap,
         order,
@@ -414,11 +415,11 @@ fn spacing_of(layout: &Layout, found: &ArgMatches<'_>) -> Result<Spacing, Opt>
 }
 
 /// What is kept free along the edges of a sheet; nothing if `--margin` isn't there.
-fn margins_of(found: &ArgMatches<'_>) -> Option<Free>
+fn margins_of(found: &ArgMatches<'_>) -> Option<Margins>
     ensures { result ≡ margins_found (rows_of (found_of found.now)) }
 {
     match text_of(found, Opt::Margin.id()) {
-        None => Some(Free::none()),
+        None => Some(Margins::of(Free::none())),
         Some(text) => margins_named(text),
     }
 }

@@ -7,6 +7,23 @@ use crate::sizes::length_with_unit;
 use layouts::Free;
 use lengths::Grains;
 
+/// What is kept free along the edges of a sheet.
+#[derive(Clone, Copy)]
+pub struct Margins {
+    pub free: Free,
+    /// Along the edge at which leaves are bound, if it is named.
+    pub inner: Option<Grains>,
+}
+
+impl Margins {
+    /// So much, and no edge is the inner one.
+    pub fn of(free: Free) -> Margins
+        ensures { result ≡ meaning.margins_in free }
+    {
+        Margins { free, inner: None }
+    }
+}
+
 /// The gaps that the text means: one length, or two with a comma between them.
 pub fn gaps_named(text: &str) -> Option<Free>
     ensures { result ≡ meaning.gaps_named text.now }
@@ -30,13 +47,13 @@ fn gaps_of(across: &str, up: &str) -> Option<Free>
 
 /// The margins that the text means: one length; two, for the edges on both sides, and for the upper and the lower one; four,
 /// clockwise from the upper edge; or up to four edges by their names.
-pub fn margins_named(text: &str) -> Option<Free>
+pub fn margins_named(text: &str) -> Option<Margins>
     ensures { result ≡ meaning.margins_named text.now }
 {
     if cut_at(text, '=').is_some() {
         edges_named(text)
     } else {
-        lengths_named(text)
+        Some(Margins::of(lengths_named(text)?))
     }
 }
 
@@ -84,10 +101,10 @@ fn margins_of(top: &str, right: &str, bottom: &str, left: &str) -> Option<Free>
 }
 
 /// Up to four edges by their names.
-fn edges_named(text: &str) -> Option<Free>
+fn edges_named(text: &str) -> Option<Margins>
     ensures { result ≡ meaning.edges_by (meaning.cut_at 44 text.now) text.now }
 {
-    let none = Some(Free::none());
+    let none = Some(Margins::of(Free::none()));
     match cut_at(text, ',') {
         None => edge_in(none, text),
         Some((part, rest)) => more_edges(edge_in(none, part), rest),
@@ -95,38 +112,52 @@ fn edges_named(text: &str) -> Option<Free>
 }
 
 /// Up to three edges after the first one.
-fn more_edges(free: Option<Free>, text: &str) -> Option<Free>
-    ensures { result ≡ meaning.more_edges free (meaning.cut_at 44 text.now) text.now }
+fn more_edges(margins: Option<Margins>, text: &str) -> Option<Margins>
+    ensures { result ≡ meaning.more_edges margins (meaning.cut_at 44 text.now) text.now }
 {
     match cut_at(text, ',') {
-        None => edge_in(free, text),
-        Some((part, rest)) => last_edges(edge_in(free, part), rest),
+        None => edge_in(margins, text),
+        Some((part, rest)) => last_edges(edge_in(margins, part), rest),
     }
 }
 
 /// The last two of them.
-fn last_edges(free: Option<Free>, text: &str) -> Option<Free>
-    ensures { result ≡ meaning.last_edges free (meaning.cut_at 44 text.now) text.now }
+fn last_edges(margins: Option<Margins>, text: &str) -> Option<Margins>
+    ensures { result ≡ meaning.last_edges margins (meaning.cut_at 44 text.now) text.now }
 {
     match cut_at(text, ',') {
-        None => edge_in(free, text),
-        Some((part, rest)) => edge_in(edge_in(free, part), rest),
+        None => edge_in(margins, text),
+        Some((part, rest)) => edge_in(edge_in(margins, part), rest),
     }
 }
 
 /// One edge, by its name and its length.
-fn edge_in(free: Option<Free>, text: &str) -> Option<Free>
-    ensures { result ≡ meaning.edge_in free text.now }
+fn edge_in(margins: Option<Margins>, text: &str) -> Option<Margins>
+    ensures { result ≡ meaning.edge_in margins text.now }
 {
-    let free = free?;
+    let margins = margins?;
     let (name, text) = cut_at(text, '=')?;
     let margin = length_with_unit(text)?;
-    with_edge(free, name, margin)
+    with_margin(margins, name, margin)
 }
 
-/// The margin of the edge with this name.
+/// The margin of the edge with this name, which may be the inner one.
+fn with_margin(margins: Margins, name: &str, margin: Grains) -> Option<Margins>
+    ensures { result ≡ meaning.with_margin margins name.now (Some margin) }
+{
+    if name == "inner" {
+        return Some(Margins {
+            inner: Some(margin),
+            ..margins
+        });
+    }
+    let free = with_edge(margins.free, name, margin)?;
+    Some(Margins { free, ..margins })
+}
+
+/// The margin of the edge with this name, of a sheet as it lies.
 fn with_edge(free: Free, name: &str, margin: Grains) -> Option<Free>
-    ensures { result ≡ meaning.with_edge free name.now (Some margin) }
+    ensures { result ≡ meaning.with_edge free name.now margin }
 {
     let (left, right, top, bottom) = (margin, margin, margin, margin);
     if name == "left" {

@@ -4,6 +4,9 @@ ghost use Rattle.rows.specs.Choices.{choice_of};
 ghost use Rattle.impose_words.specs.Choices.{choice_in, is_whole};
 ghost use Rattle.impose_words.specs.Products.{lays_rows};
 ghost use Rattle.impose_words.specs.Spacings.{arrangement_in, binding_in, keeps_room, notes_in, nothing_kept, some_gap as some_gap_of, zine_in};
+ghost use Rattle.impose_words.specs.Spacings.{at_fold as free_at_fold, fold_gap as gap_at_fold, on_fronts as free_on_fronts, is_mirrored};
+ghost use Rattle.layouts.specs.Refusals.{is_length as may_be_length};
+ghost use Rattle.lengths.specs.Ranges.{FitsGrains};
 ghost use Rattle.impose_words.specs.Words.{has_numbers};
 
 use dressing::Marks;
@@ -93,6 +96,9 @@ impl Layout {
 #[derive(Clone, Copy)]
 pub struct Spacing {
     pub free: Free,
+    /// Along the edge at which leaves are bound: on sheets with cells it is the left one of fronts and the right one of
+    /// backs, in a booklet the fold.
+    pub inner: Option<Grains>,
     /// Pages of a booklet's innermost leaves are moved towards the fold by this.
     pub creep: Grains,
     /// Neighbouring sheets of a poster overlap by this.
@@ -114,6 +120,7 @@ impl Spacing {
         let free = plain.free;
         Spacing {
             free,
+            inner: None,
             creep: free.trim,
             overlap: free.trim,
             order: plain.order,
@@ -122,15 +129,24 @@ impl Spacing {
         }
     }
 
-    /// These cells, with this kept free, in this order and at this scale.
+    /// These cells, with this kept free on fronts, in this order and at this scale.
     pub fn arrangement(&self, cells: Cells) -> Arrangement
         ensures { result ≡ arrangement_in self.now cells }
     {
         Arrangement {
             cells,
-            free: self.free,
+            free: self.on_fronts(),
             order: self.order,
             scale: self.scale,
+        }
+    }
+
+    fn on_fronts(&self) -> Free
+        ensures { result ≡ free_on_fronts self.now }
+    {
+        Free {
+            left: self.inner.unwrap_or(self.free.left),
+            ..self.free
         }
     }
 
@@ -185,10 +201,53 @@ impl Spacing {
         ensures { result ≡ binding_in self.now long_edge }
     {
         Binding {
-            free: self.free,
+            free: at_fold(self.inner, self.free),
             right_to_left: self.order.right_to_left,
             long_edge,
         }
+    }
+}
+
+/// What is kept free on leaves: the inner margin on both sides of the fold, if there is one.
+fn at_fold(inner: Option<Grains>, free: Free) -> Free
+    ensures { result ≡ free_at_fold inner free }
+{
+    match inner {
+        None => free,
+        Some(inner) => Free {
+            up: fold_gap(free.up, inner),
+            ..free
+        },
+    }
+}
+
+/// A gap with so much on both sides of it. What is no length gives one below 0, which is none either.
+fn fold_gap(gap: Grains, inner: Grains) -> Grains
+    ensures { result ≡ gap_at_fold gap inner }
+{
+    if is_length(gap) && is_length(inner) {
+        grains(gap.get() + inner.get() + inner.get())
+    } else {
+        grains(-1)
+    }
+}
+
+/// Whether it is a length that layouts keep free.
+fn is_length(length: Grains) -> bool
+    ensures { result ≡ may_be_length length }
+{
+    let grains = length.get();
+    0 <= grains && grains < 12_700_000_000_000_000
+}
+
+/// So many grains.
+fn grains(count: i128) -> Grains
+    requires { FitsGrains count }
+    ensures { result ≡ count }
+{
+    match Grains::new(count) {
+        Some(length) => length,
+        None => unreachable!(),
     }
 }
 
@@ -199,10 +258,7 @@ fn some_gap(gap: Grains) -> Grains
     if 0 < gap.get() {
         return gap;
     }
-    match Grains::new(1) {
-        Some(least) => least,
-        None => unreachable!(),
-    }
+    grains(1)
 }
 
 /// Which pages are imposed, and in which order.
@@ -299,4 +355,16 @@ pub struct ImposeRequest {
     pub infile: Option<String>,
     /// The file into which sheets are written; standard output if there is none.
     pub outfile: Option<String>,
+}
+
+impl ImposeRequest {
+    /// Whether left and right margins are exchanged on every second sheet.
+    pub fn is_mirrored(&self) -> bool
+        ensures { result ≡ is_mirrored self.now.layout self.now.spacing }
+    {
+        match &self.layout {
+            Layout::NUp(_) => self.spacing.inner.is_some(),
+            _ => false,
+        }
+    }
 }

@@ -1,11 +1,15 @@
 -- Worked examples: the marks and the lines of layings, how many leaves a signature has, and how many pages a document.
 use Rattle.std.proofs.Common.{◌≡◌, [], ◌∷◌, false, true, map, refl}
-use Rattle.std.specs.Prelude.{codes, List, None, Some}
+use Rattle.std.specs.Prelude.{codes, pos, ℤ, List, None, Some}
 use Rattle.std.specs.Fmt.{digits}
 use Rattle.rules.specs.Papers.{Paper, points}
+use Rattle.rules.specs.Specification.{Upright}
 use Rattle.made_sheets.specs.Rows.{Row, all_pages}
+use Rattle.made_sheets.specs.Made.{MadeSlot, Blank, Placed, MadeSheet}
 use Rattle.made_sheets.specs.Choice.{InOne, OfSides}
+use Rattle.layouts.specs.Cells.{in_points}
 use Rattle.layouts.specs.Grids.{plain_order}
+use Rattle.layouts.specs.Placed.{Room}
 use Rattle.layouts.specs.declared.setting.Setting.{Setting}
 use Rattle.row_sheets.specs.SameScale.{at_one_scale}
 use Rattle.row_sheets.specs.Shapes.{filling}
@@ -19,6 +23,7 @@ use Rattle.row_runs.specs.declared.asked.Scheme.TheVariants as scheme
 use Rattle.row_runs.specs.Evened.{evened_if}
 use Rattle.row_runs.specs.Guides.{guides_in}
 use Rattle.row_runs.specs.Marked.{strokes_in}
+use Rattle.row_runs.specs.Mirrored.{mirrored}
 use Rattle.row_runs.specs.Sheets.{leaves_in}
 use Rattle.row_runs.specs.ToldPages.{told_pages}
 
@@ -73,6 +78,26 @@ leaves_are_cut = refl
 cards_have_one : (papers : List Paper) (row : Row) → evened_if true (laying.InCells halves (scheme.Cards 2)) papers row
     ≡ laying.InCells (at_one_scale (filling halves papers) row) (scheme.Cards 2)
 cards_have_one papers row = refl
+
+-- with 20 points at the inner edge and 10 at the outer one a page that begins 20 points from the left of fronts begins 10 from
+-- the left of backs
+abbrev bound : Room
+bound = record halves.room { left = 2_000_000 }
+
+abbrev side : MadeSheet
+side = record {
+  paper = bound.paper;
+  slots = Placed 0 (record { page = 0; from_end = false; turn = Upright; scale = pos 1_000_000_000; x = in_points (pos 2_000_000); y = in_points (pos 0) }) (points 70 200)
+      ∷ Blank ∷ [];
+}
+
+abbrev across : MadeSlot → ℤ
+across Blank = pos 0
+across (Placed page item paper) = item.x.number
+
+backs_are_moved : map (λ (sheet : MadeSheet). map across sheet.slots) (mirrored (Some bound) (side ∷ side ∷ side ∷ []))
+    ≡ (pos 20_000_000_000 ∷ pos 0 ∷ []) ∷ (pos 10_000_000_000 ∷ pos 0 ∷ []) ∷ (pos 20_000_000_000 ∷ pos 0 ∷ []) ∷ []
+backs_are_moved = refl
 
 -- signatures of eight sides have two leaves each; one of twenty pages has five
 eight_sides : leaves_in (Some (OfSides 8)) (all_pages 20) ≡ 2

@@ -9,6 +9,7 @@ mod OneScale
 mod NotLaid
 mod Turned
 mod Turns
+mod Backs
 pub mod Refused
 mod Fit
 mod ReadInOrder

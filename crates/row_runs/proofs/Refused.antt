@@ -5,7 +5,7 @@ use Rattle.row_runs.specs.declared.error.AskedError.{AskedError}
 use Rattle.row_runs.specs.declared.error.AskedError.TheVariants as error
 use Rattle.row_runs.specs.declared.run.RowJob.{RowJob}
 use Rattle.row_runs.specs.Errors.{of_plan}
-use Rattle.row_runs.specs.Runs.{AreTurned, RefusesRun, page_count}
+use Rattle.row_runs.specs.Runs.{AreTurned, RefusesRun, mirror_for, page_count}
 use Rattle.row_runs.specs.BySpec.{AreBySpec, RefusesBySpec, pages_of}
 use Rattle.row_runs.specs.declared.by_spec.SpecJob.{SpecJob}
 use Rattle.made_sheets.specs.Made.{MadeSheet}
@@ -17,7 +17,7 @@ use Rattle.row_runs.proofs.Turned.{turned_refused}
 use Rattle.row_runs.specs.Sheets.{RefusesAsked}
 
 of_asked : (j : RowJob) (e : AskedError) → RefusesAsked (page_count j) j.papers.now j.asked e → RefusesRun j e
-of_asked j (error.Sheets e) h = (h.0, h.1, turned_refused (turn_of j.turn) (page_count j) h.0 e h.3)
+of_asked j (error.Sheets e) h = (h.0, h.1, turned_refused (turn_of j.turn) (mirror_for j) (page_count j) h.0 e h.3)
 of_asked j other h = h
 
 -- a run that makes no sheets

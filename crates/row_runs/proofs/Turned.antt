@@ -1,6 +1,6 @@
--- Sheets whose pages are turned pass the limits that they pass unturned.
-use Rattle.std.proofs.Common.{◌≡◌, ◌∙◌, ℕ, ◌+◌, Bool, true, false, List, [], ◌∷◌, Option, Some, None, Ok, Err, ap, ap₂, refl, sym, length, map}
-use Rattle.std.specs.Prelude.{Result, not, nat_lt, sum_by, position}
+-- Sheets whose pages are moved and turned pass the limits that they pass before.
+use Rattle.std.proofs.Common.{◌≡◌, ◌∙◌, ℕ, suc, ◌+◌, Bool, true, false, List, [], ◌∷◌, Option, Some, None, Ok, Err, ap, ap₂, refl, sym, length, map}
+use Rattle.std.specs.Prelude.{⊤, Result, not, nat_lt, sum_by, position}
 use Rattle.std.specs.List.{list_any, position_from}
 use Rattle.std.proofs.lemmas.Iterator.Adapters.{position_from-zero}
 use Rattle.std.proofs.lemmas.List.{length-map}
@@ -9,29 +9,45 @@ use Rattle.rules.specs.Run.{most_pages, most_places, most_sheets, refuse_if}
 use Rattle.rules.specs.Specification.{Turn}
 use Rattle.made_sheets.specs.Made.{MadeSheet, MadeSlot, Blank, Placed}
 use Rattle.made_sheets.specs.MadePlans.{MadeFault, MadeNoSuchPage, MadeSlotsOutOfRange, MadeTooManyPages, MadeTooManyPlaces, MadeTooManySheets, is_missing, is_slot_count, refuse_at, slot_count}
+use Rattle.layouts.specs.Placed.{Room}
+use Rattle.row_runs.specs.Mirrored.{mirror_on, mirrored, mirrored_from, moved_sheet, moved_slot}
 use Rattle.row_runs.specs.Turning.{turned_sheet, turned_slot}
 use Rattle.sheet_plan.specs.MadeRefusals.{RefusesMade}
 use Rattle.sheet_plan.specs.declared.error.MadeError.{MadeError}
 use Rattle.sheet_plan.specs.declared.error.MadeError.TheVariants as error
 
-missing_same : (t : Turn) (pages : ℕ) (slot : MadeSlot) → is_missing pages (turned_slot t slot) ≡ is_missing pages slot
-missing_same t pages Blank = refl
-missing_same t pages (Placed page item paper) = refl
+-- a sheet has as many slots as another, and lacks a page if that one does
+record IsAlike (one other : MadeSheet) : Type 0 where
+  pub many : slot_count one ≡ slot_count other
+  pub lacks : (pages : ℕ) → list_any (is_missing pages) one.slots ≡ list_any (is_missing pages) other.slots
 
-any_same : {X : Type 0} (p : X → Bool) (f : X → X) → ((x : X) → p (f x) ≡ p x) → (xs : List X) → list_any p (map f xs) ≡ list_any p xs
-any_same p f same [] = refl
-any_same p f same (x ∷ xs) = rw (same x, any_same p f same xs) refl
+abbrev Alike : List MadeSheet → List MadeSheet → Type 0
+Alike [] [] = ⊤
+Alike [] (y ∷ ys) = ⊥
+Alike (x ∷ xs) [] = ⊥
+Alike (x ∷ xs) (y ∷ ys) = IsAlike x y × Alike xs ys
 
-first_same : {X : Type 0} (p : X → Bool) (f : X → X) → ((x : X) → p (f x) ≡ p x) → (i : ℕ) (xs : List X) → position_from p i (map f xs) ≡ position_from p i xs
-first_same p f same i [] = refl
-first_same p f same i (x ∷ xs) = rw (same x, first_same p f same (i + 1) xs) refl
+as_many : (xs ys : List MadeSheet) → Alike xs ys → length xs ≡ length ys
+as_many [] [] h = refl
+as_many [] (y ∷ ys) h = absurd h
+as_many (x ∷ xs) [] h = absurd h
+as_many (x ∷ xs) (y ∷ ys) h = ap suc (as_many xs ys h.1)
 
-first_too : {X : Type 0} (p : X → Bool) (f : X → X) → ((x : X) → p (f x) ≡ p x) → (xs : List X) → position p (map f xs) ≡ position p xs
-first_too p f same xs = position_from-zero p (map f xs) ∙ first_same p f same 0 xs ∙ sym (position_from-zero p xs)
+first_same : (p : MadeSheet → Bool) → ((x y : MadeSheet) → IsAlike x y → p x ≡ p y) → (i : ℕ) (xs ys : List MadeSheet) → Alike xs ys → position_from p i xs ≡ position_from p i ys
+first_same p same i [] [] h = refl
+first_same p same i [] (y ∷ ys) h = absurd h
+first_same p same i (x ∷ xs) [] h = absurd h
+first_same p same i (x ∷ xs) (y ∷ ys) h = rw (same x y h.0, first_same p same (i + 1) xs ys h.1) refl
 
-sum_same : {X : Type 0} (n : X → ℕ) (f : X → X) → ((x : X) → n (f x) ≡ n x) → (xs : List X) → sum_by n (map f xs) ≡ sum_by n xs
-sum_same n f same [] = refl
-sum_same n f same (x ∷ xs) = sum_by-cons n (f x) (map f xs) ∙ ap₂ (λ (a b : ℕ). a + b) (same x) (sum_same n f same xs) ∙ sym (sum_by-cons n x xs)
+first_too : (p : MadeSheet → Bool) → ((x y : MadeSheet) → IsAlike x y → p x ≡ p y) → (xs ys : List MadeSheet) → Alike xs ys → position p xs ≡ position p ys
+first_too p same xs ys h = position_from-zero p xs ∙ first_same p same 0 xs ys h ∙ sym (position_from-zero p ys)
+
+sum_same : (xs ys : List MadeSheet) → Alike xs ys → sum_by slot_count xs ≡ sum_by slot_count ys
+sum_same [] [] h = refl
+sum_same [] (y ∷ ys) h = absurd h
+sum_same (x ∷ xs) [] h = absurd h
+sum_same (x ∷ xs) (y ∷ ys) h =
+    sum_by-cons slot_count x xs ∙ ap₂ (λ (a b : ℕ). a + b) h.0.many (sum_same xs ys h.1) ∙ sym (sum_by-cons slot_count y ys)
 
 -- the checks of a plan in their order
 abbrev checked : Bool → Bool → Option ℕ → Bool → Option ℕ → List MadeSheet → Result (List MadeSheet) MadeFault
@@ -56,32 +72,52 @@ passes_too false false None true m all other h = cc
 passes_too false false None false (Some k) all other h = cc
 passes_too false false None false None all other h = refl
 
-abbrev turned : Turn → List MadeSheet → List MadeSheet
-turned t all = map (turned_sheet t) all
+-- what is checked of sheets is what is checked of those that are alike
+same_checks : (pages : ℕ) (xs ys other : List MadeSheet) → Alike xs ys
+    → checked (nat_lt most_pages pages) (nat_lt most_sheets (length xs)) (position (λ s. not (is_slot_count (slot_count s))) xs) (nat_lt most_places (sum_by slot_count xs)) (position (λ s. list_any (is_missing pages) s.slots) xs) other
+    ≡ checked (nat_lt most_pages pages) (nat_lt most_sheets (length ys)) (position (λ s. not (is_slot_count (slot_count s))) ys) (nat_lt most_places (sum_by slot_count ys)) (position (λ s. list_any (is_missing pages) s.slots) ys) other
+same_checks pages xs ys other h =
+    let uneven = first_too (λ s. not (is_slot_count (slot_count s))) (λ x y alike. ap (λ n. not (is_slot_count n)) alike.many) xs ys h in
+    let missing = first_too (λ s. list_any (is_missing pages) s.slots) (λ x y alike. alike.lacks pages) xs ys h in
+    ap (λ (n : ℕ). checked (nat_lt most_pages pages) (nat_lt most_sheets n) (position (λ s. not (is_slot_count (slot_count s))) xs) (nat_lt most_places (sum_by slot_count xs)) (position (λ s. list_any (is_missing pages) s.slots) xs) other) (as_many xs ys h)
+    ∙ ap (λ (u : Option ℕ). checked (nat_lt most_pages pages) (nat_lt most_sheets (length ys)) u (nat_lt most_places (sum_by slot_count xs)) (position (λ s. list_any (is_missing pages) s.slots) xs) other) uneven
+    ∙ ap (λ (n : ℕ). checked (nat_lt most_pages pages) (nat_lt most_sheets (length ys)) (position (λ s. not (is_slot_count (slot_count s))) ys) (nat_lt most_places n) (position (λ s. list_any (is_missing pages) s.slots) xs) other) (sum_same xs ys h)
+    ∙ ap (λ (m : Option ℕ). checked (nat_lt most_pages pages) (nat_lt most_sheets (length ys)) (position (λ s. not (is_slot_count (slot_count s))) ys) (nat_lt most_places (sum_by slot_count ys)) m other) missing
 
-as_many : (t : Turn) (sheet : MadeSheet) → slot_count (turned_sheet t sheet) ≡ slot_count sheet
-as_many t sheet = length-map sheet.slots (turned_slot t)
+refused_too : (pages : ℕ) (xs ys : List MadeSheet) (e : MadeError) → Alike xs ys → RefusesMade pages ys e → RefusesMade pages xs e
+refused_too pages xs ys error.TooManyPages a h = same_checks pages xs ys xs a ∙ fails_too _ _ _ _ _ ys xs _ h
+refused_too pages xs ys error.TooManySheets a h = same_checks pages xs ys xs a ∙ fails_too _ _ _ _ _ ys xs _ h
+refused_too pages xs ys (error.SlotsOutOfRange sheet) a h = same_checks pages xs ys xs a ∙ fails_too _ _ _ _ _ ys xs _ h
+refused_too pages xs ys error.TooManyPlaces a h = same_checks pages xs ys xs a ∙ fails_too _ _ _ _ _ ys xs _ h
+refused_too pages xs ys (error.NoSuchPage sheet) a h = same_checks pages xs ys xs a ∙ fails_too _ _ _ _ _ ys xs _ h
+refused_too pages xs ys error.NoMemory a h = same_checks pages xs ys xs a ∙ passes_too _ _ _ _ _ ys xs h
 
--- what is checked of turned sheets is what is checked of them unturned
-same_checks : (t : Turn) (pages : ℕ) (all other : List MadeSheet)
-    → checked (nat_lt most_pages pages) (nat_lt most_sheets (length (turned t all))) (position (λ s. not (is_slot_count (slot_count s))) (turned t all)) (nat_lt most_places (sum_by slot_count (turned t all))) (position (λ s. list_any (is_missing pages) s.slots) (turned t all)) other
-    ≡ checked (nat_lt most_pages pages) (nat_lt most_sheets (length all)) (position (λ s. not (is_slot_count (slot_count s))) all) (nat_lt most_places (sum_by slot_count all)) (position (λ s. list_any (is_missing pages) s.slots) all) other
-same_checks t pages all other =
-    let count : length (turned t all) ≡ length all = length-map all (turned_sheet t) in
-    let uneven : position (λ s. not (is_slot_count (slot_count s))) (turned t all) ≡ position (λ s. not (is_slot_count (slot_count s))) all =
-    first_too (λ s. not (is_slot_count (slot_count s))) (turned_sheet t) (λ s. ap (λ n. not (is_slot_count n)) (as_many t s)) all in
-    let places : sum_by slot_count (turned t all) ≡ sum_by slot_count all = sum_same slot_count (turned_sheet t) (as_many t) all in
-    let missing : position (λ s. list_any (is_missing pages) s.slots) (turned t all) ≡ position (λ s. list_any (is_missing pages) s.slots) all =
-    first_too (λ s. list_any (is_missing pages) s.slots) (turned_sheet t) (λ s. any_same (is_missing pages) (turned_slot t) (missing_same t pages) s.slots) all in
-    ap (λ (n : ℕ). checked (nat_lt most_pages pages) (nat_lt most_sheets n) (position (λ s. not (is_slot_count (slot_count s))) (turned t all)) (nat_lt most_places (sum_by slot_count (turned t all))) (position (λ s. list_any (is_missing pages) s.slots) (turned t all)) other) count
-    ∙ ap (λ (u : Option ℕ). checked (nat_lt most_pages pages) (nat_lt most_sheets (length all)) u (nat_lt most_places (sum_by slot_count (turned t all))) (position (λ s. list_any (is_missing pages) s.slots) (turned t all)) other) uneven
-    ∙ ap (λ (n : ℕ). checked (nat_lt most_pages pages) (nat_lt most_sheets (length all)) (position (λ s. not (is_slot_count (slot_count s))) all) (nat_lt most_places n) (position (λ s. list_any (is_missing pages) s.slots) (turned t all)) other) places
-    ∙ ap (λ (m : Option ℕ). checked (nat_lt most_pages pages) (nat_lt most_sheets (length all)) (position (λ s. not (is_slot_count (slot_count s))) all) (nat_lt most_places (sum_by slot_count all)) m other) missing
+-- ---- moved and turned
 
-pub turned_refused : (t : Turn) (pages : ℕ) (all : List MadeSheet) (e : MadeError) → RefusesMade pages all e → RefusesMade pages (turned t all) e
-turned_refused t pages all error.TooManyPages h = same_checks t pages all (turned t all) ∙ fails_too _ _ _ _ _ all (turned t all) _ h
-turned_refused t pages all error.TooManySheets h = same_checks t pages all (turned t all) ∙ fails_too _ _ _ _ _ all (turned t all) _ h
-turned_refused t pages all (error.SlotsOutOfRange sheet) h = same_checks t pages all (turned t all) ∙ fails_too _ _ _ _ _ all (turned t all) _ h
-turned_refused t pages all error.TooManyPlaces h = same_checks t pages all (turned t all) ∙ fails_too _ _ _ _ _ all (turned t all) _ h
-turned_refused t pages all (error.NoSuchPage sheet) h = same_checks t pages all (turned t all) ∙ fails_too _ _ _ _ _ all (turned t all) _ h
-turned_refused t pages all error.NoMemory h = same_checks t pages all (turned t all) ∙ passes_too _ _ _ _ _ all (turned t all) h
+any_same : (pages : ℕ) (f : MadeSlot → MadeSlot) → ((slot : MadeSlot) → is_missing pages (f slot) ≡ is_missing pages slot) → (slots : List MadeSlot)
+    → list_any (is_missing pages) (map f slots) ≡ list_any (is_missing pages) slots
+any_same pages f same [] = refl
+any_same pages f same (slot ∷ slots) = rw (same slot, any_same pages f same slots) refl
+
+turned_lacks : (t : Turn) (pages : ℕ) (slot : MadeSlot) → is_missing pages (turned_slot t slot) ≡ is_missing pages slot
+turned_lacks t pages Blank = refl
+turned_lacks t pages (Placed page item paper) = refl
+
+moved_lacks : (m : Option Room) (pages : ℕ) (slot : MadeSlot) → is_missing pages (moved_slot m slot) ≡ is_missing pages slot
+moved_lacks m pages Blank = refl
+moved_lacks m pages (Placed page item paper) = refl
+
+is_alike : (t : Turn) (m : Option Room) (sheet : MadeSheet) → IsAlike (turned_sheet t (moved_sheet m sheet)) sheet
+is_alike t m sheet = record {
+  many = length-map (map (moved_slot m) sheet.slots) (turned_slot t) ∙ length-map sheet.slots (moved_slot m);
+  lacks = λ pages. any_same pages (turned_slot t) (turned_lacks t pages) (map (moved_slot m) sheet.slots)
+      ∙ any_same pages (moved_slot m) (moved_lacks m pages) sheet.slots;
+}
+
+are_alike : (t : Turn) (m : Option Room) (s : ℕ) (all : List MadeSheet) → Alike (map (turned_sheet t) (mirrored_from m s all)) all
+are_alike t m s [] = tt
+are_alike t m s (sheet ∷ all) = (is_alike t (mirror_on m s) sheet, are_alike t m (s + 1) all)
+
+pub turned_refused : (t : Turn) (m : Option Room) (pages : ℕ) (all : List MadeSheet) (e : MadeError) → RefusesMade pages all e
+    → RefusesMade pages (map (turned_sheet t) (mirrored m all)) e
+turned_refused t m pages all e h = refused_too pages _ all e (are_alike t m 0 all) h

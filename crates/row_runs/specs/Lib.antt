@@ -1,6 +1,6 @@
 -- Read in this order: what is written of made sheets. Then, of a row: what errors are called; layings with one scale; limits;
--- the sheets that are asked for, how their pages are placed and read, their marks and numbers; turned pages; what the answers
--- mean, also those by a specification; lines on sheets; how sheets are read; what is shown of them before they are imposed.
+-- the sheets that are asked for, how their pages are placed and read, turned pages; backs; their marks and
+-- numbers; what the answers mean, also those by a specification; lines on sheets; how sheets are read; what is shown of them before they are imposed.
 -- At last, how many pages a document says that it has.
 pub mod SheetsRuns
 pub mod Errors
@@ -10,9 +10,10 @@ pub mod Sheets
 pub mod Standing
 pub mod InPlaces
 pub mod ReadAsBound
+pub mod Turning
+pub mod Mirrored
 pub mod Marked
 pub mod Numbers
-pub mod Turning
 pub mod Runs
 pub mod BySpec
 pub mod Guides

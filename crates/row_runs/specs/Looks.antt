@@ -1,21 +1,26 @@
 -- What is shown of sheets before they are imposed.
-use Rattle.std.specs.Prelude.{◌≡◌, ℕ, List}
+use Rattle.std.specs.Prelude.{◌≡◌, ℕ, if◌then◌else◌, List, []}
 use Rattle.made_sheets.specs.Made.{MadeSheet}
 use Rattle.preview.specs.Listing.{plan_text}
 use Rattle.preview.specs.Drawing.{preview_text}
+use Rattle.preview.specs.declared.guides.Guide.{Guide}
 use Rattle.row_runs.specs.Guides.{guides_with}
-use Rattle.row_runs.specs.Readings.{reading_in, sides_in}
-use Rattle.row_runs.specs.Runs.{ArePlanned}
+use Rattle.row_runs.specs.Readings.{reading_in, sides_by}
+use Rattle.row_runs.specs.Runs.{ArePlanned, mirror_for}
 use Rattle.row_runs.specs.declared.run.RowJob.{RowJob}
 
 -- the text of the plan of the sheets that a run would impose, as they are read
 pub record TellsPlan (j : RowJob) (most : ℕ) (text : List ℕ) : Type 0 where
   pub made : List MadeSheet
   pub planned : ArePlanned j made
-  pub told : text ≡ plan_text (reading_in j.asked.laying) most made
+  pub told : text ≡ plan_text (reading_in (mirror_for j) j.asked.laying) most made
 
--- the picture of these sheets, with the lines of their laying and those for notes on each
+-- the lines of the laying and those for notes, which are the same on each sheet; none if margins aren't
+abbrev pub guides_on : RowJob → List Guide
+guides_on j = if j.mirrored then [] else guides_with j.marks j.asked.laying
+
+-- the picture of these sheets, with these lines on each
 pub record TellsPicture (j : RowJob) (most : ℕ) (text : List ℕ) : Type 0 where
   pub made : List MadeSheet
   pub planned : ArePlanned j made
-  pub told : text ≡ preview_text (sides_in j.asked.laying) (guides_with j.marks j.asked.laying) most made
+  pub told : text ≡ preview_text (sides_by (mirror_for j) j.asked.laying) (guides_on j) most made

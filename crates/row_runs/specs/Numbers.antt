@@ -5,9 +5,11 @@ use Rattle.made_sheets.specs.Choice.{RowFault, signed}
 use Rattle.made_sheets.specs.Made.{MadeSheet}
 use Rattle.made_sheets.specs.Rows.{Row}
 use Rattle.layouts.specs.Cells.{high}
+use Rattle.layouts.specs.Placed.{Room}
 use Rattle.row_sheets.specs.RowSheets.{paper_of}
 use Rattle.dressing.specs.declared.numbers.Numbering.{Numbering}
 use Rattle.sheet_text.specs.declared.numbers.Numbers.{Numbers}
+use Rattle.row_runs.specs.Mirrored.{mirrored}
 use Rattle.row_runs.specs.Sheets.{laying_for, leaves_in, row_chosen, sewn, sheets_laid}
 use Rattle.row_runs.specs.declared.asked.Asked.{Asked}
 use Rattle.row_runs.specs.declared.asked.Laying.{Laying}
@@ -47,11 +49,11 @@ abbrev pub below_middle : Laying → Option ℤ
 below_middle (laying.InCells t how) = Some (pos (635_000 * high t.room t.grid))
 below_middle other = None
 
--- the numbers that are asked for of a document with so many pages, if any are (RULES, 15)
-abbrev pub numbers_asked : (pages : ℕ) → List Paper → Asked → Option Numbering → Option Numbers
-numbers_asked pages papers a asked = option_map (λ how. record {
+-- the numbers that are asked for of a document with so many pages, if any are, which are moved as their pages are (RULES, 15)
+abbrev pub numbers_asked : (pages : ℕ) → List Paper → Asked → (mirror : Option Room) → Option Numbering → Option Numbers
+numbers_asked pages papers a mirror asked = option_map (λ how. record {
   size = how.size;
   first = how.first;
-  places = places_by papers a (row_chosen pages a);
+  places = mirrored mirror (places_by papers a (row_chosen pages a));
   below = below_middle a.laying;
 }) asked

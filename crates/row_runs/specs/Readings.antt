@@ -1,7 +1,9 @@
 -- How the sheets of a laying are read: on which sides they are printed, and where their places are.
-use Rattle.std.specs.Prelude.{ℕ, false, if◌then◌else◌, max, nat_lt}
+use Rattle.std.specs.Prelude.{ℕ, false, if◌then◌else◌, max, nat_abs, nat_lt, Option, Some, None}
+use Rattle.rules.specs.Papers.{Paper}
 use Rattle.layouts.specs.Cells.{Grid, held_height, held_width}
 use Rattle.layouts.specs.Grids.{plain_order}
+use Rattle.layouts.specs.Placed.{Room}
 use Rattle.layouts.specs.declared.arrangement.Turned.{Turned}
 use Rattle.layouts.specs.declared.arrangement.Turned.TheVariants as sideways
 use Rattle.layouts.specs.declared.setting.Setting.{Setting}
@@ -43,6 +45,14 @@ sides_in (laying.InCells t scheme.Leaves) = sides.Both (edge_at_side t)
 sides_in (laying.InCells t (scheme.Booklet turned_backs creep)) = sides.Both (if turned_backs then Long else Short)
 sides_in other = sides.One
 
+-- if this room is exchanged on backs, these are behind fronts as sheets are printed
+abbrev pub edge_as_printed : Paper → Edge
+edge_as_printed paper = if nat_lt (nat_abs paper.height) (nat_abs paper.width) then Short else Long
+
+abbrev pub sides_by : (mirror : Option Room) → Laying → Sides
+sides_by None l = sides_in l
+sides_by (Some room) l = sides.Both (edge_as_printed room.paper)
+
 -- ---- places
 
 -- a sheet with one place
@@ -58,5 +68,5 @@ places_in (laying.AsTheyAre blank) = Cells single plain_order
 places_in (laying.InCells t how) = Cells t.grid t.order
 places_in (laying.Poster poster) = Tiles (tiles_in poster)
 
-abbrev pub reading_in : Laying → Reading
-reading_in l = record { sides = sides_in l; places = places_in l }
+abbrev pub reading_in : (mirror : Option Room) → Laying → Reading
+reading_in mirror l = record { sides = sides_by mirror l; places = places_in l }

@@ -4,8 +4,10 @@ use Rattle.rules.specs.Parts.{pages}
 use Rattle.rules.specs.Output.{Border, border_within}
 use Rattle.made_sheets.specs.Made.{MadeSheet}
 use Rattle.made_sheets.specs.MadePlans.{made_plan_of}
+use Rattle.layouts.specs.Placed.{Room}
 use Rattle.pagespec.specs.Items.{turn_of}
 use Rattle.row_runs.specs.Turning.{turned_sheet}
+use Rattle.row_runs.specs.Mirrored.{mirror_in, mirrored}
 use Rattle.sheet_plan.specs.MadeRefusals.{RefusesMade}
 use Rattle.row_runs.specs.SheetsRuns.{told_output}
 use Rattle.row_runs.specs.Sheets.{AreAsked, row_chosen}
@@ -24,12 +26,16 @@ use Rattle.row_runs.specs.declared.error.AskedError.TheVariants as error
 abbrev pub page_count : RowJob → ℕ
 page_count j = length (pages j.document.now)
 
--- the same sheets with their pages turned as is asked for
+-- the room that is exchanged on backs, if that is asked for
+abbrev pub mirror_for : RowJob → Option Room
+mirror_for j = mirror_in j.mirrored j.asked.laying
+
+-- the same sheets with left and right exchanged on backs, and with their pages turned, as is asked for
 abbrev pub turned_on : RowJob → List MadeSheet → List MadeSheet
-turned_on j laid = map (turned_sheet (turn_of j.turn)) laid
+turned_on j laid = map (turned_sheet (turn_of j.turn)) (mirrored (mirror_for j) laid)
 
 -- these sheets are asked for, with pages of the papers that they have once they are turned, which lie as they are to be laid;
--- and then they are turned
+-- and then backs are moved, and they are turned
 pub record AreTurned (j : RowJob) (made : List MadeSheet) : Type 0 where
   pub laid : List MadeSheet
   pub asked : AreAsked (page_count j) j.papers.now j.asked laid
@@ -47,7 +53,7 @@ strokes_on j = strokes_in j.marks j.asked.laying
 
 -- and the numbers of their pages
 abbrev pub numbers_on : RowJob → Option Numbers
-numbers_on j = numbers_asked (page_count j) j.papers.now j.asked j.marks.numbers
+numbers_on j = numbers_asked (page_count j) j.papers.now j.asked (mirror_for j) j.marks.numbers
 
 -- all that is drawn on them
 abbrev pub drawn_of : RowJob → Drawn

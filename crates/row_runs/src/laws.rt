@@ -1,6 +1,7 @@
 //! Laws of the definitions. The functions do nothing.
 ghost use Rattle.row_runs.specs.InPlaces.{AskedStandInPlaces};
 ghost use Rattle.row_runs.specs.ReadAsBound.{AskedIsRead};
+ghost use Rattle.row_runs.specs.Mirrored.{FittedAreInPoints, MirroredStands};
 ghost use Rattle.row_runs.specs.Turning.{TurnedStands, TurnsAddUp};
 
 /// The pages of the sheets that are asked for are fitted into their cells and read in order, stacks and zines are the row once
@@ -22,4 +23,11 @@ pub fn turns_add_up()
 /// Each point of a turned page is where a page of the turned paper would have it, to 10^-5 of a point.
 pub fn turned_stands()
     ensures { TurnedStands }
+{}
+
+/// What lies in a room, inside and apart, does so on fronts, and with left and right margins exchanged on backs, if pages are
+/// moved by points, as those are that are fitted into cells.
+pub fn mirrored_stands()
+    ensures stands { MirroredStands }
+    ensures points { FittedAreInPoints }
 {}

@@ -11,6 +11,7 @@ pub mod laws;
 mod limits;
 mod look;
 mod marked;
+mod mirrored;
 mod numbered;
 mod reading;
 mod run;

@@ -3,20 +3,19 @@ ghost use Rattle.std.specs.Prelude.{◌≡◌, IfErr, IfOk, OnOk, Ok};
 ghost use Rattle.made_sheets.specs.MadePlans.{made_plan_of};
 ghost use Rattle.sheet_plan.specs.MadeRefusals.{RefusesMade};
 ghost use Rattle.preview.specs.Drawing.{preview_text as picture_of};
-ghost use Rattle.row_runs.specs.Guides.{guides_with};
-ghost use Rattle.row_runs.specs.Sheets.{MayBeAsked, MayBeLaid};
-ghost use Rattle.row_runs.specs.Runs.{ArePlanned, RefusesRun};
-ghost use Rattle.row_runs.specs.Looks.{TellsPicture, TellsPlan};
-ghost use Rattle.row_runs.specs.Readings.{sides_in};
+ghost use Rattle.row_runs.specs.Sheets.{MayBeAsked};
+ghost use Rattle.row_runs.specs.Runs.{ArePlanned, RefusesRun, mirror_for};
+ghost use Rattle.row_runs.specs.Looks.{TellsPicture, TellsPlan, guides_on};
+ghost use Rattle.row_runs.specs.Readings.{sides_by as sides_of_mirror};
 
-use crate::asked::{Laying, asked_sheets};
+use crate::asked::asked_sheets;
 use crate::error::{AskedError, plan_error};
 use crate::guides::guides_of;
-use crate::reading::{reading_of, sides_of};
+use crate::mirrored::mirror_in;
+use crate::reading::{reading_of, sides_by};
 use crate::run::RowJob;
 use crate::turning::turned_sheets;
-use dressing::Marks;
-use preview::{plan_text, preview_text};
+use preview::{Guide, plan_text, preview_text};
 use sheet_plan::{MadeError, MadeSheets, Plan};
 use std::alloc::{AllocError, Global};
 
@@ -31,13 +30,16 @@ pub fn row_plan(alloc: Global, job: &RowJob<'_, '_>, most: u32) -> Result<Vec<u8
         Ok(sheets) => sheets,
         Err(error) => return Err(error),
     };
-    match plan_text(alloc, &sheets, &reading_of(&job.asked.laying), most) {
+    let mirror = mirror_in(job.mirrored, &job.asked.laying);
+    let reading = reading_of(&mirror, &job.asked.laying);
+    match plan_text(alloc, &sheets, &reading, most) {
         Ok(text) => Ok(text),
         Err(_) => Err(AskedError::NoMemory),
     }
 }
 
-/// The picture of the sheets that a run would impose, as an SVG, with margin, cuts, fold and lines for notes on each.
+/// The picture of the sheets that a run would impose, as an SVG, with margin, cuts, fold and lines for notes on each if they
+/// are the same.
 /// Of more sheets than `most` the first are drawn. What the run refuses is refused as it does.
 pub fn row_preview(alloc: Global, job: &RowJob<'_, '_>, most: u32) -> Result<Vec<u8>, AskedError>
     requires asked { MayBeAsked job.now.asked }
@@ -48,27 +50,40 @@ pub fn row_preview(alloc: Global, job: &RowJob<'_, '_>, most: u32) -> Result<Vec
         Ok(sheets) => sheets,
         Err(error) => return Err(error),
     };
-    match drawn(alloc, &sheets, job.marks, &job.asked.laying, most) {
+    match drawn(alloc, &sheets, job, most) {
         Ok(text) => Ok(text),
         Err(_) => Err(AskedError::NoMemory),
     }
 }
 
-/// The picture of sheets that are laid so, with the lines for notes that are asked for.
+/// The picture of these sheets of a job.
 fn drawn(
     alloc: Global,
     sheets: &MadeSheets,
-    marks: Marks,
-    laying: &Laying,
+    job: &RowJob<'_, '_>,
     most: u32,
 ) -> Result<Vec<u8>, AllocError>
-    requires { MayBeLaid laying.now }
+    requires { MayBeAsked job.now.asked }
     ensures { IfOk result (λ text. text.items
-        ≡ picture_of (sides_in laying.now) (guides_with marks laying.now) most sheets.now) }
+        ≡ picture_of (sides_of_mirror (mirror_for job.now) job.now.asked.laying) (guides_on job.now) most sheets.now) }
 {
-    let guides = guides_of(alloc, marks, laying)?;
-    let text = preview_text(alloc, sheets, sides_of(laying), guides.as_slice(), most)?;
+    let guides = guides_for(alloc, job)?;
+    let mirror = mirror_in(job.mirrored, &job.asked.laying);
+    let sides = sides_by(&mirror, &job.asked.laying);
+    let text = preview_text(alloc, sheets, sides, guides.as_slice(), most)?;
     Ok(text)
+}
+
+/// The lines on each sheet of a job.
+fn guides_for(alloc: Global, job: &RowJob<'_, '_>) -> Result<Vec<Guide>, AllocError>
+    requires { MayBeAsked job.now.asked }
+    ensures { IfOk result (λ guides. guides.items ≡ guides_on job.now) }
+{
+    if job.mirrored {
+        Ok(Vec::new(alloc))
+    } else {
+        guides_of(alloc, job.marks, &job.asked.laying)
+    }
 }
 
 /// The sheets that would be imposed.
@@ -82,7 +97,8 @@ fn planned_sheets(alloc: Global, job: &RowJob<'_, '_>) -> Result<MadeSheets, Ask
         Ok(sheets) => sheets,
         Err(error) => return Err(error),
     };
-    let Ok(sheets) = turned_sheets(alloc, job.turn, sheets) else {
+    let mirror = mirror_in(job.mirrored, &job.asked.laying);
+    let Ok(sheets) = turned_sheets(alloc, job.turn, &mirror, sheets) else {
         return Err(AskedError::NoMemory);
     };
     match check_plan(alloc, count, &sheets) {

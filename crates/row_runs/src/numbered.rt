@@ -8,32 +8,36 @@ ghost use Rattle.row_runs.specs.Sheets.{MayBeAsked, row_chosen};
 use crate::asked::{Asked, Laying, laid, leaves_in};
 use crate::evened::evened_if;
 use crate::guides::grains;
+use crate::mirrored::mirrored_sheets;
 use dressing::{Numbering, cell_height};
+use layouts::Room;
 use lengths::{Grains, Paper};
 use rows::{chosen_row, signed_row};
 use sheet_plan::MadeSheets;
 use sheet_text::Numbers;
 use std::alloc::{AllocError, Global};
 
-/// The numbers that are asked for of a document with so many pages, if any are.
+/// The numbers that are asked for of a document with so many pages, if any are, which are moved on backs as their pages are.
 pub(crate) fn numbers_of(
     alloc: Global,
     pages: u32,
     papers: &[Paper],
     asked: &Asked<'_>,
+    mirror: &Option<Room>,
     how: Option<Numbering>,
 ) -> Result<Option<Numbers>, AllocError>
     requires pages { pages ≤ most_entries }
     requires asked { MayBeAsked asked.now }
-    ensures { IfOk result (λ numbers. numbers ≡ numbers_asked pages papers.now asked.now how) }
+    ensures { IfOk result (λ numbers. numbers ≡ numbers_asked pages papers.now asked.now mirror.now how) }
 {
     let Some(how) = how else {
         return Ok(None);
     };
+    let places = places_of(alloc, pages, papers, asked)?;
     Ok(Some(Numbers {
         size: how.size,
         first: how.first,
-        places: places_of(alloc, pages, papers, asked)?,
+        places: mirrored_sheets(alloc, mirror, places)?,
         below: below_middle(&asked.laying),
     }))
 }

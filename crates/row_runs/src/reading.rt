@@ -4,27 +4,51 @@ ghost use Rattle.rules.specs.Papers.{is_side};
 ghost use Rattle.layouts.specs.Cells.{held_height, held_width};
 ghost use Rattle.layouts.specs.Grids.{plain_order as order_of_one};
 ghost use Rattle.preview.specs.declared.naming.Edge.TheVariants.{Long, Short};
-ghost use Rattle.row_runs.specs.Readings.{edge_at_side as edge_of, height_read, places_in, reading_in, sides_in, single as single_grid};
-ghost use Rattle.row_runs.specs.Readings.{tiles_in, width_read};
+ghost use Rattle.preview.specs.declared.reading.Places.TheVariants.{Cells};
+ghost use Rattle.row_runs.specs.Readings.{edge_at_side as edge_of, height_read, places_in, reading_in, sides_by as sides_of_mirror, sides_in, single as single_grid};
+ghost use Rattle.row_runs.specs.Readings.{edge_as_printed as edge_printed, tiles_in, width_read};
 
 use crate::asked::{Laying, Scheme};
-use layouts::{Grid, Order, Run, Setting, Turned};
+use layouts::{Grid, Order, Room, Run, Setting, Turned};
 use lengths::{Grains, Paper};
 use preview::{Edge, Places, Reading, Sides};
 use row_sheets::Poster;
 
 /// On which sides the sheets of a laying are printed, and where their places are.
-pub(crate) fn reading_of(laying: &Laying) -> Reading
-    ensures { result ≡ reading_in laying.now }
+pub(crate) fn reading_of(mirror: &Option<Room>, laying: &Laying) -> Reading
+    ensures { result ≡ reading_in mirror.now laying.now }
 {
     Reading {
-        sides: sides_of(laying),
+        sides: sides_by(mirror, laying),
         places: places_of(laying),
     }
 }
 
+/// On which sides they are printed if this room is exchanged on backs, or else as they are laid.
+pub(crate) fn sides_by(mirror: &Option<Room>, laying: &Laying) -> Sides
+    ensures { result ≡ sides_of_mirror mirror.now laying.now }
+{
+    match mirror {
+        None => sides_of(laying),
+        Some(room) => Sides::Both {
+            flip: edge_as_printed(&room.paper),
+        },
+    }
+}
+
+/// The edge of a sheet that is as long as it is high.
+fn edge_as_printed(paper: &Paper) -> Edge
+    ensures { result ≡ edge_printed paper.now }
+{
+    if side(paper.height()) < side(paper.width()) {
+        Edge::Short
+    } else {
+        Edge::Long
+    }
+}
+
 /// Whether sheets are printed on one side, or leaves on both; and on which edge these are flipped.
-pub(crate) fn sides_of(laying: &Laying) -> Sides
+fn sides_of(laying: &Laying) -> Sides
     ensures { result ≡ sides_in laying.now }
 {
     match laying {

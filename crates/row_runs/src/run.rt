@@ -7,6 +7,7 @@ ghost use Rattle.row_runs.specs.Runs.{AreTurned, RefusesRun, drawn_of};
 use crate::asked::{Asked, asked_sheets};
 use crate::error::AskedError;
 use crate::marked::strokes_of;
+use crate::mirrored::mirror_in;
 use crate::numbered::numbers_of;
 use crate::turning::turned_sheets;
 use dressing::{Marks, dress_of};
@@ -18,7 +19,8 @@ use sheet_text::Dress;
 use std::alloc::Global;
 
 /// What is imposed of a document, which was read before; how its pages are turned, and the papers that they have then, in
-/// their order, where those that aren't known have the sheet's; a border round each page, wider than nothing, if one is asked for, and how far within the
+/// their order, where those that aren't known have the sheet's; whether left and right margins are exchanged on every second
+/// sheet; a border round each page, wider than nothing, if one is asked for, and how far within the
 /// page's edges it is drawn; and which marks are drawn at the end of each sheet.
 #[derive(Clone, Copy)]
 pub struct RowJob<'j, 'd> {
@@ -26,14 +28,15 @@ pub struct RowJob<'j, 'd> {
     pub turn: Turn,
     pub papers: &'j [Paper],
     pub asked: Asked<'j>,
+    pub mirrored: bool,
     pub border: Option<Grains>,
     pub inset: Grains,
     pub marks: Marks,
 }
 
 impl<'j, 'd> RowJob<'j, 'd> {
-    /// The sheets that are asked for, with their pages turned, and the lines that report their papers and draw their marks and
-    /// numbers. What is wrong with the row is refused first, then a page that fits no cell. Whoever creates an output plans
+    /// The sheets that are asked for, with backs moved and pages turned, and the lines that report their papers and draw their
+    /// marks and numbers. What is wrong with the row is refused first, then a page that fits no cell. Whoever creates an output plans
     /// them before: `Plan::of_sheets` refuses what is left.
     pub fn lay(&self, alloc: Global) -> Result<(MadeSheets, Dress), AskedError>
         requires { MayBeAsked self.now.asked }
@@ -50,11 +53,13 @@ impl<'j, 'd> RowJob<'j, 'd> {
         let Ok(strokes) = strokes_of(alloc, self.marks, &self.asked.laying) else {
             return Err(AskedError::NoMemory);
         };
-        let Ok(numbers) = numbers_of(alloc, count, self.papers, &self.asked, self.marks.numbers)
+        let numbering = self.marks.numbers;
+        let mirror = mirror_in(self.mirrored, &self.asked.laying);
+        let Ok(numbers) = numbers_of(alloc, count, self.papers, &self.asked, &mirror, numbering)
         else {
             return Err(AskedError::NoMemory);
         };
-        let Ok(sheets) = turned_sheets(alloc, self.turn, sheets) else {
+        let Ok(sheets) = turned_sheets(alloc, self.turn, &mirror, sheets) else {
             return Err(AskedError::NoMemory);
         };
         match dress_of(alloc, &sheets, strokes.as_slice(), numbers) {

@@ -4,8 +4,11 @@ ghost use Rattle.rules.specs.Papers.{is_side};
 ghost use Rattle.rules.specs.Placement.{turned as turned_point};
 ghost use Rattle.pagespec.specs.Items.{item_of, measure_of, turn_of};
 ghost use Rattle.sheet_plan.specs.OfSheets.{placed_of, slot_of, slots_at};
+ghost use Rattle.row_runs.specs.Mirrored.{mirrored, moved_item as moved_of, moved_slot};
 ghost use Rattle.row_runs.specs.Turning as meaning;
 
+use crate::mirrored::{mirror_on, moved_item};
+use layouts::Room;
 use lengths::{Grains, Number, Paper};
 use pagespec::{Item, Measure, Turn};
 use sheet_plan::{MadeSheets, MadeSlot, PlacedSlot};
@@ -45,23 +48,30 @@ fn all_papers(alloc: Global, turn: Turn, papers: &[Paper]) -> Result<Vec<Paper>,
     Ok(turned)
 }
 
-/// The same sheets with the pages turned, which were laid as pages of the papers that they have then. Refused are, for want
-/// of memory, 2^32 sheets and a place of 100,000 points or more.
+/// The same sheets with the pages turned, which were laid as pages of the papers that they have then. Before that what is on
+/// backs is moved from this room into the exchanged one, if there is one. Refused are, for want of memory, 2^32 sheets and a
+/// place of 100,000 points or more.
 pub(crate) fn turned_sheets(
     alloc: Global,
     turn: Turn,
+    mirror: &Option<Room>,
     sheets: MadeSheets,
 ) -> Result<MadeSheets, AllocError>
-    ensures { IfOk result (λ turned. turned ≡ map (meaning.turned_sheet (turn_of turn)) sheets) }
+    ensures { IfOk result (λ turned. turned ≡ map (meaning.turned_sheet (turn_of turn)) (mirrored mirror.now sheets)) }
 {
-    match turn {
-        Turn::None => Ok(sheets),
-        _ => all_sheets(alloc, turn, &sheets),
+    match (turn, mirror) {
+        (Turn::None, None) => Ok(sheets),
+        _ => all_sheets(alloc, turn, mirror, &sheets),
     }
 }
 
-fn all_sheets(alloc: Global, turn: Turn, sheets: &MadeSheets) -> Result<MadeSheets, AllocError>
-    ensures { IfOk result (λ turned. turned ≡ map (meaning.turned_sheet (turn_of turn)) sheets.now) }
+fn all_sheets(
+    alloc: Global,
+    turn: Turn,
+    mirror: &Option<Room>,
+    sheets: &MadeSheets,
+) -> Result<MadeSheets, AllocError>
+    ensures { IfOk result (λ turned. turned ≡ map (meaning.turned_sheet (turn_of turn)) (mirrored mirror.now sheets.now)) }
 {
     let Ok(count) = u32::try_from(sheets.len()) else {
         return Err(AllocError);
@@ -69,35 +79,43 @@ fn all_sheets(alloc: Global, turn: Turn, sheets: &MadeSheets) -> Result<MadeShee
     let mut turned = MadeSheets::new(alloc);
     let mut slots = Vec::new(alloc);
     for sheet in 0..count {
-        turn_slots(&mut slots, turn, sheets, sheet)?;
+        let side = mirror_on(mirror, sheet);
+        turn_slots(&mut slots, turn, &side, sheets, sheet)?;
         turned.push(sheets.paper(sheet), slots.as_slice())?;
     }
     Ok(turned)
 }
 
-/// The slots of a sheet, turned, in place of those that were there.
+/// The slots of a sheet, moved and turned, in place of those that were there.
 fn turn_slots(
     slots: &mut Vec<MadeSlot>,
     turn: Turn,
+    mirror: &Option<Room>,
     sheets: &MadeSheets,
     sheet: u32,
 ) -> Result<(), AllocError>
     requires { sheet < length sheets.now }
-    ensures { OnOk result (map slot_of slots.new.items ≡ map (meaning.turned_slot (turn_of turn)) (slots_at sheets.now sheet)) }
+    ensures { OnOk result (map slot_of slots.new.items
+        ≡ map (λ slot. meaning.turned_slot (turn_of turn) (moved_slot mirror.now slot)) (slots_at sheets.now sheet)) }
 {
     slots.clear();
     for slot in 0..sheets.slots(sheet) {
-        slots.push(turned_slot(turn, sheets.placed(sheet, slot))?)?;
+        slots.push(turned_slot(turn, mirror, sheets.placed(sheet, slot))?)?;
     }
     Ok(())
 }
 
-fn turned_slot(turn: Turn, slot: Option<PlacedSlot<'_>>) -> Result<MadeSlot, AllocError>
-    ensures { IfOk result (λ turned. slot_of turned ≡ meaning.turned_slot (turn_of turn) (placed_of slot.entry)) }
+fn turned_slot(
+    turn: Turn,
+    mirror: &Option<Room>,
+    slot: Option<PlacedSlot<'_>>,
+) -> Result<MadeSlot, AllocError>
+    ensures { IfOk result (λ turned.
+        slot_of turned ≡ meaning.turned_slot (turn_of turn) (moved_slot mirror.now (placed_of slot.entry))) }
 {
     match slot {
         None => Ok(MadeSlot::Blank),
-        Some(placed) => match turned_item(turn, placed.paper, placed.item) {
+        Some(placed) => match changed_item(turn, mirror, placed.paper, placed.item) {
             Some(item) => Ok(MadeSlot::Placed {
                 page: placed.page,
                 item,
@@ -106,6 +124,15 @@ fn turned_slot(turn: Turn, slot: Option<PlacedSlot<'_>>) -> Result<MadeSlot, All
             None => Err(AllocError),
         },
     }
+}
+
+/// An item whose page is moved first, and then turned.
+fn changed_item(turn: Turn, mirror: &Option<Room>, paper: &Paper, item: &Item) -> Option<Item>
+    ensures { IfSome result (λ changed.
+        item_of changed ≡ meaning.turned_item (turn_of turn) paper.now (moved_of mirror.now (item_of item.now))) }
+{
+    let moved = moved_item(mirror, item)?;
+    turned_item(turn, paper, &moved)
 }
 
 /// The item by which a page is placed where this one places a page of its turned paper.
@@ -192,7 +219,7 @@ fn long(scale: Number, side: Grains) -> i64
 }
 
 /// So many 10^-5 of a point farther, unless that is out of range.
-fn farther(by: i64, measure: Measure) -> Option<Measure>
+pub(crate) fn farther(by: i64, measure: Measure) -> Option<Measure>
     requires { nat_abs by ≤ 10 ^ 17 }
     ensures { IfSome result (λ moved. measure_of moved ≡ meaning.farther by (measure_of measure)) }
 {

@@ -2,14 +2,22 @@ use Rattle.std.proofs.Common.{◌∙◌, ap, map}
 use Rattle.std.specs.Prelude.{List}
 use Rattle.pagespec.specs.Items.{turn_of}
 use Rattle.made_sheets.specs.Made.{MadeSlot}
-use Rattle.sheet_plan.specs.OfSheets.{slot_of}
-use Rattle.row_runs.specs.Turning.{turned_sheet}
-use Rattle.row_runs.proofs.Turns.{one_more, sheet_at}
+use Rattle.sheet_plan.specs.OfSheets.{slot_of, slots_at}
+use Rattle.row_runs.specs.Mirrored.{mirror_on, moved_slot}
+use Rattle.row_runs.specs.Turning.{turned_slot}
+use Rattle.row_runs.proofs.Backs.{fused, sheet_more}
+use Rattle.row_runs.proofs.Turns.{sheet_at}
 use Rattle.row_runs.proofs.turning.all_sheets.Goals as goal
 
 pub loop-sheet-preserved : goal.loop-sheet-preserved
 loop-sheet-preserved c =
     let all = c.args.sheets.now in
-    one_more (turned_sheet (turn_of c.args.turn)) c.loop-sheet.turned _ c.loop-sheet.sheet all _ _ (sheet_at all c.loop-sheet.sheet c.paper.result.now c.paper.ensures)
+    let s = c.loop-sheet.sheet in
+    let t = turn_of c.args.turn in
+    let m = mirror_on c.args.mirror.now s in
+    let slots = ap (map slot_of) c.as_slice.ensures.value ∙ c.in_ok-turn_slots.ensures
+    ∙ ap (λ k. map (λ slot. turned_slot t (moved_slot k slot)) (slots_at all s)) c.mirror_on-side.ensures
+    ∙ fused (turned_slot t) (moved_slot m) (slots_at all s) in
+    sheet_more t c.args.mirror.now c.loop-sheet.turned _ s all _ _ (sheet_at all s c.paper.result.now c.paper.ensures)
     c.loop-sheet.invariant c.in_ok-push.ensures.pushed
-    (ap (λ (xs : List MadeSlot). record { paper = c.paper.result.now; slots = xs }) (ap (map slot_of) c.as_slice.ensures.value ∙ c.in_ok-turn_slots.ensures))
+    (ap (λ (xs : List MadeSlot). record { paper = c.paper.result.now; slots = xs }) slots)
