@@ -1,6 +1,6 @@
 -- Sheets that are printed on both sides, fronts and backs in turn: on backs left and right margins are exchanged. They are laid
 -- as fronts are, and then moved. All here is this project's own rules.
-use Rattle.std.specs.Prelude.{◌≡◌, ⊤, ℕ, ◌+◌, ◌%◌, ◌==◌, ◌<◌, ℤ, pos, ◌-ℤ◌, Bool, if◌then◌else◌, List, [], ◌∷◌, length, map, All, Option, Some, None, option_map}
+use Rattle.std.specs.Prelude.{◌≡◌, ⊤, ℕ, ◌+◌, ◌%◌, ◌==◌, ◌<◌, ℤ, pos, ◌-ℤ◌, Bool, if◌then◌else◌, List, [], ◌∷◌, length, map, All, Option, Some, None}
 use Rattle.std.specs.Prelude.{slice_index_or}
 use Rattle.rules.specs.Papers.{Pt}
 use Rattle.rules.specs.Specification.{Item}
@@ -9,9 +9,9 @@ use Rattle.made_sheets.specs.Rows.{Row}
 use Rattle.layouts.specs.Placed.{Room}
 use Rattle.row_sheets.specs.Filled.{Filling, grid_sheets}
 use Rattle.row_sheets.specs.Standing.{AllStand, StandsIn}
-use Rattle.row_runs.specs.Evened.{setting_in}
 use Rattle.row_runs.specs.Turning.{farther}
 use Rattle.row_runs.specs.declared.asked.Laying.{Laying}
+use Rattle.row_runs.specs.declared.asked.Laying.TheVariants as laying
 
 -- the same sheet with left and right exchanged
 abbrev pub exchanged : Room → Room
@@ -23,7 +23,8 @@ shift room = pos room.right -ℤ pos room.left
 
 -- the room of a laying's cells, if it is to be exchanged on backs
 abbrev pub mirror_in : (mirrored : Bool) → Laying → Option Room
-mirror_in mirrored l = if mirrored then option_map (λ t. t.room) (setting_in l) else None
+mirror_in mirrored (laying.InCells t how) = if mirrored then Some t.room else None
+mirror_in mirrored other = None
 
 -- what lies in this room is moved into the exchanged one, if there is one
 abbrev pub moved_item : Option Room → Item → Item

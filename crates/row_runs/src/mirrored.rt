@@ -4,7 +4,6 @@ ghost use Rattle.pagespec.specs.Items.{item_of};
 ghost use Rattle.row_runs.specs.Mirrored as meaning;
 
 use crate::asked::Laying;
-use crate::evened::setting_in;
 use crate::turning::{farther, turned_sheets};
 use layouts::Room;
 use pagespec::{Item, Turn};
@@ -15,8 +14,8 @@ use std::alloc::{AllocError, Global};
 pub(crate) fn mirror_in(mirrored: bool, laying: &Laying) -> Option<Room>
     ensures { result ≡ meaning.mirror_in mirrored laying.now }
 {
-    match setting_in(laying) {
-        Some(setting) if mirrored => Some(setting.room),
+    match laying {
+        Laying::InCells { setting, .. } if mirrored => Some(setting.room),
         _ => None,
     }
 }
