@@ -29,6 +29,6 @@ returns-in-Ok-dress_of-clause-dressed c =
     let j = c.args.self.now in
     let strokes = c.as_slice.ensures.value ∙ c.in-Ok-strokes_of.ensures in
     let numbers = c.in-Ok-numbers_of.ensures
-        ∙ ap₂ (λ (n : ℕ) (m : Option Room). numbers_asked n j.papers.now j.asked m j.marks.numbers) c.pages-count.ensures.count c.mirror_in-mirror.ensures in
+    ∙ ap₂ (λ (n : ℕ) (m : Option Room). numbers_asked n j.papers.now j.asked m j.marks.numbers) c.pages-count.ensures.count c.mirror_in-mirror.ensures in
     c.in-Ok-dress_of.ensures
     ∙ ap₂ (λ (s : List Stroke) (n : Option Numbers). drawn_on (record { strokes = s; numbers = n }) (telling c.in-Ok-turned_sheets.sheets)) strokes numbers
