@@ -27,7 +27,7 @@ use std::io;
 use std::io::{ErrorKind, Read, Write};
 use std::sync::Wait;
 use std::thread::Threads;
-use world::{KeepingReader, ReadFault, ReadSource, Rest, World, read_input};
+use world::{KeepingReader, ReadFault, ReadSource, Rest, World, read_input, read_input_behind};
 
 /// How the program ended.
 #[derive(Drop)]
@@ -127,7 +127,7 @@ fn read_head<I: Read + Drop>(alloc: Global, file: I) -> Result<Vec<u8>, ReadFaul
     ensures { IfOk result (λ head. IsFirst most_home_bytes (I.remaining file) head.items) }
 {
     let mut source = ReadSource::new(file.take(HOME_BYTES));
-    match read_input(alloc, 0, &mut source) {
+    match read_input(alloc, &mut source) {
         Ok(head) => Ok(head),
         Err(fault) => Err(fault),
     }
@@ -209,7 +209,7 @@ fn read_from<I: Read + Drop>(alloc: Global, input: I) -> Result<RoomyText, Impos
 {
     let mut reader = KeepingReader::new(input);
     let mut source = ReadSource::new(&mut reader);
-    let read = read_input(alloc, ROOM, &mut source);
+    let read = read_input_behind(alloc, ROOM, &mut source);
     drop(source);
     match read {
         Ok(bytes) => Ok(RoomyText::behind(ROOM as usize, bytes)),

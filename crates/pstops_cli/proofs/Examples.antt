@@ -6,8 +6,9 @@ use Rattle.clap.specs.declared.error.kind.ErrorKind.TheVariants.{ArgumentConflic
 use Rattle.lengths.specs.Reading.{number_at}
 use Rattle.rules.specs.Papers.{points}
 use Rattle.clap.proofs.OnLiterals.{clap_on_literals}
-use Rattle.pstops_cli.specs.Command.{Takes, page_found, pstops, sides_found, workers_found}
-use Rattle.pstops_cli.specs.Values.{letter_d, letter_h, letter_p, letter_w, page_named, paper_or_a4}
+use Rattle.pstops_cli.specs.Command.{Takes, options_found, pstops, sides_found, workers_found}
+use Rattle.pstops_cli.specs.Values.{letter_d, letter_h, letter_w, options_named, paper_or_a4}
+use Rattle.pstops_cli.specs.declared.command.CommandFault.TheVariants.{BadLength, UnknownPaper}
 
 pub no_words : fault_of pstops [] ≡ MissingRequiredArgument ∷ []
 unfolding clap_on_literals pstops
@@ -49,12 +50,12 @@ pub paper_in_one_word : first_of (codes "paper") (matches_of pstops (codes "-qpa
 unfolding clap_on_literals pstops
 paper_in_one_word = refl
 
-pub no_such_paper : page_found (matches_of pstops (codes "-p" ∷ codes "b9" ∷ codes "0" ∷ [])) ≡ Err letter_p
-unfolding clap_on_literals pstops page_named
+pub no_such_paper : options_found (matches_of pstops (codes "-p" ∷ codes "b9" ∷ codes "0" ∷ [])) ≡ Err UnknownPaper
+unfolding clap_on_literals pstops options_named
 no_such_paper = refl
 
-pub no_width : page_found (matches_of pstops (codes "-w0" ∷ codes "0" ∷ [])) ≡ Err letter_w
-unfolding clap_on_literals pstops page_named number_at
+pub no_width : options_found (matches_of pstops (codes "-w0" ∷ codes "0" ∷ [])) ≡ Err (BadLength letter_w)
+unfolding clap_on_literals pstops options_named number_at
 no_width = refl
 
 pub unknown_letter : fault_of pstops (codes "-x" ∷ codes "0" ∷ []) ≡ UnknownArgument ∷ []
@@ -160,18 +161,18 @@ abbrev bad : Option (List ℕ)
 bad = Some (codes "x")
 
 -- of several faults the first of -p, -w, -h and -d is reported
-pub paper_first : page_named bad bad bad bad ≡ Err letter_p
-unfolding page_named number_at
+pub paper_first : options_named bad bad bad bad None (record { preparers = 2; imposers = 2 }) ≡ Err UnknownPaper
+unfolding options_named number_at
 paper_first = refl
 
-pub width_second : page_named None bad bad bad ≡ Err letter_w
-unfolding page_named number_at
+pub width_second : options_named None bad bad bad None (record { preparers = 2; imposers = 2 }) ≡ Err (BadLength letter_w)
+unfolding options_named number_at
 width_second = refl
 
-pub height_third : page_named None None bad bad ≡ Err letter_h
-unfolding page_named number_at
+pub height_third : options_named None None bad bad None (record { preparers = 2; imposers = 2 }) ≡ Err (BadLength letter_h)
+unfolding options_named number_at
 height_third = refl
 
-pub border_last : page_named None None None bad ≡ Err letter_d
-unfolding page_named number_at
+pub border_last : options_named None None None bad None (record { preparers = 2; imposers = 2 }) ≡ Err (BadLength letter_d)
+unfolding options_named number_at
 border_last = refl

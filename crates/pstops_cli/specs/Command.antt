@@ -1,7 +1,7 @@
 -- The command line:
 -- pstops [-q] [-s sides] [-p paper] [-w W] [-h H] [-d width] [-j preparers] [-k imposers] SPECS [INFILE [OUTFILE]].
 use Rattle.std.specs.Prelude.{◌≡◌, ◌≢◌, ◌∷◌, true, false, List, [], Some, Option, Result, Ok}
-use Rattle.std.specs.Prelude.{Err, codes, string_bytes, ℕ, ℤ, ⊤, is_some, map, option_map, pos}
+use Rattle.std.specs.Prelude.{Err, codes, string_bytes, ℕ, ⊤, is_some, map, option_map, pos}
 use Rattle.clap.specs.Words.{AddsArg, AddsInTurn, App, Row, Rule, Text, app_of, args_of, fault_of, first_of}
 use Rattle.clap.specs.Words.{first_value, found_of, groups_of, matches_of, new_app, new_rule, one_of, rows_of, rule_of}
 use Rattle.clap.specs.Simple.{Shape, on_top}
@@ -11,7 +11,6 @@ use Rattle.clap.specs.declared.builder.command.Command.{Command}
 use Rattle.clap.specs.declared.builder.command.Command.TheViews.{out-Command}
 use Rattle.clap.specs.declared.builder.value_parser.ValueParser.TheVariants.{Signed}
 use Rattle.clap.specs.declared.parser.matches.ArgMatches.{ArgMatches}
-use Rattle.rules.specs.Papers.{Paper}
 use Rattle.rules.specs.Signatures.{most_sides}
 use Rattle.imposer.specs.declared.options.Options.{Options}
 use Rattle.planned_runs.specs.declared.worker_counts.Workers.{Workers}
@@ -19,9 +18,9 @@ use Rattle.planned_runs.specs.Workers.{AreWorkers}
 use Rattle.command_words.specs.Matches.{has_true, number_named}
 use Rattle.pstops_cli.specs.declared.command.Request.{Request}
 use Rattle.pstops_cli.specs.declared.command.CommandFault.{CommandFault}
-use Rattle.pstops_cli.specs.declared.command.CommandFault.TheVariants.{BadValue, BadWords, NoMemory}
+use Rattle.pstops_cli.specs.declared.command.CommandFault.TheVariants.{BadLength, BadWords, NoMemory, UnknownPaper}
 use Rattle.pstops_cli.specs.Values.{AreInRange, letter_d, letter_h, letter_j, letter_k, letter_p, letter_s, letter_w}
-use Rattle.pstops_cli.specs.Values.{page_named, workers_named}
+use Rattle.pstops_cli.specs.Values.{options_named, workers_named}
 
 -- ---- the command
 
@@ -84,37 +83,33 @@ workers_found found = workers_named (one_of (codes "preparers") found) (one_of (
 abbrev pub sides_found : (found : List Row) → Option ℕ
 sides_found found = number_named (one_of (codes "sides") found)
 
--- the paper and the border that the values found name, or the letter of the first of -p, -w, -h and -d, in this order, that
--- names nothing
-abbrev pub page_found : (found : List Row) → Result (Paper × Option ℤ) ℕ
-page_found found =
-    page_named (first_of (codes "paper") found) (first_of (codes "width") found) (first_of (codes "height") found)
+-- what the values found name, or the fault of the first of -p, -w, -h and -d, in this order, that names nothing
+abbrev pub options_found : (found : List Row) → Result Options CommandFault
+options_found found =
+    options_named (first_of (codes "paper") found) (first_of (codes "width") found) (first_of (codes "height") found)
     (first_of (codes "border") found)
-
--- the options are what was found
-pub record Names (found : List Row) (o : Options) : Type 0 where
-  pub page : page_found found ≡ Ok (o.paper, o.border)
-  pub sides : sides_found found ≡ o.sides
-  pub workers : workers_found found ≡ o.workers
+    (sides_found found) (workers_found found)
 
 -- the request is what was found
 pub record Reads (found : List Row) (r : Request) : Type 0 where
   pub spec : first_of (codes "specs") found ≡ Some (string_bytes r.spec)
   pub infile : first_of (codes "infile") found ≡ option_map string_bytes r.infile
   pub outfile : first_of (codes "outfile") found ≡ option_map string_bytes r.outfile
-  pub options : Names found r.options
+  pub options : options_found found ≡ Ok r.options
   pub quiet : has_true (first_of (codes "quiet") found) ≡ r.quiet
 
 -- what a refusal says of what was found: a value that names nothing, the first of them
 abbrev pub RefusesFound : (found : List Row) → CommandFault → Type 0
 RefusesFound found BadWords = ⊥
-RefusesFound found (BadValue letter) = page_found found ≡ Err letter
+RefusesFound found UnknownPaper = options_found found ≡ Err UnknownPaper
+RefusesFound found (BadLength letter) = options_found found ≡ Err (BadLength letter)
 RefusesFound found NoMemory = ⊤
 
 -- what a refusal says of the words: they aren't taken, or they are and a value names nothing
 abbrev pub Refuses : (words : List Text) → CommandFault → Type 0
 Refuses words BadWords = fault_of pstops words ≢ []
-Refuses words (BadValue letter) = Takes words × (page_found (matches_of pstops words) ≡ Err letter)
+Refuses words UnknownPaper = Takes words × (options_found (matches_of pstops words) ≡ Err UnknownPaper)
+Refuses words (BadLength letter) = Takes words × (options_found (matches_of pstops words) ≡ Err (BadLength letter))
 Refuses words NoMemory = ⊤
 
 -- ---- how the command is made
@@ -122,7 +117,8 @@ Refuses words NoMemory = ⊤
 -- what a refusal says of the words before their values are looked at
 abbrev pub ParseRefuses : (words : List Text) → CommandFault → Type 0
 ParseRefuses words BadWords = fault_of pstops words ≢ []
-ParseRefuses words (BadValue letter) = ⊥
+ParseRefuses words UnknownPaper = ⊥
+ParseRefuses words (BadLength letter) = ⊥
 ParseRefuses words NoMemory = ⊤
 
 -- these are the words' matches, SPECS is among them, the numbers of workers lie from 1 to 16, and that of sides from 4

@@ -1,5 +1,5 @@
 -- What is said on standard error, and with which exit status the program ends.
-use Rattle.std.specs.Prelude.{◌++◌, ◌==◌, ℕ, List, codes, decimal, encode_utf8, if◌then◌else◌}
+use Rattle.std.specs.Prelude.{◌++◌, ℕ, List, codes, decimal, encode_utf8}
 use Rattle.rules.specs.Bytes.{line}
 use Rattle.pagespec.specs.declared.error.SpecError.{SpecError}
 use Rattle.pagespec.specs.declared.error.SpecError.TheVariants as spec
@@ -10,9 +10,9 @@ use Rattle.sheet_plan.specs.declared.error.PlanError.TheVariants as plan
 use Rattle.planned_runs.specs.declared.outcome.RunError.{RunError}
 use Rattle.planned_runs.specs.declared.outcome.RunError.TheVariants as run
 use Rattle.planned_runs.specs.declared.outcome.Report.{Report}
+use Rattle.world.specs.declared.read.ReadFault.{ReadFault}
 use Rattle.world.specs.declared.read.ReadFault.TheVariants as read
 use Rattle.imposer.specs.Statuses.{run_status}
-use Rattle.pstops_cli.specs.Values.{letter_p}
 use Rattle.pstops_cli.specs.declared.command.CommandFault.{CommandFault}
 use Rattle.pstops_cli.specs.declared.command.CommandFault.TheVariants as command
 use Rattle.pstops_cli.specs.declared.messages.Fault.{Fault}
@@ -32,9 +32,13 @@ cannot_write = codes "cannot write output"
 
 abbrev pub command_text : CommandFault → List ℕ
 command_text command.BadWords = codes "bad command line"
-command_text (command.BadValue letter) =
-    if letter == letter_p then codes "unknown paper" else codes "bad length after -" ++ encode_utf8 letter
+command_text command.UnknownPaper = codes "unknown paper"
+command_text (command.BadLength letter) = codes "bad length after -" ++ encode_utf8 letter
 command_text command.NoMemory = out_of_memory
+
+abbrev pub read_text : ReadFault → List ℕ
+read_text read.Device = codes "cannot read input"
+read_text read.NoMemory = out_of_memory
 
 abbrev pub spec_text : SpecError → List ℕ
 spec_text spec.TooLong = codes "specification: too long"
@@ -74,8 +78,7 @@ run_text (run.Write written) = cannot_write
 
 abbrev pub fault_text : Fault → List ℕ
 fault_text (fault.Command f) = command_text f
-fault_text (fault.Read read.Device) = codes "cannot read input"
-fault_text (fault.Read read.NoMemory) = out_of_memory
+fault_text (fault.Read f) = read_text f
 fault_text fault.Create = cannot_write
 fault_text (fault.Run e) = run_text e
 
@@ -86,9 +89,12 @@ report_text r = codes "pages "
 -- ---- the exit statuses: 1 if what was asked for is refused, 2 if the words are, 3 if memory, reading or writing
 -- failed
 
+abbrev pub command_status : CommandFault → ℕ
+command_status command.NoMemory = 3
+command_status _ = 2
+
 abbrev pub fault_status : Fault → ℕ
-fault_status (fault.Command command.NoMemory) = 3
-fault_status (fault.Command f) = 2
+fault_status (fault.Command f) = command_status f
 fault_status (fault.Read f) = 3
 fault_status fault.Create = 3
 fault_status (fault.Run e) = run_status e

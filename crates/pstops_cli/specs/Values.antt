@@ -1,12 +1,15 @@
 -- What the values of the options mean.
-use Rattle.std.specs.Prelude.{⊤, ◌≤◌, ℕ, ℤ, unwrap_or, option_and_then, if◌then◌else◌}
+use Rattle.std.specs.Prelude.{⊤, ◌≤◌, ℕ, unwrap_or, ok_or, option_and_then, if◌then◌else◌}
 use Rattle.std.specs.Prelude.{List, Option, Some, None, Result, Ok, Err, codes}
 use Rattle.rules.specs.Signatures.{most_sides}
 use Rattle.rules.specs.Papers.{Paper, is_side, paper_named}
 use Rattle.lengths.specs.Lengths.{length_named}
+use Rattle.imposer.specs.declared.options.Options.{Options}
 use Rattle.planned_runs.specs.declared.worker_counts.Workers.{Workers}
 use Rattle.command_words.specs.Borders.{border_named}
 use Rattle.command_words.specs.Matches.{number_named}
+use Rattle.pstops_cli.specs.declared.command.CommandFault.{CommandFault}
+use Rattle.pstops_cli.specs.declared.command.CommandFault.TheVariants.{BadLength, UnknownPaper}
 
 -- ---- the paper
 
@@ -42,8 +45,13 @@ AreInRange (Some n) = (4 ≤ n) × (n ≤ most_sides)
 abbrev pub workers_named : (preparers imposers : Option (List ℕ)) → Workers
 workers_named preparers imposers = record { preparers = count_named preparers; imposers = count_named imposers }
 
--- ---- the letters of the options that take a value
+-- ---- all of them
 
+abbrev pub and_then : {T U E : Type 0} → Result T E → (T → Result U E) → Result U E
+and_then (Ok x) f = f x
+and_then (Err e) f = Err e
+
+-- the letters of the options that take a value
 abbrev pub letter_p : ℕ
 letter_p = 112
 
@@ -65,19 +73,13 @@ letter_k = 107
 abbrev pub letter_s : ℕ
 letter_s = 115
 
--- ---- paper and border
-
--- what is named, for the next value; if it is nothing, the letter of its option
-abbrev pub or_letter : {T U : Type 0} → Option T → (letter : ℕ) → (T → Result U ℕ) → Result U ℕ
-or_letter None letter next = Err letter
-or_letter (Some x) letter next = next x
-
--- the paper and the border that the values of -p, -w, -h and -d name, or the letter of the first, in this order, that names
--- no paper or no length that its option takes
-unfoldable pub page_named : (paper width height border : Option (List ℕ)) → Result (Paper × Option ℤ) ℕ
-page_named paper width height border =
-    or_letter (paper_or_a4 paper) letter_p (λ named.
-    or_letter (with_width named width) letter_w (λ wide.
-    or_letter (with_height wide height) letter_h (λ paper.
-    or_letter (border_named paper border) letter_d (λ around.
-    Ok (paper, around)))))
+-- what the values of -p, -w, -h and -d name beside these sides of a signature and workers, or the fault of the first,
+-- in this order, that names no paper or no length that its option takes
+unfoldable pub options_named : (paper width height border : Option (List ℕ)) → (signature : Option ℕ) → Workers
+    → Result Options CommandFault
+options_named paper width height border signature workers =
+    and_then (ok_or (paper_or_a4 paper) UnknownPaper) (λ named.
+    and_then (ok_or (with_width named width) (BadLength letter_w)) (λ wide.
+    and_then (ok_or (with_height wide height) (BadLength letter_h)) (λ paper.
+    and_then (ok_or (border_named paper border) (BadLength letter_d)) (λ around.
+    Ok (record { paper = paper; border = around; sides = signature; workers = workers })))))

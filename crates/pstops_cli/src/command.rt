@@ -1,16 +1,16 @@
 //! What the words after the program's name ask for.
-ghost use Rattle.std.specs.Prelude.{◌≡◌, Err, IfOk, IfErr, codes, is_some, map, true, string_bytes};
+ghost use Rattle.std.specs.Prelude.{◌≡◌, IfOk, IfErr, codes, is_some, map, true, string_bytes};
 ghost use Rattle.clap.specs.Words.{first_value, found_of, matches_of, one_of, rows_of, rule_of};
 ghost use Rattle.planned_runs.specs.Workers.{AreWorkers};
 ghost use Rattle.rules.specs.Signatures.{most_sides};
-ghost use Rattle.pstops_cli.specs.Command.{Finds, IsChain, Names, ParseRefuses, Reads, RefusesFound, Refuses, Takes};
-ghost use Rattle.pstops_cli.specs.Command.{counted_rule, flag_rule, page_found, positional_rule, pstops};
-ghost use Rattle.pstops_cli.specs.Command.{ranged_rule, rules, valued_rule};
+ghost use Rattle.pstops_cli.specs.Command.{Finds, IsChain, ParseRefuses, Reads, RefusesFound, Refuses, Takes};
+ghost use Rattle.pstops_cli.specs.Command.{counted_rule, flag_rule, options_found, positional_rule, pstops};
+ghost use Rattle.pstops_cli.specs.Command.{ranged_rule, rules, sides_found, valued_rule, workers_found};
 ghost use Rattle.pstops_cli.specs.Values.{AreInRange};
 ghost use Rattle.pstops_cli.specs.Values as meaning;
 ghost use Rattle.pstops_cli.specs.declared.command.CommandFault.TheVariants.{NoMemory};
 
-use crate::values::page_named;
+use crate::values::options_named;
 use clap::error::ErrorKind;
 use clap::{Arg, ArgAction, ArgMatches, Command, value_parser};
 use command_words::{is_set, number_of, owned, text_of};
@@ -37,8 +37,10 @@ pub struct Request {
 pub enum CommandFault {
     /// The command doesn't take the words.
     BadWords,
-    /// The value of the option with this letter is no paper, or no length that it takes.
-    BadValue(char),
+    /// A paper is named that there isn't.
+    UnknownPaper,
+    /// The value of the option with this letter is no length that it takes.
+    BadLength(char),
     /// There was no memory for the request.
     NoMemory,
 }
@@ -62,16 +64,17 @@ impl From<AllocError> for CommandFault {
 /// `cm`, `mm` or `in`, without which it is in points. `-j` and `-k` are how many threads prepare pages and how many
 /// impose sheets: whole numbers from 1 to 16, 2 if they aren't named.
 ///
-/// Words that the command doesn't take are `BadWords`, and so are other values of `-s`, `-j` and `-k`. Of words that it
-/// takes, `BadValue` reports the first bad value in the order `-p`, `-w`, `-h` and `-d`, whatever theirs: no name of a paper,
-/// no length above zero, or of `-d` one that is below zero.
+/// Words that the command doesn't take are `BadWords`, and so are other values of `-s`, `-j` and `-k`. Among words that
+/// it takes, a paper without a name comes first as `UnknownPaper`, then as `BadLength` the values of `-w` and `-h`,
+/// which are lengths above zero, and of `-d`, which isn't below zero, whatever their order.
 #[tactic(auto, using(crate::proofs::SimpleCommand::pstops_is_simple))]
 pub fn read_command(alloc: Global, words: &[String]) -> Result<Request, CommandFault>
     ensures taken { IfOk result (λ _. Takes (map string_bytes words.now)) }
     ensures read { IfOk result (Reads (matches_of pstops (map string_bytes words.now))) }
     ensures workers { IfOk result (λ request. AreWorkers request.options.workers) }
     ensures sides { IfOk result (λ request. AreInRange request.options.sides) }
-    // BadWords comes only if the command doesn't take the words, and BadValue only if a value is no paper or no length.
+    // BadWords comes only if the command doesn't take the words, and another refusal only if a value is no paper or
+    // no length.
     ensures refused { IfErr result (Refuses (map string_bytes words.now)) }
 {
     let matches = parse(alloc, words)?;
@@ -103,10 +106,7 @@ fn request_of(alloc: Global, matches: &ArgMatches<'_>) -> Result<Request, Comman
     ensures read { IfOk result (Reads (rows_of (found_of matches.now))) }
     ensures refused { IfErr result (RefusesFound (rows_of (found_of matches.now))) }
 {
-    let options = match options_of(matches) {
-        Ok(options) => options,
-        Err(letter) => return Err(CommandFault::BadValue(letter)),
-    };
+    let options = options_of(matches)?;
     let quiet = is_set(matches, "quiet");
     let spec = String::from_str(alloc, text_of(matches, "specs").unwrap())?;
     let infile = owned(alloc, text_of(matches, "infile"))?;
@@ -120,29 +120,35 @@ fn request_of(alloc: Global, matches: &ArgMatches<'_>) -> Result<Request, Comman
     })
 }
 
-/// The options that the matches name, or the letter of the first whose value names nothing.
-fn options_of(matches: &ArgMatches<'_>) -> Result<Options, char>
-    ensures named { IfOk result (Names (rows_of (found_of matches.now))) }
-    ensures refused { IfErr result (λ letter. page_found (rows_of (found_of matches.now)) ≡ Err letter) }
+/// The options that the matches name.
+fn options_of(matches: &ArgMatches<'_>) -> Result<Options, CommandFault>
+    ensures { result ≡ options_found (rows_of (found_of matches.now)) }
 {
-    let page = page_named(
+    options_named(
         text_of(matches, "paper"),
         text_of(matches, "width"),
         text_of(matches, "height"),
         text_of(matches, "border"),
-    );
-    match page {
-        Ok((paper, border)) => Ok(Options {
-            paper,
-            border,
-            sides: number_of(matches, "sides"),
-            workers: Workers {
-                preparers: count_of(matches, "preparers"),
-                imposers: count_of(matches, "imposers"),
-            },
-        }),
-        Err(letter) => Err(letter),
+        sides_of(matches),
+        workers_of(matches),
+    )
+}
+
+/// As many workers as the matches name.
+fn workers_of(matches: &ArgMatches<'_>) -> Workers
+    ensures { result ≡ workers_found (rows_of (found_of matches.now)) }
+{
+    Workers {
+        preparers: count_of(matches, "preparers"),
+        imposers: count_of(matches, "imposers"),
     }
+}
+
+/// As many sides of a signature as the matches name.
+fn sides_of(matches: &ArgMatches<'_>) -> Option<u32>
+    ensures { result ≡ sides_found (rows_of (found_of matches.now)) }
+{
+    number_of(matches, "sides")
 }
 
 /// The number of workers that an argument names, 2 if it isn't there.

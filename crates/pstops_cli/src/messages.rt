@@ -2,7 +2,7 @@
 ghost use Rattle.std.specs.Prelude.{◌≡◌, IfOk, string_bytes};
 ghost use Rattle.pstops_cli.specs.Messages.{command_text as text_of_command, document_text as text_of_document};
 ghost use Rattle.pstops_cli.specs.Messages.{fault_status as status_of_fault, fault_text as text_of_fault};
-ghost use Rattle.pstops_cli.specs.Messages.{plan_text as text_of_plan};
+ghost use Rattle.pstops_cli.specs.Messages.{plan_text as text_of_plan, read_text as text_of_read};
 ghost use Rattle.pstops_cli.specs.Messages.{report_text as text_of_report};
 ghost use Rattle.pstops_cli.specs.Messages.{run_text as text_of_run, said, spec_text as text_of_spec};
 
@@ -73,8 +73,7 @@ fn fault_text(alloc: Global, fault: &Fault) -> Result<String, AllocError>
 {
     match fault {
         Fault::Command(fault) => command_text(alloc, *fault),
-        Fault::Read(ReadFault::Device) => String::from_str(alloc, "cannot read input"),
-        Fault::Read(ReadFault::NoMemory) => String::from_str(alloc, "out of memory"),
+        Fault::Read(fault) => read_text(alloc, *fault),
         Fault::Create => String::from_str(alloc, "cannot write output"),
         Fault::Run(error) => run_text(alloc, error),
     }
@@ -85,9 +84,18 @@ fn command_text(alloc: Global, fault: CommandFault) -> Result<String, AllocError
 {
     match fault {
         CommandFault::BadWords => String::from_str(alloc, "bad command line"),
-        CommandFault::BadValue('p') => String::from_str(alloc, "unknown paper"),
-        CommandFault::BadValue(letter) => format!(in alloc; "bad length after -{letter}"),
+        CommandFault::UnknownPaper => String::from_str(alloc, "unknown paper"),
+        CommandFault::BadLength(letter) => format!(in alloc; "bad length after -{letter}"),
         CommandFault::NoMemory => String::from_str(alloc, "out of memory"),
+    }
+}
+
+fn read_text(alloc: Global, fault: ReadFault) -> Result<String, AllocError>
+    ensures { IfOk result (λ text. string_bytes text ≡ text_of_read fault) }
+{
+    match fault {
+        ReadFault::Device => String::from_str(alloc, "cannot read input"),
+        ReadFault::NoMemory => String::from_str(alloc, "out of memory"),
     }
 }
 

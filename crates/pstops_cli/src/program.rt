@@ -74,7 +74,7 @@ fn input_of<W: World>(alloc: Global, name: Option<&str>, world: &W) -> Result<Ve
     match world.open(name) {
         Ok(input) => {
             let mut source = ReadSource::new(input);
-            read_input(alloc, 0, &mut source)
+            read_input(alloc, &mut source)
         }
         Err(error) if error.kind() == ErrorKind::OutOfMemory => Err(ReadFault::NoMemory),
         Err(_) => Err(ReadFault::Device),

@@ -2,34 +2,34 @@
 ghost use Rattle.std.specs.Prelude.{◌≡◌, option_map};
 ghost use Rattle.pstops_cli.specs.Values as meaning;
 
+use crate::command::CommandFault;
 use command_words::border_named;
-use lengths::{Grains, Paper, length_named, paper_by_name};
+use imposer::{Options, Workers};
+use lengths::{Paper, length_named, paper_by_name};
 
-/// The paper and the border that the values of `-p`, `-w`, `-h` and `-d` name, or the letter of the first, in this order,
-/// that names none.
-#[tactic(auto, unfolding(crate::specs::Values::page_named))]
-pub(crate) fn page_named(
+/// The options that the values of `-p`, `-w`, `-h` and `-d` name, beside these sides of a signature and workers. The
+/// first in this order that names none is the fault.
+pub(crate) fn options_named(
     paper: Option<&str>,
     width: Option<&str>,
     height: Option<&str>,
     border: Option<&str>,
-) -> Result<(Paper, Option<Grains>), char>
-    ensures { result ≡ meaning.page_named (option_map (λ s. s.now) paper.entry) (option_map (λ s. s.now) width.entry)
-        (option_map (λ s. s.now) height.entry) (option_map (λ s. s.now) border.entry) }
+    signature: Option<u32>,
+    workers: Workers,
+) -> Result<Options, CommandFault>
+    ensures { result ≡ meaning.options_named (option_map (λ s. s.now) paper.entry) (option_map (λ s. s.now) width.entry)
+        (option_map (λ s. s.now) height.entry) (option_map (λ s. s.now) border.entry) signature workers }
 {
-    let Some(named) = paper_or_a4(paper) else {
-        return Err('p');
-    };
-    let Some(wide) = with_width(named, width) else {
-        return Err('w');
-    };
-    let Some(paper) = with_height(wide, height) else {
-        return Err('h');
-    };
-    let Some(border) = border_named(&paper, border) else {
-        return Err('d');
-    };
-    Ok((paper, border))
+    let named = paper_or_a4(paper).ok_or(CommandFault::UnknownPaper)?;
+    let wide = with_width(named, width).ok_or(CommandFault::BadLength('w'))?;
+    let paper = with_height(wide, height).ok_or(CommandFault::BadLength('h'))?;
+    let border = border_named(&paper, border).ok_or(CommandFault::BadLength('d'))?;
+    Ok(Options {
+        paper,
+        border,
+        sides: signature,
+        workers,
+    })
 }
 
 fn paper_or_a4(name: Option<&str>) -> Option<Paper>

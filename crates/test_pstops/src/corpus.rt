@@ -43,7 +43,7 @@ const ROOM: usize = 1_000_000;
 pub fn impose_all<R: Threads + Wait + Sync>(rt: &HostRuntime, threads: &R) -> anyhow::Result<()> {
     for name in DOCUMENTS {
         let mut source = ReadSource::new(File::open(rt, name)?);
-        let Ok(input) = read_input(rt.alloc(), 0, &mut source) else {
+        let Ok(input) = read_input(rt.alloc(), &mut source) else {
             println!(rt; "{name}: cannot be read")?;
             continue;
         };

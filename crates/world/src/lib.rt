@@ -14,7 +14,7 @@ mod world;
 pub use host::{Host, HostInput, HostOutput};
 pub use keeping_reader::KeepingReader;
 pub use output::Created;
-pub use read::{MOST_BYTES, ReadFault, read_input};
+pub use read::{MOST_BYTES, ReadFault, read_input, read_input_behind};
 pub use rest::Rest;
 pub use sink::{Buffered, abandon, created, write_out};
 pub use source::{ReadSource, Source, SourceFault};

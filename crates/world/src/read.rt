@@ -1,8 +1,8 @@
 //! Reading a whole input.
 ghost use Rattle.std.specs.Prelude.{◌≡◌, ◌+◌, ◌<◌, ◌≤◌, IfOk, IfErr, OnOk, OnErr, vec_len};
-ghost use Rattle.std.specs.Prelude.{take, drop, max, replicate};
+ghost use Rattle.std.specs.Prelude.{length, take, drop, max, replicate};
 ghost use Rattle.std.specs.Io.KnownBytes.{Consumes, IsAtEnd, Keeps};
-ghost use Rattle.world.specs.Input.{ConsumesAtMost, IsFaultOf, IsFirst, most_bytes};
+ghost use Rattle.world.specs.Input.{ConsumesAtMost, Counts, Fills, IsFaultOf, IsFirst, most_bytes};
 ghost use Rattle.world.specs.declared.read.ReadFault.TheVariants.{Device, NoMemory};
 
 use crate::source::{Source, SourceFault};
@@ -48,13 +48,31 @@ impl From<SourceFault> for ReadFault {
     }
 }
 
-/// The bytes of the source to its end, or the first [`MOST_BYTES`] of them if it has more, after `room` bytes that are 0: room
-/// for what whoever reads may want to put before the input.
+/// The bytes of the source to its end, or the first [`MOST_BYTES`] of them if it has more.
 ///
 /// They are read straight into the vector, whose length grows by a piece at a time as it fills. From a megabyte on it has
 /// room for the longest input, if there is address space for it, until all is read. After a fault the bytes that were
 /// read are lost.
-pub fn read_input<S: Source>(alloc: Global, room: u32, source: &mut S) -> Result<Vec<u8>, ReadFault>
+pub fn read_input<S: Source>(alloc: Global, source: &mut S) -> Result<Vec<u8>, ReadFault>
+    requires countable { (S.seen source.old).failures < u64.MAX }
+    ensures within { IfOk result (λ bytes. vec_len bytes ≤ most_bytes) }
+    ensures read { IfOk result (λ bytes. IsFirst most_bytes (S.seen source.old).bytes bytes.items) }
+    ensures rest { IfOk result (λ bytes. Consumes (S.seen source.old).bytes (S.seen source.new).bytes bytes.items) }
+    // It ends after that many bytes, whatever comes of it.
+    ensures most { ConsumesAtMost most_bytes (S.seen source.old).bytes (S.seen source.new).bytes }
+    // It is Device if the source failed in the call, and only then.
+    ensures steady { OnOk result ((S.seen source.new).failures ≡ (S.seen source.old).failures) }
+    ensures refused { IfErr result (IsFaultOf (S.seen source.old).failures (S.seen source.new).failures) }
+{
+    read_input_behind(alloc, 0, source)
+}
+
+/// The same after `room` bytes, which are 0: room for what whoever reads may want to put before the input.
+pub fn read_input_behind<S: Source>(
+    alloc: Global,
+    room: u32,
+    source: &mut S,
+) -> Result<Vec<u8>, ReadFault>
     requires countable { (S.seen source.old).failures < u64.MAX }
     ensures room { IfOk result (λ bytes. take room bytes.items ≡ replicate room 0) }
     ensures within { IfOk result (λ bytes. vec_len bytes ≤ room + most_bytes) }
@@ -107,8 +125,7 @@ fn fill_more<S: Source>(
     ensures refused { IfErr result (IsFaultOf (S.seen source.old).failures (S.seen source.new).failures) }
 {
     make_room(bytes, filled, most)?;
-    let buffer = bytes.as_mut_slice();
-    Ok(source.fill(&mut buffer[filled..])?)
+    Ok(fill_behind(source, bytes.as_mut_slice(), filled)?)
 }
 
 /// Sees to room after the first `filled` bytes, of a piece more or of as much as may still be read.
@@ -175,4 +192,20 @@ fn give_back_room(bytes: &mut Vec<u8>)
     if bytes.len() >= LARGE {
         bytes.shrink_to_fit();
     }
+}
+
+/// Fills what is after the first `filled` bytes.
+fn fill_behind<S: Source>(
+    source: &mut S,
+    buffer: &mut [u8],
+    filled: usize,
+) -> Result<usize, SourceFault>
+    requires room { filled < length buffer.old }
+    requires countable { (S.seen source.old).failures < u64.MAX }
+    ensures front { take filled buffer.new ≡ take filled buffer.old }
+    ensures within { IfOk result (λ k. filled + k ≤ length buffer.new) }
+    ensures moved { Fills (S.seen source.old).bytes (S.seen source.new).bytes result (drop filled buffer.new) }
+    ensures counted { Counts (S.seen source.old).failures (S.seen source.new).failures result }
+{
+    source.fill(&mut buffer[filled..])
 }

@@ -38,7 +38,7 @@ fn show_request(alloc: Global, line: &str, answer: &mut Vec<u8>) -> anyhow::Resu
 fn show_input(alloc: Global, answer: &mut Vec<u8>) -> anyhow::Result<()> {
     let long = vec![in alloc; 37u8; 300_000]?;
     let mut source = ReadSource::new(long.as_slice());
-    match read_input(alloc, 0, &mut source) {
+    match read_input(alloc, &mut source) {
         Ok(bytes) => {
             let is_whole = bytes.as_slice() == long.as_slice();
             show((bytes.len(), is_whole), answer)
@@ -82,8 +82,8 @@ fn refusal_of(name: &str) -> Option<RunError> {
 fn fault_of(name: &str) -> Fault {
     match name {
         "bad words" => Fault::Command(CommandFault::BadWords),
-        "paper" => Fault::Command(CommandFault::BadValue('p')),
-        "length" => Fault::Command(CommandFault::BadValue('w')),
+        "paper" => Fault::Command(CommandFault::UnknownPaper),
+        "length" => Fault::Command(CommandFault::BadLength('w')),
         "words" => Fault::Command(CommandFault::NoMemory),
         "reading" => Fault::Read(ReadFault::NoMemory),
         "device" => Fault::Read(ReadFault::Device),

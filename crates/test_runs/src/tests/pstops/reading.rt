@@ -46,7 +46,7 @@ impl Read for Failing {
 fn assert_failed_at<R: Abort>(rt: &R, alloc: Global, fails_at: usize, cause: ErrorKind) {
     let mut reader = Failing::new(fails_at, cause);
     let mut source = ReadSource::new(&mut reader);
-    let answer = read_input(alloc, 0, &mut source);
+    let answer = read_input(alloc, &mut source);
     drop(source);
     assert_that(rt, answer == Err(ReadFault::Device));
     assert_that(rt, reader.calls == fails_at);
@@ -65,7 +65,7 @@ fn a_reader_that_fails_at_any_call_is_not_asked_again(rt: HostRuntime) {
 fn a_reader_that_does_not_fail_is_read_whole(rt: HostRuntime) {
     let mut reader = Failing::new(15, ErrorKind::Other);
     let mut source = ReadSource::new(&mut reader);
-    match read_input(rt.alloc(), 0, &mut source) {
+    match read_input(rt.alloc(), &mut source) {
         Ok(input) => assert_bytes(&rt, input.as_slice(), ONE_PAGE.as_bytes()),
         Err(_) => assert_that(&rt, false),
     }
@@ -98,7 +98,7 @@ fn a_source_that_fails_midway(rt: HostRuntime) {
         left: 50,
         failures: 0,
     };
-    let answer = read_input(rt.alloc(), 0, &mut source);
+    let answer = read_input(rt.alloc(), &mut source);
     assert_that(
         &rt,
         answer == Err(ReadFault::Device) && source.failures == 1,
