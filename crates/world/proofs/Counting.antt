@@ -81,6 +81,12 @@ front_if : (b : Bool) (xs front : List ℕ) → (if b then Some xs else None) �
 front_if true xs front e = (refl, some_same xs front e)
 front_if false xs front e = cc
 
+-- a front with a count is a front
+pub uncounted_front : (n : ℕ) (all out : Option (List ℕ)) → IsFrontOf (counted n out) all → IsFrontOf out all
+uncounted_front n None out front = tt
+uncounted_front n (Some all) None front = front
+uncounted_front n (Some all) (Some xs) front = (front.0, front.1, ap Some (front_if (are_many n (bytes_in xs)) xs front.0 front.2).1, front.3)
+
 -- a front of a start and a part of a text that ends so many bytes before its end is the start and a front of the part
 fits : (start part xs rest all : List ℕ) (n : ℕ) → length xs ≡ length start + n → all ≡ start ++ part → all ≡ xs ++ rest → xs ≡ start ++ take n part
 fits start part xs rest all n long began split =
