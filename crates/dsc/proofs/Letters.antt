@@ -83,6 +83,11 @@ no_letter k e = false≢true (sym (ap is_some e))
 begins_none : (content : List ℕ) (depth : ℕ) → starts_with nat_eq content (codes "%%Page:") ≡ false → false ≡ begins_page (at_depth depth (comment_line content))
 begins_none content depth h = sym (ap (λ v. ((depth == 0) && true) && v) (comment_is content (codes "%%Page") false refl h) ∙ and_false ((depth == 0) && true))
 
+-- outside of embedded documents a page begins by its key
+pub begins_at_0 : (content : List ℕ) (depth : ℕ) (starts : Bool) → depth ≡ 0 → starts ≡ starts_with nat_eq content (codes "%%Page:") → starts ≡ begins_page (at_depth depth (comment_line content))
+begins_at_0 content depth starts outside is =
+    sym (ap (λ v. ((depth == 0) && true) && v) (comment_is content (codes "%%Page") starts refl (sym is)) ∙ ap (λ d. ((d == 0) && true) && starts) outside)
+
 -- a line with this key begins neither a page nor the trailer
 pub begins_neither : (content name : List ℕ) (depth : ℕ) → starts_with nat_eq content (codes "%%Page:") ≡ false → bytes_eq (key content) name ≡ true
     → (bytes_eq name (codes "%%Trailer") || bytes_eq name (codes "%%EOF")) ≡ false
@@ -98,21 +103,33 @@ begins_neither content name depth h is other = (
 pub deepens : (content : List ℕ) (depth : ℕ) → bytes_eq (key content) (codes "%%BeginDocument") ≡ true → depth + 1 ≡ depth_after depth (comment_line content)
 deepens content depth is = sym (ap (λ v. if v || false then depth + 1 else (if bytes_eq (key content) (codes "%%EndDocument") || false then depth - 1 else depth)) is)
 
--- a line with another letter means nothing
-pub means_nothing : (content : List ℕ) (depth : ℕ) → (letter_of content ≡ Some 80 → ⊥) → (letter_of content ≡ Some 66 → ⊥) → (letter_of content ≡ Some 69 → ⊥) → (letter_of content ≡ Some 84 → ⊥)
-    → (false ≡ begins_page (at_depth depth (comment_line content))) × (false ≡ begins_trailer (at_depth depth (comment_line content))) × (depth ≡ depth_after depth (comment_line content))
-means_nothing content depth p b e t =
-    let page : starts_with nat_eq content (codes "%%Page:") ≡ false = other_start content (codes "age:") 80 p in
+-- a line with another letter begins no trailer, and leaves the depth
+means_no_end : (content : List ℕ) (depth : ℕ) → (letter_of content ≡ Some 66 → ⊥) → (letter_of content ≡ Some 69 → ⊥) → (letter_of content ≡ Some 84 → ⊥)
+    → (false ≡ begins_trailer (at_depth depth (comment_line content))) × (depth ≡ depth_after depth (comment_line content))
+means_no_end content depth b e t =
     let begins : bytes_eq (key content) (codes "%%BeginDocument") ≡ false = other_key content (codes "eginDocument") 66 b in
     let ends : bytes_eq (key content) (codes "%%EndDocument") ≡ false = other_key content (codes "ndDocument") 69 e in
     let trails : bytes_eq (key content) (codes "%%Trailer") ≡ false = other_key content (codes "railer") 84 t in
     let eof : bytes_eq (key content) (codes "%%EOF") ≡ false = other_key content (codes "OF") 69 e in (
-      begins_none content depth page,
       sym (ap (λ v. ((depth == 0) && true) && (v || (bytes_eq (key content) (codes "%%EOF") || false))) trails
           ∙ ap (λ v. ((depth == 0) && true) && (v || false)) eof ∙ and_false ((depth == 0) && true)),
       sym (ap (λ v. if v || false then depth + 1 else (if bytes_eq (key content) (codes "%%EndDocument") || false then depth - 1 else depth)) begins
           ∙ ap (λ v. if v || false then depth - 1 else depth) ends),
     )
+
+-- a line with another letter means nothing
+pub means_nothing : (content : List ℕ) (depth : ℕ) → (letter_of content ≡ Some 80 → ⊥) → (letter_of content ≡ Some 66 → ⊥) → (letter_of content ≡ Some 69 → ⊥) → (letter_of content ≡ Some 84 → ⊥)
+    → (false ≡ begins_page (at_depth depth (comment_line content))) × (false ≡ begins_trailer (at_depth depth (comment_line content))) × (depth ≡ depth_after depth (comment_line content))
+means_nothing content depth p b e t =
+    let rest = means_no_end content depth b e t in
+    (begins_none content depth (other_start content (codes "age:") 80 p), rest.0, rest.1)
+
+-- a line with the letter of a page
+pub means_no_more : (content : List ℕ) (depth : ℕ) → letter_of content ≡ Some 80
+    → (false ≡ begins_trailer (at_depth depth (comment_line content))) × (depth ≡ depth_after depth (comment_line content))
+means_no_more content depth is =
+    means_no_end content depth (λ e. another 80 66 (λ same. omega (arith, same)) (sym is ∙ e)) (λ e. another 80 69 (λ same. omega (arith, same)) (sym is ∙ e))
+    (λ e. another 80 84 (λ same. omega (arith, same)) (sym is ∙ e))
 
 -- a line with another letter is not dropped from a page
 pub drops_nothing : (content : List ℕ) → (letter_of content ≡ Some 80 → ⊥) → (letter_of content ≡ Some 66 → ⊥) → (letter_of content ≡ Some 69 → ⊥) → false ≡ drops_in_page content

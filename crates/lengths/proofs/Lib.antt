@@ -1,6 +1,7 @@
 pub mod Digits
 pub mod Numbers
 pub mod Powers
+mod Shares
 pub mod Scans
 pub mod LastZeros
 pub mod WholeNumbers

@@ -47,3 +47,14 @@ pub passed_over : (rows : List Row) (i : ℕ) (d : Row) (name : List ℕ) → li
 passed_over [] i d name lower h same test e = absurd (omega arith)
 passed_over (row ∷ rows) zero d name lower h same test e = sym (other_name name row rows (both _ _ lower).0 (λ q. true≢false (sym (test.1 q) ∙ e)))
 passed_over (row ∷ rows) (suc i) d name lower h same test e = passed_over rows i d name (both _ _ lower).1 (omega arith) same test e
+
+-- a name that is this row's names its paper
+pub found_at : (rows : List Row) (i : ℕ) (d : Row) (name : List ℕ) → list_all is_lowercase rows ≡ true → i < length rows
+    → (same : Bool) → (IsTrue same ↔ (map to_ascii_lowercase name ≡ map to_ascii_lowercase (get_or rows i d).0.now)) → same ≡ true
+    → paper_among (map entry (drop i rows)) name ≡ Some (points (get_or rows i d).1 (get_or rows i d).2)
+found_at [] i d name lower h same test e = absurd (omega arith)
+found_at (row ∷ rows) zero d name lower h same test e =
+    let known : map to_ascii_lowercase row.0.now ≡ row.0.now = (bytes_eq-Decides _ _).0 (both _ _ lower).0 in
+    let yes : bytes_eq (map small name) row.0.now ≡ true = (bytes_eq-Decides _ _).1 (lowercase-small name ∙ test.0 e ∙ known) in
+    ap (λ b. if b then Some (entry row).paper else paper_among (map entry rows) name) yes
+found_at (row ∷ rows) (suc i) d name lower h same test e = found_at rows i d name (both _ _ lower).1 (omega arith) same test e

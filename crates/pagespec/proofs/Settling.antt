@@ -1,11 +1,12 @@
 -- The results of the parsed items, compared with those of the written ones.
-use Rattle.std.proofs.Common.{arith, ◌≡◌, ◌%◌, ℕ, List, [], ◌∷◌, ◌++◌, Bool, Option, Some, None, refl, sym, ap, subst, ◌∙◌, length, take, drop}
+use Rattle.std.proofs.Common.{arith, ◌≡◌, ◌%◌, ℕ, List, [], ◌∷◌, ◌++◌, Bool, Option, Some, None, refl, sym, ap, subst, ◌∙◌, length, take, drop, get_or, ◌+◌, ◌<◌}
 use Rattle.std.specs.Prelude.{map, flat_map, unwrap_or, option_map, pos, ℤ}
 use Rattle.std.specs.List.{AllZip}
-use Rattle.std.proofs.lemmas.List.{length-append, length-map, length-drop, map-append}
+use Rattle.std.proofs.lemmas.List.{length-append, length-map, length-drop, map-append, map_more}
 use Rattle.std.proofs.lemmas.Slice.Zip.{AllZip-long}
 use Rattle.rules.specs.Specification.{Measure, Modifier, Quarters, Scaled, Moved, Turn, WrittenItem, Item, settled_item, quarters, turn_of, scale, offset_x, offset_y, zero_points}
-use Rattle.pagespec.specs.Items.{measure_of}
+use Rattle.pagespec.specs.Items.{measure_of, item_of}
+use Rattle.pagespec.specs.declared.item.Item as code
 use Rattle.pagespec.specs.Parsed.{Known, first_scale, first_offset}
 use Rattle.pagespec.specs.Settled.{item_of_parsed, offset_of_parsed, split_by, AreLengths}
 use Rattle.pagespec.specs.declared.item.Measure.{Measure as ParsedMeasure}
@@ -109,3 +110,11 @@ parsed_fit R xs gs lengths zip e =
 pub record SettlesOn (all left : List ℕ) (parsed rest : List ParsedItem) (groups : List (List Item)) : Type 0 where
   pub done : groups ++ split_by left (map item_of_parsed rest) ≡ split_by all (map item_of_parsed parsed)
   pub fits : AreLengths left rest
+
+-- one more item of a group
+pub settled_more : (group new : List code.Item) (parsed : List ParsedItem) (i : ℕ) (item : ParsedItem) (made : code.Item) → map item_of group ≡ map item_of_parsed (take i parsed) → new ≡ group ++ made ∷ []
+    → item_of made ≡ item_of_parsed item → item ≡ get_or parsed i item → i < length parsed → map item_of new ≡ map item_of_parsed (take (i + 1) parsed)
+settled_more group new parsed i item made so_far pushed same here lt =
+    ap (map item_of) pushed ∙ map-append item_of group (made ∷ []) ∙ ap (λ xs. xs ++ item_of made ∷ []) so_far
+    ∙ ap (λ x. map item_of_parsed (take i parsed) ++ x ∷ []) (same ∙ ap item_of_parsed here)
+    ∙ sym (map_more item_of_parsed parsed i item lt)

@@ -90,11 +90,18 @@ fn append_more_items(items: &[Item], out: &mut Vec<u8>) -> Result<(), AllocError
 fn append_item(item: &Item, out: &mut Vec<u8>) -> Result<(), AllocError>
     ensures { OnOk result (out.new.items ≡ out.old.items ++ rules.item_text (item_of item.now)) }
 {
-    append(out, if item.from_end { b"-" } else { b"" })?;
+    append(out, minus(item.from_end))?;
     append_count(item.page, out)?;
     append(out, turn_letter(item.turn))?;
     append_scale(item.scale, out)?;
     append_offset(&item.offset.0, &item.offset.1, out)
+}
+
+/// A minus before a page that is counted from the end.
+fn minus(from_end: bool) -> &'static [u8]
+    ensures { result.now ≡ rules.minus_text from_end }
+{
+    if from_end { b"-" } else { b"" }
 }
 
 fn turn_letter(turn: Turn) -> &'static [u8]

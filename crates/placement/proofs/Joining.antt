@@ -9,6 +9,9 @@ pub scales_joined :
     → v3 ++ (codes " " ++ d) ≡ o ++ (codes "[" ++ a ++ codes " " ++ b ++ codes " " ++ c ++ codes " " ++ d)
 scales_joined o a b c d v1 v2 v3 e1 e2 e3 = rw (e3, e2, e1) (simp append_assoc)
 
+pub text_joined : (o text printed v1 : List ℕ) → v1 ≡ o ++ text → v1 ++ printed ≡ o ++ (text ++ printed)
+text_joined o text printed v1 e1 = rw e1 (simp append_assoc)
+
 pub matrix_joined :
     (o a b c d x y v1 v2 v3 : List ℕ) → v1 ≡ o ++ (codes "[" ++ a ++ codes " " ++ b ++ codes " " ++ c ++ codes " " ++ d) → v2 ≡ v1 ++ (codes " " ++ x)
     → v3 ≡ v2 ++ (codes " " ++ y)
@@ -62,6 +65,19 @@ pub opening_joined :
 opening_joined o placing edge border v1 v2 v3 e1 e2 e3 = rw (e3, e2, e1) (simp append_assoc)
 
 -- ---- each part of a text but the last is no longer than the text
+pub text_fits : (text printed : List ℕ) → length text ≤ length (text ++ printed)
+text_fits text printed = fit_two _ text printed refl
+
+pub scales_fits :
+    (a b c d : List ℕ) → let all : List ℕ = codes "[" ++ a ++ codes " " ++ b ++ codes " " ++ c ++ codes " " ++ d in
+    (length (codes "[" ++ a) ≤ length all) × (length (codes "[" ++ a) + length (codes " " ++ b) ≤ length all)
+    × ((length (codes "[" ++ a) + length (codes " " ++ b)) + length (codes " " ++ c) ≤ length all)
+scales_fits a b c d =
+    let one : List ℕ = codes "[" ++ a in
+    let two : List ℕ = codes " " ++ b in
+    let three : List ℕ = codes " " ++ c in
+    fit_four _ one two three (codes " " ++ d) (scales_joined [] a b c d one (one ++ two) ((one ++ two) ++ three) refl refl refl)
+
 pub matrix_fits :
     (a b c d x y : List ℕ) → let all : List ℕ = codes "[" ++ spaced (a ∷ b ∷ c ∷ d ∷ x ∷ y ∷ []) ++ codes "]" in
     let scales : List ℕ = codes "[" ++ a ++ codes " " ++ b ++ codes " " ++ c ++ codes " " ++ d in

@@ -1,6 +1,6 @@
 -- Appends one after another keep what was there at the start.
-use Rattle.std.proofs.Common.{ℕ, List, ◌≡◌, ◌+◌, ◌<◌, ◌≤◌, ◌++◌, length, vec_len, vec_capacity, ◌∙◌, ap, append_assoc, arith}
-use Rattle.std.specs.Prelude.{Result, Ok, Err, OnErr}
+use Rattle.std.proofs.Common.{ℕ, List, ◌≡◌, ◌+◌, ◌<◌, ◌≤◌, ◌++◌, length, vec_len, vec_capacity, [], sym, ◌∙◌, ap, append_assoc, append-nil, arith}
+use Rattle.std.specs.Prelude.{Result, Ok, Err, OnOk, OnErr}
 use Rattle.std.proofs.lemmas.List.{length-append}
 use Rattle.std.specs.declared.vec.Vec.{Vec}
 use Rattle.std.specs.declared.alloc.Global.{Global}
@@ -12,6 +12,12 @@ keeps_more old middle new first second = record {
   parts = second.parts ∙ (ap (λ m. m ++ second.behind) first.parts ∙ append_assoc old.items first.behind second.behind);
   room = let f = first.room in let s = second.room in omega arith;
 }
+
+-- what a call leaves that appends a text or nothing
+pub printed_keeps : {T E : Type 0} (old new : Vec ℕ Global) (r : Result T E) (text : List ℕ) → OnOk r (new.items ≡ old.items ++ text) → OnErr r (new.items ≡ old.items)
+    → vec_capacity old ≤ vec_capacity new → Keeps old new
+printed_keeps old new (Ok x) text appended unchanged room = record { behind = text; parts = appended; room = room }
+printed_keeps old new (Err e) text appended unchanged room = record { behind = []; parts = unchanged ∙ sym (append-nil old.items); room = room }
 
 -- a last part for which there is no room has none after the parts before it either
 pub full_behind : (old middle : Vec ℕ Global) (last all : List ℕ) → Keeps old middle → middle.items ++ last ≡ old.items ++ all

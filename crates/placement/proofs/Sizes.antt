@@ -11,7 +11,7 @@ sum_within a b m n h k = omega (arith, ints)
 grains_within : (z : ℤ) (n : ℕ) → nat_abs z ≤ n → nat_abs (pos 127 *ℤ z) ≤ 127 * n
 grains_within z n h = omega (arith, ints)
 
-fits : (z : ℤ) (n : ℕ) → nat_abs z ≤ n → n ≤ 10 ^ 30 → FitsSigned w128 z
+pub fits : (z : ℤ) (n : ℕ) → nat_abs z ≤ n → n ≤ 10 ^ 30 → FitsSigned w128 z
 fits z n h k = omega (arith, ints)
 
 pub record Fit (s a b : ℤ) : Type 0 where

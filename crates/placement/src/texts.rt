@@ -286,7 +286,7 @@ fn append_scale(text: &[u8], scale: Number, out: &mut Vec<u8>) -> Result<(), All
     ensures full { OnErr result (vec_capacity out.old < vec_len out.old + length (text.now ++ scale_text scale)) }
     ensures kept { Keeps out.old out.new }
 {
-    out.extend_from_slice(text)?;
+    append_text(text, out)?;
     print_scale(scale, out)
 }
 
@@ -297,7 +297,7 @@ fn append_points(text: &[u8], grains: Grains, out: &mut Vec<u8>) -> Result<(), A
     ensures full { OnErr result (vec_capacity out.old < vec_len out.old + length (text.now ++ points_text grains)) }
     ensures kept { Keeps out.old out.new }
 {
-    out.extend_from_slice(text)?;
+    append_text(text, out)?;
     print_points(grains, out)
 }
 
@@ -308,7 +308,7 @@ fn append_coordinate(text: &[u8], x: Coordinate, out: &mut Vec<u8>) -> Result<()
     ensures full { OnErr result (vec_capacity out.old < vec_len out.old + length (text.now ++ points_text x)) }
     ensures kept { Keeps out.old out.new }
 {
-    out.extend_from_slice(text)?;
+    append_text(text, out)?;
     print_grains(x.grains, out)
 }
 

@@ -268,6 +268,7 @@ fn keep_slots(
 }
 
 /// Adds a slot.
+#[tactic(auto, using(crate::proofs::Stored::grown_placings))]
 fn keep_slot(
     placings: &mut Vec<Placing>,
     slots: &mut Vec<KeptSlot>,

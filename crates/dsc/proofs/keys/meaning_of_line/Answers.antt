@@ -1,6 +1,6 @@
-use Rattle.std.specs.Prelude.{codes}
-use Rattle.std.proofs.Common.{sym, arith, ◌∙◌}
-use Rattle.dsc.proofs.Letters.{another, no_letter, other_start, means_nothing}
+use Rattle.std.specs.Prelude.{codes, Some}
+use Rattle.std.proofs.Common.{sym, ap, arith, ◌∙◌}
+use Rattle.dsc.proofs.Letters.{another, no_letter, other_start, means_nothing, means_no_more, begins_at_0}
 use Rattle.dsc.proofs.keys.meaning_of_line.Goals as goal
 
 pub meaning_of_key-requires-clause-no_page : goal.meaning_of_key-requires-clause-no_page
@@ -9,6 +9,29 @@ meaning_of_key-requires-clause-no_page c =
     let t = a.field-0-test in
     let is = sym a.is ∙ c.comment_letter.ensures in
     other_start c.args.content.now (codes "age:") 80 (λ e. another a.field-0 80 (λ same. omega (arith, t, same)) (is ∙ e))
+
+pub returns-then-depth-eq0-clause-page : goal.returns-then-depth-eq0-clause-page
+returns-then-depth-eq0-clause-page c = begins_at_0 c.args.content.now c.args.depth _ c.if-depth-eq0.true c.starts_with.ensures.value
+
+pub returns-then-depth-eq0-clause-trailer : goal.returns-then-depth-eq0-clause-trailer
+returns-then-depth-eq0-clause-trailer c =
+    let a = c.in-Some-eq80 in
+    (means_no_more c.args.content.now c.args.depth (sym c.comment_letter.ensures ∙ a.is ∙ ap Some a.field-0-test)).0
+
+pub returns-then-depth-eq0-clause-depth : goal.returns-then-depth-eq0-clause-depth
+returns-then-depth-eq0-clause-depth c =
+    let a = c.in-Some-eq80 in
+    (means_no_more c.args.content.now c.args.depth (sym c.comment_letter.ensures ∙ a.is ∙ ap Some a.field-0-test)).1
+
+pub returns-else-depth-eq0-clause-trailer : goal.returns-else-depth-eq0-clause-trailer
+returns-else-depth-eq0-clause-trailer c =
+    let a = c.in-Some-eq80 in
+    (means_no_more c.args.content.now c.args.depth (sym c.comment_letter.ensures ∙ a.is ∙ ap Some a.field-0-test)).0
+
+pub returns-else-depth-eq0-clause-depth : goal.returns-else-depth-eq0-clause-depth
+returns-else-depth-eq0-clause-depth c =
+    let a = c.in-Some-eq80 in
+    (means_no_more c.args.content.now c.args.depth (sym c.comment_letter.ensures ∙ a.is ∙ ap Some a.field-0-test)).1
 
 pub returns-in_default : goal.returns-in_default
 returns-in_default c =

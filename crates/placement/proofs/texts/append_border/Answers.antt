@@ -41,3 +41,9 @@ pub returns-in_err-append_inner-clause-full : goal.returns-in_err-append_inner-c
 returns-in_err-append_inner-clause-full c =
     let fits = border_fits (points_text c.in-Some.width) (path_text c.args.inset (c.args.paper.now.width -ℤ c.args.inset) (c.args.paper.now.height -ℤ c.args.inset)) in
     rw c.in-Some.is (on_err _ (full_later c.args.out.now _ _ _ _ (grown_more _ _ _ _ _ (grown _ _ _ c.in_ok-append_points.ensures.kept c.in_ok-append_points.ensures.appended) c.in_ok-append_text.ensures.kept c.in_ok-append_text.ensures.appended) c.in_err-append_inner.ensures.full fits.2))
+
+pub returns-in_err-append_text-clause-kept : goal.returns-in_err-append_text-clause-kept
+returns-in_err-append_text-clause-kept c = keeps_more _ _ _ c.in_ok-append_points.ensures.kept c.in_err-append_text.ensures.kept
+
+pub returns-in_err-append_inner-clause-kept : goal.returns-in_err-append_inner-clause-kept
+returns-in_err-append_inner-clause-kept c = keeps_more _ _ _ c.in_ok-append_points.ensures.kept (keeps_more _ _ _ c.in_ok-append_text.ensures.kept c.in_err-append_inner.ensures.kept)

@@ -41,3 +41,9 @@ pub returns-in_err-append_points-2-clause-full : goal.returns-in_err-append_poin
 returns-in_err-append_points-2-clause-full c =
     let fits = matrix_fits (scale_text c.args.matrix.now.a) (scale_text c.args.matrix.now.b) (scale_text c.args.matrix.now.c) (scale_text c.args.matrix.now.d) (points_text c.args.matrix.now.tx) (points_text c.args.matrix.now.ty) in
     on_err _ (full_later c.args.out.now _ _ _ _ (grown_more _ _ _ _ _ (grown _ _ _ c.in_ok-append_scales.ensures.kept c.in_ok-append_scales.ensures.appended) c.in_ok-append_points.ensures.kept c.in_ok-append_points.ensures.appended) c.in_err-append_points-2.ensures.full fits.2)
+
+pub returns-in_err-append_points-clause-kept : goal.returns-in_err-append_points-clause-kept
+returns-in_err-append_points-clause-kept c = keeps_more _ _ _ c.in_ok-append_scales.ensures.kept c.in_err-append_points.ensures.kept
+
+pub returns-in_err-append_points-2-clause-kept : goal.returns-in_err-append_points-2-clause-kept
+returns-in_err-append_points-2-clause-kept c = keeps_more _ _ _ c.in_ok-append_scales.ensures.kept (keeps_more _ _ _ c.in_ok-append_points.ensures.kept c.in_err-append_points-2.ensures.kept)

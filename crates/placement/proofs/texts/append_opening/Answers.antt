@@ -43,3 +43,9 @@ pub returns-in_err-append_text-clause-full : goal.returns-in_err-append_text-cla
 returns-in_err-append_text-clause-full c =
     let fits = opening_fits (placing_text c.args.paper.now (item_of c.args.item.now)) (edge_text c.args.paper.now) (border_text c.args.paper.now (border_within c.args.inset c.args.border)) in
     on_err _ (full_later c.args.out.now _ _ _ _ (grown_more _ _ _ _ _ (grown _ _ _ c.in_ok-append_placing.ensures.kept c.in_ok-append_placing.ensures.appended) c.in_ok-append_edge.ensures.kept c.in_ok-append_edge.ensures.appended) c.in_err-append_text.ensures.full fits.2)
+
+pub returns-in_err-append_edge-clause-kept : goal.returns-in_err-append_edge-clause-kept
+returns-in_err-append_edge-clause-kept c = keeps_more _ _ _ c.in_ok-append_placing.ensures.kept c.in_err-append_edge.ensures.kept
+
+pub returns-in_err-append_text-clause-kept : goal.returns-in_err-append_text-clause-kept
+returns-in_err-append_text-clause-kept c = keeps_more _ _ _ c.in_ok-append_placing.ensures.kept (keeps_more _ _ _ c.in_ok-append_edge.ensures.kept c.in_err-append_text.ensures.kept)

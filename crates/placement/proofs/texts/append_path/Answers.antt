@@ -43,3 +43,12 @@ pub returns-in_err-append_corner-4-clause-full : goal.returns-in_err-append_corn
 returns-in_err-append_corner-4-clause-full c =
     let fits = path_fits (point_text c.args.low c.args.low) (point_text c.args.right c.args.low) (point_text c.args.right c.args.top) (point_text c.args.low c.args.top) in
     on_err _ (full_later c.args.out.now _ _ _ _ (grown_more _ _ _ _ _ (grown_more _ _ _ _ _ (grown _ _ _ c.in_ok-append_corner.ensures.kept c.in_ok-append_corner.ensures.appended) c.in_ok-append_corner-2.ensures.kept c.in_ok-append_corner-2.ensures.appended) c.in_ok-append_corner-3.ensures.kept c.in_ok-append_corner-3.ensures.appended) c.in_err-append_corner-4.ensures.full fits.3)
+
+pub returns-in_err-append_corner-2-clause-kept : goal.returns-in_err-append_corner-2-clause-kept
+returns-in_err-append_corner-2-clause-kept c = keeps_more _ _ _ c.in_ok-append_corner.ensures.kept c.in_err-append_corner-2.ensures.kept
+
+pub returns-in_err-append_corner-3-clause-kept : goal.returns-in_err-append_corner-3-clause-kept
+returns-in_err-append_corner-3-clause-kept c = keeps_more _ _ _ c.in_ok-append_corner.ensures.kept (keeps_more _ _ _ c.in_ok-append_corner-2.ensures.kept c.in_err-append_corner-3.ensures.kept)
+
+pub returns-in_err-append_corner-4-clause-kept : goal.returns-in_err-append_corner-4-clause-kept
+returns-in_err-append_corner-4-clause-kept c = keeps_more _ _ _ c.in_ok-append_corner.ensures.kept (keeps_more _ _ _ c.in_ok-append_corner-2.ensures.kept (keeps_more _ _ _ c.in_ok-append_corner-3.ensures.kept c.in_err-append_corner-4.ensures.kept))

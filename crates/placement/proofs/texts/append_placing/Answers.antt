@@ -5,7 +5,7 @@ use Rattle.pagespec.specs.Items.{item_of}
 use Rattle.placement.specs.Matrices.{numbers_of}
 use Rattle.placement.proofs.Joining.{placing_joined, placing_fits}
 use Rattle.std.proofs.lemmas.Result.{on_err_weaker}
-use Rattle.placement.proofs.Keeping.{keeps_more, full_behind, grown, grown_more, on_err, full_first, full_later}
+use Rattle.placement.proofs.Keeping.{keeps_more, full_behind, grown, on_err, full_first, full_later}
 use Rattle.placement.proofs.texts.append_placing.Goals as goal
 
 pub returns-clause-appended : goal.returns-clause-appended
@@ -40,3 +40,6 @@ returns-in_err-append_matrix-clause-full c =
     let placed = matrix_text (matrix_of c.args.paper.now (item_of c.args.item.now)) in
     let fits = placing_fits (matrix_text (numbers_of c.matrix_of.result)) placed (ap (λ m. matrix_text m) c.matrix_of.ensures.numbers) in
     on_err _ (full_later c.args.out.now _ _ _ _ (grown _ _ _ c.in_ok-append_text.ensures.kept c.in_ok-append_text.ensures.appended) c.in_err-append_matrix.ensures.full fits.1)
+
+pub returns-in_err-append_matrix-clause-kept : goal.returns-in_err-append_matrix-clause-kept
+returns-in_err-append_matrix-clause-kept c = keeps_more _ _ _ c.in_ok-append_text.ensures.kept c.in_err-append_matrix.ensures.kept

@@ -1,8 +1,8 @@
 use Rattle.std.proofs.lemmas.Result.{IfOk-equal}
 use Rattle.rules.specs.Numbers.{scale_text}
-use Rattle.placement.proofs.Joining.{scales_joined}
+use Rattle.placement.proofs.Joining.{scales_joined, scales_fits}
 use Rattle.std.proofs.lemmas.Result.{on_err_weaker}
-use Rattle.placement.proofs.Keeping.{keeps_more, full_behind}
+use Rattle.placement.proofs.Keeping.{keeps_more, full_behind, grown, grown_more, on_err, full_first, full_later}
 use Rattle.placement.proofs.texts.append_scales.Goals as goal
 
 pub returns-clause-appended : goal.returns-clause-appended
@@ -26,3 +26,24 @@ pub returns-clause-kept : goal.returns-clause-kept
 returns-clause-kept c =
     keeps_more _ _ _ c.in_ok-append_scale.ensures.kept (keeps_more _ _ _ c.in_ok-append_scale-2.ensures.kept
     (keeps_more _ _ _ c.in_ok-append_scale-3.ensures.kept c.append_scale-4.ensures.kept))
+
+pub returns-in_err-append_scale-2-clause-kept : goal.returns-in_err-append_scale-2-clause-kept
+returns-in_err-append_scale-2-clause-kept c = keeps_more _ _ _ c.in_ok-append_scale.ensures.kept c.in_err-append_scale-2.ensures.kept
+
+pub returns-in_err-append_scale-3-clause-kept : goal.returns-in_err-append_scale-3-clause-kept
+returns-in_err-append_scale-3-clause-kept c = keeps_more _ _ _ c.in_ok-append_scale.ensures.kept (keeps_more _ _ _ c.in_ok-append_scale-2.ensures.kept c.in_err-append_scale-3.ensures.kept)
+
+pub returns-in_err-append_scale-clause-full : goal.returns-in_err-append_scale-clause-full
+returns-in_err-append_scale-clause-full c =
+    let fits = scales_fits (scale_text c.args.matrix.now.a) (scale_text c.args.matrix.now.b) (scale_text c.args.matrix.now.c) (scale_text c.args.matrix.now.d) in
+    on_err _ (full_first c.args.out.now _ _ c.in_err-append_scale.ensures.full fits.0)
+
+pub returns-in_err-append_scale-2-clause-full : goal.returns-in_err-append_scale-2-clause-full
+returns-in_err-append_scale-2-clause-full c =
+    let fits = scales_fits (scale_text c.args.matrix.now.a) (scale_text c.args.matrix.now.b) (scale_text c.args.matrix.now.c) (scale_text c.args.matrix.now.d) in
+    on_err _ (full_later c.args.out.now _ _ _ _ (grown _ _ _ c.in_ok-append_scale.ensures.kept c.in_ok-append_scale.ensures.appended) c.in_err-append_scale-2.ensures.full fits.1)
+
+pub returns-in_err-append_scale-3-clause-full : goal.returns-in_err-append_scale-3-clause-full
+returns-in_err-append_scale-3-clause-full c =
+    let fits = scales_fits (scale_text c.args.matrix.now.a) (scale_text c.args.matrix.now.b) (scale_text c.args.matrix.now.c) (scale_text c.args.matrix.now.d) in
+    on_err _ (full_later c.args.out.now _ _ _ _ (grown_more _ _ _ _ _ (grown _ _ _ c.in_ok-append_scale.ensures.kept c.in_ok-append_scale.ensures.appended) c.in_ok-append_scale-2.ensures.kept c.in_ok-append_scale-2.ensures.appended) c.in_err-append_scale-3.ensures.full fits.2)
