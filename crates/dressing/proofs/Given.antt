@@ -1,5 +1,5 @@
--- What is made of papers: the lines of a header so far, and the dress.
-use Rattle.std.proofs.Common.{ℕ, append_assoc, sym, ◌≡◌, ◌∙◌, refl, ap, arith, [], ◌∷◌, ◌++◌, List, length, map, codes, Bool, true, false}
+-- What is made of papers: the lines of a header, and the dress.
+use Rattle.std.proofs.Common.{ℕ, append_assoc, sym, ◌≡◌, ◌∙◌, refl, ap, arith, [], ◌∷◌, ◌++◌, List, length, codes, Bool, true, false}
 use Rattle.std.specs.Prelude.{if◌then◌else◌, nat_lt, Option, Some, None}
 use Rattle.std.proofs.lemmas.Bool.{lt-ltb}
 use Rattle.rules.specs.Papers.{Paper}
@@ -11,10 +11,9 @@ use Rattle.dressing.specs.Drawn.{mark_lines}
 use Rattle.dressing.specs.Numbered.{NoMarksAreTelling, drawn_on}
 use Rattle.dressing.specs.declared.strokes.Stroke.{Stroke}
 
--- the header of several papers, of which the first was reported and so many more
-abbrev pub header_so_far : (large first : Paper) → List Paper → List (List ℕ)
-header_so_far large first told =
-    box_lines large ++ medium_line (codes "%%DocumentMedia: ") (size_name first) first ∷ map (λ r. medium_line (codes "%%+ ") (size_name r) r) told
+-- a medium after the first
+abbrev pub other_medium : Paper → List ℕ
+other_medium r = medium_line (codes "%%+ ") (size_name r) r
 
 -- the box, and after it the exact one
 pub both_boxes : (p : Paper) (old mid new : List (List ℕ)) → mid ≡ old ++ box_line (whole_paper p) ∷ [] → is_whole p ≡ false → new ≡ mid ++ exact_box_line p ∷ []

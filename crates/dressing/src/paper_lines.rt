@@ -1,5 +1,5 @@
 //! The header's lines that report papers.
-ghost use Rattle.std.specs.Prelude.{◌≡◌, ◌++◌, ◌∷◌, [], codes, fold, nat_abs, IfOk, IsTrue, OnOk, ◌≤◌, ◌*◌, ◌^◌};
+ghost use Rattle.std.specs.Prelude.{◌≡◌, ◌++◌, ◌∷◌, [], codes, fold, map, nat_abs, IfOk, IsTrue, OnOk, ◌≤◌, ◌*◌, ◌^◌};
 ghost use Rattle.papers.specs.Own.{covering as covering_paper};
 ghost use Rattle.rules.specs.Numbers.{points_text};
 ghost use Rattle.rules.specs.Papers.{is_side};
@@ -40,10 +40,19 @@ fn several_papers(alloc: Global, first: &Paper, others: &[Paper]) -> Result<Line
     let large = covering_all(first, others);
     push_boxes(alloc, &mut lines, &large)?;
     push_named_medium(alloc, &mut lines, first)?;
-    for paper in others {
-        push_continued(alloc, &mut lines, paper)?;
-    }
+    push_others(alloc, &mut lines, others)?;
     Ok(lines)
+}
+
+/// The media after the first.
+fn push_others(alloc: Global, lines: &mut Lines, others: &[Paper]) -> Result<(), AllocError>
+    ensures { OnOk result (lines.new
+        ≡ lines.old ++ map (λ r. medium_line (codes "%%+ ") (size_name r) r) others.now) }
+{
+    for paper in others {
+        push_continued(alloc, lines, paper)?;
+    }
+    Ok(())
 }
 
 /// The least paper that covers all of these.

@@ -16,6 +16,10 @@ use Rattle.gather_table.proofs.Widths.{size_at_most, in_sheet}
 pub sheets_of : (plan : Plan) → length (layout plan).sheets ≡ length plan.sheets
 sheets_of plan = length-map plan.sheets _
 
+-- what the program counts up to is a sheet of the layout
+pub sheet_in : (plan : Plan) (s n : ℕ) → n ≡ length plan.sheets → s < n → s < length (layout plan).sheets
+sheet_in plan s n is lt = let l = sheets_of plan in omega arith
+
 -- every plan's layout is sound
 pub sound_of : (plan : Plan) → plans.IsSound plan → IsSound (layout plan)
 sound_of plan ok =

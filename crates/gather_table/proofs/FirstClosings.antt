@@ -1,15 +1,16 @@
 -- The closing words at the start: once the blank slots are marked, the groups with only blank slots are closed.
-use Rattle.std.proofs.Common.{◌≡◌, ◌≢◌, ℕ, suc, ◌+◌, ◌-◌, ◌/◌, ◌<◌, ◌≤◌, ◌^◌, Bool, true, false, ◌&&◌, ◌==◌, ltb, List, length, set, refl, sym, ap, ◌∙◌, subst, arith, eq-eqb, ne_eqb}
+use Rattle.std.proofs.Common.{◌≡◌, ◌≢◌, ℕ, suc, ◌+◌, ◌-◌, ◌/◌, ◌<◌, ◌≤◌, ◌^◌, Bool, true, false, ◌&&◌, ◌||◌, ◌==◌, ltb, List, length, set, refl, sym, ap, ◌∙◌, subst, arith, eq-eqb, ne_eqb}
 use Rattle.std.specs.Prelude.{slice_index, bit_and, bit_or, if◌then◌else◌}
-use Rattle.std.proofs.lemmas.Bool.{lt-ltb}
+use Rattle.std.proofs.lemmas.Bool.{lt-ltb, le-ltb}
 use Rattle.rules.specs.Sheets.{Layout}
 use Rattle.gather_table.specs.declared.lane.Home.{Home}
-use Rattle.gather_table.specs.Homes.{IsHome, closed_to}
+use Rattle.gather_table.specs.Homes.{IsHome, blanks_to, closed_to}
 use Rattle.gather_table.specs.Lanes.{wide_at, group_word}
 use Rattle.gather_table.specs.Rule.{WordsHold}
-use Rattle.gather_table.specs.Table.{TableState, IsSound, slots, is_blank, blank_group, is_full, in_group, group_count, group_size, with_closed, HasGroup}
+use Rattle.gather_table.specs.Table.{TableState, IsSound, slots, is_wide, is_blank, blank_group, is_full, in_group, group_count, group_size, with_closed, start, HasGroup}
 use Rattle.gather_table.proofs.Bits.{full_bits}
-use Rattle.gather_table.proofs.FirstWords.{holds_same, one_more, none_more}
+use Rattle.gather_table.proofs.FirstWords.{holds_same, one_more, none_more, before_next}
+use Rattle.gather_table.proofs.Legal.{and_false}
 use Rattle.gather_table.proofs.Sheets.{closing_written, group_shown, low_bits, wide_room, few_groups}
 
 -- a group of a wide sheet is closed from the start if its slots are all blank
@@ -27,6 +28,10 @@ has_group layout s g n home at lt is_n low = two (ltb 64 home.slots) refl
         record { sheet = lt; wide = ap (ltb 64) (sym at.slots) ∙ e; group = omega arith }
     two false e = let n_is : n ≡ 0 = is_n ∙ ap (λ (b : Bool). if b then (home.slots + 63) / 64 else 0) e in absurd (omega arith)
 
+-- and they are few
+pub few_of : (layout : Layout) (s : ℕ) (home : Home) → IsSound layout → s < length layout.sheets → IsHome layout s home → home.slots ≤ 4096
+few_of layout s home ok lt at = let n = ok.narrow s lt in let c = at.slots in omega arith
+
 -- one more group
 pub group_more : (layout : Layout) (words : List ℕ) (s g : ℕ) → HasGroup layout s g
     → WordsHold layout (if is_full layout s g ((closed_to layout s g).marked s) then with_closed (closed_to layout s g) s g else closed_to layout s g) words → WordsHold layout (closed_to layout s (suc g)) words
@@ -37,6 +42,29 @@ group_more layout words s g has held = two (is_full layout s g (is_blank (slots 
         (λ r i _. one_more (blank_group layout) s g r i (blank_where_full layout s g has ∙ e))
     two false e h = holds_same layout (closed_to layout s g) (closed_to layout s (suc g)) words h (λ p lt. refl) (λ r j lt inn. refl)
         (λ r i _. none_more (blank_group layout) s g r i (blank_where_full layout s g has ∙ e))
+
+-- before the first sheet there is no group. After a sheet's last group the next sheet follows. After the last sheet
+-- the words are the start's
+pub none_closed : (layout : Layout) (words : List ℕ) → WordsHold layout (blanks_to layout (length layout.sheets) 0) words → WordsHold layout (closed_to layout 0 0) words
+none_closed layout words h = holds_same layout (blanks_to layout (length layout.sheets) 0) (closed_to layout 0 0) words h (λ p lt. refl)
+    (λ r j lt inn. ap (λ (b : Bool). (b || ((r == length layout.sheets) && ltb j 0)) && is_blank (slots layout r) j) (lt-ltb r (length layout.sheets) lt))
+    (λ r i has. sym (ap (λ (b : Bool). b && blank_group layout r i) ((λ m. le-ltb r 0 (omega arith) m || ((r == 0) && le-ltb i 0 (omega arith) m)) ∙ and_false (r == 0))))
+
+pub next_sheet : (layout : Layout) (words : List ℕ) (s g n : ℕ) (home : Home) → IsHome layout s home → n ≡ (if ltb 64 home.slots then (home.slots + 63) / 64 else 0) → n ≤ g → WordsHold layout (closed_to layout s g) words → WordsHold layout (closed_to layout (s + 1) 0) words
+next_sheet layout words s g n home at is_n le h =
+    let one : suc s ≡ s + 1 = omega arith in
+    subst (λ (k : ℕ). WordsHold layout (closed_to layout k 0) words) one
+    (holds_same layout (closed_to layout s g) (closed_to layout (suc s) 0) words h (λ p lt. refl) (λ r j lt inn. refl)
+    (λ r i has. ap (λ (b : Bool). b && blank_group layout r i) (before_next s g r i (λ (is : r ≡ s).
+    let wide : ltb 64 home.slots ≡ true = ap (ltb 64) at.slots ∙ ap (is_wide layout) (sym is) ∙ has.wide in
+    let n_is : n ≡ (home.slots + 63) / 64 = is_n ∙ ap (λ (b : Bool). if b then (home.slots + 63) / 64 else 0) wide in
+    let count : (home.slots + 63) / 64 ≡ group_count layout r = ap (λ (z : ℕ). (z + 63) / 64) at.slots ∙ ap (group_count layout) (sym is) in
+    let lt = has.group in
+    omega arith))))
+
+pub all_closed : (layout : Layout) (words : List ℕ) (n : ℕ) → length layout.sheets ≤ n → WordsHold layout (closed_to layout n 0) words → WordsHold layout (start layout) words
+all_closed layout words n le h = holds_same layout (closed_to layout n 0) (start layout) words h (λ p lt. refl) (λ r j lt inn. refl)
+    (λ r i has. ap (λ (b : Bool). (b || ((r == n) && ltb i 0)) && blank_group layout r i) (lt-ltb r n (let lt = has.sheet in omega arith)))
 
 -- the words of a wide sheet's groups exist
 pub groups_in : (layout : Layout) (words : List ℕ) (s g : ℕ) (home : Home) → IsHome layout s home → HasGroup layout s g → wide_at layout (length layout.sheets) ≤ length words → (home.word ≡ wide_at layout s) × (home.word + 1 + g < length words)

@@ -8,7 +8,7 @@ use Rattle.atomic_table.specs.Table.{opening}
 use Rattle.rules.specs.Sheets.{Layout}
 use Rattle.gather_table.specs.declared.lane.Home.{Home}
 use Rattle.gather_table.specs.declared.lane.Lane.{Lane}
-use Rattle.gather_table.specs.Homes.{IsHome}
+use Rattle.gather_table.specs.Homes.{IsHome, AreHomes}
 use Rattle.gather_table.specs.Lanes.{width, lane, free, fitted, behind, wide_at}
 use Rattle.gather_table.specs.Rule.{WordsHold, Kept}
 use Rattle.gather_table.specs.Table.{IsSound, slot_count, is_wide, group_count, start}
@@ -98,6 +98,21 @@ may_fit layout ok n slots bits next lt is_next is_count is_bits =
     let h = word_below layout n (omega arith) in
     let f = free_inside layout (λ q _. width_le layout q) n (omega arith) in
     (omega arith, omega arith, omega arith)
+
+-- the bits of the next lane end in its word
+pub lane_ends : (next at : Lane) (bits : ℕ) → next.first ≤ 64 → bits ≤ 64 → at ≡ fitted next bits → at.first + bits < 256
+lane_ends next at bits first few is_at = two (ltb 64 (next.first + bits)) refl
+  where
+    two : (b : Bool) → ltb 64 (next.first + bits) ≡ b → at.first + bits < 256
+    two true e = let none : at.first ≡ 0 = ap (λ (l : Lane). l.first) is_at ∙ ap (λ (b : Bool). (if b then record { word = next.word + 1; first = 0 } else next).first) e in omega arith
+    two false e = let here : at.first ≡ next.first = ap (λ (l : Lane). l.first) is_at ∙ ap (λ (b : Bool). (if b then record { word = next.word + 1; first = 0 } else next).first) e in omega arith
+
+-- at the end all sheets have their places
+pub all_placed : (layout : Layout) (n : ℕ) (homes : List Home) (next : Lane) (wide : ℕ) → n ≡ length layout.sheets → Placed layout n homes next wide → AreHomes layout homes × (wide ≡ wide_at layout (length layout.sheets))
+all_placed layout n homes next wide end p = (
+  record { count = p.count ∙ end; each = λ s d lt. p.homes_are s d (omega arith) },
+  p.wide_is ∙ ap (wide_at layout) end,
+)
 
 pub lane_low : (layout : Layout) → IsSound layout → (n slots bits : ℕ) (next at : Lane) → n < length layout.sheets → next ≡ free layout n → slots ≡ slot_count layout n → bits ≡ (if ltb 64 slots then 0 else slots) → at ≡ fitted next bits → at.word ≤ 1_000_000
 lane_low layout ok n slots bits next at lt is_next is_count is_bits is_at =

@@ -168,6 +168,13 @@ early_filled job places j new is early k m at = ⊎_elim
     (λ p. early k m p)
     (found_after places j k (Some new) (Some m) at)
 
+-- and if one is taken away, those that are left have theirs
+pub early_taken : (job : JobView) (places : List (Option TextsView)) (j : ℕ) (left : Option TextsView) → left ≡ None → AreEarly job places → AreEarly job (slice_set places j left)
+early_taken job places j left none early k m at = ⊎_elim
+    (λ p. let there = some_inside left (Some m) p.1 in absurd (cc (none, there)))
+    (λ p. early k m p)
+    (found_after places j k left (Some m) at)
+
 -- the next sheet couldn't be made
 pub starves : (job : JobView) (start now : SinkView) (p q : Progress) (swept : ℕ) → p.halted ≡ None → q ≡ record p { swept = swept; halted = Some NoMemory }
     → Stands job start now p → Stands job start now q

@@ -10,7 +10,7 @@ use Rattle.sheet_writer.specs.declared.early.Early.{Early}
 use Rattle.sheet_writer.specs.Places.{has_come, not_come}
 
 -- one more sheet that didn't come
-abbrev one_without : Bool → ℕ
+abbrev pub one_without : Bool → ℕ
 one_without b = if b then 0 else 1
 
 pub count_next : (early : Early) (first sheet counted : ℕ) → first ≤ sheet → counted ≡ not_come early first (sheet - first)
