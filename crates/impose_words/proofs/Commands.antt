@@ -1,8 +1,9 @@
 -- The command and its subcommands, read off the tables that they are made of.
-use Rattle.std.proofs.Common.{◌≡◌, ◌∙◌, ap, refl, true, false, Bool, Bor, List, [], ◌∷◌, ◌++◌, not, ◌&&◌}
+use Rattle.std.proofs.Common.{◌≡◌, ◌∙◌, ◌+◌, ◌<◌, ℕ, ap, sym, refl, true, false, Bool, List, [], ◌∷◌, ◌++◌, drop, get_or, length, map, not, ◌&&◌}
+use Rattle.std.proofs.lemmas.List.{at_drop_more}
 use Rattle.std.specs.Prelude.{codes, is_some}
 use Rattle.std.specs.List.{fold}
-use Rattle.clap.specs.Words.{AddsArg, AddsSubcommand, App, app_of, is_simple, new_app, rule_of, with_rule, with_subcommand}
+use Rattle.clap.specs.Words.{AddsArg, AddsSubcommand, App, Rule, app_of, is_simple, new_app, rule_of, with_rule, with_subcommand}
 use Rattle.clap.specs.Walk.{is_empty, is_simple_arg}
 use Rattle.clap.specs.Simple.{on_top}
 use Rattle.clap.specs.Faults.{is_simple_and_free}
@@ -11,9 +12,10 @@ use Rattle.clap.specs.declared.builder.arg.Arg.{Arg}
 use Rattle.clap.specs.declared.builder.command.Command.{Command}
 use Rattle.clap.specs.declared.builder.command.Command.TheViews.{out-Command}
 use Rattle.impose_words.specs.Command.{first_apps, impose, other_apps, with_top}
-use Rattle.impose_words.specs.Tables.{app_in, rule_in, with_app, with_row}
+use Rattle.impose_words.specs.Tables.{app_in, rule_in, rules_in, with_app, with_group, with_row}
 use Rattle.impose_words.specs.declared.arguments.Argument.{Argument}
 use Rattle.impose_words.specs.declared.arguments.Argument.TheVariants as argument
+use Rattle.impose_words.specs.declared.arguments.Group.{Group}
 use Rattle.impose_words.specs.declared.arguments.Subcommand.{Subcommand}
 
 pub impose_is_simple : is_simple impose ≡ true
@@ -35,6 +37,11 @@ impose_is_made = refl
 both : (a b : Bool) → (a && b) ≡ true → (a ≡ true) × (b ≡ true)
 both true b e = (refl, e)
 both false b e = cc
+
+-- one more of a list is done
+pub one_more : {S X : Type 0} → (f : S → X → S) (s t all : S) (xs : List X) (i : ℕ) (x : X) → i < length xs → t ≡ f s (get_or xs i x)
+    → fold f s (drop i xs) ≡ all → fold f t (drop (i + 1) xs) ≡ all
+one_more f s t all xs i x within is so_far = ap (λ u. fold f u (drop (i + 1) xs)) is ∙ sym (at_drop_more (fold f s) xs i x within) ∙ so_far
 
 -- ---- an argument
 
@@ -62,6 +69,11 @@ is_local a e =
 pub adds_row : (c d : Command) (a : Arg) (row : Argument) → AddsArg c a d → rule_of a ≡ rule_in row → app_of d ≡ with_row (app_of c) row
 adds_row c d a row h is = h.shape (is_local a (ap (λ r. r.is_simple) is ∙ is_simple_row row)) ∙ ap (with_rule (app_of c)) is
 
+-- rows add what they mean
+pub rows_added : (a : App) (rows : List Argument) → fold with_row a rows ≡ fold with_rule a (map rule_in rows)
+rows_added a [] = refl
+rows_added a (row ∷ rows) = rows_added (with_row a row) rows
+
 -- ---- a subcommand
 
 abbrev is_plain : App → Bool
@@ -77,13 +89,13 @@ no_globals c e =
     is_false _ r.0
 
 -- arguments leave it plain
-plain_rows : (a : App) (rows : List Argument) → is_plain (fold with_row a rows) ≡ is_plain a
-plain_rows a [] = refl
-plain_rows a (row ∷ rows) = plain_rows (with_row a row) rows
+plain_rules : (a : App) (rules : List Rule) → is_plain (fold with_rule a rules) ≡ is_plain a
+plain_rules a [] = refl
+plain_rules a (rule ∷ rules) = plain_rules (with_rule a rule) rules
 
-plain_groups : (a : App) (groups : List (Bor (List Argument))) → is_plain (fold (λ app group. fold with_row app group.now) a groups) ≡ is_plain a
+plain_groups : (a : App) (groups : List Group) → is_plain (fold with_group a groups) ≡ is_plain a
 plain_groups a [] = refl
-plain_groups a (group ∷ groups) = plain_groups (fold with_row a group.now) groups ∙ plain_rows a group.now
+plain_groups a (g ∷ groups) = plain_groups (with_group a g) groups ∙ plain_rules a (rules_in g)
 
 pub adds_command : (c sub d : Command) (row : Subcommand) → AddsSubcommand c sub d → app_of sub ≡ app_in row → app_of d ≡ with_app (app_of c) row
 adds_command c sub d row h is =

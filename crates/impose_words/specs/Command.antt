@@ -69,12 +69,10 @@ numbers_rule = option_rule (codes "numbers")
 abbrev pub first_rule : Rule
 first_rule = option_rule (codes "numbers-from")
 
--- how many pages, in which order they are in cells, how they lie, how large they are, what is kept free, and which marks and
--- numbers are drawn
+-- in which order pages are in cells, how they lie, how large they are, what is kept free, and which marks and numbers are drawn
 abbrev pub cell_rules : List Rule
 cell_rules =
-    count_rule
-    ∷ option_rule (codes "order")
+    option_rule (codes "order")
     ∷ option_rule (codes "turned")
     ∷ option_rule (codes "scale")
     ∷ flag_rule (codes "same-scale")
@@ -88,23 +86,28 @@ cell_rules =
     ∷ []
 
 abbrev pub nup_app : App
-nup_app = subcommand_app (codes "nup") cell_rules laid_rules
+nup_app = subcommand_app (codes "nup") (count_rule ∷ cell_rules) laid_rules
 
 abbrev pub cards_app : App
-cards_app = subcommand_app (codes "cards") cell_rules laid_rules
+cards_app = subcommand_app (codes "cards") (count_rule ∷ cell_rules) laid_rules
 
 abbrev pub stack_app : App
-stack_app = subcommand_app (codes "stack") cell_rules (flag_rule (codes "duplex") ∷ laid_rules)
+stack_app = subcommand_app (codes "stack") (count_rule ∷ cell_rules) (flag_rule (codes "duplex") ∷ laid_rules)
+
+abbrev pub notes_rules : List Rule
+notes_rules =
+    count_rule ∷ flag_rule (codes "same-scale") ∷ option_rule (codes "margin") ∷ option_rule (codes "gap")
+    ∷ option_rule (codes "trim") ∷ numbers_rule ∷ first_rule ∷ []
 
 abbrev pub notes_app : App
-notes_app = subcommand_app (codes "notes")
-    (count_rule ∷ flag_rule (codes "same-scale") ∷ option_rule (codes "margin") ∷ option_rule (codes "gap")
-    ∷ option_rule (codes "trim") ∷ numbers_rule ∷ first_rule ∷ []) laid_rules
+notes_app = subcommand_app (codes "notes") notes_rules laid_rules
 
 -- columns and rows of sheets, and how far these overlap
+abbrev pub poster_rules : List Rule
+poster_rules = count_rule ∷ option_rule (codes "overlap") ∷ option_rule (codes "margin") ∷ []
+
 abbrev pub poster_app : App
-poster_app = subcommand_app (codes "poster")
-    (count_rule ∷ option_rule (codes "overlap") ∷ option_rule (codes "margin") ∷ []) laid_rules
+poster_app = subcommand_app (codes "poster") poster_rules laid_rules
 
 -- how leaves are sewn and lie, and what cells have of these
 abbrev pub booklet_rules : List Rule
@@ -116,16 +119,24 @@ booklet_rules =
 abbrev pub booklet_app : App
 booklet_app = subcommand_app (codes "booklet") booklet_rules laid_rules
 
+abbrev pub zine_rules : List Rule
+zine_rules =
+    flag_rule (codes "same-scale") ∷ option_rule (codes "margin") ∷ option_rule (codes "gap") ∷ flag_rule (codes "rtl") ∷ []
+
 abbrev pub zine_app : App
-zine_app = subcommand_app (codes "zine")
-    (flag_rule (codes "same-scale") ∷ option_rule (codes "margin") ∷ option_rule (codes "gap") ∷ flag_rule (codes "rtl") ∷ []) laid_rules
+zine_app = subcommand_app (codes "zine") zine_rules laid_rules
+
+abbrev pub select_rules : List Rule
+select_rules = required_rule (codes "ranges") ∷ numbers_rule ∷ first_rule ∷ []
 
 abbrev pub select_app : App
-select_app = subcommand_app (codes "select") (required_rule (codes "ranges") ∷ numbers_rule ∷ first_rule ∷ []) look_rules
+select_app = subcommand_app (codes "select") select_rules look_rules
+
+abbrev pub spec_rules : List Rule
+spec_rules = required_rule (codes "specs") ∷ option_rule (codes "signature") ∷ []
 
 abbrev pub spec_app : App
-spec_app = subcommand_app (codes "spec")
-    (required_rule (codes "specs") ∷ option_rule (codes "signature") ∷ []) (option_rule (codes "pages") ∷ [])
+spec_app = subcommand_app (codes "spec") spec_rules (option_rule (codes "pages") ∷ [])
 
 -- those with cells that are cut or folded, and the others
 abbrev pub first_apps : List App

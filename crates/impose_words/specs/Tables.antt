@@ -1,9 +1,13 @@
 -- What the tables of subcommands and arguments mean.
+use Rattle.std.specs.Prelude.{List, [], ◌∷◌, codes}
 use Rattle.std.specs.List.{fold}
 use Rattle.clap.specs.Words.{App, Rule, new_app, with_rule, with_subcommand}
-use Rattle.impose_words.specs.Command.{common_rules, flag_rule, lettered, option_rule, positional_rule, required_rule}
+use Rattle.impose_words.specs.Command.{booklet_rules, cell_rules, common_rules, count_rule, flag_rule, lettered, look_rules}
+use Rattle.impose_words.specs.Command.{notes_rules, option_rule, positional_rule, poster_rules, required_rule, select_rules, spec_rules, zine_rules}
 use Rattle.impose_words.specs.declared.arguments.Argument.{Argument}
 use Rattle.impose_words.specs.declared.arguments.Argument.TheVariants as argument
+use Rattle.impose_words.specs.declared.arguments.Group.{Group}
+use Rattle.impose_words.specs.declared.arguments.Group.TheVariants as group
 use Rattle.impose_words.specs.declared.arguments.Subcommand.{Subcommand}
 
 abbrev pub rule_in : Argument → Rule
@@ -17,9 +21,27 @@ rule_in (argument.LetteredFlag letter id help) = lettered letter (flag_rule id.n
 abbrev pub with_row : App → Argument → App
 with_row app row = with_rule app (rule_in row)
 
+-- the arguments of a group
+abbrev pub rules_in : Group → List Rule
+rules_in group.Count = count_rule ∷ []
+rules_in group.Copies = count_rule ∷ []
+rules_in group.Cells = cell_rules
+rules_in group.Duplex = flag_rule (codes "duplex") ∷ []
+rules_in group.Booklet = booklet_rules
+rules_in group.Zine = zine_rules
+rules_in group.Notes = notes_rules
+rules_in group.Poster = poster_rules
+rules_in group.Selection = select_rules
+rules_in group.Specs = spec_rules
+rules_in group.Look = look_rules
+rules_in group.Pages = option_rule (codes "pages") ∷ []
+
+abbrev pub with_group : App → Group → App
+with_group app g = fold with_rule app (rules_in g)
+
 -- a subcommand with the arguments of its row, and after them those that all have
 abbrev pub app_in : Subcommand → App
-app_in row = fold with_rule (fold (λ app group. fold with_row app group.now) (new_app row.name.now) row.groups.now) common_rules
+app_in row = fold with_rule (fold with_group (new_app row.name.now) row.groups.now) common_rules
 
 -- the command with one more of them
 abbrev pub with_app : App → Subcommand → App

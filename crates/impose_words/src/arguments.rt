@@ -1,9 +1,10 @@
 //! The command, its subcommands and their arguments.
-ghost use Rattle.std.specs.Prelude.{◌≡◌, IfOk};
+ghost use Rattle.std.specs.Prelude.{◌≡◌, IfOk, codes, map};
 ghost use Rattle.std.specs.List.{fold};
-ghost use Rattle.clap.specs.Words.{app_of, rule_of};
-ghost use Rattle.impose_words.specs.Command.{flag_rule, impose, positional_rule};
-ghost use Rattle.impose_words.specs.Tables.{app_in, rule_in, with_app, with_row};
+ghost use Rattle.clap.specs.Words.{app_of, new_app, rule_of};
+ghost use Rattle.clap.specs.Simple.{on_top};
+ghost use Rattle.impose_words.specs.Command.{flag_rule, impose, positional_rule, with_top};
+ghost use Rattle.impose_words.specs.Tables.{app_in, rule_in, rules_in, with_app, with_group, with_row};
 
 use clap::{Arg, ArgAction, Command};
 use std::alloc::{AllocError, Global};
@@ -44,75 +45,101 @@ enum Argument {
     LetteredFlag(char, &'static str, &'static str),
 }
 
-/// A subcommand: its name, what help says of it, and its arguments before those that every subcommand has, in groups that it
-/// may share with others.
+/// Arguments that some subcommands share, or that one has for itself. Each group is a constant of its own: one with all texts
+/// takes the prover ten times as long.
+#[derive(Clone, Copy)]
+enum Group {
+    Count,
+    Copies,
+    Cells,
+    Duplex,
+    Booklet,
+    Zine,
+    Notes,
+    Poster,
+    Selection,
+    Specs,
+    Look,
+    Pages,
+}
+
+/// A subcommand: its name, what help says of it, and its arguments before those that every subcommand has.
 struct Subcommand {
     name: &'static str,
     about: &'static str,
-    groups: &'static [&'static [Argument]],
+    groups: &'static [Group],
 }
 
 const SUBCOMMANDS: [Subcommand; 9] = [
     Subcommand {
         name: "nup",
         about: "Several pages on each sheet, as large as they fit",
-        groups: &[&[COUNT], &CELLS, &LAID],
+        groups: &[Group::Count, Group::Cells, Group::Look, Group::Pages],
     },
     Subcommand {
         name: "booklet",
         about: "A booklet, to be printed on both sides, folded and stapled",
-        groups: &[&BOOKLET, &LAID],
+        groups: &[Group::Booklet, Group::Look, Group::Pages],
     },
     Subcommand {
         name: "zine",
         about: "Eight pages on one side of a sheet, to be folded thrice and cut once",
-        groups: &[&ZINE, &LAID],
+        groups: &[Group::Zine, Group::Look, Group::Pages],
     },
     Subcommand {
         name: "cards",
         about: "Each page several times on a sheet, to be cut",
-        groups: &[&[CARDS_COUNT], &CELLS, &LAID],
+        groups: &[Group::Copies, Group::Cells, Group::Look, Group::Pages],
     },
     Subcommand {
         name: "stack",
         about: "Several pages on each sheet: cut the pile, lay its parts on one another, and the pages run on",
-        groups: &[&[COUNT], &CELLS, &[DUPLEX], &LAID],
+        groups: &[
+            Group::Count,
+            Group::Cells,
+            Group::Duplex,
+            Group::Look,
+            Group::Pages,
+        ],
     },
     Subcommand {
         name: "notes",
         about: "Pages one below another, and beside each of them lines for notes",
-        groups: &[&NOTES, &LAID],
+        groups: &[Group::Notes, Group::Look, Group::Pages],
     },
     Subcommand {
         name: "poster",
         about: "Each page over several sheets, to be glued together",
-        groups: &[&POSTER, &LAID],
+        groups: &[Group::Poster, Group::Look, Group::Pages],
     },
     Subcommand {
         name: "select",
         about: "Some pages, in the order in which they are named, each on a sheet of its own",
-        groups: &[&[RANGES, NUMBERS, NUMBERS_FROM], &[TURN, PLAN, PREVIEW]],
+        groups: &[Group::Selection, Group::Look],
     },
     Subcommand {
         name: "spec",
         about: "Pages as a page specification of pstops places them",
-        groups: &[&SPEC, &[PAGES]],
+        groups: &[Group::Specs, Group::Pages],
     },
 ];
 
-const COUNT: Argument = Argument::Required(
+const COUNT: [Argument; 1] = [Argument::Required(
     "count",
     "N",
     "How many pages, from 1 to 1024, or columns and rows, as 2x4",
-);
+)];
 
-const CARDS_COUNT: Argument = Argument::Required(
+const COPIES: [Argument; 1] = [Argument::Required(
     "count",
     "N",
     "How often each page is on a sheet, from 1 to 1024, or columns and rows, as 2x4",
-);
+)];
 
-const DUPLEX: Argument = Argument::Flag("duplex", "For sheets that are printed on both sides");
+const DUPLEX: [Argument; 1] = [Argument::Flag(
+    "duplex",
+    "For sheets that are printed on both sides",
+)];
 
 /// What commands have that lay pages in cells, after the number of these.
 const CELLS: [Argument; 11] = [
@@ -218,7 +245,13 @@ const POSTER: [Argument; 3] = [
     MARGIN,
 ];
 
-const SPEC: [Argument; 2] = [
+const SELECTION: [Argument; 3] = [
+    Argument::Required("ranges", "RANGES", RANGES_HELP),
+    NUMBERS,
+    NUMBERS_FROM,
+];
+
+const SPECS: [Argument; 2] = [
     Argument::Required(
         "specs",
         "SPECS",
@@ -260,29 +293,25 @@ const NUMBERS_FROM: Argument = Argument::Valued(
     "The number of the first page [default: 1]",
 );
 
-/// What commands have that choose pages by an option, and lay them on sheets.
-const LAID: [Argument; 4] = [TURN, PLAN, PREVIEW, PAGES];
+/// How pages are turned, and what reports on the sheets in place of them.
+const LOOK: [Argument; 3] = [
+    Argument::Valued(
+        "turn",
+        "SIDE",
+        "Turn each page before it is placed: to the left, to the right, or by half",
+    ),
+    Argument::Flag(
+        "plan",
+        "Print which page is where on each sheet, and impose nothing",
+    ),
+    Argument::Valued(
+        "preview",
+        "FILE",
+        "Draw the sheets into FILE, an SVG, or to standard output for -, and impose nothing",
+    ),
+];
 
-const TURN: Argument = Argument::Valued(
-    "turn",
-    "SIDE",
-    "Turn each page before it is placed: to the left, to the right, or by half",
-);
-
-const PLAN: Argument = Argument::Flag(
-    "plan",
-    "Print which page is where on each sheet, and impose nothing",
-);
-
-const PREVIEW: Argument = Argument::Valued(
-    "preview",
-    "FILE",
-    "Draw the sheets into FILE, an SVG, or to standard output for -, and impose nothing",
-);
-
-const PAGES: Argument = Argument::Valued("pages", "RANGES", RANGES_HELP);
-
-const RANGES: Argument = Argument::Required("ranges", "RANGES", RANGES_HELP);
+const PAGES: [Argument; 1] = [Argument::Valued("pages", "RANGES", RANGES_HELP)];
 
 const RANGES_HELP: &str =
     "Pages, as 7, 3-9, 9-3, 5- or _1 (the last), blank for an empty one, with commas between them";
@@ -333,13 +362,19 @@ const COMMON: [Argument; 11] = [
 pub(crate) fn command<'a>(alloc: Global) -> Result<Command<'a>, AllocError>
     ensures { IfOk result (λ c. app_of c ≡ impose) }
 {
-    let bare = Command::new(alloc, "impose")
+    with_subcommands(alloc, bare(alloc), &SUBCOMMANDS)
+}
+
+/// The command without its subcommands.
+fn bare<'a>(alloc: Global) -> Command<'a>
+    ensures { app_of result ≡ on_top with_top (new_app (codes "impose")) }
+{
+    Command::new(alloc, "impose")
         .version("1.0")
         .about("Puts the pages of a PostScript document on sheets of paper")
         .after_help(PAPERS_AND_EXAMPLES)
         .subcommand_required(true)
-        .arg_required_else_help(true);
-    with_subcommands(alloc, bare, &SUBCOMMANDS)
+        .arg_required_else_help(true)
 }
 
 fn with_subcommands<'a>(
@@ -378,16 +413,35 @@ fn command_of<'a>(alloc: Global, row: &Subcommand) -> Result<Command<'a>, AllocE
 fn with_groups<'a>(
     alloc: Global,
     command: Command<'a>,
-    groups: &[&[Argument]],
+    groups: &[Group],
 ) -> Result<Command<'a>, AllocError>
-    ensures { IfOk result (λ c.
-        app_of c ≡ fold (λ app group. fold with_row app group.now) (app_of command.entry) groups.now) }
+    ensures { IfOk result (λ c. app_of c ≡ fold with_group (app_of command.entry) groups.now) }
 {
     let mut command = command;
     for group in groups {
-        command = with_arguments(alloc, command, group)?;
+        command = with_arguments(alloc, command, arguments_in(*group))?;
     }
     Ok(command)
+}
+
+/// The arguments of a group, in their order in help.
+fn arguments_in(group: Group) -> &'static [Argument]
+    ensures { map rule_in result.now ≡ rules_in group }
+{
+    match group {
+        Group::Count => &COUNT,
+        Group::Copies => &COPIES,
+        Group::Cells => &CELLS,
+        Group::Duplex => &DUPLEX,
+        Group::Booklet => &BOOKLET,
+        Group::Zine => &ZINE,
+        Group::Notes => &NOTES,
+        Group::Poster => &POSTER,
+        Group::Selection => &SELECTION,
+        Group::Specs => &SPECS,
+        Group::Look => &LOOK,
+        Group::Pages => &PAGES,
+    }
 }
 
 fn with_arguments<'a>(

@@ -90,16 +90,12 @@ fn with_notes(pages: u32) -> Option<Cells>
 pub fn run_named(text: &str) -> Option<(Run, bool)>
     ensures { result ≡ meaning.run_named text.now }
 {
-    if text == "right-down" {
-        Some((Run::Rows, false))
-    } else if text == "down-right" {
-        Some((Run::Columns, false))
-    } else if text == "left-down" {
-        Some((Run::Rows, true))
-    } else if text == "down-left" {
-        Some((Run::Columns, true))
-    } else {
-        None
+    match text {
+        "right-down" => Some((Run::Rows, false)),
+        "down-right" => Some((Run::Columns, false)),
+        "left-down" => Some((Run::Rows, true)),
+        "down-left" => Some((Run::Columns, true)),
+        _ => None,
     }
 }
 
@@ -107,14 +103,11 @@ pub fn run_named(text: &str) -> Option<(Run, bool)>
 pub fn turn_named(text: &str) -> Option<Turn>
     ensures { result ≡ meaning.turn_named text.now }
 {
-    if text == "left" {
-        Some(Turn::Left)
-    } else if text == "right" {
-        Some(Turn::Right)
-    } else if text == "half" {
-        Some(Turn::Half)
-    } else {
-        None
+    match text {
+        "left" => Some(Turn::Left),
+        "right" => Some(Turn::Right),
+        "half" => Some(Turn::Half),
+        _ => None,
     }
 }
 
@@ -122,12 +115,10 @@ pub fn turn_named(text: &str) -> Option<Turn>
 pub fn turned_named(text: &str) -> Option<Turned>
     ensures { result ≡ meaning.turned_named text.now }
 {
-    if text == "left" {
-        Some(Turned::Left)
-    } else if text == "right" {
-        Some(Turned::Right)
-    } else {
-        None
+    match text {
+        "left" => Some(Turned::Left),
+        "right" => Some(Turned::Right),
+        _ => None,
     }
 }
 
@@ -143,24 +134,21 @@ pub(crate) const NO_MARKS: Marks = Marks {
 pub fn booklet_marks_named(text: &str) -> Option<Marks>
     ensures { result ≡ meaning.booklet_marks_named text.now }
 {
-    if text == "fold" {
-        Some(Marks {
+    match text {
+        "fold" => Some(Marks {
             fold: true,
             ..NO_MARKS
-        })
-    } else if text == "cut" {
-        Some(Marks {
+        }),
+        "cut" => Some(Marks {
             cut: true,
             ..NO_MARKS
-        })
-    } else if text == "fold,cut" || text == "cut,fold" {
-        Some(Marks {
+        }),
+        "fold,cut" | "cut,fold" => Some(Marks {
             fold: true,
             cut: true,
             ..NO_MARKS
-        })
-    } else {
-        None
+        }),
+        _ => None,
     }
 }
 

@@ -240,26 +240,17 @@ fn layout_of(alloc: Global, name: &str, found: &ArgMatches<'_>) -> Result<Layout
     ensures read { IfOk result (AsksFor name.now (rows_of (found_of found.now))) }
     ensures refused { IfErr result (λ f. Says (rows_of (found_of found.now)) f (wrong_layout name.now (rows_of (found_of found.now)))) }
 {
-    if name == "nup" {
-        grid_of(alloc, GridCommand::NUp, found)
-    } else if name == "booklet" {
-        booklet_of(alloc, found)
-    } else if name == "zine" {
-        Ok(Layout::Zine)
-    } else if name == "cards" {
-        grid_of(alloc, GridCommand::Cards, found)
-    } else if name == "stack" {
-        grid_of(alloc, GridCommand::Stack, found)
-    } else if name == "notes" {
-        grid_of(alloc, GridCommand::Notes, found)
-    } else if name == "poster" {
-        grid_of(alloc, GridCommand::Poster, found)
-    } else if name == "select" {
-        selection_of(found)
-    } else if name == "spec" {
-        spec_of(alloc, found)
-    } else {
-        Err(RequestFault::Lacking)
+    match name {
+        "nup" => grid_of(alloc, GridCommand::NUp, found),
+        "booklet" => booklet_of(alloc, found),
+        "zine" => Ok(Layout::Zine),
+        "cards" => grid_of(alloc, GridCommand::Cards, found),
+        "stack" => grid_of(alloc, GridCommand::Stack, found),
+        "notes" => grid_of(alloc, GridCommand::Notes, found),
+        "poster" => grid_of(alloc, GridCommand::Poster, found),
+        "select" => selection_of(found),
+        "spec" => spec_of(alloc, found),
+        _ => Err(RequestFault::Lacking),
     }
 }
 

@@ -1,4 +1,4 @@
-use Rattle.std.proofs.Common.{List, ℕ, Result, Some, None}
+use Rattle.std.proofs.Common.{Some, None}
 use Rattle.std.specs.Str.Parse.{ExplainsUnsignedError, HasUnsignedDigitsIfOk, ParsesUnsigned}
 use Rattle.command_words.proofs.Numerals.{number_read}
 use Rattle.impose_words.proofs.signature.number_in.Goals as goal

@@ -1,0 +1,7 @@
+use Rattle.impose_words.specs.Tables.{with_row}
+use Rattle.impose_words.proofs.Commands.{one_more}
+use Rattle.impose_words.proofs.arguments.with_arguments.Goals as goal
+
+pub loop-row-preserved : goal.loop-row-preserved
+loop-row-preserved c =
+    one_more with_row _ _ _ c.args.rows.now c.loop-row.row-index _ c.loop-row-test.true c.in_ok-command.ensures c.loop-row.invariant
