@@ -858,7 +858,7 @@ init
 #endif
 		if
 		:: atomic {
-			/* take_one */
+			/* a batch has come */
 #ifdef SPENT
 			c?m0,m1,m2,memory ->
 #else

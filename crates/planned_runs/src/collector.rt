@@ -1,5 +1,5 @@
 //! What the collector needs and keeps, and how it takes what the workers finish.
-ghost use Rattle.std.specs.Prelude.{◌≡◌, None, false, IsTrue};
+ghost use Rattle.std.specs.Prelude.{◌≡◌, None, IsTrue};
 ghost use Rattle.sheet_writer.specs.Sinks.{IsCountable};
 ghost use Rattle.crossbeam_channel.specs.Claims.{IsSeatAt};
 ghost use Rattle.crossbeam_channel.specs.Ends.{receives_on};
@@ -70,8 +70,8 @@ fn take_all<'r, R: Wait, T: SheetTexts, G: Gate, S: Sink>(
     }
 }
 
-/// Takes sheets if some were finished, and sleeps a little if none was. False if nothing is to come, or nothing more
-/// is to be written.
+/// Takes a batch of finished sheets and writes those whose turn it is now, or sleeps a little if none was there. False if
+/// nothing is to come, or nothing more is to be written.
 fn take_turn<'r, R: Wait, T: SheetTexts, G: Gate, S: Sink>(
     rt: &R,
     input: &RunInput<'_, 'r, '_, '_, T, G>,
@@ -90,48 +90,22 @@ fn take_turn<'r, R: Wait, T: SheetTexts, G: Gate, S: Sink>(
         state.old.progress state.new.progress }
     ensures steady { IsTrue result → (S.seen state.new.sink.now).failures ≡ (S.seen state.old.sink.now).failures }
 {
-    // Asked before the channel is: what the last imposer sent is there then.
-    let none_left = input.shared.imposers_left.load(SeqCst) == 0;
-    if take_one(rt, input, state) {
-        input.shared.window.come_to(state.progress.next);
-        idling.end();
-        return state.progress.halted.is_none();
-    }
-    if none_left {
-        return false;
-    }
-    input.shared.window.move_to(state.progress.next);
-    input.shared.window.rest(rt, idling);
-    true
-}
-
-/// Takes a batch of finished sheets, and writes those whose turn it is now. False if none was there.
-fn take_one<'r, R: Wait, T: SheetTexts, G: Gate, S: Sink>(
-    rt: &R,
-    input: &RunInput<'_, 'r, '_, '_, T, G>,
-    state: &mut CollectorState<'_, 'r, S>,
-) -> bool
-    requires countable { IsCountable (S.seen state.old.sink.now) }
-    requires ticket { IsSeatAt (receives_on input.now.channel.now.receiver) state.old.desk.now.receiving }
-    requires going { state.old.progress.halted ≡ None }
-    requires desk { IsDeskOf input.now.shared.now.floor.job.now state.old.desk.now }
-    ensures ticket { IsSeatAt (receives_on input.now.channel.now.receiver) state.new.desk.now.receiving }
-    ensures desk { IsDeskOf input.now.shared.now.floor.job.now state.new.desk.now }
-    ensures same { state.new.sink.ghost_name ≡ state.old.sink.ghost_name }
-    ensures goes_on { GoesOn input.now.shared.now.floor.job.now (S.seen state.old.sink.now) (S.seen state.new.sink.now)
-        state.old.progress state.new.progress }
-    ensures steady { state.new.progress.halted ≡ None → (S.seen state.new.sink.now).failures ≡ (S.seen state.old.sink.now).failures }
-    ensures nothing { result ≡ false → state.new.progress.halted ≡ None }
-{
     let shared = input.shared;
     let channel = input.channel;
+    // Asked before the channel is: what the last imposer sent is there then.
+    let none_left = shared.imposers_left.load(SeqCst) == 0;
     shared.floor.gate.before_look(Look::Channel);
     let received = channel
         .receiver
         .try_recv_as::<SheetRule<T>, R>(rt, &mut state.desk.receiving);
     shared.floor.gate.after_look(Look::Channel);
     let Ok(batch) = received else {
-        return false;
+        if none_left {
+            return false;
+        }
+        shared.window.move_to(state.progress.next);
+        shared.window.rest(rt, idling);
+        return true;
     };
     state.desk.early.put(batch);
     let mut written = Written {
@@ -145,5 +119,7 @@ fn take_one<'r, R: Wait, T: SheetTexts, G: Gate, S: Sink>(
         &mut state.desk.early,
         &mut written,
     );
-    true
+    shared.window.come_to(state.progress.next);
+    idling.end();
+    state.progress.halted.is_none()
 }

@@ -23,7 +23,7 @@ ghost use Rattle.planned_runs.specs.Rooms.{HasRoomForAll};
 ghost use Rattle.planned_runs.specs.Gathering.{IsFreshSeat, IsFreshPass, ReportsOf, WrotePartOf, AreWhole, TokensComeBack};
 ghost use Rattle.planned_runs.specs.Gathering.{Concludes, EndsOn, HandsBack, GivesUp};
 
-use crate::channel::{Channel, RuledJob, SheetTexts, Ticket};
+use crate::channel::{RuledJob, SheetTexts, Ticket};
 use crate::collector::CollectorState;
 use crate::gate::Gate;
 use crate::outcome::{Report, RunError};
@@ -203,7 +203,16 @@ fn gather_as<
         },
         ticket: sending,
     };
-    let gathered = gather_at(rt, shared, &channel, &mut desk, supplies, sink);
+    let ruled = RuledJob {
+        job: &*job,
+        of: PhantomData,
+    };
+    let input = RunInput {
+        shared: &*shared,
+        channel: &channel,
+        ruled: &ruled,
+    };
+    let gathered = gather_at(rt, &input, &mut desk, supplies, sink);
     // By calls, so that what becomes of the parts is proved once, and not here.
     drop(desk);
     drop(channel);
@@ -222,35 +231,25 @@ fn gather_at<
     S: Sink,
 >(
     rt: &R,
-    shared: &Shared<'_, 'r, '_, 'd, G>,
-    channel: &Channel<'r, T>,
+    input: &RunInput<'_, 'r, '_, 'd, T, G>,
     desk: &mut Desk<'r>,
     supplies: Supplies<Holding<'d>, Ticket<'r>>,
     sink: &mut S,
 ) -> Gathered<'d>
-    requires texts { (s : ℕ) → T.text s ≡ text_of shared.now.floor.job.now s }
-    requires pages { HasPages shared.now.floor.table.now.layout }
+    requires pages { HasPages input.now.shared.now.floor.table.now.layout }
     requires crew { (0 < supplies.crew.preparers)
         × (supplies.crew.preparers + supplies.crew.imposers < whole_share) }
-    requires held { IsHeld shared.now whole_share supplies.held }
-    requires blank_sheets { HavePutBlankSheets shared.now supplies.held.tokens }
-    requires enough { IsEnough shared.now supplies.crew.preparers 0 supplies.held }
-    requires sending { IsSeatAt (sends_on channel.now.sender) supplies.ticket }
-    requires receiving { IsSeatAt (receives_on channel.now.receiver) desk.old.receiving }
-    requires desk { IsDeskOf shared.now.floor.job.now desk.old }
+    requires held { IsHeld input.now.shared.now whole_share supplies.held }
+    requires blank_sheets { HavePutBlankSheets input.now.shared.now supplies.held.tokens }
+    requires enough { IsEnough input.now.shared.now supplies.crew.preparers 0 supplies.held }
+    requires sending { IsSeatAt (sends_on input.now.channel.now.sender) supplies.ticket }
+    requires receiving { IsSeatAt (receives_on input.now.channel.now.receiver) desk.old.receiving }
+    requires desk { IsDeskOf input.now.shared.now.floor.job.now desk.old }
     requires countable { IsCountable (S.seen sink.old) }
-    ensures { EndsOn shared.now.floor (IsTrue shared.now.by_right) (S.seen sink.old) (S.seen sink.new) result }
+    ensures { EndsOn input.now.shared.now.floor (IsTrue input.now.shared.now.by_right) (S.seen sink.old) (S.seen sink.new)
+        result }
 {
-    let job = shared.floor.job;
-    let ruled = RuledJob {
-        job: &*job,
-        of: PhantomData,
-    };
-    let input = RunInput {
-        shared: &*shared,
-        channel: &*channel,
-        ruled: &ruled,
-    };
+    let floor = &input.shared.floor;
     let state = CollectorState {
         sink,
         desk,
@@ -262,8 +261,8 @@ fn gather_at<
         },
     };
     let mut ended = None;
-    let mut state = gather_by(rt, &input, &input, supplies, state, &mut ended);
-    let gathered = finish(shared.floor.alloc, job, &mut state, ended);
+    let mut state = gather_by(rt, &*input, &*input, supplies, state, &mut ended);
+    let gathered = finish(floor.alloc, floor.job, &mut state, ended);
     let CollectorState {
         sink: _,
         desk: _,

@@ -1,12 +1,14 @@
 //! A run on sheets that were planned.
-ghost use Rattle.std.specs.Prelude.{◌≡◌, ◌+◌, ◌<◌, IfOk, IfErr, OnOk, Ok};
+ghost use Rattle.std.specs.Prelude.{◌≡◌, ◌+◌, ◌<◌, ◌≤◌, IfOk, IfErr, OnOk, Ok};
 ghost use Rattle.std.specs.Io.KnownBytes.{Appends};
 ghost use Rattle.rules.specs.Output.{output};
+ghost use Rattle.rules.specs.Sheets.{layout};
 ghost use Rattle.sheet_writer.specs.Sinks.{IsCountable};
 ghost use Rattle.sheet_text.specs.Jobs.{output_of};
-ghost use Rattle.planned_runs.specs.Gathering.{Answers, ReportsOf, WrotePartOf};
+ghost use Rattle.planned_runs.specs.Gathering.{Answers, IsFreshPass, IsFreshSeat, ReportsOf, WrotePartOf};
 ghost use Rattle.planned_runs.specs.Listening.{HearsOfRun, IsOfJob};
 ghost use Rattle.planned_runs.specs.Outcomes.{FailedIn, IsNoRefusal};
+ghost use Rattle.planned_runs.specs.Rooms.{HasRoomForAll};
 ghost use Rattle.planned_runs.specs.Workers.{AreWorkers};
 
 use crate::gate::Gate;
@@ -18,7 +20,8 @@ use crate::shared::Floor;
 use crate::tokens::Tokens;
 use crate::worker_counts::Workers;
 use gather_table::GatherTable;
-use handover::Shelf;
+use handover::{Ready, Shelf};
+use sheet_plan::Plan;
 use sheet_text::Job;
 use sheet_writer::Sink;
 use std::alloc::{AllocError, Global};
@@ -83,9 +86,8 @@ fn gather_plan<'j, 'd, R: Threads + Wait + Sync, G: Gate + Sync, S: Sink>(
     ensures unwritten { IfErr result (λ e. S.seen sink.new ≡ S.seen sink.old) }
     ensures of_job { IfOk result (IsOfJob job.now) }
 {
-    let (queue, pass) = ready_for(alloc, job.plan(), workers.preparers)?;
-    let (table, seat) = GatherTable::new(alloc, job.plan())?;
     let shelf = Shelf::of_document(alloc, job.document())?;
+    let (table, queue, tokens) = table_and_queue(alloc, job.plan(), workers.preparers)?;
     let floor = Floor {
         alloc,
         gate: &*gate,
@@ -96,7 +98,7 @@ fn gather_plan<'j, 'd, R: Threads + Wait + Sync, G: Gate + Sync, S: Sink>(
         ready: &queue,
     };
     keep_blocks(alloc);
-    let gathered = gather_on(rt, floor, Tokens { seat, pass }, workers, sink);
+    let gathered = gather_on(rt, floor, tokens, workers, sink);
     // By a call, so that what becomes of its parts is proved once, and not here.
     drop(shelf);
     Ok(GatheredPlan {
@@ -104,6 +106,23 @@ fn gather_plan<'j, 'd, R: Threads + Wait + Sync, G: Gate + Sync, S: Sink>(
         queue,
         gathered,
     })
+}
+
+/// A table of this plan and a queue that has room for all puts of so many preparers, with fresh tokens of both.
+fn table_and_queue<'j>(
+    alloc: Global,
+    plan: &Plan<'j>,
+    preparers: u32,
+) -> Result<(GatherTable<'j>, Ready, Tokens), AllocError>
+    requires preparers { (0 < preparers) × (preparers ≤ 16) }
+    ensures table { IfOk result (λ made. made.0.layout ≡ layout plan.now) }
+    ensures seat { IfOk result (λ made. IsFreshSeat made.0 made.2.seat) }
+    ensures pass { IfOk result (λ made. IsFreshPass made.1 made.2.pass) }
+    ensures room { IfOk result (λ made. HasRoomForAll (layout plan.now) preparers made.2.pass) }
+{
+    let (queue, pass) = ready_for(alloc, plan, preparers)?;
+    let (table, seat) = GatherTable::new(alloc, plan)?;
+    Ok((table, queue, Tokens { seat, pass }))
 }
 
 /// How large the blocks are that are kept.

@@ -162,11 +162,12 @@ fn count_of(matches: &ArgMatches<'_>, id: &str) -> u32
 fn command<'a>(alloc: Global) -> Result<Command<'a>, AllocError>
     ensures { IfOk result IsChain }
 {
+    let args = args(alloc)?;
     let bare = Command::new(alloc, "pstops")
         .no_binary_name(true)
         .disable_help_flag(true)
         .disable_version_flag(true);
-    bare.args(args(alloc)?)
+    bare.args(args)
 }
 
 /// The arguments of the command.

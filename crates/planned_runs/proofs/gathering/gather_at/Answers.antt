@@ -6,7 +6,7 @@ use Rattle.planned_runs.proofs.gathering.gather_at.Goals as goal
 
 pub gather_by-state-requires-clause-held : goal.gather_by-state-requires-clause-held
 gather_by-state-requires-clause-held g c κs within =
-    let run = c.args.shared.now in
+    let run = c.args.input.now.shared.now in
     let held = c.requires.held in
     record {
       tokens = subst (λ n. AreTokens run.floor.table.now run.floor.ready.now n c.args.supplies.held.tokens) (sym held.tokens.seat_share) held.tokens;
@@ -20,7 +20,7 @@ gather_by-state-requires-clause-share g c κs within =
 
 pub returns : goal.returns
 returns g c =
-    let run = c.args.shared.now in
+    let run = c.args.input.now.shared.now in
     let state = c.gather_by-state.result in
     let first = c.args.supplies.held in
     let count = c.args.supplies.crew.preparers in

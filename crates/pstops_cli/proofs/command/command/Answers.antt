@@ -15,7 +15,7 @@ returns c =
     ∙ ap (λ (f : Command-F Command). record f { disable_version_flag = true }) (c.disable_help_flag.ensures ∙ ap (λ (f : Command-F Command). record f { disable_help_flag = true }) c.no_binary_name.ensures) in
     IfOk-weaker c.args-3.result _ IsChain (λ d chain. record {
       start = c.disable_version_flag-bare.result;
-      args = c.in_ok-args.field-0.items;
+      args = c.in_ok-args.args.items;
       chain = chain;
       app = ap app_of_fields switched ∙ ap (on_top bare) c.new.ensures.app;
       no_args = ap (λ f. f.args.items) switched ∙ c.new.ensures.empty.0;
