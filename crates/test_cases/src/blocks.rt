@@ -17,16 +17,29 @@ pub fn blocks(alloc: Global, text: &str) -> Result<Vec<Block<'_>>, AllocError> {
     for (index, line) in text.split('\n').enumerate() {
         if line.is_empty() {
             empty_lines = empty_lines.saturating_add(1);
-            continue;
+        } else {
+            take_line(alloc, &mut blocks, index, line, empty_lines)?;
+            empty_lines = 0;
         }
-        if let Some(rest) = line.strip_prefix("  ") {
-            add_line(alloc, &mut blocks, index, rest, empty_lines)?;
-        } else if !line.starts_with('#') {
-            blocks.push(block_of(alloc, index, line))?;
-        }
-        empty_lines = 0;
     }
     Ok(blocks)
+}
+
+/// Takes a line that isn't empty, after this many that are.
+fn take_line<'a>(
+    alloc: Global,
+    blocks: &mut Vec<Block<'a>>,
+    index: usize,
+    line: &'a str,
+    empty_lines: usize,
+) -> Result<(), AllocError> {
+    if let Some(rest) = line.strip_prefix("  ") {
+        return add_line(alloc, blocks, index, rest, empty_lines);
+    }
+    if !line.starts_with('#') {
+        blocks.push(block_of(alloc, index, line))?;
+    }
+    Ok(())
 }
 
 fn block_of(alloc: Global, index: usize, head: &str) -> Block<'_> {
@@ -45,13 +58,23 @@ fn add_line<'a>(
     line: &'a str,
     empty_lines: usize,
 ) -> Result<(), AllocError> {
-    let Some(block) = blocks.last_mut() else {
-        blocks.push(block_of(alloc, index, ""))?;
-        return Ok(());
-    };
-    for _ in 0..empty_lines {
-        block.body.push("")?;
+    match blocks.last_mut() {
+        Some(block) => push_line(&mut block.body, line, empty_lines),
+        None => {
+            blocks.push(block_of(alloc, index, ""))?;
+            Ok(())
+        }
     }
-    block.body.push(line)?;
+}
+
+fn push_line<'a>(
+    body: &mut Vec<&'a str>,
+    line: &'a str,
+    empty_lines: usize,
+) -> Result<(), AllocError> {
+    for _ in 0..empty_lines {
+        body.push("")?;
+    }
+    body.push(line)?;
     Ok(())
 }

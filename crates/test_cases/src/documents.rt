@@ -106,10 +106,21 @@ fn push_repeated(
         let from_0 = time.to_string(alloc)?;
         let from_1 = time.saturating_add(1).to_string(alloc)?;
         for line in lines.iter() {
-            let numbered = line.replace(alloc, "{0}", from_0.as_str())?;
-            let numbered = numbered.as_str().replace(alloc, "{}", from_1.as_str())?;
-            push_line(bytes, numbered.as_str())?;
+            push_numbered(alloc, bytes, line, from_0.as_str(), from_1.as_str())?;
         }
     }
     Ok(true)
+}
+
+/// Adds a line with these numbers in it.
+fn push_numbered(
+    alloc: Global,
+    bytes: &mut Vec<u8>,
+    line: &str,
+    from_0: &str,
+    from_1: &str,
+) -> Result<(), AllocError> {
+    let numbered = line.replace(alloc, "{0}", from_0)?;
+    let numbered = numbered.as_str().replace(alloc, "{}", from_1)?;
+    push_line(bytes, numbered.as_str())
 }

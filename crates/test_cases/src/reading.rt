@@ -75,19 +75,34 @@ fn take_part(
 ) -> Result<bool, AllocError> {
     let (key, rest) = block.head.split_once(' ').unwrap_or((block.head, ""));
     let body = block.body.as_slice();
-    let is_taken = match key {
-        "output" => return take_text(alloc, &mut case.output, rest, body),
-        "error" => return take_text(alloc, &mut case.error, rest, body),
-        "file" => return take_file(alloc, &mut case.files, rest, body),
-        "input" => take_input(alloc, &mut case.inputs, rest, documents)?,
-        "with" => take_setting(alloc, &mut case.settings, rest)?,
-        "status" => take_status(&mut case.status, rest),
-        _ => false,
-    };
-    if is_taken {
-        push_wanted(alloc, &mut case.output, body, false)?;
+    match key {
+        "output" => take_text(alloc, &mut case.output, rest, body),
+        "error" => take_text(alloc, &mut case.error, rest, body),
+        "file" => take_file(alloc, &mut case.files, rest, body),
+        _ => {
+            let is_taken = take_line(alloc, case, key, rest, documents)?;
+            if is_taken {
+                push_wanted(alloc, &mut case.output, body, false)?;
+            }
+            Ok(is_taken)
+        }
     }
-    Ok(is_taken)
+}
+
+/// Takes a part of one line, which the output may follow.
+fn take_line(
+    alloc: Global,
+    case: &mut Case,
+    key: &str,
+    rest: &str,
+    documents: &[Document],
+) -> Result<bool, AllocError> {
+    match key {
+        "input" => take_input(alloc, &mut case.inputs, rest, documents),
+        "with" => take_setting(alloc, &mut case.settings, rest),
+        "status" => Ok(take_status(&mut case.status, rest)),
+        _ => Ok(false),
+    }
 }
 
 fn take_status(status: &mut u8, rest: &str) -> bool {

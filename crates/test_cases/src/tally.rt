@@ -1,9 +1,10 @@
 //! Counts of cases, and the report of those that differ.
 use crate::case_file::{Case, CaseFile};
-use crate::compared::differences;
+use crate::compared::{Difference, differences};
 use crate::reading::read_case_file;
+use std::alloc::{AllocError, Global};
 use std::fs::File;
-use std::io::Read;
+use std::io::read_to_string;
 
 /// What a command gave.
 #[derive(Drop)]
@@ -13,6 +14,25 @@ pub struct Found {
     pub error: Vec<u8>,
     /// The files that it made.
     pub files: Vec<FoundFile>,
+}
+
+impl Found {
+    /// Takes what was written to a file of this name, or without one to standard output.
+    pub fn take_output(
+        &mut self,
+        alloc: Global,
+        name: &Option<String>,
+        bytes: Vec<u8>,
+    ) -> Result<(), AllocError> {
+        match name {
+            None => self.output = bytes,
+            Some(name) => {
+                let name = String::from_str(alloc, name.as_str())?;
+                self.files.push(FoundFile { name, bytes })?;
+            }
+        }
+        Ok(())
+    }
 }
 
 /// A file that was made.
@@ -31,10 +51,7 @@ pub struct Tally {
 
 /// Reads the case file of that name from the folder in which the program runs.
 pub fn load(rt: &HostRuntime, name: &str) -> anyhow::Result<CaseFile> {
-    let mut bytes = Vec::new(rt.alloc());
-    let mut file = File::open(rt, name)?;
-    file.read_to_end(&mut bytes)?;
-    let text = String::from_utf8_lossy(rt.alloc(), bytes.as_slice())?;
+    let text = read_to_string(rt.alloc(), File::open(rt, name)?)?;
     Ok(read_case_file(rt.alloc(), text.as_str())?)
 }
 
@@ -60,8 +77,22 @@ impl Tally {
         Ok(())
     }
 
-    /// Counts a case, and prints how it differs, if it does.
-    pub fn compare(
+    /// Counts a case, and prints how it differs from what was found, if it does. Nothing is found where the program can't run
+    /// the case.
+    pub fn take(
+        &mut self,
+        rt: &HostRuntime,
+        name: &str,
+        case: &Case,
+        found: &Option<Found>,
+    ) -> anyhow::Result<()> {
+        match found {
+            Some(found) => self.compare(rt, name, case, found),
+            None => self.refuse(rt, name, case),
+        }
+    }
+
+    fn compare(
         &mut self,
         rt: &HostRuntime,
         name: &str,
@@ -70,27 +101,15 @@ impl Tally {
     ) -> anyhow::Result<()> {
         let differences = differences(rt.alloc(), case, found)?;
         self.count(!differences.is_empty());
-        if !differences.is_empty() {
-            println!(rt; "{name}:{}: $ {}", case.line, case.command)?;
-        }
-        for difference in differences.iter() {
-            let (part, line) = (&difference.part, difference.line);
-            let (wanted, found) = (&difference.wanted, &difference.found);
-            println!(rt; "  {part} {line} wanted: {wanted}\n  {part} {line} found:  {found}")?;
-        }
-        Ok(())
+        tell(rt, name, case, differences.as_slice())
     }
 
-    /// Counts a case that the program can't run, and prints why.
-    pub fn refuse(
-        &mut self,
-        rt: &HostRuntime,
-        name: &str,
-        case: &Case,
-        why: &str,
-    ) -> anyhow::Result<()> {
+    fn refuse(&mut self, rt: &HostRuntime, name: &str, case: &Case) -> anyhow::Result<()> {
         self.count(true);
-        println!(rt; "{name}:{}: $ {}\n  {why}", case.line, case.command)?;
+        println!(rt;
+            "{name}:{}: $ {}\n  no such command or setting, or no memory",
+            case.line, case.command
+        )?;
         Ok(())
     }
 
@@ -106,4 +125,22 @@ impl Tally {
             self.differ = self.differ.saturating_add(1);
         }
     }
+}
+
+/// Prints how a case differs, if it does.
+fn tell(
+    rt: &HostRuntime,
+    name: &str,
+    case: &Case,
+    differences: &[Difference],
+) -> anyhow::Result<()> {
+    if !differences.is_empty() {
+        println!(rt; "{name}:{}: $ {}", case.line, case.command)?;
+    }
+    for difference in differences {
+        let (part, line) = (&difference.part, difference.line);
+        let (wanted, found) = (&difference.wanted, &difference.found);
+        println!(rt; "  {part} {line} wanted: {wanted}\n  {part} {line} found:  {found}")?;
+    }
+    Ok(())
 }

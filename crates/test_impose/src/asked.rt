@@ -20,8 +20,8 @@ pub struct Asked {
     pub lines: Vec<String>,
 }
 
-/// Reads the settings. None if one of them isn't known.
-pub fn asked_of(alloc: Global, case: &Case) -> Result<Option<Asked>, AllocError> {
+/// Reads the settings. None if one of them isn't known, or memory ran out.
+pub fn asked_of(alloc: Global, case: &Case) -> Option<Asked> {
     let mut asked = Asked {
         paper_size: String::new(alloc),
         home: None,
@@ -30,52 +30,28 @@ pub fn asked_of(alloc: Global, case: &Case) -> Result<Option<Asked>, AllocError>
         lines: Vec::new(alloc),
     };
     for setting in case.settings.iter() {
-        let value = setting.value.as_str();
-        if !take_setting(alloc, &mut asked, setting.key.as_str(), value)? {
-            return Ok(None);
-        }
+        take_setting(
+            alloc,
+            &mut asked,
+            setting.key.as_str(),
+            setting.value.as_str(),
+        )?;
     }
-    Ok(Some(asked))
+    Some(asked)
 }
 
 /// Takes a setting, if it is known.
-fn take_setting(
-    alloc: Global,
-    asked: &mut Asked,
-    key: &str,
-    value: &str,
-) -> Result<bool, AllocError> {
+fn take_setting(alloc: Global, asked: &mut Asked, key: &str, value: &str) -> Option<()> {
     match key {
-        "papersize" => asked.paper_size = String::from_str(alloc, value)?,
-        "home" => asked.home = words_of(alloc, value)?.pop(),
-        "home_pipe" => {
-            asked.home = words_of(alloc, value)?.pop();
-            asked.home_is_regular = false;
+        "papersize" => asked.paper_size = String::from_str(alloc, value).ok()?,
+        "home" | "home_pipe" => {
+            asked.home = words_of(alloc, value).ok()?.pop();
+            asked.home_is_regular = key == "home";
         }
-        "lines" => asked.lines = words_of(alloc, value)?,
-        "pieces" => match value.parse::<usize>() {
-            Ok(most) => asked.takes = Takes::Pieces(most),
-            Err(_) => return Ok(false),
-        },
-        "output" => match takes_named(value) {
-            Some(takes) => asked.takes = takes,
-            None => return Ok(false),
-        },
-        _ => return Ok(false),
+        "lines" => asked.lines = words_of(alloc, value).ok()?,
+        _ => asked.takes = Takes::asked(key, value)?,
     }
-    Ok(true)
-}
-
-/// What outputs take: `none`, `unflushed`, or so many bytes.
-fn takes_named(value: &str) -> Option<Takes> {
-    match value {
-        "none" => Some(Takes::Nothing),
-        "unflushed" => Some(Takes::NoFlush),
-        _ => match value.parse::<usize>() {
-            Ok(most) => Some(Takes::Bytes(most)),
-            Err(_) => None,
-        },
-    }
+    Some(())
 }
 
 impl Asked {

@@ -4,37 +4,42 @@ use crate::runs::run;
 use std::alloc::{AllocError, Global};
 use std::sync::Wait;
 use std::thread::Threads;
-use test_cases::{Case, CaseFile, Found};
-use test_tools::Takes;
+use test_cases::Found;
+use test_tools::{GivenFile, Takes};
 
 /// Runs a command over and over, into outputs that take no byte, one, and so on up to all that it writes, and reports how
 /// many runs there were, and how many of them ended otherwise than they should.
 pub fn found_of_cut_offs<R: Threads + Wait + Sync>(
     rt: &R,
     alloc: Global,
-    file: &CaseFile,
-    case: &Case,
-    asked: &mut Asked,
+    files: &[GivenFile<'_>],
+    words: &[String],
+    asked: &Asked,
 ) -> Result<Found, AllocError> {
-    let (_, words) = case.words.as_slice().split_at(case.words.len().min(1));
-    let whole = run(rt, alloc, file, case, words, &*asked)?;
-    let bytes = written(&whole);
+    let mut whole = run(rt, alloc, files, words, asked, asked.takes)?;
+    let told = told(rt, alloc, files, words, asked, written(&whole))?;
+    whole.output = told.into_bytes();
+    Ok(whole)
+}
+
+/// What is told of the runs into outputs that take less than these bytes.
+fn told<R: Threads + Wait + Sync>(
+    rt: &R,
+    alloc: Global,
+    files: &[GivenFile<'_>],
+    words: &[String],
+    asked: &Asked,
+    bytes: &[u8],
+) -> Result<String, AllocError> {
     let mut differ: usize = 0;
     for most in 0..bytes.len() {
-        asked.takes = Takes::Bytes(most);
-        let found = run(rt, alloc, file, case, words, &*asked)?;
+        let found = run(rt, alloc, files, words, asked, Takes::Bytes(most))?;
         let (first, _) = bytes.split_at(most);
         if !is_cut_off(alloc, &found, first)? {
             differ = differ.saturating_add(1);
         }
     }
-    let text = format!(in alloc; "cut off {} times, {differ} differ\n", bytes.len())?;
-    Ok(Found {
-        status: whole.status,
-        output: Vec::from_slice(alloc, text.as_str().as_bytes())?,
-        error: whole.error,
-        files: whole.files,
-    })
+    format!(in alloc; "cut off {} times, {differ} differ\n", bytes.len())
 }
 
 /// What was written to the file of a run.
@@ -47,11 +52,16 @@ fn written(found: &Found) -> &[u8] {
 
 /// Whether a run ended with a failed write after these bytes.
 fn is_cut_off(alloc: Global, found: &Found, first: &[u8]) -> Result<bool, AllocError> {
-    let after = match first.len() {
-        0 => String::new(alloc),
-        count => format!(in alloc; " after {count} bytes")?,
-    };
-    let said = format!(in alloc; "impose: cannot write out.ps{after}: no storage space\n")?;
+    let said = said_after(alloc, first.len())?;
     let is_said = found.error.as_slice() == said.as_str().as_bytes();
     Ok(is_said && found.status == 3 && found.files.len() == 1 && written(found) == first)
+}
+
+fn said_after(alloc: Global, bytes: usize) -> Result<String, AllocError> {
+    match bytes {
+        0 => String::from_str(alloc, "impose: cannot write out.ps: no storage space\n"),
+        _ => format!(in alloc;
+            "impose: cannot write out.ps after {bytes} bytes: no storage space\n"
+        ),
+    }
 }

@@ -13,19 +13,11 @@ use std::io::ErrorKind;
 pub fn fault_named(name: &str) -> Option<ImposeFault> {
     let (name, number) = match name.split_once('(') {
         None => (name, 0),
-        Some((name, rest)) => match rest.strip_suffix(')') {
-            None => return None,
-            Some(digits) => match digits.parse::<u32>() {
-                Ok(number) => (name, number),
-                Err(_) => return None,
-            },
-        },
+        Some((name, rest)) => (name, rest.strip_suffix(')')?.parse::<u32>().ok()?),
     };
     if let Some(name) = name.strip_prefix("Spec.") {
-        return match spec_error_named(name, number) {
-            Some(error) => Some(ImposeFault::Run(RunError::Spec(error))),
-            None => None,
-        };
+        let error = spec_error_named(name, number)?;
+        return Some(ImposeFault::Run(RunError::Spec(error)));
     }
     if let Some(name) = name.strip_prefix("Write") {
         return write_fault_named(name, number as u64);

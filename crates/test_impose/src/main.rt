@@ -26,7 +26,7 @@ const FILES: [&str; 8] = [
 
 fn main(rt: HostRuntime) -> anyhow::Result<()> {
     let mut tally = Tally::new();
-    for name in FILES {
+    for name in &FILES {
         run_file(&rt, &rt, name, &mut tally)?;
     }
     tally.end(&rt)
@@ -42,10 +42,8 @@ fn run_file<R: Threads + Wait + Sync>(
     let file = load(rt, name)?;
     tally.tell_bad_lines(rt, name, &file)?;
     for case in file.cases.iter() {
-        match found_of_case(threads, rt.alloc(), &file, case)? {
-            Some(found) => tally.compare(rt, name, case, &found)?,
-            None => tally.refuse(rt, name, case, "no such command or setting")?,
-        }
+        let found = found_of_case(threads, rt.alloc(), &file, case);
+        tally.take(rt, name, case, &found)?;
     }
     Ok(())
 }

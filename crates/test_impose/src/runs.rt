@@ -10,49 +10,28 @@ use lengths::paper_by_name;
 use std::alloc::{AllocError, Global};
 use std::sync::Wait;
 use std::thread::Threads;
-use test_cases::{Case, CaseFile, Found, FoundFile};
-use test_tools::{Folder, GivenFile};
+use test_cases::{Case, CaseFile, Found};
+use test_tools::{Folder, GivenFile, Takes};
 
-/// What comes of a case. None if there is no such command or setting.
+/// What comes of a case. None if there is no such command or setting, or memory ran out.
 pub fn found_of_case<R: Threads + Wait + Sync>(
     rt: &R,
     alloc: Global,
     file: &CaseFile,
     case: &Case,
-) -> Result<Option<Found>, AllocError> {
-    let Some(mut asked) = asked_of(alloc, case)? else {
-        return Ok(None);
-    };
-    let words = case.words.as_slice();
-    match words {
-        [program, ..] if program.as_str() == "impose" => {
-            let found = run(rt, alloc, file, case, words, &asked)?;
-            Ok(Some(found))
-        }
-        [program, ..] if program.as_str() == "cut_off" => {
-            let found = found_of_cut_offs(rt, alloc, file, case, &mut asked)?;
-            Ok(Some(found))
-        }
-        [program, name, ..] if program.as_str() == "fault" => {
-            found_of_fault(alloc, name.as_str(), words)
-        }
-        [program, room] if program.as_str() == "put_guard" => match room.as_str().parse::<usize>() {
-            Ok(room) => Ok(Some(guarded(alloc, room, first_text(file, case))?)),
-            Err(_) => Ok(None),
-        },
-        _ => Ok(None),
-    }
+) -> Option<Found> {
+    let asked = asked_of(alloc, case)?;
+    let files = files_of(alloc, file, case, &asked).ok()?;
+    found_of_words(rt, alloc, files.as_slice(), case.words.as_slice(), &asked)
 }
 
-/// Runs the program with these words over the files that the case gives.
-pub fn run<R: Threads + Wait + Sync>(
-    rt: &R,
+/// The files that can be read.
+fn files_of<'a>(
     alloc: Global,
-    file: &CaseFile,
-    case: &Case,
-    words: &[String],
-    asked: &Asked,
-) -> Result<Found, AllocError> {
+    file: &'a CaseFile,
+    case: &'a Case,
+    asked: &'a Asked,
+) -> Result<Vec<GivenFile<'a>>, AllocError> {
     let mut files = Vec::new(alloc);
     for input in case.inputs.iter() {
         files.push(GivenFile {
@@ -68,10 +47,40 @@ pub fn run<R: Threads + Wait + Sync>(
             is_regular: asked.home_is_regular,
         })?;
     }
+    Ok(files)
+}
+
+/// What comes of a command over these files.
+fn found_of_words<R: Threads + Wait + Sync>(
+    rt: &R,
+    alloc: Global,
+    files: &[GivenFile<'_>],
+    words: &[String],
+    asked: &Asked,
+) -> Option<Found> {
+    let (command, more) = words.split_first()?;
+    match command.as_str() {
+        "impose" => run(rt, alloc, files, words, asked, asked.takes).ok(),
+        "cut_off" => found_of_cut_offs(rt, alloc, files, more, asked).ok(),
+        "fault" => found_of_fault(alloc, more),
+        "put_guard" => found_of_guard(alloc, more, files),
+        _ => None,
+    }
+}
+
+/// Runs the program with these words over these files, into outputs that take so much.
+pub fn run<R: Threads + Wait + Sync>(
+    rt: &R,
+    alloc: Global,
+    files: &[GivenFile<'_>],
+    words: &[String],
+    asked: &Asked,
+    takes: Takes,
+) -> Result<Found, AllocError> {
     let world = Folder {
         alloc,
-        files: files.as_slice(),
-        takes: asked.takes,
+        files,
+        takes,
     };
     let paper_size = asked.paper_size.as_str().as_bytes();
     let ended = impose(rt, alloc, words, paper_size, world);
@@ -85,25 +94,18 @@ fn found_at_the_end(
     words: &[String],
     asked: &Asked,
 ) -> Result<Found, AllocError> {
-    let mut output = printed(alloc, &ended.outcome)?;
-    let mut files = Vec::new(alloc);
+    let said = text_said(alloc, &ended.outcome, ended.request.as_ref(), words);
+    let mut found = Found {
+        status: ended.status(),
+        output: printed(alloc, &ended.outcome)?,
+        error: said.into_bytes(),
+        files: Vec::new(alloc),
+    };
     if let Rest::Output(Some(written)) = &ended.rest {
         let bytes = asked.compared(alloc, written.bytes.as_slice())?;
-        match &written.name {
-            None => output = bytes,
-            Some(name) => {
-                let name = String::from_str(alloc, name.as_str())?;
-                files.push(FoundFile { name, bytes })?;
-            }
-        }
+        found.take_output(alloc, &written.name, bytes)?;
     }
-    let said = text_said(alloc, &ended.outcome, ended.request.as_ref(), words);
-    Ok(Found {
-        status: ended.status(),
-        output,
-        error: Vec::from_slice(alloc, said.as_str().as_bytes())?,
-        files,
-    })
+    Ok(found)
 }
 
 /// Help and the version, which go to standard output.
@@ -111,44 +113,39 @@ fn printed(alloc: Global, outcome: &Result<Done, ImposeFault>) -> Result<Vec<u8>
     match outcome {
         Err(ImposeFault::Command(RequestFault::Words(asked))) if !asked.use_stderr() => {
             let text = format!(in alloc; "{asked}")?;
-            Vec::from_slice(alloc, text.as_str().as_bytes())
+            Ok(text.into_bytes())
         }
         _ => Ok(Vec::new(alloc)),
     }
 }
 
 /// What is said of a fault: `fault NAME WORDS`, where the words are those of the command that has it.
-fn found_of_fault(
-    alloc: Global,
-    name: &str,
-    words: &[String],
-) -> Result<Option<Found>, AllocError> {
-    let Some(fault) = fault_named(name) else {
-        return Ok(None);
-    };
-    let (_, words) = words.split_at(words.len().min(1));
-    let Ok(request) = read_command(alloc, words) else {
-        return Ok(None);
-    };
-    let status = fault_status(&fault);
-    let said = text_said(alloc, &Err(fault), Some(&request), words);
-    Ok(Some(Found {
-        status,
-        output: Vec::new(alloc),
-        error: Vec::from_slice(alloc, said.as_str().as_bytes())?,
-        files: Vec::new(alloc),
-    }))
+fn found_of_fault(alloc: Global, words: &[String]) -> Option<Found> {
+    let fault = fault_named(words.first()?.as_str())?;
+    said_of_fault(alloc, fault, words)
 }
 
-/// The text of the first file that the case gives.
-fn first_text<'a>(file: &'a CaseFile, case: &Case) -> &'a [u8] {
-    match case.inputs.first() {
-        Some(input) => file.text_of(input),
-        None => &[],
-    }
+fn said_of_fault(alloc: Global, fault: ImposeFault, words: &[String]) -> Option<Found> {
+    let request = read_command(alloc, words).ok()?;
+    let status = fault_status(&fault);
+    let said = text_said(alloc, &Err(fault), Some(&request), words);
+    Some(Found {
+        status,
+        output: Vec::new(alloc),
+        error: said.into_bytes(),
+        files: Vec::new(alloc),
+    })
 }
 
 /// A text after so much room, and the same with the guard for A4 in it.
+fn found_of_guard(alloc: Global, words: &[String], files: &[GivenFile<'_>]) -> Option<Found> {
+    let [room] = words else {
+        return None;
+    };
+    let room = room.as_str().parse::<usize>().ok()?;
+    guarded(alloc, room, files.first()?.bytes).ok()
+}
+
 fn guarded(alloc: Global, room: usize, text: &[u8]) -> Result<Found, AllocError> {
     let mut bytes = vec![in alloc; 0u8; room]?;
     bytes.extend_from_slice(text)?;

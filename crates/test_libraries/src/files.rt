@@ -21,10 +21,8 @@ fn run_file(rt: &HostRuntime, name: &str, tally: &mut Tally) -> anyhow::Result<(
     let file = load(rt, name)?;
     tally.tell_bad_lines(rt, name, &file)?;
     for case in file.cases.iter() {
-        match found(rt.alloc(), &file, case) {
-            Some(found) => tally.compare(rt, name, case, &found)?,
-            None => tally.refuse(rt, name, case, "not a command, or no memory")?,
-        }
+        let found = found(rt.alloc(), &file, case);
+        tally.take(rt, name, case, &found)?;
     }
     Ok(())
 }

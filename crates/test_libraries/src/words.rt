@@ -93,10 +93,10 @@ pub fn long_text(alloc: Global, text: &str) -> Option<String> {
     if part(text, 0) != "repeat" {
         return String::from_str(alloc, text).ok();
     }
-    let times = number_in(part(text, 1))?;
+    let times = count_in(part(text, 1))?;
     let (one, between) = (part(text, 2), part(text, 3));
     let (front, back) = (part(text, 4), part(text, 5));
-    repeated(alloc, [front, one, between, back], times).ok()
+    repeated(alloc, [front, one, between, back], times as usize).ok()
 }
 
 /// A part of a text between spaces; an empty one after the last.
@@ -105,17 +105,11 @@ fn part(text: &str, at: usize) -> &str {
 }
 
 /// This many times a text with another between them, after the front and before the back.
-fn repeated(alloc: Global, parts: [&str; 4], times: i128) -> Result<String, NoMemory> {
+fn repeated(alloc: Global, parts: [&str; 4], times: usize) -> Result<String, NoMemory> {
     let [front, one, between, back] = parts;
-    let mut text = String::from_str(alloc, front)?;
-    for time in 0..times {
-        if time > 0 {
-            text.push_str(between)?;
-        }
-        text.push_str(one)?;
-    }
-    text.push_str(back)?;
-    Ok(text)
+    let ones = vec![in alloc; one; times]?;
+    let text = ones.as_slice().join(alloc, between)?;
+    [front, text.as_str(), back].concat(alloc)
 }
 
 /// A specification. If it is refused, the refusal is printed.

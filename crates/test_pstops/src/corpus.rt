@@ -2,11 +2,12 @@
 //! number of pages and of sheets, the number of bytes that are written, and their digest. A separate program made
 //! its `stdout`.
 use imposer::MemorySink;
-use pstops_cli::{ReadSource, read_command, read_input, run_request};
+use pstops_cli::{ReadSource, Request, read_command, read_input, run_request};
 use sha2::{Digest, Sha256};
 use std::fs::File;
 use std::sync::Wait;
 use std::thread::Threads;
+use test_cases::words_of;
 
 /// The documents, by the programs that wrote them.
 const DOCUMENTS: [&str; 15] = [
@@ -41,31 +42,84 @@ const ROOM: usize = 1_000_000;
 
 /// Imposes them, with threads that this handle starts.
 pub fn impose_all<R: Threads + Wait + Sync>(rt: &HostRuntime, threads: &R) -> anyhow::Result<()> {
-    for name in DOCUMENTS {
-        let mut source = ReadSource::new(File::open(rt, name)?);
-        let Ok(input) = read_input(rt.alloc(), &mut source) else {
-            println!(rt; "{name}: cannot be read")?;
-            continue;
-        };
-        for spec in SPECIFICATIONS {
-            let words = vec![in rt.alloc(); String::from_str(rt.alloc(), spec)?]?;
-            let Ok(request) = read_command(rt.alloc(), words.as_slice()) else {
-                println!(rt; "{spec}: not taken")?;
-                continue;
-            };
-            let mut sink = MemorySink::new(rt.alloc(), ROOM, ROOM, 1_000)?;
-            let (status, line) = run_request(
-                threads,
-                rt.alloc(),
-                &request,
-                input.as_slice(),
-                &mut sink,
-            );
-            let line = String::from_utf8_lossy(rt.alloc(), line.as_slice())?;
-            print!(rt; "{name} {spec}: status {status}, {line}")?;
-            let digest = hex::encode(rt.alloc(), Sha256::digest(sink.bytes()))?;
-            println!(rt; "    SHA-256 {digest}")?;
-        }
+    for name in &DOCUMENTS {
+        impose_document(rt, threads, name)?;
     }
+    Ok(())
+}
+
+/// Imposes a document by each specification.
+fn impose_document<R: Threads + Wait + Sync>(
+    rt: &HostRuntime,
+    threads: &R,
+    name: &str,
+) -> anyhow::Result<()> {
+    let mut source = ReadSource::new(File::open(rt, name)?);
+    match read_input(rt.alloc(), &mut source) {
+        Ok(input) => impose_text(rt, threads, name, input.as_slice()),
+        Err(_) => print_line(rt, name, "cannot be read"),
+    }
+}
+
+fn impose_text<R: Threads + Wait + Sync>(
+    rt: &HostRuntime,
+    threads: &R,
+    name: &str,
+    text: &[u8],
+) -> anyhow::Result<()> {
+    for spec in &SPECIFICATIONS {
+        impose_by(rt, threads, name, text, spec)?;
+    }
+    Ok(())
+}
+
+fn impose_by<R: Threads + Wait + Sync>(
+    rt: &HostRuntime,
+    threads: &R,
+    name: &str,
+    text: &[u8],
+    spec: &str,
+) -> anyhow::Result<()> {
+    let words = words_of(rt.alloc(), spec)?;
+    match read_command(rt.alloc(), words.as_slice()) {
+        Ok(request) => impose(rt, threads, name, text, &request),
+        Err(_) => print_line(rt, spec, "not taken"),
+    }
+}
+
+/// Imposes a document, and prints what is said of it, and the digest.
+fn impose<R: Threads + Wait + Sync>(
+    rt: &HostRuntime,
+    threads: &R,
+    name: &str,
+    text: &[u8],
+    request: &Request,
+) -> anyhow::Result<()> {
+    let mut sink = MemorySink::new(rt.alloc(), ROOM, ROOM, 1_000)?;
+    let (status, line) = run_request(threads, rt.alloc(), request, text, &mut sink);
+    print_run(rt, name, request, status, line.as_slice())?;
+    print_digest(rt, sink.bytes())
+}
+
+fn print_run(
+    rt: &HostRuntime,
+    name: &str,
+    request: &Request,
+    status: u8,
+    line: &[u8],
+) -> anyhow::Result<()> {
+    let line = String::from_utf8_lossy(rt.alloc(), line)?;
+    print!(rt; "{name} {}: status {status}, {line}", request.spec)?;
+    Ok(())
+}
+
+fn print_digest(rt: &HostRuntime, bytes: &[u8]) -> anyhow::Result<()> {
+    let digest = hex::encode(rt.alloc(), Sha256::digest(bytes))?;
+    println!(rt; "    SHA-256 {digest}")?;
+    Ok(())
+}
+
+fn print_line(rt: &HostRuntime, name: &str, what: &str) -> anyhow::Result<()> {
+    println!(rt; "{name}: {what}")?;
     Ok(())
 }

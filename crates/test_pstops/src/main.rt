@@ -7,7 +7,7 @@ mod requests;
 mod worlds;
 
 use requests::asked;
-use std::alloc::{AllocError, Global};
+use std::alloc::Global;
 use std::sync::Wait;
 use std::thread::Threads;
 use test_cases::{Case, CaseFile, Found, Tally, load};
@@ -25,17 +25,26 @@ const FILES: [&str; 5] = [
 fn main(rt: HostRuntime) -> anyhow::Result<()> {
     corpus::impose_all(&rt, &rt)?;
     let mut tally = Tally::new();
-    for name in FILES {
-        let file = load(&rt, name)?;
-        tally.tell_bad_lines(&rt, name, &file)?;
-        for case in file.cases.iter() {
-            match found(&rt, rt.alloc(), &file, case)? {
-                Some(found) => tally.compare(&rt, name, case, &found)?,
-                None => tally.refuse(&rt, name, case, "no such call, or no such setting")?,
-            }
-        }
+    for name in &FILES {
+        run_file(&rt, &rt, name, &mut tally)?;
     }
     tally.end(&rt)
+}
+
+/// Runs each case of the file.
+fn run_file<R: Threads + Wait + Sync>(
+    rt: &HostRuntime,
+    threads: &R,
+    name: &str,
+    tally: &mut Tally,
+) -> anyhow::Result<()> {
+    let file = load(rt, name)?;
+    tally.tell_bad_lines(rt, name, &file)?;
+    for case in file.cases.iter() {
+        let found = found(threads, rt.alloc(), &file, case);
+        tally.take(rt, name, case, &found)?;
+    }
+    Ok(())
 }
 
 /// The result of a case, by the call that its first word names.
@@ -44,13 +53,11 @@ fn found<R: Threads + Wait + Sync>(
     alloc: Global,
     file: &CaseFile,
     case: &Case,
-) -> Result<Option<Found>, AllocError> {
-    let Some((call, words)) = case.words.as_slice().split_first() else {
-        return Ok(None);
-    };
+) -> Option<Found> {
+    let (call, words) = case.words.as_slice().split_first()?;
     match call.as_str() {
         "pstops" => ran(rt, alloc, words, file, case),
-        "read_command" => Ok(Some(asked(alloc, words)?)),
-        _ => Ok(None),
+        "read_command" => asked(alloc, words).ok(),
+        _ => None,
     }
 }

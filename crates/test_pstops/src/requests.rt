@@ -1,6 +1,7 @@
 //! What words ask for, in lines.
 use pstops_cli::{Request, read_command};
 use std::alloc::{AllocError, Global};
+use std::fmt::Display;
 use test_cases::Found;
 
 /// The request in words, as lines. Status 2 if they are no request.
@@ -19,21 +20,13 @@ pub(crate) fn asked(alloc: Global, words: &[String]) -> Result<Found, AllocError
 
 /// The specification, the workers and the paper, and lines for everything else that is asked for.
 fn lines_of(alloc: Global, request: &Request) -> Result<String, AllocError> {
-    let workers = request.options.workers;
-    let paper = request.options.paper;
-    let mut lines = format!(in alloc;
-        "spec '{}'\npreparers {}, imposers {}\npaper {} x {}\n",
-        request.spec,
-        workers.preparers,
-        workers.imposers,
-        paper.width().get(),
-        paper.height().get()
-    )?;
-    if let Some(width) = request.options.border {
-        lines.push_str(&format!(in alloc; "border {}\n", width.get())?)?;
+    let options = &request.options;
+    let mut lines = first_lines(alloc, request)?;
+    if let Some(width) = options.border {
+        push_value(alloc, &mut lines, "border", width.get())?;
     }
-    if let Some(sides) = request.options.sides {
-        lines.push_str(&format!(in alloc; "sides {sides}\n")?)?;
+    if let Some(sides) = options.sides {
+        push_value(alloc, &mut lines, "sides", sides)?;
     }
     if request.quiet {
         lines.push_str("quiet\n")?;
@@ -43,6 +36,27 @@ fn lines_of(alloc: Global, request: &Request) -> Result<String, AllocError> {
     Ok(lines)
 }
 
+fn first_lines(alloc: Global, request: &Request) -> Result<String, AllocError> {
+    let (workers, paper) = (request.options.workers, request.options.paper);
+    format!(in alloc;
+        "spec '{}'\npreparers {}, imposers {}\npaper {} x {}\n",
+        request.spec,
+        workers.preparers,
+        workers.imposers,
+        paper.width().get(),
+        paper.height().get()
+    )
+}
+
+fn push_value<D: Display + Drop>(
+    alloc: Global,
+    lines: &mut String,
+    what: &str,
+    value: D,
+) -> Result<(), AllocError> {
+    lines.push_str(&format!(in alloc; "{what} {value}\n")?)
+}
+
 fn push_name(
     alloc: Global,
     lines: &mut String,
@@ -50,7 +64,7 @@ fn push_name(
     name: &Option<String>,
 ) -> Result<(), AllocError> {
     match name {
-        Some(name) => lines.push_str(&format!(in alloc; "{what} '{name}'\n")?),
+        Some(name) => push_value(alloc, lines, what, format_args!("'{name}'")),
         None => Ok(()),
     }
 }

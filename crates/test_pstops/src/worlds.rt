@@ -1,42 +1,47 @@
 //! Runs of the program over a world in memory, as a case describes it.
-use pstops_cli::{Rest, pstops};
+use pstops_cli::{ExitReport, Rest, pstops};
 use std::alloc::{AllocError, Global};
 use std::sync::Wait;
 use std::thread::Threads;
-use test_cases::{Case, CaseFile, Found, FoundFile};
-use test_tools::{Folder, GivenFile, Takes, Written};
+use test_cases::{Case, CaseFile, Found};
+use test_tools::{Folder, GivenFile, Takes};
 
 /// Room for every output.
 const AMPLE: Takes = Takes::Bytes(1_000_000);
 
-/// Runs the program. None if the case has an unknown setting.
+/// Runs the program. None if the case has an unknown setting, or memory ran out.
 pub(crate) fn ran<R: Threads + Wait + Sync>(
     rt: &R,
     alloc: Global,
     words: &[String],
     file: &CaseFile,
     case: &Case,
-) -> Result<Option<Found>, AllocError> {
-    let Some(takes) = takes_of(case) else {
-        return Ok(None);
-    };
-    let files = files_of(alloc, file, case)?;
+) -> Option<Found> {
+    let takes = takes_of(case)?;
+    let files = files_of(alloc, file, case).ok()?;
     let world = Folder {
         alloc,
         files: files.as_slice(),
         takes,
     };
     let ended = pstops(rt, alloc, words, world);
+    found_at_the_end(alloc, &ended).ok()
+}
+
+/// What is found where the program has ended.
+fn found_at_the_end(alloc: Global, ended: &ExitReport<Folder<'_>>) -> Result<Found, AllocError> {
+    let error = Vec::from_slice(alloc, ended.line.as_slice())?;
     let mut found = Found {
         status: ended.status,
         output: Vec::new(alloc),
-        error: Vec::from_slice(alloc, ended.line.as_slice())?,
+        error,
         files: Vec::new(alloc),
     };
     if let Rest::Output(Some(output)) = &ended.rest {
-        take_output(alloc, &mut found, output)?;
+        let bytes = Vec::from_slice(alloc, output.bytes.as_slice())?;
+        found.take_output(alloc, &output.name, bytes)?;
     }
-    Ok(Some(found))
+    Ok(found)
 }
 
 /// The files that can be read.
@@ -60,26 +65,7 @@ fn files_of<'a>(
 fn takes_of(case: &Case) -> Option<Takes> {
     let mut takes = AMPLE;
     for setting in case.settings.iter() {
-        takes = match (setting.key.as_str(), setting.value.as_str()) {
-            ("output", "none") => Takes::Nothing,
-            ("output", "unflushed") => Takes::NoFlush,
-            ("output", count) => Takes::Bytes(count.parse::<usize>().ok()?),
-            ("pieces", count) => Takes::Pieces(count.parse::<usize>().ok()?),
-            _ => return None,
-        };
+        takes = Takes::asked(setting.key.as_str(), setting.value.as_str())?;
     }
     Some(takes)
-}
-
-/// What was written, to standard output or to a file.
-fn take_output(alloc: Global, found: &mut Found, output: &Written) -> Result<(), AllocError> {
-    let bytes = Vec::from_slice(alloc, output.bytes.as_slice())?;
-    match &output.name {
-        None => found.output = bytes,
-        Some(name) => {
-            let name = String::from_str(alloc, name.as_str())?;
-            found.files.push(FoundFile { name, bytes })?;
-        }
-    }
-    Ok(())
 }

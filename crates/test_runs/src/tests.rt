@@ -1,5 +1,5 @@
 //! What the trials share: options, large documents, a run with its report, and a table.
-ghost use Rattle.std.specs.Prelude.{◌≡◌, IfOk};
+ghost use Rattle.std.specs.Prelude.{◌≡◌};
 ghost use Rattle.rules.specs.Sheets.{layout};
 ghost use Rattle.gather_table.specs.Shared.{opening_seat};
 ghost use Rattle.sheet_writer.specs.Sinks.{IsCountable};
@@ -25,11 +25,13 @@ mod texts;
 mod tools;
 mod windows;
 
+use checks::done;
 use gather_table::{GatherTable, Seat};
 use handover::Shelf;
 use imposer::{Gate, Job, Options, Report, RunError, Sink, Workers, run};
 use lengths::a4;
-use std::alloc::{AllocError, Global};
+use std::alloc::Global;
+use std::process::Abort;
 use std::sync::Wait;
 use std::sync::atomic::AtomicUsize;
 use std::sync::atomic::Ordering::SeqCst;
@@ -41,6 +43,18 @@ const WHOLE: u64 = 4_294_967_296;
 
 /// How often a wait yields before it runs out.
 const YIELDS: u32 = 20_000_000;
+
+/// The first page in each of 64 slots.
+const PAGE_64_TIMES: &str = "\
+    0+0+0+0+0+0+0+0+0+0+0+0+0+0+0+0+0+0+0+0+0+0+0+0+0+0+0+0+0+0+0+0+0+0+0+0+0+0+0+0+0+0+0+0+0+0+0+0+0+0+\
+    0+0+0+0+0+0+0+0+0+0+0+0+0+0\
+";
+
+/// The first page in each of 65 slots.
+const PAGE_65_TIMES: &str = "\
+    0+0+0+0+0+0+0+0+0+0+0+0+0+0+0+0+0+0+0+0+0+0+0+0+0+0+0+0+0+0+0+0+0+0+0+0+0+0+0+0+0+0+0+0+0+0+0+0+0+0+\
+    0+0+0+0+0+0+0+0+0+0+0+0+0+0+0\
+";
 
 /// Waits until the word is so high, or any wait ran out, and counts a wait that runs out.
 fn wait_for(word: &AtomicUsize, height: usize, run_out: &AtomicUsize) {
@@ -90,25 +104,26 @@ fn run_into<R: Threads + Wait + Sync, G: Gate + Sync, S: Sink>(
 }
 
 /// So many pages of so many lines of nine bytes.
-fn large_pages(alloc: Global, pages: u32, lines: usize) -> Result<String, AllocError> {
-    let lines = "% a line\n".repeat(alloc, lines)?;
-    let mut text = String::from_str(alloc, "%!PS-Adobe-3.0\n")?;
+fn large_pages<R: Abort>(rt: &R, alloc: Global, pages: u32, lines: usize) -> String {
+    let lines = done(rt, "% a line\n".repeat(alloc, lines));
+    let mut text = done(rt, String::from_str(alloc, "%!PS-Adobe-3.0\n"));
     for page in 1..=pages {
-        let heading = format!(in alloc; "%%Page: {page} {page}\n")?;
-        text.push_str(&heading)?;
-        text.push_str(&lines)?;
+        let heading = done(rt, format!(in alloc; "%%Page: {page} {page}\n"));
+        done(rt, text.push_str(&heading));
+        done(rt, text.push_str(&lines));
     }
-    Ok(text)
+    text
 }
 
 /// A table of the job with its whole seat, and an empty shelf.
-fn table_and_shelf<'j, 'd>(
+fn table_and_shelf<'j, 'd, R: Abort>(
+    rt: &R,
     alloc: Global,
     job: &Job<'j, 'd>,
-) -> Result<(GatherTable<'j>, Seat, Shelf<'d>), AllocError>
-    ensures plan { IfOk result (λ made. made.0.layout ≡ layout job.now.plan) }
-    ensures seat { IfOk result (λ made. made.1 ≡ opening_seat made.0) }
+) -> (GatherTable<'j>, Seat, Shelf<'d>)
+    ensures plan { result.0.layout ≡ layout job.now.plan }
+    ensures seat { result.1 ≡ opening_seat result.0 }
 {
-    let (table, seat) = GatherTable::new(alloc, job.plan())?;
-    Ok((table, seat, Shelf::new(alloc)?))
+    let (table, seat) = done(rt, GatherTable::new(alloc, job.plan()));
+    (table, seat, done(rt, Shelf::new(alloc)))
 }

@@ -22,17 +22,14 @@ pub const TWO_PAGES: &str = "%!PS-Adobe-3.0\n\
 pub fn document_of(alloc: Global, pages: u32) -> Result<String, AllocError> {
     let mut text = String::new(alloc);
     for page in 0..pages {
-        let number = page.saturating_add(1);
-        let heading = format!(in alloc; "%%Page: {number} {number}\n")?;
-        text.push_str(&heading)?;
-        text.push_str(&page_body(alloc, page)?)?;
+        text.push_str(&numbered_page(alloc, page)?)?;
     }
     document_with(alloc, pages, &text)
 }
 
-/// The body of a page, after its page line.
-pub(crate) fn page_body(alloc: Global, page: u32) -> Result<String, AllocError> {
-    format!(in alloc; "({page}) pop\nshowpage\n")
+fn numbered_page(alloc: Global, page: u32) -> Result<String, AllocError> {
+    let number = page.saturating_add(1);
+    format!(in alloc; "%%Page: {number} {number}\n({page}) pop\nshowpage\n")
 }
 
 /// A document with this count of pages, and with this text between its preamble and its trailer: pages, or the
@@ -43,15 +40,6 @@ pub(crate) fn document_with(alloc: Global, pages: u32, text: &str) -> Result<Str
 
 /// A document of one page, or its sheet, with this many lines in the page.
 pub fn with_lines(alloc: Global, text: &str, lines: usize) -> Result<String, AllocError> {
-    let mut long = String::new(alloc);
-    let (before, after) = match text.split_once("(0) pop\n") {
-        Some(parts) => parts,
-        None => (text, ""),
-    };
-    long.push_str(before)?;
-    for _ in 0..lines {
-        long.push_str("(0) pop\n")?;
-    }
-    long.push_str(after)?;
-    Ok(long)
+    let long = "(0) pop\n".repeat(alloc, lines)?;
+    text.replace(alloc, "(0) pop\n", &long)
 }

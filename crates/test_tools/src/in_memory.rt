@@ -22,6 +22,19 @@ pub enum Takes {
     Nothing,
 }
 
+impl Takes {
+    /// What a setting of a case asks for: `output N`, `output none`, `output unflushed` or `pieces N`.
+    pub fn asked(key: &str, value: &str) -> Option<Takes> {
+        match (key, value) {
+            ("output", "none") => Some(Takes::Nothing),
+            ("output", "unflushed") => Some(Takes::NoFlush),
+            ("output", count) => Some(Takes::Bytes(count.parse::<usize>().ok()?)),
+            ("pieces", count) => Some(Takes::Pieces(count.parse::<usize>().ok()?)),
+            _ => None,
+        }
+    }
+}
+
 /// A world of one file that can be read, and of the one that names the paper at home. Standard input is empty.
 #[derive(Drop)]
 pub struct InMemory<'a> {

@@ -1,13 +1,13 @@
 //! What a run writes of pages and sheets.
-use super::documents::{document_with, page_body};
+use super::documents::document_with;
 use std::alloc::{AllocError, Global};
 
-/// A page placed on A4 by this matrix.
-fn placed(alloc: Global, matrix: &str, body: &str) -> Result<String, AllocError> {
+/// A page of `document_of`, placed on A4 by this matrix.
+fn placed(alloc: Global, matrix: &str, page: u32) -> Result<String, AllocError> {
     format!(in alloc;
         "userdict /ImposeSave save put\nuserdict /showpage {{}} put\n[{matrix}] concat\n\
         newpath 0 0 moveto 595 0 lineto 595 842 lineto 0 842 lineto closepath clip newpath\n\
-        {body}ImposeSave restore\n"
+        ({page}) pop\nshowpage\nImposeSave restore\n"
     )
 }
 
@@ -18,7 +18,7 @@ fn sheet(alloc: Global, number: u32, pages: &str) -> Result<String, AllocError> 
 
 /// The whole output with the page of `ONE_PAGE`, unmoved.
 pub fn one_up_output(alloc: Global) -> Result<String, AllocError> {
-    let page = placed(alloc, "1 0 0 1 0 0", &page_body(alloc, 0)?)?;
+    let page = placed(alloc, "1 0 0 1 0 0", 0)?;
     document_with(alloc, 1, &sheet(alloc, 1, &page)?)
 }
 
@@ -39,9 +39,8 @@ pub fn two_up_output(alloc: Global, sheets: u32) -> Result<String, AllocError> {
 
 /// This page and the next one, placed.
 fn two_up(alloc: Global, page: u32) -> Result<String, AllocError> {
-    let body = page_body(alloc, page)?;
-    let mut pair = placed(alloc, "0 0.7 -0.7 0 595.27559 0", &body)?;
-    let body = page_body(alloc, page.saturating_add(1))?;
-    pair.push_str(&placed(alloc, "0 0.7 -0.7 0 595.27559 420.94488", &body)?)?;
+    let next = page.saturating_add(1);
+    let mut pair = placed(alloc, "0 0.7 -0.7 0 595.27559 0", page)?;
+    pair.push_str(&placed(alloc, "0 0.7 -0.7 0 595.27559 420.94488", next)?)?;
     Ok(pair)
 }

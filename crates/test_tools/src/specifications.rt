@@ -9,12 +9,6 @@ pub const BOOKLET: &str = "4:-3L@.7(21cm,0)+0L@.7(21cm,14.85cm),1L@.7(21cm,0)+-2
 
 /// A sheet with this item in each of this many slots.
 pub fn same_items(alloc: Global, item: &str, slots: u32) -> Result<String, AllocError> {
-    let mut text = String::new(alloc);
-    for slot in 0..slots {
-        if slot > 0 {
-            text.push_str("+")?;
-        }
-        text.push_str(item)?;
-    }
-    Ok(text)
+    let items = vec![in alloc; item; slots as usize]?;
+    items.as_slice().join(alloc, "+")
 }

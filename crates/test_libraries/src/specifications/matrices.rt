@@ -4,32 +4,31 @@ use crate::words::{item, number, paper, word};
 use lengths::{Grains, Paper};
 use pagespec::Item;
 use placement::{Matrix, closing_text, matrix_of, matrix_text, opening_text};
-use std::alloc::Global;
 
 pub fn run(out: &mut Answer, words: &[String]) -> Option<()> {
     match word(words, 0)? {
-        "matrix" => matrix(out, &placed(out.alloc, words)?, &paper(words, 2)?),
-        "matrix_parts" => parts(out, &placed(out.alloc, words)?, &paper(words, 2)?),
-        "apply" => applied(
-            out,
-            &placed(out.alloc, words)?,
-            &paper(words, 2)?,
-            (coordinate(words, 3)?, coordinate(words, 4)?),
-        ),
-        "page_texts" => page_texts(
-            out,
-            &placed(out.alloc, words)?,
-            &paper(words, 2)?,
-            border(words, 3),
-        ),
-        _ => return None,
+        "matrix" | "matrix_parts" | "apply" | "page_texts" => {
+            let item = item(out.alloc, word(words, 1)?)?;
+            run_on(out, words, &item, &paper(words, 2)?)
+        }
+        _ => None,
     }
-    Some(())
 }
 
-/// The item of a text.
-fn placed(alloc: Global, words: &[String]) -> Option<Item> {
-    item(alloc, word(words, 1)?)
+/// Runs a command on an item and a page's paper.
+fn run_on(out: &mut Answer, words: &[String], item: &Item, paper: &Paper) -> Option<()> {
+    match word(words, 0)? {
+        "matrix" => matrix(out, item, paper),
+        "matrix_parts" => parts(out, item, paper),
+        "page_texts" => page_texts(out, item, paper, border(words, 3)),
+        _ => applied(
+            out,
+            item,
+            paper,
+            (coordinate(words, 3)?, coordinate(words, 4)?),
+        ),
+    }
+    Some(())
 }
 
 fn coordinate(words: &[String], at: usize) -> Option<i32> {

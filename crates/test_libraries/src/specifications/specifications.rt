@@ -89,17 +89,17 @@ fn goes_on(alloc: Global, prefix: &str) -> Result<bool, NoMemory> {
     for end in [
         "", "0", "0,0)", ",0)", "t,0)", "m,0)", "n,0)", "0)", ")", "t)", "m)", "n)",
     ] {
-        let mut whole = String::from_str(alloc, prefix)?;
-        whole.push_str(end)?;
-        if !is_stuck(alloc, whole.as_str())? {
+        if !is_stuck(alloc, prefix, end)? {
             return Ok(true);
         }
     }
     Ok(false)
 }
 
-fn is_stuck(alloc: Global, text: &str) -> Result<bool, NoMemory> {
-    match read_spec(alloc, text) {
+/// Whether a text is none of the grammar with this end.
+fn is_stuck(alloc: Global, prefix: &str, end: &str) -> Result<bool, NoMemory> {
+    let whole = [prefix, end].concat(alloc)?;
+    match read_spec(alloc, whole.as_str()) {
         Err(SpecError::Syntax(_)) => Ok(true),
         Err(SpecError::NoMemory) => Err(NoMemory),
         _ => Ok(false),

@@ -3,9 +3,9 @@
 ghost use Rattle.std.specs.Prelude.{◌<◌};
 
 use super::callers::gatherer::{Gatherer, Outcome, gatherer_of, outcome_of};
-use super::table_and_shelf;
 use super::tally::Tally;
-use crate::tests::checks::assert_that;
+use super::{PAGE_65_TIMES, table_and_shelf};
+use crate::tests::checks::{assert_that, done};
 use dsc::Document;
 use gather_table::{Closing, Published, Reply};
 use handover::Ready;
@@ -14,14 +14,13 @@ use pagespec::read_spec;
 use run_steps::Delivered;
 use sheet_plan::Plan;
 use sheet_text::Job;
-use std::alloc::{AllocError, Global};
+use std::alloc::Global;
 use std::process::Abort;
 use std::sync::Wait;
 use std::sync::atomic::AtomicUsize;
 use std::sync::atomic::Ordering::SeqCst;
-use std::test::Fail;
 use std::thread::{Threads, for_each_mut};
-use test_tools::{document_of, same_items};
+use test_tools::document_of;
 
 /// So many sheets of so many slots, with each page in so many of them.
 #[derive(Clone, Copy)]
@@ -74,12 +73,12 @@ struct Done {
 
 impl Done {
     /// Nothing is done yet.
-    fn nothing(alloc: Global, sizes: Sizes) -> Result<Done, AllocError> {
-        Ok(Done {
+    fn nothing<R: Abort>(rt: &R, alloc: Global, sizes: Sizes) -> Done {
+        Done {
             sizes,
-            deeds: Tally::new(alloc, WRONG)?,
+            deeds: Tally::new(rt, alloc, WRONG),
             closings: AtomicUsize::new(0),
-        })
+        }
     }
 
     fn add(&self, deed: usize, number: u32) {
@@ -200,19 +199,18 @@ impl Done {
 }
 
 /// So many others that gather the same.
-fn others_of<'s, 'j, 't, 'd>(
+fn others_of<'s, 'j, 't, 'd, R: Abort>(
+    rt: &R,
     alloc: Global,
     gatherer: &mut Gatherer<'s, 'j, 't, 'd>,
     count: u32,
-) -> Result<Vec<Gatherer<'s, 'j, 't, 'd>>, AllocError> {
+) -> Vec<Gatherer<'s, 'j, 't, 'd>> {
     let mut others = Vec::new(alloc);
     for _ in 0..count {
-        let Some(other) = gatherer.another() else {
-            return Err(AllocError);
-        };
-        others.push(other)?;
+        let other = gatherer.another().expect(rt, "another share");
+        done(rt, others.push(other));
     }
-    Ok(others)
+    others
 }
 
 /// Each page is delivered by each of so many callers, in so many threads.
@@ -225,23 +223,22 @@ struct Repeats {
 }
 
 impl Repeats {
-    fn deliver<R: Threads + Wait + Sync>(
+    fn deliver<R: Threads + Wait + Sync + Abort>(
         &self,
         rt: &R,
         alloc: Global,
         gatherer: &mut Gatherer<'_, '_, '_, '_>,
-        done: &Done,
-    ) -> Result<(), AllocError> {
-        let mut callers = others_of(alloc, gatherer, self.callers)?;
+        noted: &Done,
+    ) {
+        let mut callers = others_of(rt, alloc, gatherer, self.callers);
         for_each_mut(
             rt,
             callers.as_mut_slice(),
             self.threads,
             &|number, caller: &mut Gatherer<'_, '_, '_, '_>| {
-                done.deliver_all(rt, alloc, number, caller)
+                noted.deliver_all(rt, alloc, number, caller)
             },
         );
-        Ok(())
     }
 
     /// What is done is right, and the queue gives each sheet once.
@@ -250,12 +247,11 @@ impl Repeats {
         rt: &R,
         alloc: Global,
         gatherer: &mut Gatherer<'_, '_, '_, '_>,
-    ) -> Result<(), Fail> {
-        let done = Done::nothing(alloc, self.sizes)?;
-        self.deliver(rt, alloc, gatherer, &done)?;
-        assert_that(rt, done.take_all(rt, alloc, gatherer));
-        assert_that(rt, done.is_each_once());
-        Ok(())
+    ) {
+        let noted = Done::nothing(rt, alloc, self.sizes);
+        self.deliver(rt, alloc, gatherer, &noted);
+        assert_that(rt, noted.take_all(rt, alloc, gatherer));
+        assert_that(rt, noted.is_each_once());
     }
 
     /// The same of a job, with room in the queue for each sheet once.
@@ -264,12 +260,12 @@ impl Repeats {
         rt: &R,
         alloc: Global,
         job: &Job<'_, '_>,
-    ) -> Result<(), Fail> {
+    ) {
         assert_that(rt, job.sheets() == self.sizes.sheets);
-        let (ready, pass) = Ready::new(alloc, job.sheets().max(1))?;
-        let (table, seat, shelf) = table_and_shelf(alloc, job)?;
+        let (ready, pass) = done(rt, Ready::new(alloc, job.sheets().max(1)));
+        let (table, seat, shelf) = table_and_shelf(rt, alloc, job);
         let mut gatherer = gatherer_of(job, &table, &shelf, &ready, seat, pass);
-        self.look(rt, alloc, &mut gatherer)
+        self.look(rt, alloc, &mut gatherer);
     }
 
     /// The same of a document.
@@ -279,12 +275,11 @@ impl Repeats {
         alloc: Global,
         text: &str,
         items: &str,
-    ) -> Result<(), Fail> {
-        let spec = read_spec(alloc, items)?;
-        let document = Document::read(alloc, text.as_bytes())?;
-        let plan = Plan::new(alloc, &spec, document.pages())?;
-        let job = Job::new(&plan, &document, a4(), None);
-        self.look_at_job(rt, alloc, &job)
+    ) {
+        let spec = done(rt, read_spec(alloc, items));
+        let document = done(rt, Document::read(alloc, text.as_bytes()));
+        let plan = done(rt, Plan::new(alloc, &spec, document.pages()));
+        self.look_at_job(rt, alloc, &Job::new(&plan, &document, a4(), None));
     }
 }
 
@@ -301,17 +296,16 @@ fn deliver_each<R: Threads + Wait + Sync + Abort>(
     alloc: Global,
     callers: u32,
     threads: usize,
-) -> Result<(), Fail>
+)
     requires { 0 < threads }
 {
-    let same = same_items(alloc, "0", 65)?;
     for (items, sheets, slots, places) in [
         ("0", 1, 1, 1),
         ("2:0+1", 1, 2, 1),
         ("2:0+1", 2, 2, 1),
         ("2:0+1", 10, 2, 1),
         (SIXTY_FIVE_PAGES, 2, 65, 1),
-        (same.as_str(), 1, 65, 65),
+        (PAGE_65_TIMES, 1, 65, 65),
     ] {
         let sizes = Sizes {
             sheets,
@@ -323,23 +317,22 @@ fn deliver_each<R: Threads + Wait + Sync + Abort>(
             callers,
             threads,
         };
-        let text = document_of(alloc, sizes.pages())?;
-        repeats.look_at_document(rt, alloc, &text, items)?;
+        let text = done(rt, document_of(alloc, sizes.pages()));
+        repeats.look_at_document(rt, alloc, &text, items);
     }
-    Ok(())
 }
 
 #[test]
-fn one_caller_delivers_each_page_twice(rt: HostRuntime) -> Result<(), Fail> {
-    deliver_each(&rt, rt.alloc(), 2, 1)
+fn one_caller_delivers_each_page_twice(rt: HostRuntime) {
+    deliver_each(&rt, rt.alloc(), 2, 1);
 }
 
 #[test]
-fn two_threads_deliver_each_page_at_once(rt: HostRuntime) -> Result<(), Fail> {
-    deliver_each(&rt, rt.alloc(), 2, 2)
+fn two_threads_deliver_each_page_at_once(rt: HostRuntime) {
+    deliver_each(&rt, rt.alloc(), 2, 2);
 }
 
 #[test]
-fn four_threads_deliver_each_page_at_once(rt: HostRuntime) -> Result<(), Fail> {
-    deliver_each(&rt, rt.alloc(), 4, 4)
+fn four_threads_deliver_each_page_at_once(rt: HostRuntime) {
+    deliver_each(&rt, rt.alloc(), 4, 4);
 }

@@ -3,13 +3,13 @@
 ghost use Rattle.std.specs.Prelude.{None};
 
 use super::{Trial, run_into, wait_for};
-use crate::tests::checks::assert_that;
-use imposer::{Gate, Look, Open, RunError, Sink, SinkFault, Step};
+use crate::tests::checks::{assert_that, done};
+use imposer::{Gate, Look, Open, Sink, SinkFault, Step};
 use std::alloc::Global;
+use std::process::Abort;
 use std::sync::Wait;
 use std::sync::atomic::AtomicUsize;
 use std::sync::atomic::Ordering::SeqCst;
-use std::test::Fail;
 use std::thread;
 use std::thread::Threads;
 use test_tools::{ONE_PAGE, document_of};
@@ -77,16 +77,16 @@ impl Sink for Everything {
     }
 }
 
-/// So many pages, each on a sheet, by so many workers, if so many meet at these steps: whether a step of each page or sheet
-/// was entered, once, no wait ran out, and no sheet was made at the end.
-fn meet<R: Threads + Wait + Sync>(
+/// So many pages, each on a sheet, by so many workers, if so many meet at these steps: a step of each page or sheet is
+/// entered, once, no wait runs out, and no sheet is made at the end.
+fn assert_met<R: Threads + Wait + Sync + Abort>(
     rt: &R,
     alloc: Global,
     steps: Steps,
     height: u32,
     counts: (u32, u32),
     pages: u32,
-) -> Result<bool, RunError> {
+) {
     let gate = Barrier {
         steps,
         height: height as usize,
@@ -94,25 +94,26 @@ fn meet<R: Threads + Wait + Sync>(
         bits: AtomicUsize::new(0),
         run_out: AtomicUsize::new(0),
     };
-    let text = document_of(alloc, pages)?;
+    let text = done(rt, document_of(alloc, pages));
     let trial = Trial {
         document: &text,
         items: "0",
         counts,
     };
-    let report = run_into(rt, alloc, &trial, &gate, &mut Everything {})?;
+    let report = done(rt, run_into(rt, alloc, &trial, &gate, &mut Everything {}));
     let all = (1usize << pages.min(MOST_PAGES)).saturating_sub(1);
     let met = [
         gate.entered.load(SeqCst),
         gate.bits.load(SeqCst),
         gate.run_out.load(SeqCst),
     ];
-    Ok(met == [pages as usize, all, 0] && (report.sheets, report.swept) == (pages, 0))
+    assert_that(rt, met == [pages as usize, all, 0]);
+    assert_that(rt, (report.sheets, report.swept) == (pages, 0));
 }
 
 // A page is delivered while a sheet is imposed, too.
 #[test]
-fn as_many_threads_run_as_were_asked_for(rt: HostRuntime) -> Result<(), Fail> {
+fn as_many_threads_run_as_were_asked_for(rt: HostRuntime) {
     for (steps, height, counts, pages) in [
         (Steps::Pages, 4, (4, 4), 16),
         (Steps::Pages, 16, (16, 16), 16),
@@ -122,33 +123,25 @@ fn as_many_threads_run_as_were_asked_for(rt: HostRuntime) -> Result<(), Fail> {
         (Steps::Sheets, 2, (1, 2), 2),
         (Steps::SecondPageAndFirstSheet, 2, (1, 1), 2),
     ] {
-        assert_that(&rt, meet(&rt, rt.alloc(), steps, height, counts, pages)?);
+        assert_met(&rt, rt.alloc(), steps, height, counts, pages);
     }
-    Ok(())
 }
 
 /// How many sheets of a run on one page were made at the end.
-fn swept_of_one<R: Threads + Wait + Sync>(
-    rt: &R,
-    alloc: Global,
-    count: u32,
-) -> Result<u32, RunError> {
+fn swept_of_one<R: Threads + Wait + Sync + Abort>(rt: &R, alloc: Global, count: u32) -> u32 {
     let trial = Trial {
         document: ONE_PAGE,
         items: "0",
         counts: (count, count),
     };
-    let report = run_into(rt, alloc, &trial, &Open, &mut Everything {})?;
-    Ok(report.swept)
+    done(rt, run_into(rt, alloc, &trial, &Open, &mut Everything {})).swept
 }
 
 #[test]
-fn short_runs_leave_no_sheet_to_the_end(rt: HostRuntime) -> Result<(), Fail> {
+fn short_runs_leave_no_sheet_to_the_end(rt: HostRuntime) {
     for round in 0..200u32 {
-        let swept = swept_of_one(&rt, rt.alloc(), 1 + round % 2)?;
-        assert_that(&rt, swept == 0);
+        assert_that(&rt, swept_of_one(&rt, rt.alloc(), 1 + round % 2) == 0);
     }
-    Ok(())
 }
 
 /// Where the first look waits.
@@ -274,12 +267,12 @@ impl<'w> Sink for OneSheet<'w> {
 
 /// One page on one sheet: how many sheets were made at the end, how many looks had begun as the page's sheet was found,
 /// and how many waits ran out.
-fn run_late<R: Threads + Wait + Sync>(
+fn run_late<R: Threads + Wait + Sync + Abort>(
     rt: &R,
     alloc: Global,
     look: Look,
     side: Side,
-) -> Result<(u32, usize, usize), RunError> {
+) -> (u32, usize, usize) {
     let gate = Late::new(look, side);
     let trial = Trial {
         document: ONE_PAGE,
@@ -290,18 +283,22 @@ fn run_late<R: Threads + Wait + Sync>(
         late: &gate,
         calls: 0,
     };
-    let report = run_into(rt, alloc, &trial, &gate, &mut sink)?;
+    let report = done(rt, run_into(rt, alloc, &trial, &gate, &mut sink));
     let found_by = gate.found_by.load(SeqCst);
-    Ok((report.swept, found_by, gate.run_out.load(SeqCst)))
+    (report.swept, found_by, gate.run_out.load(SeqCst))
 }
 
 #[test]
-fn what_comes_while_somebody_looks_is_found(rt: HostRuntime) -> Result<(), Fail> {
-    for look in [Look::Queue, Look::Channel] {
-        let found = run_late(&rt, rt.alloc(), look, Side::Before)?;
-        assert_that(&rt, found == (0, 1, 0));
-        let found = run_late(&rt, rt.alloc(), look, Side::After)?;
-        assert_that(&rt, found == (0, 2, 0));
+fn what_comes_while_somebody_looks_is_found(rt: HostRuntime) {
+    for (look, side, found_by) in [
+        (Look::Queue, Side::Before, 1),
+        (Look::Queue, Side::After, 2),
+        (Look::Channel, Side::Before, 1),
+        (Look::Channel, Side::After, 2),
+    ] {
+        assert_that(
+            &rt,
+            run_late(&rt, rt.alloc(), look, side) == (0, found_by, 0),
+        );
     }
-    Ok(())
 }

@@ -1,9 +1,9 @@
 //! Gatherings, into sinks that fail too: what is written and reported, and that seat and pass come back whole.
-ghost use Rattle.std.specs.Prelude.{◌≤◌, IfOk, length};
+ghost use Rattle.std.specs.Prelude.{◌≤◌, length};
 ghost use Rattle.planned_runs.specs.Gathering.{IsFreshPass};
 
 use super::{WHOLE, table_and_shelf};
-use crate::tests::checks::{assert_bytes, assert_that};
+use crate::tests::checks::{assert_bytes, assert_that, done};
 use dsc::Document;
 use gather_table::Seat;
 use handover::{Pass, Ready};
@@ -11,10 +11,9 @@ use imposer::{Gate, Gathered, Job, MemorySink, Open, Report, RunError, Workers, 
 use lengths::a4;
 use pagespec::read_spec;
 use sheet_plan::Plan;
-use std::alloc::{AllocError, Global};
+use std::alloc::Global;
 use std::process::Abort;
 use std::sync::Wait;
-use std::test::Fail;
 use std::thread::Threads;
 use test_tools::{MOST_GROWTHS, TWO_UP, document_of, refuse, two_up_output};
 
@@ -39,34 +38,31 @@ pub(super) struct Gathering {
 }
 
 /// A queue for the sheets of a job, in which so many puts are made by right, if they are made so.
-fn queue_for(
-    alloc: Global,
-    job: &Job<'_, '_>,
-    puts: Option<u32>,
-) -> Result<(Ready, Pass), AllocError>
-    ensures pass { IfOk result (λ made. IsFreshPass made.0 made.1) }
-    ensures room { IfOk result (λ made. length job.now.plan.sheets ≤ made.0.capacity) }
+fn queue_for<R: Abort>(rt: &R, alloc: Global, job: &Job<'_, '_>, puts: Option<u32>) -> (Ready, Pass)
+    ensures pass { IsFreshPass result.0 result.1 }
+    ensures room { length job.now.plan.sheets ≤ result.0.capacity }
 {
-    match puts {
+    let made = match puts {
         Some(puts) => Ready::by_right(alloc, puts.max(job.sheets()).max(1)),
         None => Ready::new(alloc, job.sheets().max(1)),
-    }
+    };
+    done(rt, made)
 }
 
 /// Gathers a job in this way, at this gate.
-fn gather_at<R: Threads + Wait + Sync, G: Gate + Sync>(
+fn gather_at<R: Threads + Wait + Sync + Abort, G: Gate + Sync>(
     rt: &R,
     alloc: Global,
     job: &Job<'_, '_>,
     way: Way,
     gate: &G,
-) -> Result<Gathering, Fail> {
+) -> Gathering {
     if !way.workers.are_valid() {
-        return Err(AllocError)?;
+        panic!(rt; "no such workers");
     }
-    let mut sink = MemorySink::new(alloc, way.room, 1_000_000, 1_000)?;
-    let (ready, pass) = queue_for(alloc, job, way.puts)?;
-    let (table, seat, shelf) = table_and_shelf(alloc, job)?;
+    let mut sink = done(rt, MemorySink::new(alloc, way.room, 1_000_000, 1_000));
+    let (ready, pass) = queue_for(rt, alloc, job, way.puts);
+    let (table, seat, shelf) = table_and_shelf(rt, alloc, job);
     refuse(alloc, way.refused);
     let Gathered {
         outcome,
@@ -85,12 +81,12 @@ fn gather_at<R: Threads + Wait + Sync, G: Gate + Sync>(
         gate,
         &mut sink,
     );
-    Ok(Gathering {
+    Gathering {
         outcome,
         is_unshelved: unshelved.is_some(),
         shares: shares_of(tokens),
         sink,
-    })
+    }
 }
 
 /// The shares of a seat and of a pass, if they are there.
@@ -102,23 +98,33 @@ fn shares_of(tokens: Option<(Seat, Pass)>) -> Option<(u64, u64)> {
 }
 
 /// Gathers the pages of a document, two a sheet.
-pub(super) fn gather_pairs<R: Threads + Wait + Sync, G: Gate + Sync>(
+pub(super) fn gather_pairs<R: Threads + Wait + Sync + Abort, G: Gate + Sync>(
     rt: &R,
     alloc: Global,
     text: &str,
     way: Way,
     gate: &G,
-) -> Result<Gathering, Fail> {
-    let spec = read_spec(alloc, TWO_UP)?;
-    let document = Document::read(alloc, text.as_bytes())?;
-    let plan = Plan::new(alloc, &spec, document.pages())?;
-    gather_at(
-        rt,
-        alloc,
-        &Job::new(&plan, &document, a4(), None),
-        way,
-        gate,
-    )
+) -> Gathering {
+    let spec = done(rt, read_spec(alloc, TWO_UP));
+    let document = done(rt, Document::read(alloc, text.as_bytes()));
+    let plan = done(rt, Plan::new(alloc, &spec, document.pages()));
+    let job = Job::new(&plan, &document, a4(), None);
+    gather_at(rt, alloc, &job, way, gate)
+}
+
+/// What is reported of so many pages, two a sheet, of which so many bytes were written, and so many not.
+fn outcome_of(pages: u32, written: &[u8], rest: &[u8]) -> Result<Report, RunError> {
+    let bytes = written.len() as u64;
+    if !rest.is_empty() {
+        return Err(RunError::Write { written: bytes });
+    }
+    Ok(Report {
+        pages,
+        sheets: pages / 2,
+        born: 0,
+        swept: 0,
+        bytes,
+    })
 }
 
 /// So many pages, two a sheet, are gathered by so many workers, into a sink with this room.
@@ -128,9 +134,9 @@ fn assert_gathered<R: Threads + Wait + Abort + Sync>(
     pages: u32,
     (preparers, imposers): (u32, u32),
     room: usize,
-) -> Result<(), Fail> {
-    let document = document_of(alloc, pages)?;
-    let output = two_up_output(alloc, pages / 2)?;
+) {
+    let document = done(rt, document_of(alloc, pages));
+    let output = done(rt, two_up_output(alloc, pages / 2));
     let way = Way {
         workers: Workers {
             preparers,
@@ -140,29 +146,16 @@ fn assert_gathered<R: Threads + Wait + Abort + Sync>(
         puts: None,
         refused: MOST_GROWTHS,
     };
-    let gathering = gather_pairs(rt, alloc, &document, way, &Open)?;
+    let gathering = gather_pairs(rt, alloc, &document, way, &Open);
     let (written, rest) = output.as_bytes().split_at(room.min(output.len()));
-    let bytes = written.len() as u64;
-    let outcome = if rest.is_empty() {
-        Ok(Report {
-            pages,
-            sheets: pages / 2,
-            born: 0,
-            swept: 0,
-            bytes,
-        })
-    } else {
-        Err(RunError::Write { written: bytes })
-    };
-    assert_that(rt, gathering.outcome == outcome);
+    assert_that(rt, gathering.outcome == outcome_of(pages, written, rest));
     assert_bytes(rt, gathering.sink.bytes(), written);
     assert_that(rt, !gathering.is_unshelved);
     assert_that(rt, gathering.shares == Some((WHOLE, WHOLE)));
-    Ok(())
 }
 
 #[test]
-fn a_gathering_hands_back_its_tokens(rt: HostRuntime) -> Result<(), Fail> {
+fn a_gathering_hands_back_its_tokens(rt: HostRuntime) {
     for (pages, counts, room) in [
         (200, (1, 1), 100_000),
         (200, (2, 3), 100_000),
@@ -171,7 +164,6 @@ fn a_gathering_hands_back_its_tokens(rt: HostRuntime) -> Result<(), Fail> {
         (8, (2, 3), 100),
         (8, (2, 3), 1_000),
     ] {
-        assert_gathered(&rt, rt.alloc(), pages, counts, room)?;
+        assert_gathered(&rt, rt.alloc(), pages, counts, room);
     }
-    Ok(())
 }

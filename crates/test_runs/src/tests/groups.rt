@@ -1,16 +1,15 @@
 //! Sheets that came together: how they are written, and when their memory is given back.
-ghost use Rattle.std.specs.Prelude.{◌≡◌, ◌<◌, IfOk, OnOk, length};
+ghost use Rattle.std.specs.Prelude.{◌≡◌, ◌<◌, length};
 ghost use Rattle.sheet_text.specs.Jobs.{text_of};
 ghost use Rattle.sheet_writer.specs.Writing.{AreEarly, HaveTexts};
 
 use super::jobs::{Task, with_job};
-use crate::tests::checks::assert_that;
+use crate::tests::checks::{assert_that, done};
 use sheet_text::{Job, Openings, Rope, Texts, append_placed, begin_sheet, end_sheet, sheet_text};
 use sheet_writer::{Early, MemorySink, Progress, Sink, Spent, WriteSink, write_early, write_rest};
 use std::alloc::{AllocError, Global};
 use std::io::{self, ErrorKind, Write};
 use std::process::Abort;
-use std::test::Fail;
 
 /// The bodies of the four pages. This one, of the third, isn't copied to its sheet.
 const fn bodies(long: &str) -> [&str; 4] {
@@ -31,96 +30,100 @@ fn document_of_pages(alloc: Global, long: &str) -> Result<String, AllocError> {
     )
 }
 
-/// Writes the text of a sheet with a page that isn't copied if it is long.
-fn put_together<'r>(
-    text: &mut Rope<'r>,
+/// The text of a sheet with a page that isn't copied if it is long.
+fn put_together<'r, R: Abort>(
+    rt: &R,
     alloc: Global,
     job: &Job<'r, '_>,
     sheet: u32,
     body: &'r [u8],
-) -> Result<(), AllocError>
+) -> Rope<'r>
     requires { sheet < length job.now.plan.sheets }
 {
     if job.plan().slots(sheet) == 0 {
-        return Err(AllocError);
+        panic!(rt; "a sheet without a slot");
     }
-    begin_sheet(text, job, sheet)?;
-    append_placed(text, &mut Openings::new(alloc), job, sheet, 0, body)?;
-    end_sheet(text, job, sheet)
+    let mut text = Rope::new(alloc);
+    done(rt, begin_sheet(&mut text, job, sheet));
+    let placed = append_placed(&mut text, &mut Openings::new(alloc), job, sheet, 0, body);
+    done(rt, placed);
+    done(rt, end_sheet(&mut text, job, sheet));
+    text
 }
 
-/// The same, if it is what the sheet's text is otherwise.
-fn text_with<'r>(
+/// The same, which is what the sheet's text is otherwise.
+fn text_with<'r, R: Abort>(
+    rt: &R,
     alloc: Global,
     job: &Job<'r, '_>,
     sheet: u32,
     body: &'r [u8],
-) -> Result<Rope<'r>, AllocError>
+) -> Rope<'r>
     requires { sheet < length job.now.plan.sheets }
-    ensures { IfOk result (λ text. text ≡ text_of job.now sheet) }
+    ensures { result ≡ text_of job.now sheet }
 {
-    let wanted = sheet_text(alloc, job, sheet)?;
-    let mut text = Rope::new(alloc);
-    put_together(&mut text, alloc, job, sheet, body)?;
-    if text.to_vec(alloc)?.as_slice() == wanted.as_slice() {
-        Ok(text)
-    } else {
-        Err(AllocError)
+    let wanted = done(rt, sheet_text(alloc, job, sheet));
+    let text = put_together(rt, alloc, job, sheet, body);
+    let found = done(rt, text.to_vec(alloc));
+    if found.as_slice() != wanted.as_slice() {
+        panic!(rt; "another text");
     }
+    text
 }
 
 /// Adds a sheet to others.
-fn finish<'r>(
+fn finish<'r, R: Abort>(
+    rt: &R,
     alloc: Global,
     job: &Job<'r, '_>,
     finished: &mut Texts<'r>,
     sheet: u32,
     body: &'r [u8],
-) -> Result<(), AllocError>
+)
     requires sheet { sheet < length job.now.plan.sheets }
     requires texts { HaveTexts (text_of job.now) finished.old }
-    ensures { OnOk result (HaveTexts (text_of job.now) finished.new) }
+    ensures { HaveTexts (text_of job.now) finished.new }
 {
-    let mut text = text_with(alloc, job, sheet, body)?;
-    finished.push(sheet, &mut text)?;
-    Ok(())
+    let mut text = text_with(rt, alloc, job, sheet, body);
+    done(rt, finished.push(sheet, &mut text));
 }
 
 /// These sheets come together.
-fn put_sheets<'r>(
+fn put_sheets<'r, R: Abort>(
+    rt: &R,
     alloc: Global,
     job: &Job<'r, '_>,
     bodies: &[&'r str; 4],
     early: &mut Early<'r>,
     sheets: &[u32],
-) -> Result<(), AllocError>
+)
     requires { AreEarly job.now early.old.groups.items }
-    ensures { OnOk result (AreEarly job.now early.new.groups.items) }
+    ensures { AreEarly job.now early.new.groups.items }
 {
     let mut finished = Texts::new(alloc);
     for sheet in sheets {
         if *sheet >= job.sheets() || *sheet >= 4 {
-            return Err(AllocError);
+            panic!(rt; "no such sheet");
         }
         let body = bodies[*sheet as usize];
-        finish(alloc, job, &mut finished, *sheet, body.as_bytes())?;
+        finish(rt, alloc, job, &mut finished, *sheet, body.as_bytes());
     }
     early.put(finished);
-    Ok(())
 }
 
 /// Of the four sheets these have come, together.
-fn early_with<'r>(
+fn early_with<'r, R: Abort>(
+    rt: &R,
     alloc: Global,
     job: &Job<'r, '_>,
     bodies: &[&'r str; 4],
     sheets: &[u32],
-) -> Result<Early<'r>, AllocError>
-    ensures { IfOk result (λ early. AreEarly job.now early.groups.items) }
+) -> Early<'r>
+    ensures { AreEarly job.now result.groups.items }
 {
-    let mut early = Early::new(alloc, 4)?;
-    put_sheets(alloc, job, bodies, &mut early, sheets)?;
-    Ok(early)
+    let mut early = done(rt, Early::new(alloc, 4));
+    put_sheets(rt, alloc, job, bodies, &mut early, sheets);
+    early
 }
 
 /// Nothing was written.
@@ -178,8 +181,8 @@ fn calls_of_all<R: Abort>(
     alloc: Global,
     job: &Job<'_, '_>,
     bodies: &[&str; 4],
-) -> Result<Vec<usize>, AllocError> {
-    let mut early = early_with(alloc, job, bodies, &[0, 1, 2, 3])?;
+) -> Vec<usize> {
+    let mut early = early_with(rt, alloc, job, bodies, &[0, 1, 2, 3]);
     let mut calls = Calls {
         lengths: Vec::new(alloc),
     };
@@ -191,30 +194,31 @@ fn calls_of_all<R: Abort>(
     let progress = write_early(job, &mut sink, START, &mut early, &mut given_back);
     drop(sink);
     assert_that(rt, progress.next == 4);
-    Ok(calls.lengths)
+    calls.lengths
 }
 
 /// Of two groups, one of each other sheet, the first is given back when its last sheet is written, and not before: which
 /// sheet is the next one and how much was noted, after each group.
-fn write_two_groups(
+fn write_two_groups<R: Abort>(
+    rt: &R,
     alloc: Global,
     job: &Job<'_, '_>,
     bodies: &[&str; 4],
     given_back: &mut GivenBack,
     sink: &mut MemorySink,
-) -> Result<[(u32, usize); 2], AllocError>
+) -> [(u32, usize); 2]
     requires countable { sink.old.failures < 10 }
 {
-    let mut early = early_with(alloc, job, bodies, &[0, 2])?;
+    let mut early = early_with(rt, alloc, job, bodies, &[0, 2]);
     let progress = write_early(job, sink, START, &mut early, given_back);
     // What follows asks for this, and no helper's answer says it.
     if progress.halted.is_some() {
-        return Err(AllocError);
+        panic!(rt; "a sheet wasn't written");
     }
     let first = (progress.next, given_back.sheets.len());
-    put_sheets(alloc, job, bodies, &mut early, &[1, 3])?;
+    put_sheets(rt, alloc, job, bodies, &mut early, &[1, 3]);
     let progress = write_early(job, sink, progress, &mut early, given_back);
-    Ok([first, (progress.next, given_back.sheets.len())])
+    [first, (progress.next, given_back.sheets.len())]
 }
 
 /// The groups are given back one after the other, with all bytes that were written.
@@ -223,20 +227,20 @@ fn two_groups<R: Abort>(
     alloc: Global,
     job: &Job<'_, '_>,
     bodies: &[&str; 4],
-) -> Result<MemorySink, AllocError> {
-    let mut sink = MemorySink::new(alloc, 10_000, 10_000, 100)?;
+) -> MemorySink {
+    let mut sink = done(rt, MemorySink::new(alloc, 10_000, 10_000, 100));
     let mut given_back = GivenBack {
         sheets: Vec::new(alloc),
         bytes: 0,
     };
-    let counts = write_two_groups(alloc, job, bodies, &mut given_back, &mut sink)?;
+    let counts = write_two_groups(rt, alloc, job, bodies, &mut given_back, &mut sink);
     assert_that(rt, counts == [(1, 0), (4, 6)]);
     assert_that(
         rt,
         given_back.sheets.as_slice() == [0, 2, END, 1, 3, END].as_slice(),
     );
     assert_that(rt, given_back.bytes == sink.bytes().len());
-    Ok(sink)
+    sink
 }
 
 /// Of the four sheets these came, together: the others are made and counted, and these sheets are written, and the trailer.
@@ -247,10 +251,10 @@ fn assert_rest<R: Abort>(
     bodies: &[&str; 4],
     came: &[u32],
     sheets: &[u8],
-) -> Result<(), Fail> {
-    let trailer = job.document().trailer_text()?;
-    let early = early_with(alloc, job, bodies, came)?;
-    let mut sink = MemorySink::new(alloc, 10_000, 10_000, 100)?;
+) {
+    let trailer = done(rt, job.document().trailer_text());
+    let early = early_with(rt, alloc, job, bodies, came);
+    let mut sink = done(rt, MemorySink::new(alloc, 10_000, 10_000, 100));
     let rest = write_rest(alloc, job, &mut sink, START, &early, trailer.as_slice());
     assert_that(rt, rest.halted.is_none());
     assert_that(rt, (rest.swept as usize).saturating_add(came.len()) == 4);
@@ -258,7 +262,6 @@ fn assert_rest<R: Abort>(
         rt,
         sink.bytes().strip_suffix(b"%%Trailer\n%%EOF\n") == Some(sheets),
     );
-    Ok(())
 }
 
 /// The first two sheets together, the third one's text before its page, the page and what comes after it, and the last
@@ -272,24 +275,23 @@ struct Pages<'b> {
 }
 
 impl<'b, R: Abort> Task<R, ()> for Pages<'b> {
-    fn go(&self, rt: &R, alloc: Global, job: &Job<'_, '_>) -> Result<(), Fail> {
-        let calls = calls_of_all(rt, alloc, job, &self.bodies)?;
+    fn go(&self, rt: &R, alloc: Global, job: &Job<'_, '_>) {
+        let calls = calls_of_all(rt, alloc, job, &self.bodies);
         assert_that(rt, calls.as_slice() == LENGTHS.as_slice());
-        let sink = two_groups(rt, alloc, job, &self.bodies)?;
+        let sink = two_groups(rt, alloc, job, &self.bodies);
         let some: [&[u32]; 3] = [&[], &[1, 2], &[0, 1, 2, 3]];
         for came in some {
-            assert_rest(rt, alloc, job, &self.bodies, came, sink.bytes())?;
+            assert_rest(rt, alloc, job, &self.bodies, came, sink.bytes());
         }
-        Ok(())
     }
 }
 
 // Neighbours are written by one call, sheets given back with the last of them, and those that never came made.
 #[test]
-fn sheets_that_come_together(rt: HostRuntime) -> Result<(), Fail> {
-    let mut long = "(2) pop\n".repeat(rt.alloc(), 600)?;
-    long.push_str("showpage\n")?;
-    let text = document_of_pages(rt.alloc(), &long)?;
+fn sheets_that_come_together(rt: HostRuntime) {
+    let mut long = done(&rt, "(2) pop\n".repeat(rt.alloc(), 600));
+    done(&rt, long.push_str("showpage\n"));
+    let text = done(&rt, document_of_pages(rt.alloc(), &long));
     let bodies = bodies(&long);
-    with_job(&rt, rt.alloc(), &text, "0", &Pages { bodies })
+    with_job(&rt, rt.alloc(), &text, "0", &Pages { bodies });
 }

@@ -1,27 +1,28 @@
 //! A job, as many tests need one.
+use crate::tests::checks::done;
 use dsc::Document;
 use lengths::a4;
 use pagespec::read_spec;
 use sheet_plan::Plan;
 use sheet_text::Job;
 use std::alloc::Global;
-use std::test::Fail;
+use std::process::Abort;
 
 /// What a test does with a job, and what it comes to.
 pub(super) trait Task<R, A> {
-    fn go(&self, rt: &R, alloc: Global, job: &Job<'_, '_>) -> Result<A, Fail>;
+    fn go(&self, rt: &R, alloc: Global, job: &Job<'_, '_>) -> A;
 }
 
 /// Does the task with the job of this document by this specification, on A4.
-pub(super) fn with_job<A, R, T: Task<R, A>>(
+pub(super) fn with_job<A, R: Abort, T: Task<R, A>>(
     rt: &R,
     alloc: Global,
     text: &str,
     items: &str,
     task: &T,
-) -> Result<A, Fail> {
-    let spec = read_spec(alloc, items)?;
-    let document = Document::read(alloc, text.as_bytes())?;
-    let plan = Plan::new(alloc, &spec, document.pages())?;
+) -> A {
+    let spec = done(rt, read_spec(alloc, items));
+    let document = done(rt, Document::read(alloc, text.as_bytes()));
+    let plan = done(rt, Plan::new(alloc, &spec, document.pages()));
     task.go(rt, alloc, &Job::new(&plan, &document, a4(), None))
 }

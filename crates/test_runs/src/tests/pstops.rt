@@ -5,8 +5,10 @@ mod outputs;
 mod reading;
 mod requests;
 
+use crate::tests::checks::done;
 use pstops_cli::{NoMemory, Request, read_command};
-use std::alloc::{AllocError, Global};
+use std::alloc::Global;
+use std::process::Abort;
 
 /// The words of a command line.
 fn words_of(alloc: Global, line: &str) -> Result<Vec<String>, NoMemory> {
@@ -17,11 +19,8 @@ fn words_of(alloc: Global, line: &str) -> Result<Vec<String>, NoMemory> {
     Ok(words)
 }
 
-/// The request that a command line makes. It is refused as if memory were out.
-fn request_of(alloc: Global, line: &str) -> Result<Request, AllocError> {
-    let words = words_of(alloc, line)?;
-    match read_command(alloc, words.as_slice()) {
-        Ok(request) => Ok(request),
-        Err(_) => Err(AllocError),
-    }
+/// The request that a command line makes.
+fn request_of<R: Abort>(rt: &R, alloc: Global, line: &str) -> Request {
+    let words = done(rt, words_of(alloc, line));
+    done(rt, read_command(alloc, words.as_slice()))
 }

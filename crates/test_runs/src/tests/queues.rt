@@ -3,17 +3,16 @@ ghost use Rattle.handover.specs.Passes.{IsPassOf};
 
 use super::WHOLE;
 use super::tally::Tally;
-use crate::tests::checks::assert_that;
+use crate::tests::checks::{assert_that, done};
 use handover::{Full, Pass, Ready};
 use std::ops::Range;
 use std::sync::Wait;
-use std::test::Fail;
 use std::thread;
 use std::thread::{Threads, for_each_mut};
 
 #[test]
-fn passes_with_a_part_of_the_shares_put_and_take(rt: HostRuntime) -> Result<(), Fail> {
-    let (ready, mut one) = Ready::new(rt.alloc(), 1)?;
+fn passes_with_a_part_of_the_shares_put_and_take(rt: HostRuntime) {
+    let (ready, mut one) = done(&rt, Ready::new(rt.alloc(), 1));
     let mut other = ready.split(&mut one, 7);
     assert_that(&rt, (one.share(), other.share()) == (4_294_967_289, 7));
     assert_that(&rt, ready.take(&rt, &mut other).is_none());
@@ -21,12 +20,11 @@ fn passes_with_a_part_of_the_shares_put_and_take(rt: HostRuntime) -> Result<(), 
     assert_that(&rt, ready.put(&rt, &mut one, 8) == Err(Full(8)));
     assert_that(&rt, ready.take(&rt, &mut one) == Some(7));
     assert_that(&rt, ready.join(one, other).share() == WHOLE);
-    Ok(())
 }
 
 #[test]
-fn puts_by_right_are_not_refused(rt: HostRuntime) -> Result<(), Fail> {
-    let (ready, mut pass) = Ready::by_right(rt.alloc(), 2)?;
+fn puts_by_right_are_not_refused(rt: HostRuntime) {
+    let (ready, mut pass) = done(&rt, Ready::by_right(rt.alloc(), 2));
     let mut other = ready.split_with_room(&mut pass, 1, 1);
     assert_that(&rt, (pass.room(), other.room()) == (1, 1));
     assert_that(&rt, ready.put(&rt, &mut pass, 7) == Ok(()));
@@ -41,7 +39,6 @@ fn puts_by_right_are_not_refused(rt: HostRuntime) -> Result<(), Fail> {
     assert_that(&rt, ready.put(&rt, &mut whole, 8) == Ok(()));
     assert_that(&rt, ready.put(&rt, &mut whole, 7) == Err(Full(7)));
     assert_that(&rt, ready.take(&rt, &mut whole) == Some(9));
-    Ok(())
 }
 
 // A thread's pass of the queue.
@@ -107,9 +104,9 @@ fn work_apart<R: Threads + Wait + Sync>(rt: &R, workers: &mut [Worker<'_>; 4], t
 }
 
 #[test]
-fn no_sheet_is_lost_or_doubled(rt: HostRuntime) -> Result<(), Fail> {
-    let taken = Tally::new(rt.alloc(), 200)?;
-    let (queue, mut pass) = Ready::new(rt.alloc(), 4)?;
+fn no_sheet_is_lost_or_doubled(rt: HostRuntime) {
+    let taken = Tally::new(&rt, rt.alloc(), 200);
+    let (queue, mut pass) = done(&rt, Ready::new(rt.alloc(), 4));
     let ready = &queue;
     let mut workers = [
         Worker {
@@ -132,5 +129,4 @@ fn no_sheet_is_lost_or_doubled(rt: HostRuntime) -> Result<(), Fail> {
     work_apart(&rt, &mut workers, &taken);
     assert_that(&rt, taken.are_once(0, 200) && taken.all() == 200);
     assert_that(&rt, ready.take(&rt, &mut pass).is_none());
-    Ok(())
 }

@@ -10,7 +10,6 @@ use std::process::Abort;
 use std::sync::Wait;
 use std::sync::atomic::AtomicUsize;
 use std::sync::atomic::Ordering::SeqCst;
-use std::test::Fail;
 use std::thread::Threads;
 use test_tools::MOST_GROWTHS;
 
@@ -54,7 +53,7 @@ fn gather_with_room<R: Threads + Wait + Abort + Sync>(
     alloc: Global,
     text: &str,
     puts: u32,
-) -> Result<Gathering, Fail> {
+) -> Gathering {
     let gate = FirstSheetByTheSecond {
         even: AtomicUsize::new(0),
         odd: AtomicUsize::new(0),
@@ -69,9 +68,9 @@ fn gather_with_room<R: Threads + Wait + Abort + Sync>(
         puts: Some(puts),
         refused: MOST_GROWTHS,
     };
-    let gathering = gather_pairs(rt, alloc, text, way, &gate)?;
+    let gathering = gather_pairs(rt, alloc, text, way, &gate);
     assert_that(rt, gate.run_out.load(SeqCst) == 0);
-    Ok(gathering)
+    gathering
 }
 
 /// How many sheets were made at the end, if all were made.
@@ -85,13 +84,12 @@ fn swept_in(gathering: &Gathering) -> Option<u32> {
 // The first preparer may make a put for each of its pages. There is as much room as there are sheets, so the second one
 // has none; or twice as much.
 #[test]
-fn a_sheet_that_is_handed_back_is_not_waited_for(rt: HostRuntime) -> Result<(), Fail> {
+fn a_sheet_that_is_handed_back_is_not_waited_for(rt: HostRuntime) {
     let alloc = rt.alloc();
-    let text = six_pages(alloc)?;
-    let whole = gather_with_room(&rt, alloc, &text, 2 * SHEETS)?;
-    let half = gather_with_room(&rt, alloc, &text, SHEETS)?;
+    let text = six_pages(&rt, alloc);
+    let whole = gather_with_room(&rt, alloc, &text, 2 * SHEETS);
+    let half = gather_with_room(&rt, alloc, &text, SHEETS);
     assert_that(&rt, swept_in(&whole) == Some(0));
     assert_that(&rt, swept_in(&half).unwrap_or(0) > 0);
     assert_bytes(&rt, half.sink.bytes(), whole.sink.bytes());
-    Ok(())
 }

@@ -1,7 +1,6 @@
 //! Sets of a few numbers.
-use super::checks::assert_that;
+use super::checks::{assert_that, done};
 use sheet_set::SheetSet;
-use std::test::Fail;
 
 /// Takes the first number before each of these ends. Returns whether they are the expected ones.
 fn are_taken(set: &mut SheetSet, wanted: &[(u32, Option<u32>)]) -> bool {
@@ -15,11 +14,11 @@ fn are_taken(set: &mut SheetSet, wanted: &[(u32, Option<u32>)]) -> bool {
 
 // A smaller number comes first after larger ones were taken.
 #[test]
-fn numbers_come_out_in_order_before_an_end(rt: HostRuntime) -> Result<(), Fail> {
+fn numbers_come_out_in_order_before_an_end(rt: HostRuntime) {
     let mut set = SheetSet::new(rt.alloc());
     assert_that(&rt, set.is_empty());
     for number in [700u32, 64, 63, 64] {
-        set.insert(number)?;
+        done(&rt, set.insert(number));
     }
     assert_that(&rt, !set.is_empty());
     let wanted = [
@@ -33,10 +32,9 @@ fn numbers_come_out_in_order_before_an_end(rt: HostRuntime) -> Result<(), Fail> 
     ];
     assert_that(&rt, are_taken(&mut set, &wanted));
     assert_that(&rt, set.is_empty());
-    set.insert(3)?;
-    set.insert(0)?;
+    done(&rt, set.insert(3));
+    done(&rt, set.insert(0));
     let wanted = [(5_000, Some(0)), (u32::MAX, Some(3))];
     assert_that(&rt, are_taken(&mut set, &wanted));
     assert_that(&rt, set.is_empty());
-    Ok(())
 }

@@ -1,11 +1,11 @@
 //! A document is imposed three times over.
-use crate::tests::checks::assert_that;
+use crate::tests::checks::{assert_that, done};
 use crate::tests::workers;
 use dsc::Document;
 use imposer::{MemorySink, Open, laws, run};
 use std::alloc::Global;
+use std::process::Abort;
 use std::sync::Wait;
-use std::test::Fail;
 use std::thread::Threads;
 use test_tools::TWO_UP;
 
@@ -20,31 +20,30 @@ const EIGHT_PAGES: &str = "%!PS-Adobe-3.0\r\n%%Pages: 8\r\n%%EndComments\r\n\
 /// Its only page leaves an embedded document open.
 const OPEN_PAGE: &str = "%!\n%%Page: 1 1\n%%BeginDocument: a\n";
 
-/// What a run writes, and how many pages it found, how many sheets it made, and how many pages what it wrote has.
-fn imposed<R: Threads + Wait + Sync>(
+/// What a run writes, which found so many pages, made so many sheets, and wrote so many pages.
+fn imposed<R: Threads + Wait + Sync + Abort>(
     rt: &R,
     alloc: Global,
     input: &[u8],
     items: &str,
-) -> Result<(MemorySink, [u32; 3]), Fail> {
-    let mut sink = MemorySink::new(alloc, 20_000, 20_000, 1_000)?;
-    let report = run(rt, alloc, input, items, &workers(1, 1), &Open, &mut sink)?;
-    let pages = Document::read(alloc, sink.bytes())?.pages();
-    Ok((sink, [report.pages, report.sheets, pages]))
+    counts: [u32; 3],
+) -> MemorySink {
+    let mut sink = done(rt, MemorySink::new(alloc, 20_000, 20_000, 1_000));
+    let answer = run(rt, alloc, input, items, &workers(1, 1), &Open, &mut sink);
+    let report = done(rt, answer);
+    let pages = done(rt, Document::read(alloc, sink.bytes())).pages();
+    assert_that(rt, [report.pages, report.sheets, pages] == counts);
+    sink
 }
 
 // An open page hides the sheet after it.
 #[test]
-fn each_run_has_the_sheets_of_the_last_one_as_its_pages(rt: HostRuntime) -> Result<(), Fail> {
-    let (first, counts) = imposed(&rt, rt.alloc(), EIGHT_PAGES.as_bytes(), TWO_UP)?;
-    assert_that(&rt, counts == [8, 4, 4]);
-    let (second, counts) = imposed(&rt, rt.alloc(), first.bytes(), TWO_UP)?;
-    assert_that(&rt, counts == [4, 2, 2]);
-    let (_, counts) = imposed(&rt, rt.alloc(), second.bytes(), "1:-0,0")?;
-    assert_that(&rt, counts == [2, 4, 4]);
-    let (_, counts) = imposed(&rt, rt.alloc(), OPEN_PAGE.as_bytes(), "0,0")?;
-    assert_that(&rt, counts == [1, 2, 1]);
-    Ok(())
+fn each_run_has_the_sheets_of_the_last_one_as_its_pages(rt: HostRuntime) {
+    let alloc = rt.alloc();
+    let first = imposed(&rt, alloc, EIGHT_PAGES.as_bytes(), TWO_UP, [8, 4, 4]);
+    let second = imposed(&rt, alloc, first.bytes(), TWO_UP, [4, 2, 2]);
+    imposed(&rt, alloc, second.bytes(), "1:-0,0", [2, 4, 4]);
+    imposed(&rt, alloc, OPEN_PAGE.as_bytes(), "0,0", [1, 2, 1]);
 }
 
 #[test]

@@ -7,7 +7,6 @@ use imposer::{Open, RunError, Sink, SinkFault, WriteSink};
 use std::alloc::Global;
 use std::io::{self, ErrorKind, Write};
 use std::sync::Wait;
-use std::test::Fail;
 use std::thread::Threads;
 use test_tools::{TWO_PAGES, TWO_UP};
 
@@ -64,13 +63,12 @@ fn fails_once<R: Threads + Wait + Sync>(
 }
 
 #[test]
-fn nothing_is_written_after_a_failure(rt: HostRuntime) -> Result<(), Fail> {
+fn nothing_is_written_after_a_failure(rt: HostRuntime) {
     for counts in COUNTS {
         for first in 1..73usize {
             assert_that(&rt, fails_once(&rt, rt.alloc(), counts, first));
         }
     }
-    Ok(())
 }
 
 /// A writer that takes seven bytes a call, fails at its call with this number alone, and counts its calls.
@@ -117,7 +115,7 @@ fn calls_of_torn<R: Threads + Wait + Sync>(
 }
 
 #[test]
-fn a_writer_is_not_asked_again_after_an_error(rt: HostRuntime) -> Result<(), Fail> {
+fn a_writer_is_not_asked_again_after_an_error(rt: HostRuntime) {
     for cause in [
         ErrorKind::StorageFull,
         ErrorKind::Interrupted,
@@ -128,16 +126,14 @@ fn a_writer_is_not_asked_again_after_an_error(rt: HostRuntime) -> Result<(), Fai
             assert_that(&rt, calls == Some(fails_at));
         }
     }
-    Ok(())
 }
 
 #[test]
-fn a_writer_that_is_full_fails(rt: HostRuntime) -> Result<(), Fail> {
+fn a_writer_that_is_full_fails(rt: HostRuntime) {
     let mut place = [0u8; 3];
     let mut sink = WriteSink::new(place.as_mut_slice());
     assert_that(&rt, sink.accept(b"abcd") == Ok(3));
     assert_that(&rt, sink.accept(b"d") == Err(SinkFault));
     drop(sink);
     assert_bytes(&rt, place.as_slice(), b"abc");
-    Ok(())
 }

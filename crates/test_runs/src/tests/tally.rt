@@ -1,5 +1,7 @@
 //! How often numbers come, counted by any number of threads.
-use std::alloc::{AllocError, Global};
+use crate::tests::checks::done;
+use std::alloc::Global;
+use std::process::Abort;
 use std::sync::atomic::AtomicUsize;
 use std::sync::atomic::Ordering::SeqCst;
 
@@ -12,15 +14,15 @@ pub(super) struct Tally {
 
 impl Tally {
     /// No number came yet.
-    pub(super) fn new(alloc: Global, end: usize) -> Result<Tally, AllocError> {
+    pub(super) fn new<R: Abort>(rt: &R, alloc: Global, end: usize) -> Tally {
         let mut counts = Vec::new(alloc);
         for _ in 0..end {
-            counts.push(AtomicUsize::new(0))?;
+            done(rt, counts.push(AtomicUsize::new(0)));
         }
-        Ok(Tally {
+        Tally {
             counts,
             all: AtomicUsize::new(0),
-        })
+        }
     }
 
     /// A number came.

@@ -1,9 +1,9 @@
 //! How much memory a text asks for.
 use super::jobs::{Task, with_job};
-use crate::tests::checks::assert_that;
+use crate::tests::checks::{assert_that, done};
 use sheet_text::{Job, Rope, begin_sheet, sheet_rope};
-use std::alloc::{AllocError, Global};
-use std::test::Fail;
+use std::alloc::Global;
+use std::process::Abort;
 use test_tools::ONE_PAGE;
 
 /// The room that the sheet's text is likely to take: 64 bytes, those of the document, of which the page is a part, and 256
@@ -17,27 +17,26 @@ struct KeepsRoom {
     before: usize,
 }
 
-impl<R> Task<R, bool> for KeepsRoom {
-    fn go(&self, _rt: &R, alloc: Global, job: &Job<'_, '_>) -> Result<bool, Fail> {
+impl<R: Abort> Task<R, ()> for KeepsRoom {
+    fn go(&self, rt: &R, alloc: Global, job: &Job<'_, '_>) {
         if job.sheets() != 1 {
-            return Err(AllocError)?;
+            return assert_that(rt, false);
         }
-        let asked = sheet_rope(alloc, job, 0)?.capacity();
+        let asked = done(rt, sheet_rope(alloc, job, 0)).capacity();
         let mut text = Rope::new(alloc);
-        text.reserve(self.before)?;
+        done(rt, text.reserve(self.before));
         let had = text.capacity();
-        begin_sheet(&mut text, job, 0)?;
+        done(rt, begin_sheet(&mut text, job, 0));
         let has = text.capacity();
         // Memory that is too small may be doubled.
-        Ok(asked <= LIKELY_ROOM && had <= has && has <= had.max(2 * LIKELY_ROOM))
+        let keeps_room = had <= has && has <= had.max(2 * LIKELY_ROOM);
+        assert_that(rt, asked <= LIKELY_ROOM && keeps_room);
     }
 }
 
 #[test]
-fn a_text_that_is_used_again_keeps_its_room(rt: HostRuntime) -> Result<(), Fail> {
+fn a_text_that_is_used_again_keeps_its_room(rt: HostRuntime) {
     for before in [0usize, 1, 100, 250, 350, 400, 450, 700, 10_000] {
-        let task = KeepsRoom { before };
-        assert_that(&rt, with_job(&rt, rt.alloc(), ONE_PAGE, "0", &task)?);
+        with_job(&rt, rt.alloc(), ONE_PAGE, "0", &KeepsRoom { before });
     }
-    Ok(())
 }

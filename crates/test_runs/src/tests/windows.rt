@@ -3,13 +3,13 @@
 ghost use Rattle.std.specs.Prelude.{◌≡◌, None};
 
 use super::{Trial, large_pages, run_into, wait_for};
-use crate::tests::checks::assert_that;
+use crate::tests::checks::{assert_that, done};
 use imposer::{Gate, Open, Report, RunError, Sink, SinkFault, Step};
-use std::alloc::{AllocError, Global};
+use std::alloc::Global;
+use std::process::Abort;
 use std::sync::Wait;
 use std::sync::atomic::AtomicUsize;
 use std::sync::atomic::Ordering::SeqCst;
-use std::test::Fail;
 use std::thread::Threads;
 
 /// How many pages the documents here have.
@@ -31,8 +31,8 @@ const BLANK_LAST: &str = "7:0,1,2,3,4,5,6";
 const FOUR_TIMES: &str = "0+0+0+0";
 
 /// Six pages of comments.
-pub(super) fn six_pages(alloc: Global) -> Result<String, AllocError> {
-    large_pages(alloc, PAGES as u32, PAGE_LEN / 9 + 1)
+pub(super) fn six_pages<R: Abort>(rt: &R, alloc: Global) -> String {
+    large_pages(rt, alloc, PAGES as u32, PAGE_LEN / 9 + 1)
 }
 
 /// What a run's threads show each other here.
@@ -143,15 +143,14 @@ impl<'w> Gate for FirstSheetLast<'w> {
     }
 }
 
-/// Runs with the first sheet last, whose page is this one: whether each of so many sheets is imposed by a worker, and none
-/// too early.
-fn is_in_turn<R: Threads + Wait + Sync>(
+/// Runs with the first sheet last, whose page is this one: each of so many sheets is imposed by a worker, and none too early.
+fn assert_in_turn<R: Threads + Wait + Sync + Abort>(
     rt: &R,
     alloc: Global,
     trial: &Trial<'_>,
     first_page: u32,
     sheets: u32,
-) -> Result<bool, RunError> {
+) {
     let words = Words::new();
     let gate = FirstSheetLast {
         words: &words,
@@ -159,19 +158,20 @@ fn is_in_turn<R: Threads + Wait + Sync>(
         window: (trial.counts.1 as usize).max(2),
     };
     let mut sink = LimitedSink::new(&words, usize::MAX);
-    let report = run_into(rt, alloc, trial, &gate, &mut sink)?;
+    let report = done(rt, run_into(rt, alloc, trial, &gate, &mut sink));
     let told = (words.run_out.load(SeqCst), words.too_early.load(SeqCst));
-    let is_imposed = words.imposed.load(SeqCst) == sheets as usize;
-    Ok(told == (0, 0) && is_imposed && (report.sheets, report.swept) == (sheets, 0))
+    assert_that(rt, told == (0, 0));
+    assert_that(rt, words.imposed.load(SeqCst) == sheets as usize);
+    assert_that(rt, (report.sheets, report.swept) == (sheets, 0));
 }
 
 // The page of the first sheet has a preparer of its own, or it is the last one of the only preparer. A sheet without a page,
 // which is on the queue before all others, waits for its turn too. The pages that are on their sheets four times would all
 // lie in a window, but not the texts of their sheets.
 #[test]
-fn no_sheet_is_imposed_far_before_its_turn(rt: HostRuntime) -> Result<(), Fail> {
-    let six = six_pages(rt.alloc())?;
-    let small = large_pages(rt.alloc(), PAGES as u32, PAGE_LEN / 36 + 1)?;
+fn no_sheet_is_imposed_far_before_its_turn(rt: HostRuntime) {
+    let six = six_pages(&rt, rt.alloc());
+    let small = large_pages(&rt, rt.alloc(), PAGES as u32, PAGE_LEN / 36 + 1);
     for (document, items, preparers, first_page, sheets) in [
         (six.as_str(), FORWARD, 6, 0, 6),
         (six.as_str(), BACKWARD, 6, 5, 6),
@@ -185,13 +185,9 @@ fn no_sheet_is_imposed_far_before_its_turn(rt: HostRuntime) -> Result<(), Fail> 
                 items,
                 counts: (preparers, imposers),
             };
-            assert_that(
-                &rt,
-                is_in_turn(&rt, rt.alloc(), &trial, first_page, sheets)?,
-            );
+            assert_in_turn(&rt, rt.alloc(), &trial, first_page, sheets);
         }
     }
-    Ok(())
 }
 
 /// Whether the run ends with a failed write after so many bytes, and no wait ran out.
@@ -225,8 +221,8 @@ fn are_stopped<R: Threads + Wait + Sync>(
 }
 
 #[test]
-fn no_turn_is_waited_for_after_a_failed_write(rt: HostRuntime) -> Result<(), Fail> {
-    let document = six_pages(rt.alloc())?;
+fn no_turn_is_waited_for_after_a_failed_write(rt: HostRuntime) {
+    let document = six_pages(&rt, rt.alloc());
     for counts in [(1, 1), (2, 2), (6, 4)] {
         for items in [FORWARD, BACKWARD] {
             let trial = Trial {
@@ -238,7 +234,6 @@ fn no_turn_is_waited_for_after_a_failed_write(rt: HostRuntime) -> Result<(), Fai
             assert_that(&rt, are_stopped(&rt, rt.alloc(), &trial, &rooms));
         }
     }
-    Ok(())
 }
 
 /// Where an imposer waits until the sink has failed.
@@ -303,13 +298,12 @@ fn is_stopped_under_way<R: Threads + Wait + Sync>(
 }
 
 #[test]
-fn sheets_are_under_way_as_the_sink_fails(rt: HostRuntime) -> Result<(), Fail> {
-    let document = six_pages(rt.alloc())?;
+fn sheets_are_under_way_as_the_sink_fails(rt: HostRuntime) {
+    let document = six_pages(&rt, rt.alloc());
     for waits in [Waits::BeforeSheet, Waits::AfterSheet] {
         for imposers in [1, 2, 4] {
             let is_stopped = is_stopped_under_way(&rt, rt.alloc(), &document, imposers, waits);
             assert_that(&rt, is_stopped);
         }
     }
-    Ok(())
 }

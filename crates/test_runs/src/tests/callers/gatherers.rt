@@ -3,9 +3,10 @@
 ghost use Rattle.handover.specs.Shelves.{IsOn};
 
 use super::gatherer::{Gatherer, gatherer_of, outcome_of};
-use super::stories::{Called, Told, number, show, tell};
-use crate::tests::checks::{assert_that, assert_told};
+use super::stories::{Called, call_of, show, tell};
+use crate::tests::checks::{assert_that, done};
 use crate::tests::jobs::{Task, with_job};
+use crate::tests::{PAGE_64_TIMES, PAGE_65_TIMES};
 use dsc::prepare;
 use gather_table::GatherTable;
 use handover::{Overflow, Prepared, PutError, Ready, Receipt, Shelf};
@@ -16,7 +17,7 @@ use std::io::Write;
 use std::process::Abort;
 use std::sync::Wait;
 use std::test::Fail;
-use test_tools::{ONE_PAGE, Refused, TWO_PAGES, document_of, has_refused, refuse_each, same_items};
+use test_tools::{ONE_PAGE, Refused, TWO_PAGES, document_of, has_refused, refuse_each};
 
 /// A gatherer, with what its calls wait by.
 #[derive(Drop)]
@@ -166,10 +167,7 @@ fn shown_at(shelf: &Shelf<'_>, index: u32) -> Option<u32> {
 
 impl<'r, 's, 'j, 't, 'd, R: Wait> Called for InStory<'r, 's, 'j, 't, 'd, R> {
     fn call(&mut self, alloc: Global, words: &str, answer: &mut Vec<u8>) -> anyhow::Result<()> {
-        let mut words = words.split(' ');
-        let name = words.next().unwrap_or("");
-        let first = number(words.next());
-        let second = number(words.next());
+        let (name, first, second) = call_of(words);
         let rt = self.rt;
         let gatherer = &mut self.gatherer;
         match name {
@@ -197,18 +195,14 @@ struct Gathering<'s> {
     story: &'s str,
 }
 
-impl<'s, R: Wait> Task<R, Told<'s>> for Gathering<'s> {
-    fn go(&self, rt: &R, alloc: Global, job: &Job<'_, '_>) -> Result<Told<'s>, Fail> {
-        let (table, seat) = GatherTable::new(alloc, job.plan())?;
-        let shelf = Shelf::new(alloc)?;
-        let (ready, pass) = Ready::new(alloc, self.room.max(1))?;
+impl<'s, R: Wait + Abort> Task<R, bool> for Gathering<'s> {
+    fn go(&self, rt: &R, alloc: Global, job: &Job<'_, '_>) -> bool {
+        let (table, seat) = done(rt, GatherTable::new(alloc, job.plan()));
+        let shelf = done(rt, Shelf::new(alloc));
+        let (ready, pass) = done(rt, Ready::new(alloc, self.room.max(1)));
         let gatherer = gatherer_of(job, &table, &shelf, &ready, seat, pass);
-        tell(
-            alloc,
-            &mut InStory { rt, gatherer },
-            self.number,
-            self.story,
-        )
+        let mut in_story = InStory { rt, gatherer };
+        tell(rt, alloc, &mut in_story, self.number, self.story)
     }
 }
 
@@ -228,9 +222,7 @@ impl<'s, R: Wait + Abort> Refused<R> for Story<'s> {
             number,
             story: self.story,
         };
-        let told = with_job(rt, alloc, self.text, self.items, &task)?;
-        assert_told(rt, told.wrong);
-        Ok(told.is_refused)
+        Ok(with_job(rt, alloc, self.text, self.items, &task))
     }
 }
 
@@ -380,9 +372,7 @@ const IN_65_SLOTS: &str = "\
 
 #[test]
 fn each_call_is_answered_as_told(rt: HostRuntime) -> Result<(), Fail> {
-    let many = document_of(rt.alloc(), 33)?;
-    let narrow = same_items(rt.alloc(), "0", 64)?;
-    let wide = same_items(rt.alloc(), "0", 65)?;
+    let many = done(&rt, document_of(rt.alloc(), 33));
     for (text, items, room, story) in [
         (ONE_PAGE, "0+0", 1, TWICE),
         (ONE_PAGE, "0+0", 1, AGAIN),
@@ -392,8 +382,8 @@ fn each_call_is_answered_as_told(rt: HostRuntime) -> Result<(), Fail> {
         (TWO_PAGES, "0", 1, OWN_PAGE),
         (many.as_str(), "0", 1, FILLED),
         (ONE_PAGE, "0", 2, IN_ORDER),
-        (ONE_PAGE, narrow.as_str(), 1, IN_64_SLOTS),
-        (ONE_PAGE, wide.as_str(), 1, IN_65_SLOTS),
+        (ONE_PAGE, PAGE_64_TIMES, 1, IN_64_SLOTS),
+        (ONE_PAGE, PAGE_65_TIMES, 1, IN_65_SLOTS),
     ] {
         let story = Story {
             text,

@@ -1,6 +1,6 @@
 //! Runs: what is reported of each, and why one is refused before it writes anything.
 use super::stories::{number, parts_of};
-use crate::tests::checks::{assert_that, assert_told};
+use crate::tests::checks::{assert_bytes, assert_that, assert_told, done};
 use crate::tests::workers;
 use dsc::DscError;
 use imposer::{ImposeError, MemorySink, NoMemory, Open, Options, Report, RunError, run};
@@ -9,10 +9,8 @@ use pagespec::SpecError;
 use sheet_plan::PlanError;
 use std::alloc::Global;
 use std::fmt::Display;
-use std::io::Write;
 use std::process::Abort;
 use std::sync::Wait;
-use std::test::Fail;
 use std::thread::Threads;
 use test_tools::{TWO_UP, document_of, one_up_output, two_up_output};
 
@@ -25,31 +23,19 @@ fn input_of(alloc: Global, word: &str) -> Result<String, NoMemory> {
     }
 }
 
-/// Whether the output of one page as it is, or of two pages a sheet, is as wanted. Others are compared elsewhere.
-fn is_wanted(
-    alloc: Global,
-    items: &str,
-    report: &Report,
-    written: &[u8],
-) -> Result<Option<bool>, NoMemory> {
-    let wanted = if items == TWO_UP {
-        two_up_output(alloc, report.sheets)?
+/// The output of one page as it is, or of two pages a sheet, is as wanted. Others are compared elsewhere.
+fn assert_wanted<R: Abort>(rt: &R, alloc: Global, items: &str, report: &Report, written: &[u8]) {
+    if items == TWO_UP {
+        let wanted = done(rt, two_up_output(alloc, report.sheets));
+        assert_bytes(rt, written, wanted.as_bytes());
     } else if items == "0" && report.bytes == 273 {
-        one_up_output(alloc)?
-    } else {
-        return Ok(None);
-    };
-    Ok(Some(wanted.as_bytes() == written))
+        let wanted = done(rt, one_up_output(alloc));
+        assert_bytes(rt, written, wanted.as_bytes());
+    }
 }
 
-/// What is reported of a run that has written these bytes.
-fn show_report(
-    alloc: Global,
-    items: &str,
-    report: &Report,
-    written: &[u8],
-    answer: &mut Vec<u8>,
-) -> Result<(), Fail> {
+/// What is reported of a run.
+fn shown(alloc: Global, report: &Report) -> Result<String, NoMemory> {
     let Report {
         pages,
         sheets,
@@ -57,13 +43,7 @@ fn show_report(
         swept,
         bytes,
     } = *report;
-    write!(answer, "{pages} {sheets} {born} {swept} {bytes}, ")?;
-    match is_wanted(alloc, items, report, written)? {
-        Some(true) => answer.extend_from_slice(b"as wanted")?,
-        Some(false) => answer.extend_from_slice(b"otherwise")?,
-        None => write!(answer, "{} written", written.len())?,
-    }
-    Ok(())
+    format!(in alloc; "{pages} {sheets} {born} {swept} {bytes}")
 }
 
 /// How many preparers and imposers, the sides of a signature, and the width of a border in grains. A dash means none.
@@ -78,122 +58,99 @@ fn options_of(settings: &str) -> Options {
     options
 }
 
-/// Makes the run of a line: the input, the options, and the specification.
-fn run_line<R: Threads + Wait + Sync>(
+/// Runs over this input by this specification: what is reported, and how many bytes are written.
+fn run_input<R: Threads + Wait + Sync + Abort>(
     rt: &R,
     alloc: Global,
-    line: &str,
-    answer: &mut Vec<u8>,
-) -> Result<(), Fail> {
-    let (word, rest) = line.split_once(' ').unwrap_or((line, ""));
-    let (settings, items) = rest.rsplit_once(' ').unwrap_or((rest, ""));
-    let input = input_of(alloc, word)?;
-    run_input(
-        rt,
-        alloc,
-        (input.as_bytes(), items),
-        &options_of(settings),
-        answer,
-    )
-}
-
-/// Runs over this input by this specification.
-fn run_input<R: Threads + Wait + Sync>(
-    rt: &R,
-    alloc: Global,
-    (input, items): (&[u8], &str),
+    input: &[u8],
+    items: &str,
     options: &Options,
-    answer: &mut Vec<u8>,
-) -> Result<(), Fail> {
-    let mut sink = MemorySink::new(alloc, 100_000, 100_000, 1_000)?;
-    match run(rt, alloc, input, items, options, &Open, &mut sink) {
-        Ok(report) => show_report(alloc, items, &report, sink.bytes(), answer),
-        Err(error) => Ok(write!(answer, "{error:?}, {} written", sink.bytes().len())?),
-    }
-}
-
-/// Whether the run of a line is answered as it says.
-fn is_told<R: Threads + Wait + Sync>(rt: &R, alloc: Global, line: &str) -> Result<bool, Fail> {
-    let (words, wanted) = parts_of(line);
-    let mut answer = Vec::new(alloc);
-    run_line(rt, alloc, words, &mut answer)?;
-    Ok(answer.as_slice() == wanted.as_bytes())
-}
-
-/// The first line of a story of runs that is answered otherwise than it says.
-fn first_wrong_run<'s, R: Threads + Wait + Sync>(
-    rt: &R,
-    alloc: Global,
-    story: &'s str,
-) -> Result<Option<&'s str>, Fail> {
-    for line in story.lines() {
-        if !is_told(rt, alloc, line)? {
-            return Ok(Some(line));
+) -> (String, u64) {
+    let mut sink = done(rt, MemorySink::new(alloc, 100_000, 100_000, 1_000));
+    let answer = run(rt, alloc, input, items, options, &Open, &mut sink);
+    let told = match answer {
+        Ok(report) => {
+            assert_wanted(rt, alloc, items, &report, sink.bytes());
+            shown(alloc, &report)
         }
-    }
-    Ok(None)
+        Err(error) => format!(in alloc; "{error:?}"),
+    };
+    (done(rt, told), sink.bytes().len() as u64)
+}
+
+/// The run of a line, which has the input, the options, and the specification, is answered as it says: what is reported,
+/// and how many bytes are written.
+fn assert_run<R: Threads + Wait + Sync + Abort>(rt: &R, alloc: Global, line: &str) {
+    let (words, answer) = parts_of(line);
+    let (wanted, count) = answer.split_once(", ").unwrap_or((answer, ""));
+    let (word, rest) = words.split_once(' ').unwrap_or((words, ""));
+    let (settings, items) = rest.rsplit_once(' ').unwrap_or((rest, ""));
+    let input = done(rt, input_of(alloc, word));
+    let options = options_of(settings);
+    let (told, written) = run_input(rt, alloc, input.as_bytes(), items, &options);
+    assert_told(
+        rt,
+        line,
+        told.as_str() == wanted && count.parse::<u64>() == Ok(written),
+    );
 }
 
 /// Pages, sheets, sheets without pages, sheets that were made at the end, and bytes.
 const REPORTS: &str = "\
-    1 1 1 - - 0 = 1 1 0 0 273, as wanted\n\
-    2 1 1 - - 2:0L@.7(21cm,0)+1L@.7(21cm,14.85cm) = 2 1 0 0 503, as wanted\n\
-    4 1 1 - - 2:0L@.7(21cm,0)+1L@.7(21cm,14.85cm) = 4 2 0 0 950, as wanted\n\
-    200 1 1 - - 2:0L@.7(21cm,0)+1L@.7(21cm,14.85cm) = 200 100 0 0 45232, as wanted\n\
-    200 2 3 - - 2:0L@.7(21cm,0)+1L@.7(21cm,14.85cm) = 200 100 0 0 45232, as wanted\n\
-    200 16 16 - - 2:0L@.7(21cm,0)+1L@.7(21cm,14.85cm) = 200 100 0 0 45232, as wanted\n\
-    1 1 1 - - 2:1 = 1 1 1 0 77, 77 written\n\
-    1 16 16 - - 2:1 = 1 1 1 0 77, 77 written\n\
-    5 1 1 - - 4:0,1,2,3 = 5 8 3 0 1204, 1204 written\n\
-    5 2 3 - - 4:0,1,2,3 = 5 8 3 0 1204, 1204 written\n\
-    5 1 1 - - 2:-0 = 5 3 0 0 707, 707 written\n\
-    5 2 3 4 - 0 = 5 8 3 0 1204, 1204 written\n\
-    1 1 1 - 127000000000 0 = 1 1 0 0 380, 380 written\n\
+    1 1 1 - - 0 = 1 1 0 0 273, 273\n\
+    2 1 1 - - 2:0L@.7(21cm,0)+1L@.7(21cm,14.85cm) = 2 1 0 0 503, 503\n\
+    4 1 1 - - 2:0L@.7(21cm,0)+1L@.7(21cm,14.85cm) = 4 2 0 0 950, 950\n\
+    200 1 1 - - 2:0L@.7(21cm,0)+1L@.7(21cm,14.85cm) = 200 100 0 0 45232, 45232\n\
+    200 2 3 - - 2:0L@.7(21cm,0)+1L@.7(21cm,14.85cm) = 200 100 0 0 45232, 45232\n\
+    200 16 16 - - 2:0L@.7(21cm,0)+1L@.7(21cm,14.85cm) = 200 100 0 0 45232, 45232\n\
+    1 1 1 - - 2:1 = 1 1 1 0 77, 77\n\
+    1 16 16 - - 2:1 = 1 1 1 0 77, 77\n\
+    5 1 1 - - 4:0,1,2,3 = 5 8 3 0 1204, 1204\n\
+    5 2 3 - - 4:0,1,2,3 = 5 8 3 0 1204, 1204\n\
+    5 1 1 - - 2:-0 = 5 3 0 0 707, 707\n\
+    5 2 3 4 - 0 = 5 8 3 0 1204, 1204\n\
+    1 1 1 - 127000000000 0 = 1 1 0 0 380, 380\n\
 ";
 
 /// Options are looked at before the specification, and this is read before the input.
 const REFUSALS: &str = "\
-    1 1 1 - 0 0 = Options, 0 written\n\
-    1 1 1 - -1 0 = Options, 0 written\n\
-    1 0 1 - - 0 = Options, 0 written\n\
-    1 1 0 - - 0 = Options, 0 written\n\
-    1 1 17 - - 0 = Options, 0 written\n\
-    1 17 1 - - 0 = Options, 0 written\n\
-    - 0 1 - - x = Options, 0 written\n\
-    - 1 0 - - x = Options, 0 written\n\
-    - 1 17 - - x = Options, 0 written\n\
-    - 17 1 - - x = Options, 0 written\n\
-    1 2 3 0 - 0 = Options, 0 written\n\
-    1 2 3 6 - 0 = Options, 0 written\n\
-    1 2 3 1000004 - 0 = Options, 0 written\n\
-    1 2 3 6 - x = Options, 0 written\n\
-    no 2 3 6 - 0 = Options, 0 written\n\
-    - 1 1 - - x = Spec(Syntax(0)), 0 written\n\
-    no 1 1 - - 0 = Document(NotPostScript), 0 written\n\
-    1 1 1 - - 0,2 = Spec(PageOutOfBlock(1)), 0 written\n\
+    1 1 1 - 0 0 = Options, 0\n\
+    1 1 1 - -1 0 = Options, 0\n\
+    1 0 1 - - 0 = Options, 0\n\
+    1 1 0 - - 0 = Options, 0\n\
+    1 1 17 - - 0 = Options, 0\n\
+    1 17 1 - - 0 = Options, 0\n\
+    - 0 1 - - x = Options, 0\n\
+    - 1 0 - - x = Options, 0\n\
+    - 1 17 - - x = Options, 0\n\
+    - 17 1 - - x = Options, 0\n\
+    1 2 3 0 - 0 = Options, 0\n\
+    1 2 3 6 - 0 = Options, 0\n\
+    1 2 3 1000004 - 0 = Options, 0\n\
+    1 2 3 6 - x = Options, 0\n\
+    no 2 3 6 - 0 = Options, 0\n\
+    - 1 1 - - x = Spec(Syntax(0)), 0\n\
+    no 1 1 - - 0 = Document(NotPostScript), 0\n\
+    1 1 1 - - 0,2 = Spec(PageOutOfBlock(1)), 0\n\
 ";
 
 #[test]
-fn reports(rt: HostRuntime) -> Result<(), Fail> {
+fn reports(rt: HostRuntime) {
     for story in [REPORTS, REFUSALS] {
-        assert_told(&rt, first_wrong_run(&rt, rt.alloc(), story)?);
+        for line in story.lines() {
+            assert_run(&rt, rt.alloc(), line);
+        }
     }
-    Ok(())
 }
 
 /// The refusal has this message.
-fn assert_message<R: Abort, E: Display + Drop>(
-    rt: &R,
-    alloc: Global,
-    error: E,
-    message: &str,
-) -> Result<(), NoMemory> {
-    assert_that(rt, format!(in alloc; "{error}")?.as_str() == message);
-    Ok(())
+fn assert_message<R: Abort, E: Display + Drop>(rt: &R, alloc: Global, error: E, message: &str) {
+    let told = done(rt, format!(in alloc; "{error}"));
+    assert_that(rt, told.as_str() == message);
 }
 
 #[test]
-fn messages(rt: HostRuntime) -> Result<(), Fail> {
+fn messages(rt: HostRuntime) {
     for (error, message) in [
         (RunError::Options, "bad options"),
         (
@@ -208,13 +165,12 @@ fn messages(rt: HostRuntime) -> Result<(), Fail> {
         (RunError::NoMemory { written: 7 }, "out of memory"),
         (RunError::Write { written: 7 }, "cannot write output"),
     ] {
-        assert_message(&rt, rt.alloc(), error, message)?;
+        assert_message(&rt, rt.alloc(), error, message);
     }
     for (error, message) in [
         (ImposeError::NoMemory, "out of memory"),
         (ImposeError::NotShown, "a page is not on the shelf"),
     ] {
-        assert_message(&rt, rt.alloc(), error, message)?;
+        assert_message(&rt, rt.alloc(), error, message);
     }
-    Ok(())
 }

@@ -4,16 +4,16 @@ ghost use Rattle.rules.specs.Sheets.{layout};
 ghost use Rattle.gather_table.specs.Shared.{IsSeatOf};
 ghost use Rattle.gather_table.specs.Table.{HasGroup, slots};
 
-use super::stories::{Called, first_wrong, number, show};
-use crate::tests::checks::{assert_that, assert_told};
+use super::stories::{Called, call_of, show, tell};
+use crate::tests::PAGE_64_TIMES;
+use crate::tests::checks::{assert_that, done};
 use gather_table::{Closing, GatherTable, NoMemory, PlainTable, Published, Reply, Seat};
 use pagespec::read_spec;
 use sheet_plan::Plan;
 use std::alloc::Global;
 use std::fmt::Debug;
 use std::process::Abort;
-use std::test::Fail;
-use test_tools::same_items;
+use test_tools::{MOST_GROWTHS, same_items};
 
 // Whether the sheet is wide and has this group.
 fn has_group(plan: &Plan, sheet: u32, group: u8) -> bool
@@ -192,10 +192,7 @@ fn show_both<T: Debug + PartialEq + Drop>(
 // Makes a call of both tables. Sheets are the first one, but for lanes.
 impl<'t, 'p> Called for Tables<'t, 'p> {
     fn call(&mut self, _alloc: Global, words: &str, answer: &mut Vec<u8>) -> anyhow::Result<()> {
-        let mut words = words.split(' ');
-        let name = words.next().unwrap_or("");
-        let first = number(words.next());
-        let second = number(words.next());
+        let (name, first, second) = call_of(words);
         let group = first.min(255) as u8;
         match name {
             "publish" => show_both(self.publish(first, second), answer),
@@ -211,61 +208,40 @@ impl<'t, 'p> Called for Tables<'t, 'p> {
     }
 }
 
-// Tells a story to both tables of a document of so many pages: the first line that is answered otherwise than it says, and the
-// words of the shared table at its end.
-fn told<'s>(
-    alloc: Global,
-    text: &str,
-    pages: u32,
-    story: &'s str,
-) -> Result<(Option<&'s str>, Vec<u64>), Fail> {
-    let spec = read_spec(alloc, text)?;
-    let plan = Plan::new(alloc, &spec, pages)?;
-    told_of(alloc, &plan, story)
+// Tells a story to both tables of a document of so many pages: the words of the shared table at its end.
+fn told<R: Abort>(rt: &R, alloc: Global, text: &str, pages: u32, story: &str) -> Vec<u64> {
+    let spec = done(rt, read_spec(alloc, text));
+    let plan = done(rt, Plan::new(alloc, &spec, pages));
+    told_of(rt, alloc, &plan, story)
 }
 
-fn told_of<'s>(
-    alloc: Global,
-    plan: &Plan,
-    story: &'s str,
-) -> Result<(Option<&'s str>, Vec<u64>), Fail> {
-    let plain = PlainTable::new(alloc, plan)?;
-    let (shared, seat) = GatherTable::new(alloc, plan)?;
+fn told_of<'p, R: Abort>(rt: &R, alloc: Global, plan: &'p Plan<'p>, story: &str) -> Vec<u64> {
+    let plain = done(rt, PlainTable::new(alloc, plan));
+    let (shared, seat) = done(rt, GatherTable::new(alloc, plan));
     let mut tables = Tables {
         plain,
         shared,
         plan,
         seat,
     };
-    let wrong = first_wrong(alloc, &mut tables, story)?;
-    Ok((wrong, words_of(alloc, tables)?))
+    tell(rt, alloc, &mut tables, MOST_GROWTHS, story);
+    words_of(rt, alloc, tables)
 }
 
-fn words_of(alloc: Global, tables: Tables<'_, '_>) -> Result<Vec<u64>, NoMemory> {
+fn words_of<R: Abort>(rt: &R, alloc: Global, tables: Tables<'_, '_>) -> Vec<u64> {
     let Tables {
         plain: _,
         shared,
         plan: _,
         seat,
     } = tables;
-    shared.end(alloc, seat)
+    done(rt, shared.end(alloc, seat))
 }
 
-// Tells a story to both tables: the first line that is answered otherwise than it says.
-fn in_both<'s>(
-    alloc: Global,
-    text: &str,
-    pages: u32,
-    story: &'s str,
-) -> Result<Option<&'s str>, Fail> {
-    let (wrong, _words) = told(alloc, text, pages, story)?;
-    Ok(wrong)
-}
-
-// The same of a page in each of so many slots.
-fn in_slots<'s>(alloc: Global, slots: u32, story: &'s str) -> Result<Option<&'s str>, Fail> {
-    let text = same_items(alloc, "0", slots)?;
-    in_both(alloc, &text, 1, story)
+// Tells a story to both tables of a sheet with a page in each of so many slots.
+fn tell_of_slots<R: Abort>(rt: &R, alloc: Global, slots: u32, story: &str) {
+    let text = done(rt, same_items(alloc, "0", slots));
+    told(rt, alloc, &text, 1, story);
 }
 
 const TWO_PAGES: &str = "\
@@ -397,22 +373,6 @@ const SIXTY_FOUR_GROUPS: &str = "\
     group 64 = None\n\
 ";
 
-// One sheet with a page in each of so many slots. Of at most 64 the last mark completes the sheet; of more, groups of 64
-// are filled by marks and closed, and the last closing completes it.
-#[test]
-fn a_page_in_every_slot(rt: HostRuntime) -> Result<(), Fail> {
-    for (slots, story) in [
-        (64, PAGE_TO_64_SLOTS),
-        (65, PAGE_TO_65_SLOTS),
-        (128, PAGE_TO_128_SLOTS),
-        (129, PAGE_TO_129_SLOTS),
-        (4_096, SIXTY_FOUR_GROUPS),
-    ] {
-        assert_told(&rt, in_slots(rt.alloc(), slots, story)?);
-    }
-    Ok(())
-}
-
 const PAGE_COMES: &str = "\
     look = Some(18446744073709551615)\n\
     publish 0 0 = Some(Stored)\n\
@@ -451,22 +411,33 @@ const LAST_GROUP_OF_63_SLOTS: &str = "\
 ";
 
 // 4,095 slots are 63 whole groups and one of 63 slots.
-fn page_to_4095_slots(alloc: Global) -> Result<String, NoMemory> {
-    let mut story = String::from_str(alloc, PAGE_COMES)?;
+fn page_to_4095_slots<R: Abort>(rt: &R, alloc: Global) -> String {
+    let mut story = done(rt, String::from_str(alloc, PAGE_COMES));
     let mut left = u64::MAX;
     for group in 0..63u32 {
         left &= !(1u64 << group);
-        story.push_str(&fills_group(alloc, group, left)?)?;
+        let fills = done(rt, fills_group(alloc, group, left));
+        done(rt, story.push_str(&fills));
     }
-    story.push_str(LAST_GROUP_OF_63_SLOTS)?;
-    Ok(story)
+    done(rt, story.push_str(LAST_GROUP_OF_63_SLOTS));
+    story
 }
 
+// One sheet with a page in each of so many slots. Of at most 64 the last mark completes the sheet; of more, groups of 64
+// are filled by marks and closed, and the last closing completes it.
 #[test]
-fn a_page_in_every_slot_of_64_groups(rt: HostRuntime) -> Result<(), Fail> {
-    let story = page_to_4095_slots(rt.alloc())?;
-    assert_told(&rt, in_slots(rt.alloc(), 4_095, &story)?);
-    Ok(())
+fn a_page_in_every_slot(rt: HostRuntime) {
+    let many = page_to_4095_slots(&rt, rt.alloc());
+    for (slots, story) in [
+        (64, PAGE_TO_64_SLOTS),
+        (65, PAGE_TO_65_SLOTS),
+        (128, PAGE_TO_128_SLOTS),
+        (129, PAGE_TO_129_SLOTS),
+        (4_095, many.as_str()),
+        (4_096, SIXTY_FOUR_GROUPS),
+    ] {
+        tell_of_slots(&rt, rt.alloc(), slots, story);
+    }
 }
 
 // One sheet with 64 blank slots and then a page.
@@ -487,40 +458,6 @@ const LAST_SLOT: &str = "\
     publish 0 5 = Some(Stored)\n\
     mark 64 = Some(Fills(1))\n\
 ";
-
-// The table has these words at the end of a story. The word of a page is its index and one more, and 0 if it hasn't come; the
-// bit of a slot is set in its lane. In the closing word, which comes before a wide sheet's groups, groups of blank slots are closed.
-fn assert_words<R: Abort>(
-    rt: &R,
-    alloc: Global,
-    (text, pages): (&str, u32),
-    story: &str,
-    words: &[u64],
-) -> Result<(), Fail> {
-    let (wrong, left) = told(alloc, text, pages, story)?;
-    assert_told(rt, wrong);
-    assert_that(rt, left.as_slice() == words);
-    Ok(())
-}
-
-#[test]
-fn two_pages_and_blank_slots(rt: HostRuntime) -> Result<(), Fail> {
-    let alloc = rt.alloc();
-    let blanks = same_items(alloc, "1", 64)?;
-    let behind = format!(in alloc; "2:{blanks}+0")?;
-    let behind = (behind.as_str(), 1);
-    assert_words(&rt, alloc, ("2:0+1", 2), TWO_PAGES, &[6, 4_294_967_296, 3])?;
-    assert_words(&rt, alloc, ("2:1+0", 1), PAGE_BESIDE_A_BLANK, &[1, 3])?;
-    assert_words(
-        &rt,
-        alloc,
-        behind,
-        PAGE_AFTER_A_BLANK_GROUP,
-        &[1, 0, 3, u64::MAX, 1],
-    )?;
-    assert_words(&rt, alloc, ("2:1+0", 2), SECOND_SLOT, &[6, 0, 2])?;
-    assert_words(&rt, alloc, behind, LAST_SLOT, &[6, 0, 1, u64::MAX, 1])
-}
 
 // Sheets of two slots take turns.
 const PAIRS: &str = "\
@@ -554,17 +491,48 @@ const AMONG_WIDE_SHEETS: &str = "\
     lane 50 = Some((1, 2))\n\
 ";
 
+// A page behind 64 blanks.
+const BEHIND_BLANKS: &str = "\
+    2:1+1+1+1+1+1+1+1+1+1+1+1+1+1+1+1+1+1+1+1+1+1+1+1+1+1+1+1+1+1+1+1+1+1+1+1+1+1+1+1+1+1+1+1+1+1+1+1+1+\
+    1+1+1+1+1+1+1+1+1+1+1+1+1+1+1+0\
+";
+
+// Two pages, one in each of 65 slots, and the two again.
+const OF_65_AMONG_PAIRS: &str = "\
+    2:0+1,0+0+0+0+0+0+0+0+0+0+0+0+0+0+0+0+0+0+0+0+0+0+0+0+0+0+0+0+0+0+0+0+0+0+0+0+0+0+0+0+0+0+0+0+0+0+0+\
+    0+0+0+0+0+0+0+0+0+0+0+0+0+0+0+0+0+0,0+1\
+";
+
+// The table has these words at the end of a story. The word of a page is its index and one more, and 0 if it hasn't come; the
+// bit of a slot is set in its lane. In the closing word, which comes before a wide sheet's groups, groups of blank slots are closed.
 #[test]
-fn lanes_follow_one_another(rt: HostRuntime) -> Result<(), Fail> {
-    let whole = same_items(rt.alloc(), "0", 64)?;
-    let wide = format!(in rt.alloc(); "2:0+1,{whole}+0,0+1")?;
+fn two_pages_and_blank_slots(rt: HostRuntime) {
+    let rows: [(&str, u32, &str, &[u64]); 5] = [
+        ("2:0+1", 2, TWO_PAGES, &[6, 4_294_967_296, 3]),
+        ("2:1+0", 1, PAGE_BESIDE_A_BLANK, &[1, 3]),
+        (
+            BEHIND_BLANKS,
+            1,
+            PAGE_AFTER_A_BLANK_GROUP,
+            &[1, 0, 3, u64::MAX, 1],
+        ),
+        ("2:1+0", 2, SECOND_SLOT, &[6, 0, 2]),
+        (BEHIND_BLANKS, 1, LAST_SLOT, &[6, 0, 1, u64::MAX, 1]),
+    ];
+    for (text, pages, story, words) in rows {
+        let left = told(&rt, rt.alloc(), text, pages, story);
+        assert_that(&rt, left.as_slice() == words);
+    }
+}
+
+#[test]
+fn lanes_follow_one_another(rt: HostRuntime) {
     for (text, pages, story) in [
         ("2:0+1", 100, PAIRS),
         ("3:0+1,2", 100, MIXED),
-        (whole.as_str(), 2, WHOLE_WORDS),
-        (wide.as_str(), 100, AMONG_WIDE_SHEETS),
+        (PAGE_64_TIMES, 2, WHOLE_WORDS),
+        (OF_65_AMONG_PAIRS, 100, AMONG_WIDE_SHEETS),
     ] {
-        assert_told(&rt, in_both(rt.alloc(), text, pages, story)?);
+        told(&rt, rt.alloc(), text, pages, story);
     }
-    Ok(())
 }

@@ -1,13 +1,13 @@
 //! A run over sheets that were made: pages and sheets with papers of their own, and lines in the header and on each sheet.
-use crate::tests::checks::{assert_bytes, assert_that};
+use crate::tests::checks::{assert_bytes, assert_that, done};
 use dsc::Document;
-use imposer::{Dress, Job, Lines, MemorySink, Nobody, Open, Report, Workers, run_plan};
+use imposer::{Dress, Job, Lines, MemorySink, Nobody, Open, Workers, run_plan};
 use lengths::{Grains, Number, Paper, a4, paper_by_name};
 use pagespec::{Item, Measure, Turn};
 use sheet_plan::{MadeSheets, MadeSlot, Plan};
-use std::alloc::{AllocError, Global};
+use std::alloc::Global;
+use std::process::Abort;
 use std::sync::Wait;
-use std::test::Fail;
 use std::thread::Threads;
 use test_tools::TWO_PAGES;
 
@@ -73,68 +73,63 @@ fn placed_page(page: u32, paper: Paper) -> MadeSlot {
 }
 
 /// Two pages with a blank between them, and one of them again.
-fn two_sheets(alloc: Global) -> Result<MadeSheets, Fail> {
+fn two_sheets<R: Abort>(rt: &R, alloc: Global) -> MadeSheets {
     let first = a4();
-    let second = paper_by_name("a5").ok_or(AllocError)?;
+    let second = paper_by_name("a5").expect(rt, "a paper");
     let mut sheets = MadeSheets::new(alloc);
     let slots = [
         placed_page(1, first),
         MadeSlot::Blank,
         placed_page(0, second),
     ];
-    sheets.push(&first, &slots)?;
-    sheets.push(&second, &[placed_page(0, second)])?;
-    Ok(sheets)
+    done(rt, sheets.push(&first, &slots));
+    done(rt, sheets.push(&second, &[placed_page(0, second)]));
+    sheets
 }
 
 /// The dress of sheets that report their papers, and end with the same line.
-fn lines(alloc: Global) -> Result<Dress, Fail> {
+fn lines<R: Abort>(rt: &R, alloc: Global) -> Dress {
     let mut header = Lines::new(alloc);
-    header.push(b"%%DocumentMedia: x")?;
+    done(rt, header.push(b"%%DocumentMedia: x"));
     let mut finish = Lines::new(alloc);
-    finish.push(b"% end")?;
-    Ok(Dress {
+    done(rt, finish.push(b"% end"));
+    Dress {
         header,
         tells_papers: true,
         finish,
         numbers: None,
-    })
+    }
 }
 
-/// Runs over a job: what is written, and what is reported.
-fn run_job<R: Threads + Wait + Sync>(
-    rt: &R,
-    alloc: Global,
-    job: &Job<'_, '_>,
-) -> Result<(MemorySink, Report), Fail> {
+/// Runs over a job of two pages on two sheets: this is written.
+fn run_job<R: Threads + Wait + Sync + Abort>(rt: &R, alloc: Global, job: &Job<'_, '_>) {
     let workers = Workers {
         preparers: 1,
         imposers: 1,
     };
-    let mut sink = MemorySink::new(alloc, 3_000, 1_000, 100)?;
-    let report = run_plan(rt, alloc, job, workers, &Open, &mut sink, &mut Nobody)?;
-    Ok((sink, report))
+    let mut sink = done(rt, MemorySink::new(alloc, 3_000, 1_000, 100));
+    let answer = run_plan(rt, alloc, job, workers, &Open, &mut sink, &mut Nobody);
+    let report = done(rt, answer);
+    assert_bytes(rt, sink.bytes(), OUTPUT.as_bytes());
+    assert_that(rt, (report.pages, report.sheets, report.born) == (2, 2, 0));
 }
 
-/// Runs over the two pages.
-fn run_dressed<R: Threads + Wait + Sync>(
+/// The same over the two pages.
+fn run_dressed<R: Threads + Wait + Sync + Abort>(
     rt: &R,
     alloc: Global,
     sheets: &MadeSheets,
     dress: &Dress,
-) -> Result<(MemorySink, Report), Fail> {
-    let document = Document::read(alloc, TWO_PAGES.as_bytes())?;
-    let plan = Plan::of_sheets(alloc, document.pages(), sheets)?;
+) {
+    let document = done(rt, Document::read(alloc, TWO_PAGES.as_bytes()));
+    let plan = done(rt, Plan::of_sheets(alloc, document.pages(), sheets));
     let job = Job::made(&plan, &document, sheets, None, Grains::ZERO, dress);
-    run_job(rt, alloc, &job)
+    run_job(rt, alloc, &job);
 }
 
 #[test]
-fn sheets_that_were_made(rt: HostRuntime) -> Result<(), Fail> {
-    let sheets = two_sheets(rt.alloc())?;
-    let dress = lines(rt.alloc())?;
-    let (sink, report) = run_dressed(&rt, rt.alloc(), &sheets, &dress)?;
-    assert_bytes(&rt, sink.bytes(), OUTPUT.as_bytes());
-    assert_that(&rt, (report.pages, report.sheets, report.born) == (2, 2, 0));
-    Ok(())
+fn sheets_that_were_made(rt: HostRuntime) {
+    let sheets = two_sheets(&rt, rt.alloc());
+    let dress = lines(&rt, rt.alloc());
+    run_dressed(&rt, rt.alloc(), &sheets, &dress);
 }

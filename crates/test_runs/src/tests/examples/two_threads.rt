@@ -1,13 +1,13 @@
 //! Gates at which threads wait for each other: a run on one thread would never come past them.
-use crate::tests::checks::assert_that;
+use crate::tests::checks::{assert_that, done};
 use crate::tests::windows::{LimitedSink, Words};
 use crate::tests::{Trial, run_into};
-use imposer::{Gate, Look, MemorySink, RunError, Step};
+use imposer::{Gate, Look, MemorySink, Step};
 use std::alloc::Global;
+use std::process::Abort;
 use std::sync::Wait;
 use std::sync::atomic::AtomicUsize;
 use std::sync::atomic::Ordering::SeqCst;
-use std::test::Fail;
 use std::thread::Threads;
 use test_tools::TWO_PAGES;
 
@@ -32,7 +32,7 @@ impl<'w> Gate for Written<'w> {
 
 /// Two pages on two sheets, the second page after the first sheet: how many waits ran out, and how many sheets were made
 /// at the end.
-fn run_written<R: Threads + Wait + Sync>(rt: &R, alloc: Global) -> Result<(usize, u32), RunError> {
+fn run_written<R: Threads + Wait + Sync + Abort>(rt: &R, alloc: Global) -> (usize, u32) {
     let words = Words::new();
     let gate = Written { words: &words };
     let trial = Trial {
@@ -41,14 +41,13 @@ fn run_written<R: Threads + Wait + Sync>(rt: &R, alloc: Global) -> Result<(usize
         counts: (1, 1),
     };
     let mut sink = LimitedSink::new(&words, usize::MAX);
-    let report = run_into(rt, alloc, &trial, &gate, &mut sink)?;
-    Ok((words.run_out.load(SeqCst), report.swept))
+    let report = done(rt, run_into(rt, alloc, &trial, &gate, &mut sink));
+    (words.run_out.load(SeqCst), report.swept)
 }
 
 #[test]
-fn a_sheet_is_written_before_the_next_page_is_delivered(rt: HostRuntime) -> Result<(), Fail> {
-    assert_that(&rt, run_written(&rt, rt.alloc())? == (0, 0));
-    Ok(())
+fn a_sheet_is_written_before_the_next_page_is_delivered(rt: HostRuntime) {
+    assert_that(&rt, run_written(&rt, rt.alloc()) == (0, 0));
 }
 
 /// Counts how often it is called before each step and each look, and how often after it.
@@ -104,35 +103,29 @@ fn counts_of(words: &[AtomicUsize; 2]) -> (usize, usize) {
 }
 
 /// Runs two pages on two sheets.
-fn run_counted<R: Threads + Wait + Sync>(
-    rt: &R,
-    alloc: Global,
-    gate: &Counted,
-) -> Result<(), Fail> {
+fn run_counted<R: Threads + Wait + Sync + Abort>(rt: &R, alloc: Global, gate: &Counted) {
     let trial = Trial {
         document: TWO_PAGES,
         items: "0",
         counts: (2, 2),
     };
-    let mut sink = MemorySink::new(alloc, 1_000, 1_000, 100)?;
-    run_into(rt, alloc, &trial, gate, &mut sink)?;
-    Ok(())
+    let mut sink = done(rt, MemorySink::new(alloc, 1_000, 1_000, 100));
+    done(rt, run_into(rt, alloc, &trial, gate, &mut sink));
 }
 
 // How often somebody looks depends on the threads. Each of two sheets is found by a look, and each of two imposers ends
 // when one finds nothing.
 #[test]
-fn a_gate_is_called_before_each_step_and_look_and_after_it(rt: HostRuntime) -> Result<(), Fail> {
+fn a_gate_is_called_before_each_step_and_look_and_after_it(rt: HostRuntime) {
     let gate = Counted {
         steps: [AtomicUsize::new(0), AtomicUsize::new(0)],
         looks_at_queue: [AtomicUsize::new(0), AtomicUsize::new(0)],
         looks_at_channel: [AtomicUsize::new(0), AtomicUsize::new(0)],
     };
-    run_counted(&rt, rt.alloc(), &gate)?;
+    run_counted(&rt, rt.alloc(), &gate);
     assert_that(&rt, counts_of(&gate.steps) == (0x101_0101, 0x101_0101));
     let (before, after) = counts_of(&gate.looks_at_queue);
     assert_that(&rt, before == after && before >= 4);
     let (before, after) = counts_of(&gate.looks_at_channel);
     assert_that(&rt, before == after && before >= 2);
-    Ok(())
 }

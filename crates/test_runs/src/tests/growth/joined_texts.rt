@@ -1,7 +1,7 @@
 //! Texts of several sheets in the same memory, and sheets that come together before their turn, with each growth of each
 //! call refused in turn.
 use crate::tests::callers::stories::{Called, number, show, tell};
-use crate::tests::checks::{assert_that, assert_told};
+use crate::tests::checks::{assert_that, done};
 use sheet_text::{Pieces, Rope, Texts};
 use sheet_writer::Early;
 use std::alloc::{AllocError, Global};
@@ -120,17 +120,21 @@ impl<'r> InTexts<'r> {
             let Some(piece) = pieces.take_next() else {
                 return Ok(());
             };
-            let shown = if piece == self.long {
-                b"long".as_slice()
-            } else if piece == self.longer {
-                b"longer".as_slice()
-            } else {
-                piece
-            };
             answer.push(b' ')?;
-            answer.extend_from_slice(shown)?;
+            answer.extend_from_slice(self.shown(piece))?;
         }
         Ok(())
+    }
+
+    /// A piece, and of the slices their names.
+    fn shown<'p>(&self, piece: &'p [u8]) -> &'p [u8] {
+        if piece == self.long {
+            b"long".as_slice()
+        } else if piece == self.longer {
+            b"longer".as_slice()
+        } else {
+            piece
+        }
     }
 
     /// Which of the first sheets are found.
@@ -177,26 +181,24 @@ struct Story<'s> {
 
 impl<'s> Story<'s> {
     /// No sheet is finished, and the text has some room.
-    fn called(&self, alloc: Global) -> Result<InTexts<'s>, AllocError> {
-        let early = Early::new(alloc, self.places)?;
+    fn called<R: Abort>(&self, rt: &R, alloc: Global) -> InTexts<'s> {
+        let early = done(rt, Early::new(alloc, self.places));
         let mut text = Rope::new(alloc);
-        text.reserve(1_000)?;
-        Ok(InTexts {
+        done(rt, text.reserve(1_000));
+        InTexts {
             long: self.long,
             longer: self.longer,
             text,
             texts: Texts::new(alloc),
             early,
-        })
+        }
     }
 }
 
 impl<'s, R: Abort> Refused<R> for Story<'s> {
     fn refuse(&self, rt: &R, alloc: Global, number: u32) -> Result<bool, Fail> {
-        let mut called = self.called(alloc)?;
-        let told = tell(alloc, &mut called, number, self.story)?;
-        assert_told(rt, told.wrong);
-        Ok(told.is_refused)
+        let mut called = self.called(rt, alloc);
+        Ok(tell(rt, alloc, &mut called, number, self.story))
     }
 }
 

@@ -1,12 +1,11 @@
 //! Whole runs and gatherings, over a sink that was made before.
-use crate::tests::checks::assert_that;
+use crate::tests::checks::{assert_that, done};
 use crate::tests::gatherings::{Way, gather_pairs};
 use crate::tests::{Trial, large_pages, run_into};
-use imposer::{Gate, MemorySink, Open, RunError, Step, Workers};
-use std::alloc::{AllocError, Global};
+use imposer::{Gate, MemorySink, Open, Report, RunError, Step, Workers};
+use std::alloc::Global;
 use std::process::Abort;
 use std::sync::Wait;
-use std::test::Fail;
 use std::thread;
 use std::thread::Threads;
 use test_tools::{BOOKLET, MOST_GROWTHS, TWO_UP, document_of, has_refused, refuse, two_up_output};
@@ -44,28 +43,32 @@ struct Ended {
     is_refused: bool,
 }
 
+/// How many bytes this answer says that were written, None if it tells of a run that finished.
+fn written_by<R: Abort>(rt: &R, answer: &Result<Report, RunError>) -> Option<u64> {
+    match answer {
+        Ok(_) => None,
+        Err(RunError::NoMemory { written }) => Some(*written),
+        Err(_) => panic!(rt; "the run failed"),
+    }
+}
+
 /// Runs with the growth of this number refused: what the sink has, and what came of it.
-fn run_refused<R: Threads + Wait + Sync>(
+fn run_refused<R: Threads + Wait + Abort + Sync>(
     rt: &R,
     alloc: Global,
     number: u32,
     trial: &Trial<'_>,
     gate: Late,
-) -> Result<(MemorySink, Ended), AllocError> {
-    let mut sink = MemorySink::new(alloc, ROOM, ROOM, 1_000)?;
+) -> (MemorySink, Ended) {
+    let mut sink = done(rt, MemorySink::new(alloc, ROOM, ROOM, 1_000));
     refuse(alloc, number);
     let answer = run_into(rt, alloc, trial, &gate, &mut sink);
     let is_refused = has_refused(alloc);
-    let written = match answer {
-        Ok(_) => None,
-        Err(RunError::NoMemory { written }) => Some(written),
-        Err(_) => return Err(AllocError),
-    };
     let ended = Ended {
-        written,
+        written: written_by(rt, &answer),
         is_refused,
     };
-    Ok((sink, ended))
+    (sink, ended)
 }
 
 /// Whether a sink has all of the output, after a run that finished, else as many of its first bytes as were reported.
@@ -91,11 +94,11 @@ fn refuse_one<R: Threads + Wait + Abort + Sync>(
     trial: &Trial<'_>,
     gate: Late,
     (output, holds): (&[u8], bool),
-) -> Result<bool, AllocError> {
-    let (sink, ended) = run_refused(rt, alloc, number, trial, gate)?;
+) -> bool {
+    let (sink, ended) = run_refused(rt, alloc, number, trial, gate);
     assert_that(rt, is_written(output, &sink, ended.written));
     assert_that(rt, is_right(holds, ended));
-    Ok(ended.is_refused)
+    ended.is_refused
 }
 
 /// How many growths after one another weren't refused, with one more, which was or wasn't.
@@ -115,88 +118,72 @@ fn refuse_each<R: Threads + Wait + Abort + Sync>(
     trial: &Trial<'_>,
     gate: Late,
     holds: bool,
-) -> Result<(), AllocError> {
-    let (output, ended) = run_refused(rt, alloc, MOST_GROWTHS, trial, gate)?;
+) {
+    let (output, ended) = run_refused(rt, alloc, MOST_GROWTHS, trial, gate);
     assert_that(rt, !ended.is_refused);
     let wanted = (output.bytes(), holds);
     let mut unrefused = 0u32;
     for number in 1..MOST_GROWTHS {
         if unrefused < 4 {
-            let is_refused = refuse_one(rt, alloc, number, trial, gate, wanted)?;
+            let is_refused = refuse_one(rt, alloc, number, trial, gate, wanted);
             unrefused = unrefused_after(unrefused, is_refused);
         }
     }
     assert_that(rt, unrefused == 4);
-    Ok(())
 }
 
 #[test]
-fn runs_by_few_and_by_many(rt: HostRuntime) -> Result<(), Fail> {
+fn runs_by_few_and_by_many(rt: HostRuntime) {
     for (pages, items, counts) in [
         (2, TWO_UP, (1, 1)),
         (5, BOOKLET, (1, 1)),
         (8, TWO_UP, (2, 3)),
         (8, TWO_UP, (16, 16)),
     ] {
-        let document = document_of(rt.alloc(), pages)?;
+        let document = done(&rt, document_of(rt.alloc(), pages));
         let trial = Trial {
             document: &document,
             items,
             counts,
         };
-        refuse_each(&rt, rt.alloc(), &trial, ON_TIME, false)?;
+        refuse_each(&rt, rt.alloc(), &trial, ON_TIME, false);
     }
-    Ok(())
 }
 
 // Eight sheets of twelve lie in the window, of those with pages of 90,000 bytes.
 #[test]
-fn runs_whose_sheets_wait_for_their_turn(rt: HostRuntime) -> Result<(), Fail> {
-    let document = large_pages(rt.alloc(), 12, 10_000)?;
+fn runs_whose_sheets_wait_for_their_turn(rt: HostRuntime) {
+    let document = large_pages(&rt, rt.alloc(), 12, 10_000);
     for counts in [(1, 1), (2, 3)] {
         let trial = Trial {
             document: &document,
             items: "0",
             counts,
         };
-        refuse_each(&rt, rt.alloc(), &trial, ON_TIME, true)?;
+        refuse_each(&rt, rt.alloc(), &trial, ON_TIME, true);
     }
-    Ok(())
 }
 
-/// Each growth is refused in turn of runs whose first sheet is completed last: its page is the last one of the only
-/// preparer, or is delivered late, where so many preparers and imposers run.
-fn refuse_first_last<R: Threads + Wait + Abort + Sync>(
-    rt: &R,
-    alloc: Global,
-    document: &str,
-    late: &[(u32, u32)],
-) -> Result<(), AllocError> {
-    let backward = Trial {
-        document,
-        items: "-0",
-        counts: (1, 1),
-    };
-    refuse_each(rt, alloc, &backward, ON_TIME, true)?;
-    for counts in late {
-        let forward = Trial {
-            document,
-            items: "0",
-            counts: *counts,
-        };
-        refuse_each(rt, alloc, &forward, LATE, true)?;
-    }
-    Ok(())
-}
-
-// Two sheets of six lie in the window; or seventeen of 24, and an imposer sends two of them together.
+// The first sheet's page is the last one of the only preparer, or is delivered late. Two sheets of six lie in the window; or
+// seventeen of 24, and an imposer sends two of them together.
 #[test]
-fn runs_whose_first_sheet_comes_last(rt: HostRuntime) -> Result<(), Fail> {
-    let huge = large_pages(rt.alloc(), 6, 33_333)?;
-    refuse_first_last(&rt, rt.alloc(), &huge, &[(2, 1), (3, 2)])?;
-    let large = large_pages(rt.alloc(), 24, 5_000)?;
-    refuse_first_last(&rt, rt.alloc(), &large, &[(2, 1)])?;
-    Ok(())
+fn runs_whose_first_sheet_comes_last(rt: HostRuntime) {
+    let huge = large_pages(&rt, rt.alloc(), 6, 33_333);
+    let many = large_pages(&rt, rt.alloc(), 24, 5_000);
+    for (document, items, counts, gate) in [
+        (huge.as_str(), "-0", (1, 1), ON_TIME),
+        (huge.as_str(), "0", (2, 1), LATE),
+        (huge.as_str(), "0", (3, 2), LATE),
+        (many.as_str(), "-0", (1, 1), ON_TIME),
+        (many.as_str(), "0", (2, 1), LATE),
+    ] {
+        let trial = Trial {
+            document,
+            items,
+            counts,
+        };
+        refuse_each(&rt, rt.alloc(), &trial, gate, true);
+    }
 }
 
 /// Gathers the pages of a document with the growth of this number refused: whether one was. What the sink has are the
@@ -207,7 +194,7 @@ fn gather_refused<R: Threads + Wait + Abort + Sync>(
     number: u32,
     text: &str,
     output: &[u8],
-) -> Result<bool, Fail> {
+) -> bool {
     let way = Way {
         workers: Workers {
             preparers: 2,
@@ -217,30 +204,25 @@ fn gather_refused<R: Threads + Wait + Abort + Sync>(
         puts: None,
         refused: number,
     };
-    let gathering = gather_pairs(rt, alloc, text, way, &Open)?;
+    let gathering = gather_pairs(rt, alloc, text, way, &Open);
     let is_refused = has_refused(alloc);
-    let written = match gathering.outcome {
-        Ok(_) => None,
-        Err(RunError::NoMemory { written }) => Some(written),
-        Err(_) => return Err(AllocError)?,
-    };
+    let written = written_by(rt, &gathering.outcome);
     assert_that(rt, is_written(output, &gathering.sink, written));
     assert_that(rt, written.is_some() == is_refused);
     assert_that(rt, gathering.shares.is_some() == !is_refused);
-    Ok(is_refused)
+    is_refused
 }
 
 #[test]
-fn gatherings(rt: HostRuntime) -> Result<(), Fail> {
-    let text = document_of(rt.alloc(), 8)?;
-    let output = two_up_output(rt.alloc(), 4)?;
+fn gatherings(rt: HostRuntime) {
+    let text = done(&rt, document_of(rt.alloc(), 8));
+    let output = done(&rt, two_up_output(rt.alloc(), 4));
     let mut unrefused = 0u32;
     for number in 1..MOST_GROWTHS {
         if unrefused < 4 {
-            let is_refused = gather_refused(&rt, rt.alloc(), number, &text, output.as_bytes())?;
+            let is_refused = gather_refused(&rt, rt.alloc(), number, &text, output.as_bytes());
             unrefused = unrefused_after(unrefused, is_refused);
         }
     }
     assert_that(&rt, unrefused == 4);
-    Ok(())
 }

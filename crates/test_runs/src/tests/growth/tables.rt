@@ -1,5 +1,6 @@
 //! Tables, queues and shelves that are made, also as large as the limits allow: with ample memory they are.
-use crate::tests::checks::assert_that;
+use crate::tests::PAGE_65_TIMES;
+use crate::tests::checks::{assert_that, done};
 use gather_table::{GatherTable, PlainTable};
 use handover::{Ready, Shelf};
 use pagespec::read_spec;
@@ -8,7 +9,7 @@ use sheet_writer::Early;
 use std::alloc::Global;
 use std::process::Abort;
 use std::test::Fail;
-use test_tools::{BOOKLET, Refused, has_refused, refuse, refuse_each, same_items};
+use test_tools::{BOOKLET, Refused, has_refused, refuse, refuse_each};
 
 /// Whether a growth was refused of what was made: then it is an error, and only then.
 fn is_refused<R: Abort, T: Drop, E: Drop>(rt: &R, alloc: Global, made: Result<T, E>) -> bool {
@@ -46,8 +47,8 @@ struct Made<'t> {
 
 impl<'t, R: Abort> Refused<R> for Made<'t> {
     fn refuse(&self, rt: &R, alloc: Global, number: u32) -> Result<bool, Fail> {
-        let spec = read_spec(alloc, self.items)?;
-        let plan = Plan::new(alloc, &spec, self.pages)?;
+        let spec = done(rt, read_spec(alloc, self.items));
+        let plan = done(rt, Plan::new(alloc, &spec, self.pages));
         assert_that(rt, plan.sheets() == self.sheets);
         Ok(make_all(rt, alloc, number, &plan))
     }
@@ -56,10 +57,9 @@ impl<'t, R: Abort> Refused<R> for Made<'t> {
 // The last plan has the most pages, sheets and places.
 #[test]
 fn tables_queues_and_shelves(rt: HostRuntime) -> Result<(), Fail> {
-    let wide = same_items(rt.alloc(), "0", 65)?;
     for (items, pages, sheets) in [
         (BOOKLET, 5, 4),
-        (wide.as_str(), 5, 5),
+        (PAGE_65_TIMES, 5, 5),
         ("0+0+0+0", 1_000_000, 1_000_000),
     ] {
         let made = Made {

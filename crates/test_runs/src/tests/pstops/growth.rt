@@ -1,7 +1,7 @@
 //! Single calls in which each growth is refused in turn, and a whole run.
 use super::{request_of, words_of};
 use crate::tests::callers::stories::{Called, show, tell};
-use crate::tests::checks::{assert_bytes, assert_that, assert_told};
+use crate::tests::checks::{assert_bytes, assert_that, done};
 use dsc::DscError;
 use imposer::{MemorySink, RunError};
 use pagespec::SpecError;
@@ -10,7 +10,7 @@ use pstops_cli::{
     run_request,
 };
 use sheet_plan::PlanError;
-use std::alloc::{AllocError, Global};
+use std::alloc::Global;
 use std::io::Write;
 use std::process::Abort;
 use std::sync::Wait;
@@ -140,9 +140,7 @@ const STORY: &str = "\
 
 impl<R: Abort> Refused<R> for Calls {
     fn refuse(&self, rt: &R, alloc: Global, number: u32) -> Result<bool, Fail> {
-        let told = tell(alloc, &mut Calls {}, number, STORY)?;
-        assert_told(rt, told.wrong);
-        Ok(told.is_refused)
+        Ok(tell(rt, alloc, &mut Calls {}, number, STORY))
     }
 }
 
@@ -160,8 +158,8 @@ fn run_refused<R: Threads + Wait + Abort + Sync>(
     number: u32,
     request: &Request,
     output: &[u8],
-) -> Result<bool, AllocError> {
-    let mut sink = MemorySink::new(alloc, 1_000, 1_000, 1_000)?;
+) -> bool {
+    let mut sink = done(rt, MemorySink::new(alloc, 1_000, 1_000, 1_000));
     refuse(alloc, number);
     let (status, line) = run_request(rt, alloc, request, ONE_PAGE.as_bytes(), &mut sink);
     let is_refused = has_refused(alloc);
@@ -178,7 +176,7 @@ fn run_refused<R: Threads + Wait + Abort + Sync>(
         assert_bytes(rt, said, b"pstops: pages 1, sheets 1, bytes 273\n");
         assert_bytes(rt, sink.bytes(), output);
     }
-    Ok(is_refused)
+    is_refused
 }
 
 /// Refuses each growth of a run in turn. Threads grow what they grow in any order, so the end is where none of some
@@ -188,11 +186,11 @@ fn refuse_run<R: Threads + Wait + Abort + Sync>(
     alloc: Global,
     request: &Request,
     output: &[u8],
-) -> Result<(), AllocError> {
+) {
     let mut unrefused = 0u32;
     for number in 1..MOST_GROWTHS {
         if unrefused < 4 {
-            let is_refused = run_refused(rt, alloc, number, request, output)?;
+            let is_refused = run_refused(rt, alloc, number, request, output);
             unrefused = if is_refused {
                 0
             } else {
@@ -201,13 +199,11 @@ fn refuse_run<R: Threads + Wait + Abort + Sync>(
         }
     }
     assert_that(rt, unrefused == 4);
-    Ok(())
 }
 
 #[test]
-fn requests(rt: HostRuntime) -> Result<(), Fail> {
-    let request = request_of(rt.alloc(), "0")?;
-    let output = one_up_output(rt.alloc())?;
-    refuse_run(&rt, rt.alloc(), &request, output.as_str().as_bytes())?;
-    Ok(())
+fn requests(rt: HostRuntime) {
+    let request = request_of(&rt, rt.alloc(), "0");
+    let output = done(&rt, one_up_output(rt.alloc()));
+    refuse_run(&rt, rt.alloc(), &request, output.as_bytes());
 }

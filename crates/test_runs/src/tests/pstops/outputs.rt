@@ -1,14 +1,13 @@
 //! The whole program over a world in memory: how many inputs it opens, and outputs that fail at any byte.
 use super::words_of;
-use crate::tests::checks::{assert_bytes, assert_that};
+use crate::tests::checks::{assert_bytes, assert_that, done};
 use pstops_cli::{ExitReport, Rest, pstops};
-use std::alloc::{AllocError, Global};
+use std::alloc::Global;
 use std::io::{self, ErrorKind, Write};
 use std::process::Abort;
 use std::sync::Wait;
 use std::sync::atomic::AtomicU32;
 use std::sync::atomic::Ordering::SeqCst;
-use std::test::Fail;
 use std::thread::Threads;
 use test_tools::{InMemory, ONE_PAGE, Takes, one_up_output, with_lines};
 use world::tell;
@@ -17,15 +16,15 @@ use world::tell;
 const AMPLE: Takes = Takes::Bytes(100_000);
 
 /// Runs the program over a world with this document as the file `in.ps`, and counts the inputs that it opens.
-fn ended<'a, R: Threads + Wait + Sync>(
+fn ended<'a, R: Threads + Wait + Sync + Abort>(
     rt: &R,
     alloc: Global,
     words: &str,
     document: &'a str,
     takes: Takes,
     opened: &'a AtomicU32,
-) -> Result<ExitReport<InMemory<'a>>, AllocError> {
-    let words = words_of(alloc, words)?;
+) -> ExitReport<InMemory<'a>> {
+    let words = done(rt, words_of(alloc, words));
     let world = InMemory {
         alloc,
         opened,
@@ -34,7 +33,7 @@ fn ended<'a, R: Threads + Wait + Sync>(
         home: None,
         takes,
     };
-    Ok(pstops(rt, alloc, words.as_slice(), world))
+    pstops(rt, alloc, words.as_slice(), world)
 }
 
 /// These words end with this status, after so many inputs that were opened, and nothing is created.
@@ -44,21 +43,19 @@ fn assert_stopped<R: Threads + Wait + Abort + Sync>(
     words: &str,
     status: u8,
     inputs: u32,
-) -> Result<(), AllocError> {
+) {
     let opened = AtomicU32::new(0);
-    let end = ended(rt, alloc, words, ONE_PAGE, AMPLE, &opened)?;
+    let end = ended(rt, alloc, words, ONE_PAGE, AMPLE, &opened);
     assert_that(rt, end.status == status && opened.load(SeqCst) == inputs);
     assert_that(rt, matches!(end.rest, Rest::World(_)));
-    Ok(())
 }
 
 #[test]
-fn words_are_looked_at_before_an_input_is_opened(rt: HostRuntime) -> Result<(), Fail> {
+fn words_are_looked_at_before_an_input_is_opened(rt: HostRuntime) {
     let alloc = rt.alloc();
-    assert_stopped(&rt, alloc, "-j 17 0 in.ps out.ps", 2, 0)?;
-    assert_stopped(&rt, alloc, "-p a99 0 in.ps out.ps", 2, 0)?;
-    assert_stopped(&rt, alloc, "0 other.ps out.ps", 3, 1)?;
-    Ok(())
+    assert_stopped(&rt, alloc, "-j 17 0 in.ps out.ps", 2, 0);
+    assert_stopped(&rt, alloc, "-p a99 0 in.ps out.ps", 2, 0);
+    assert_stopped(&rt, alloc, "0 other.ps out.ps", 3, 1);
 }
 
 /// A writer that takes no byte.
@@ -81,20 +78,18 @@ fn assert_status<R: Threads + Wait + Abort + Sync>(
     alloc: Global,
     takes: Takes,
     status: u8,
-) -> Result<(), AllocError> {
+) {
     let opened = AtomicU32::new(0);
-    let end = ended(rt, alloc, "0 in.ps out.ps", ONE_PAGE, takes, &opened)?;
+    let end = ended(rt, alloc, "0 in.ps out.ps", ONE_PAGE, takes, &opened);
     assert_that(rt, matches!(end.rest, Rest::Output(_)) == (status == 0));
     let told = tell(&mut Closed {}, end.line.as_slice(), end.status);
     assert_that(rt, told == status);
-    Ok(())
 }
 
 #[test]
-fn a_report_that_is_not_taken_changes_no_status(rt: HostRuntime) -> Result<(), Fail> {
-    assert_status(&rt, rt.alloc(), AMPLE, 0)?;
-    assert_status(&rt, rt.alloc(), Takes::Nothing, 3)?;
-    Ok(())
+fn a_report_that_is_not_taken_changes_no_status(rt: HostRuntime) {
+    assert_status(&rt, rt.alloc(), AMPLE, 0);
+    assert_status(&rt, rt.alloc(), Takes::Nothing, 3);
 }
 
 /// Runs the program into outputs that take so many bytes: those are a first part of the sheets.
@@ -104,10 +99,10 @@ fn assert_cut_off<R: Threads + Wait + Abort + Sync>(
     document: &str,
     sheets: &str,
     most: usize,
-) -> Result<(), AllocError> {
+) {
     let words = "-q 0 in.ps out.ps";
     let opened = AtomicU32::new(0);
-    let end = ended(rt, alloc, words, document, Takes::Bytes(most), &opened)?;
+    let end = ended(rt, alloc, words, document, Takes::Bytes(most), &opened);
     let (first, rest) = sheets.as_bytes().split_at(most.min(sheets.len()));
     let (status, line) = if rest.is_empty() {
         (0, "")
@@ -120,21 +115,19 @@ fn assert_cut_off<R: Threads + Wait + Abort + Sync>(
         Rest::Output(Some(output)) => assert_bytes(rt, output.bytes.as_slice(), first),
         _ => assert_that(rt, false),
     }
-    Ok(())
 }
 
 // The long sheet has more than what is written at once, so that a write fails before the run is over: 273 + 4,999 * 8 bytes.
 #[test]
-fn a_writer_that_fails_at_any_byte(rt: HostRuntime) -> Result<(), Fail> {
-    let output = one_up_output(rt.alloc())?;
+fn a_writer_that_fails_at_any_byte(rt: HostRuntime) {
+    let output = done(&rt, one_up_output(rt.alloc()));
     for most in 0..=274usize {
-        assert_cut_off(&rt, rt.alloc(), ONE_PAGE, &output, most)?;
+        assert_cut_off(&rt, rt.alloc(), ONE_PAGE, &output, most);
     }
-    let document = with_lines(rt.alloc(), ONE_PAGE, 5_000)?;
-    let sheet = with_lines(rt.alloc(), &output, 5_000)?;
+    let document = done(&rt, with_lines(rt.alloc(), ONE_PAGE, 5_000));
+    let sheet = done(&rt, with_lines(rt.alloc(), &output, 5_000));
     for most in [0, 1, 16_384, 20_000, 40_264, 40_265] {
-        assert_cut_off(&rt, rt.alloc(), &document, &sheet, most)?;
+        assert_cut_off(&rt, rt.alloc(), &document, &sheet, most);
     }
     assert_that(&rt, sheet.len() == 40_265);
-    Ok(())
 }

@@ -5,6 +5,6 @@ use Rattle.sheet_writer.specs.Writing.{HaveTexts}
 use Rattle.test_runs.proofs.tests.groups.finish.Goals as goal
 
 pub returns : goal.returns
-returns c =
-    subst (λ ts. HaveTexts (text_of c.args.job.now) ts) (sym c.in_ok-push.ensures.pushed)
-    (All-push (λ (t : ℕ × List ℕ). t.1 ≡ text_of c.args.job.now t.0) _ _ c.requires.texts c.in_ok-text.ensures)
+returns g c =
+    subst (λ ts. HaveTexts (text_of c.args.job.now) ts) (sym (rw c.done.ensures at c.push.ensures.pushed))
+    (All-push (λ (t : ℕ × List ℕ). t.1 ≡ text_of c.args.job.now t.0) _ _ c.requires.texts c.text_with-text.ensures)
