@@ -32,33 +32,33 @@ use Rattle.row_sheets.proofs.Runs.{in_pairs}
 use Rattle.row_sheets.proofs.Specified.{either_item, place_is, slot_is}
 
 -- ---- a slot
-front_slot : (t : Setting) (page : Paper) (papers : List Paper) (row : Row) → HaveOnePaper page papers → ((i : ℕ) → IsPage (length papers) (entry_of row i)) → (b k : ℕ)
-    → slot_by page row 4 b (fitted t page k) ≡ slot_on (filling t papers) false k (grid_entry 2 row (2 * b) k)
-front_slot t page papers row one are b k =
+front_slot : (t : Setting) (page : Paper) (papers : List Paper) (taken : Row) → HaveOnePaper page papers → ((i : ℕ) → IsPage (length papers) (entry_of taken i)) → (b k : ℕ)
+    → slot_by page taken 4 b (fitted t page k) ≡ slot_on (filling t papers) false k (grid_entry 2 taken (2 * b) k)
+front_slot t page papers taken one are b k =
     let at : b * 4 + k ≡ 2 * b * 2 + k = omega arith in
     let item = either_item t page k (is_whole t page) in
-    ap (λ i. made_slot page (entry_of row i) (fitted t page k)) (place_is 4 (length row) b k (fitted t page k) item.1 item.0 ∙ at)
-    ∙ slot_is t page k (grid_entry 2 row (2 * b) k)
-    ∙ slot_same t page papers one k (grid_entry 2 row (2 * b) k) (are (2 * b * 2 + k))
+    ap (λ i. made_slot page (entry_of taken i) (fitted t page k)) (place_is 4 (length taken) b k (fitted t page k) item.1 item.0 ∙ at)
+    ∙ slot_is t page k (grid_entry 2 taken (2 * b) k)
+    ∙ slot_same t page papers one k (grid_entry 2 taken (2 * b) k) (are (2 * b * 2 + k))
 
 back_same : (t : Setting) (page : Paper) (papers : List Paper) → HaveOnePaper page papers → (k : ℕ) (entry : Option ℕ) → IsPage (length papers) entry
     → unnumbered_slot (made_slot page entry (back_of t page k)) ≡ unnumbered_slot (slot_on (filling t papers) true k entry)
 back_same t page papers one k None h = refl
 back_same t page papers one k (Some p) h = ap (λ q. unnumbered_slot (Placed p (fitted_back t q k) q)) (sym (one p t.room.paper h))
 
-back_slot : (t : Setting) (page : Paper) (papers : List Paper) (row : Row) → HaveOnePaper page papers → ((i : ℕ) → IsPage (length papers) (entry_of row i)) → (b k : ℕ)
-    → unnumbered_slot (slot_by page row 4 b (back_of t page k)) ≡ unnumbered_slot (slot_on (filling t papers) true k (grid_entry 2 row (2 * b + 1) k))
-back_slot t page papers row one are b k =
+back_slot : (t : Setting) (page : Paper) (papers : List Paper) (taken : Row) → HaveOnePaper page papers → ((i : ℕ) → IsPage (length papers) (entry_of taken i)) → (b k : ℕ)
+    → unnumbered_slot (slot_by page taken 4 b (back_of t page k)) ≡ unnumbered_slot (slot_on (filling t papers) true k (grid_entry 2 taken (2 * b + 1) k))
+back_slot t page papers taken one are b k =
     let at : b * 4 + (2 + k) ≡ (2 * b + 1) * 2 + k = omega arith in
-    ap (λ i. unnumbered_slot (made_slot page (entry_of row i) (back_of t page k))) at
-    ∙ back_same t page papers one k (grid_entry 2 row (2 * b + 1) k) (are ((2 * b + 1) * 2 + k))
+    ap (λ i. unnumbered_slot (made_slot page (entry_of taken i) (back_of t page k))) at
+    ∙ back_same t page papers one k (grid_entry 2 taken (2 * b + 1) k) (are ((2 * b + 1) * 2 + k))
 
 -- ---- both sides of a leaf
 abbrev side : Setting → List Paper → Row → (by_half : Bool) → (s : ℕ) → MadeSheet
-side t papers row by_half s = sheet_of t.room.paper (map (λ c. slot_on (filling t papers) by_half c (grid_entry 2 row s c)) (range_with_len 0 2))
+side t papers taken by_half s = sheet_of t.room.paper (map (λ c. slot_on (filling t papers) by_half c (grid_entry 2 taken s c)) (range_with_len 0 2))
 
 abbrev side_at : Setting → List Paper → Row → (s : ℕ) → MadeSheet
-side_at t papers row s = side t papers row (is_turned true s) s
+side_at t papers taken s = side t papers taken (is_turned true s) s
 
 upright : (b : ℕ) → is_turned true (2 * b) ≡ false
 upright b = ne_eqb (2 * b % 2) 1 (omega arith)
@@ -69,43 +69,43 @@ turned b = let e : (2 * b + 1) % 2 ≡ 1 = omega arith in ap (λ k. k == 1) e
 abbrev two : MadeSlot → MadeSlot → List MadeSlot
 two one other = one ∷ other ∷ []
 
-front_is : (t : Setting) (page : Paper) (papers : List Paper) (row : Row) → HaveOnePaper page papers → ((i : ℕ) → IsPage (length papers) (entry_of row i)) → (b : ℕ)
-    → unnumbered (sheet_by t.room.paper page row 4 b (map (fitted t page) (range_with_len 0 2))) ≡ unnumbered (side_at t papers row (2 * b))
-front_is t page papers row one are b =
-    ap (λ x. unnumbered (sheet_of t.room.paper (two x (slot_by page row 4 b (fitted t page 1))))) (front_slot t page papers row one are b 0)
-    ∙ ap (λ y. unnumbered (sheet_of t.room.paper (two (slot_on (filling t papers) false 0 (grid_entry 2 row (2 * b) 0)) y))) (front_slot t page papers row one are b 1)
-    ∙ ap (λ h. unnumbered (side t papers row h (2 * b))) (sym (upright b))
+front_is : (t : Setting) (page : Paper) (papers : List Paper) (taken : Row) → HaveOnePaper page papers → ((i : ℕ) → IsPage (length papers) (entry_of taken i)) → (b : ℕ)
+    → unnumbered (sheet_by t.room.paper page taken 4 b (map (fitted t page) (range_with_len 0 2))) ≡ unnumbered (side_at t papers taken (2 * b))
+front_is t page papers taken one are b =
+    ap (λ x. unnumbered (sheet_of t.room.paper (two x (slot_by page taken 4 b (fitted t page 1))))) (front_slot t page papers taken one are b 0)
+    ∙ ap (λ y. unnumbered (sheet_of t.room.paper (two (slot_on (filling t papers) false 0 (grid_entry 2 taken (2 * b) 0)) y))) (front_slot t page papers taken one are b 1)
+    ∙ ap (λ h. unnumbered (side t papers taken h (2 * b))) (sym (upright b))
 
 abbrev numberless : Paper → (one other : MadeSlot) → MadeSheet
 numberless paper one other = sheet_of paper (two one other)
 
-back_is : (t : Setting) (page : Paper) (papers : List Paper) (row : Row) → HaveOnePaper page papers → ((i : ℕ) → IsPage (length papers) (entry_of row i)) → (b : ℕ)
-    → unnumbered (sheet_by t.room.paper page row 4 b (map (back_of t page) (range_with_len 0 2))) ≡ unnumbered (side_at t papers row (2 * b + 1))
-back_is t page papers row one are b =
-    ap (λ x. numberless t.room.paper x (unnumbered_slot (slot_by page row 4 b (back_of t page 1)))) (back_slot t page papers row one are b 0)
-    ∙ ap (λ y. numberless t.room.paper (unnumbered_slot (slot_on (filling t papers) true 0 (grid_entry 2 row (2 * b + 1) 0))) y) (back_slot t page papers row one are b 1)
-    ∙ ap (λ h. unnumbered (side t papers row h (2 * b + 1))) (sym (turned b))
+back_is : (t : Setting) (page : Paper) (papers : List Paper) (taken : Row) → HaveOnePaper page papers → ((i : ℕ) → IsPage (length papers) (entry_of taken i)) → (b : ℕ)
+    → unnumbered (sheet_by t.room.paper page taken 4 b (map (back_of t page) (range_with_len 0 2))) ≡ unnumbered (side_at t papers taken (2 * b + 1))
+back_is t page papers taken one are b =
+    ap (λ x. numberless t.room.paper x (unnumbered_slot (slot_by page taken 4 b (back_of t page 1)))) (back_slot t page papers taken one are b 0)
+    ∙ ap (λ y. numberless t.room.paper (unnumbered_slot (slot_on (filling t papers) true 0 (grid_entry 2 taken (2 * b + 1) 0))) y) (back_slot t page papers taken one are b 1)
+    ∙ ap (λ h. unnumbered (side t papers taken h (2 * b + 1))) (sym (turned b))
 
 -- ---- all leaves
-leaves_are : (t : Setting) (page : Paper) (papers : List Paper) (row : Row) (m leaves : ℕ) → HaveOnePaper page papers → ((i : ℕ) → IsPage (length papers) (entry_of row i))
-    → length row ≡ 4 * m
-    → map unnumbered (flat_map (λ b. map (sheet_by t.room.paper page row 4 b) (halves t page true).groups) (range_with_len 0 (blocks 4 (length row))))
-    ≡ map unnumbered (map (side_at t papers row) (range_with_len 0 (blocks 2 (length row))))
-leaves_are t page papers row m leaves one are long =
+leaves_are : (t : Setting) (page : Paper) (papers : List Paper) (taken : Row) (m leaves : ℕ) → HaveOnePaper page papers → ((i : ℕ) → IsPage (length papers) (entry_of taken i))
+    → length taken ≡ 4 * m
+    → map unnumbered (flat_map (λ b. map (sheet_by t.room.paper page taken 4 b) (halves t page true).groups) (range_with_len 0 (blocks 4 (length taken))))
+    ≡ map unnumbered (map (side_at t papers taken) (range_with_len 0 (blocks 2 (length taken))))
+leaves_are t page papers taken m leaves one are long =
     let groups = (halves t page true).groups in
-    let fours : blocks 4 (length row) ≡ m = omega (arith, long) in
-    let twos : blocks 2 (length row) ≡ 2 * m = omega (arith, long) in
-    let each : (b : ℕ) → map unnumbered (map (sheet_by t.room.paper page row 4 b) groups)
-    ≡ unnumbered (side_at t papers row (2 * b)) ∷ unnumbered (side_at t papers row (2 * b + 1)) ∷ [] =
-    λ b. ap (λ x. x ∷ unnumbered (sheet_by t.room.paper page row 4 b (map (back_of t page) (range_with_len 0 2))) ∷ []) (front_is t page papers row one are b)
-    ∙ ap (λ y. unnumbered (side_at t papers row (2 * b)) ∷ y ∷ []) (back_is t page papers row one are b) in
-    map_flat unnumbered (λ b. map (sheet_by t.room.paper page row 4 b) groups) (range_with_len 0 (blocks 4 (length row)))
-    ∙ same_flats (λ b. map unnumbered (map (sheet_by t.room.paper page row 4 b) groups))
-    (λ b. unnumbered (side_at t papers row (2 * b)) ∷ unnumbered (side_at t papers row (2 * b + 1)) ∷ []) each (range_with_len 0 (blocks 4 (length row)))
-    ∙ ap (λ n. flat_map (λ b. unnumbered (side_at t papers row (2 * b)) ∷ unnumbered (side_at t papers row (2 * b + 1)) ∷ []) (range_with_len 0 n)) fours
-    ∙ in_pairs (λ s. unnumbered (side_at t papers row s)) 0 m
-    ∙ sym (map-map unnumbered (side_at t papers row) (range_with_len 0 (2 * m)))
-    ∙ ap (λ n. map unnumbered (map (side_at t papers row) (range_with_len 0 n))) (sym twos)
+    let fours : blocks 4 (length taken) ≡ m = omega (arith, long) in
+    let twos : blocks 2 (length taken) ≡ 2 * m = omega (arith, long) in
+    let each : (b : ℕ) → map unnumbered (map (sheet_by t.room.paper page taken 4 b) groups)
+    ≡ unnumbered (side_at t papers taken (2 * b)) ∷ unnumbered (side_at t papers taken (2 * b + 1)) ∷ [] =
+    λ b. ap (λ x. x ∷ unnumbered (sheet_by t.room.paper page taken 4 b (map (back_of t page) (range_with_len 0 2))) ∷ []) (front_is t page papers taken one are b)
+    ∙ ap (λ y. unnumbered (side_at t papers taken (2 * b)) ∷ y ∷ []) (back_is t page papers taken one are b) in
+    map_flat unnumbered (λ b. map (sheet_by t.room.paper page taken 4 b) groups) (range_with_len 0 (blocks 4 (length taken)))
+    ∙ same_flats (λ b. map unnumbered (map (sheet_by t.room.paper page taken 4 b) groups))
+    (λ b. unnumbered (side_at t papers taken (2 * b)) ∷ unnumbered (side_at t papers taken (2 * b + 1)) ∷ []) each (range_with_len 0 (blocks 4 (length taken)))
+    ∙ ap (λ n. flat_map (λ b. unnumbered (side_at t papers taken (2 * b)) ∷ unnumbered (side_at t papers taken (2 * b + 1)) ∷ []) (range_with_len 0 n)) fours
+    ∙ in_pairs (λ s. unnumbered (side_at t papers taken s)) 0 m
+    ∙ sym (map-map unnumbered (side_at t papers taken) (range_with_len 0 (2 * m)))
+    ∙ ap (λ n. map unnumbered (map (side_at t papers taken) (range_with_len 0 n))) (sym twos)
 
 row_long : (k n : ℕ) → length (in_signatures (4 * k) (all_pages n)) ≡ 4 * (blocks (4 * k) n * k)
 row_long k n =
@@ -122,16 +122,16 @@ pub printed_backs_are_imposed : PrintedBacksAreImposed
 printed_backs_are_imposed page sheet b k leaves spec papers possible long one read =
     let n : ℕ = length papers in
     let sides : ℕ = 4 * k in
-    let row : Row = in_signatures sides (all_pages n) in
+    let taken : Row = in_signatures sides (all_pages n) in
     let t : Setting = binding_setting_of sheet b in
     let printed : Spec = bound page sheet b in
-    let are : (i : ℕ) → IsPage n (entry_of row i) = λ i. entry_is n row i (signed_are n sides (all_pages n) (all_are n)) in
+    let are : (i : ℕ) → IsPage n (entry_of taken i) = λ i. entry_is n taken i (signed_are n sides (all_pages n) (all_are n)) in
     ap (λ s. map unnumbered (made_on sheet page (sheets_in (Some sides) s n))) (read_once printed spec read)
     ∙ ap (λ all. map unnumbered (made_on sheet page all)) (sheets_of_all (Some sides) printed n)
-    ∙ ap (λ s. map unnumbered (by_spec s sheet page row)) ((bound_is_fitted page sheet b possible).1 ∙ long_edge t page b.long_edge long)
-    ∙ ap (map unnumbered) (made_sheets_are sheet page row (halves t page true))
-    ∙ leaves_are t page papers row (blocks sides n * k) leaves one are (row_long k n)
-    ∙ ap (map unnumbered) (sym (no_creep_is_plain (filling t papers) true leaves row (record { grid_is = refl; order_is = refl; even = leaves_even page sheet b possible })).0)
+    ∙ ap (λ s. map unnumbered (by_spec s sheet page taken)) ((bound_is_fitted page sheet b possible).1 ∙ long_edge t page b.long_edge long)
+    ∙ ap (map unnumbered) (made_sheets_are sheet page taken (halves t page true))
+    ∙ leaves_are t page papers taken (blocks sides n * k) leaves one are (row_long k n)
+    ∙ ap (map unnumbered) (sym (no_creep_is_plain (filling t papers) true leaves taken (record { grid_is = refl; order_is = refl; even = leaves_even page sheet b possible })).0)
 
 -- ---- nothing is written of the pages that items name
 slots_written : (border : Option Border) (pages : List (List ℕ)) (slots : List MadeSlot)
