@@ -38,7 +38,7 @@ key_plain content h = by_test (starts_with nat_eq (key content) (codes "%%"))
     absurd (false≢true (sym h ∙ (bytes_eq-Decides PAIR (take 2 content)).1 begins)))
     (λ isnt. isnt)
 
-no_key : (content name : List ℕ) → IsPlain content → bytes_eq (key content) (37 ∷ 37 ∷ name) ≡ false
+pub no_key : (content name : List ℕ) → IsPlain content → bytes_eq (key content) (37 ∷ 37 ∷ name) ≡ false
 no_key content name h = by_test (bytes_eq (key content) (37 ∷ 37 ∷ name))
     (λ is.
     let same : key content ≡ 37 ∷ 37 ∷ name = (bytes_eq-Decides (key content) (37 ∷ 37 ∷ name)).0 is in

@@ -30,4 +30,5 @@ pub use filters::{end_line, prepare};
 pub use header::{first_content, header_len, is_header};
 pub use keys::key_of;
 pub use lines::{content_end, line_end_after};
+pub use plain::plain_len;
 pub use std::alloc::AllocError as NoMemory;

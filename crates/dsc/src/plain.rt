@@ -6,8 +6,8 @@ ghost use Rattle.dsc.specs.Plain.{BeginsPlain, next_line};
 use crate::lines::{content_end, is_line_end, line_end_after};
 use memchr::memmem::Finder;
 
-/// The number of bytes at the start of the text that can be passed, found by a search for two percent signs. It
-/// reaches up to the first two, or, if these are not at the start of a line, up to the end of their line.
+/// The number of bytes of lines at the start of the text that don't begin with two percent signs, which the finder looks for.
+/// They reach up to the first two, or, if these are not at the start of a line, up to the end of their line.
 pub fn plain_len(percent_signs: &Finder<'_>, text: &[u8]) -> usize
     requires { percent_signs.now ≡ codes "%%" }
     ensures plain { BeginsPlain result text.now }

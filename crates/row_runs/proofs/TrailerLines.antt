@@ -1,8 +1,11 @@
 -- The lines behind the last line that begins a trailer, a line at a time.
-use Rattle.std.specs.Prelude.{if◌then◌else◌}
-use Rattle.std.proofs.Common.{Bool, true, false, ◌≡◌, ◌∙◌, ℕ, zero, suc, ◌<◌, List, [], ◌∷◌, length, drop, refl, ap, sym, arith}
+use Rattle.std.specs.Prelude.{if◌then◌else◌, codes}
+use Rattle.std.proofs.Common.{Bool, true, false, ◌≡◌, ◌∙◌, ℕ, zero, suc, ◌+◌, ◌-◌, ◌<◌, List, [], ◌∷◌, length, drop, refl, ap, sym, arith}
 use Rattle.rules.specs.Units.{content_of, line_len}
+use Rattle.std.proofs.lemmas.List.{drop-drop}
+use Rattle.dsc.specs.Plain.{ArePlain, BeginsPlain}
 use Rattle.dsc.proofs.LineByLine.{by_line}
+use Rattle.dsc.proofs.PlainUnits.{no_key}
 use Rattle.papers.specs.Media.{contents, contents_of}
 use Rattle.row_runs.specs.ToldPages.{begins_trailer, behind_trailer}
 
@@ -35,3 +38,21 @@ behind_step last (b ∷ bs) others new begins some at is e =
 pub behind_end : (last rest : List ℕ) → length rest ≡ 0 → behind_trailer (contents last) (contents rest) ≡ contents last
 behind_end last [] none = refl
 behind_end last (b ∷ bs) none = absurd (omega (arith, none))
+
+-- lines that don't begin with two percent signs begin no trailer
+passed : (all : List (List ℕ)) (lines n : ℕ) (text : List ℕ) → ArePlain lines n text → behind_trailer all (contents (drop n text)) ≡ behind_trailer all (contents text)
+passed all zero n text none = ap (λ k. behind_trailer all (contents (drop k text))) none
+passed all (suc lines) n [] h = let some = h.0 in absurd (omega (arith, some))
+passed all (suc lines) n (b ∷ bs) h =
+    let text : List ℕ = b ∷ bs in
+    let l : ℕ = line_len text in
+    let (some, plain, fits, more) = h in
+    let whole : l + (n - l) ≡ n = omega (arith, fits) in
+    ap (λ k. behind_trailer all (contents (drop k text))) (sym whole)
+    ∙ ap (λ t. behind_trailer all (contents t)) (sym (drop-drop (n - l) l text))
+    ∙ passed all lines (n - l) (drop l text) more
+    ∙ sym (ap (choose all (contents (drop l text))) (no_key (content_of text) (codes "Trailer") plain))
+    ∙ sym (ap (behind_trailer all) (contents_step b bs))
+
+pub behind_plain : (all : List (List ℕ)) (text : List ℕ) (n : ℕ) → BeginsPlain n text → behind_trailer all (contents (drop n text)) ≡ behind_trailer all (contents text)
+behind_plain all text n h = passed all h.0 n text h.1

@@ -1,11 +1,11 @@
 //! How many pages a document says that it has.
-ghost use Rattle.std.specs.Prelude.{◌≡◌, if◌then◌else◌, option_map};
+ghost use Rattle.std.specs.Prelude.{◌≡◌, ◌≤◌, ℕ, List, codes, length, if◌then◌else◌, option_map};
 ghost use Rattle.dsc.specs.Fields.{fields_in};
 ghost use Rattle.papers.specs.Media.{comment_fields, contents};
-ghost use Rattle.std.specs.Prelude.{codes};
 ghost use Rattle.row_runs.specs.ToldPages as meaning;
 
-use dsc::{first_content, header_len, key_of, line_end_after, next_field};
+use dsc::{first_content, header_len, key_of, line_end_after, next_field, plain_len};
+use memchr::memmem::Finder;
 use papers::first_comment;
 
 /// How many pages a document says that it has, by the first `%%Pages:` of its header; if that is `(atend)`, by the first one
@@ -56,16 +56,28 @@ fn pages_value(lines: &[u8]) -> Option<&[u8]>
 fn last_lines(text: &[u8]) -> &[u8]
     ensures { contents result.now ≡ meaning.last_lines text.now }
 {
+    let percent_signs = Finder::new(b"%%".as_slice());
     let mut last = text;
-    let mut rest = text;
+    let mut rest = after_plain(&percent_signs, text);
     while !rest.is_empty() {
         let content = first_content(rest);
         let begins = begins_trailer(content);
         let (_, others) = rest.split_at(line_end_after(rest, content.len()));
         last = last_from(last, others, begins);
-        rest = others;
+        rest = after_plain(&percent_signs, others);
     }
     last
+}
+
+/// What comes after the lines at the start that don't begin with two percent signs, so begin no trailer.
+fn after_plain<'t>(percent_signs: &Finder<'_>, text: &'t [u8]) -> &'t [u8]
+    requires { percent_signs.now ≡ codes "%%" }
+    ensures passed { (all : List (List ℕ)) →
+        meaning.behind_trailer all (contents result.now) ≡ meaning.behind_trailer all (contents text.now) }
+    ensures shorter { length result.now ≤ length text.now }
+{
+    let (_, rest) = text.split_at(plain_len(percent_signs, text));
+    rest
 }
 
 fn begins_trailer(content: &[u8]) -> bool
