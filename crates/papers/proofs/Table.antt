@@ -7,7 +7,8 @@ use Rattle.std.specs.Str.{bytes_eq}
 use Rattle.std.proofs.lemmas.Slice.Eq.{bytes_eq-Decides}
 use Rattle.std.proofs.lemmas.Bool.Decides.{nat_tests}
 use Rattle.rules.specs.Papers.{NamedPaper, Paper, points, small, paper_among}
-use Rattle.lengths.proofs.Table.{Row, entry, is_lowercase, passed_over}
+use Rattle.lengths.proofs.Table.{Row, passed_over}
+use Rattle.papers.specs.Names.{entry, is_lowercase, sides_fit}
 
 small_is : (b : ℕ) → small b ≡ to_ascii_lowercase b
 small_is b = grind (arith, nat_tests)
@@ -38,10 +39,6 @@ this_row name row rows lower same test e =
     let known : map to_ascii_lowercase row.0.now ≡ row.0.now = (bytes_eq-Decides _ _).0 lower in
     let is : bytes_eq (map small name) row.0.now ≡ true = compared name row.0.now same test known ∙ e in
     ap (λ b. if b then Some (entry row).paper else paper_among (map entry rows) name) is
-
--- sides that a paper may have
-abbrev pub sides_fit : Row → Bool
-sides_fit row = (nat_lt 0 row.1 && nat_lt row.1 7_200_000) && (nat_lt 0 row.2 && nat_lt row.2 7_200_000)
 
 fit_at : (rows : List Row) (i : ℕ) (d : Row) → list_all sides_fit rows ≡ true → i < length rows → sides_fit (get_or rows i d) ≡ true
 fit_at [] i d all h = absurd (omega arith)

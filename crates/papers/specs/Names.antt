@@ -1,7 +1,10 @@
 -- Papers by their names. The A and B sizes are those of ISO 216, the C sizes and dl those of ISO 269, in whole points; the others are those of the Media
 -- option's keywords in Adobe's PostScript Printer Description specification 4.3, Appendix B (folio as in pstops(1) of
 -- psutils). A name with `-landscape` after it is this project's own rule.
-use Rattle.std.specs.Prelude.{ℕ, List, [], ◌∷◌, ◌++◌, map, codes, Option}
+use Rattle.std.specs.Prelude.{ℕ, List, [], ◌∷◌, ◌++◌, map, codes, Option, Bool, ◌&&◌, nat_lt}
+use Rattle.std.specs.Borrow.{Bor}
+use Rattle.std.specs.Char.{to_ascii_lowercase}
+use Rattle.std.specs.Str.{bytes_eq}
 use Rattle.rules.specs.Papers.{Paper, NamedPaper, points, paper_among}
 
 -- opaque unless it is opened: it is a long list, of which most proofs want nothing (RULES, 12.1)
@@ -52,3 +55,15 @@ abbrev pub listed : List NamedPaper → List ℕ
 listed [] = []
 listed (p ∷ []) = p.name
 listed (p ∷ q ∷ ps) = p.name ++ (codes ", " ++ listed (q ∷ ps))
+
+-- ---- the rows of the program's table: each a name, and the sides in points
+abbrev pub entry : Bor (List ℕ) × ℕ × ℕ → NamedPaper
+entry row = record { name = row.0.now; paper = points row.1 row.2 }
+
+-- the name is in small letters
+abbrev pub is_lowercase : Bor (List ℕ) × ℕ × ℕ → Bool
+is_lowercase row = bytes_eq (map to_ascii_lowercase row.0.now) row.0.now
+
+-- a paper may have these sides
+abbrev pub sides_fit : Bor (List ℕ) × ℕ × ℕ → Bool
+sides_fit row = (nat_lt 0 row.1 && nat_lt row.1 7_200_000) && (nat_lt 0 row.2 && nat_lt row.2 7_200_000)

@@ -1,7 +1,8 @@
 //! Papers by their names.
-ghost use Rattle.std.specs.Prelude.{◌≡◌, ◌<◌, map, option_map, Some};
+ghost use Rattle.std.specs.Prelude.{◌≡◌, ◌<◌, map, option_map, Some, true};
+ghost use Rattle.std.specs.List.{list_all};
 ghost use Rattle.rules.specs.Papers.{paper_among, points};
-ghost use Rattle.papers.specs.Names.{landscape, listed, paper_named, papers, turned};
+ghost use Rattle.papers.specs.Names.{entry, is_lowercase, landscape, listed, paper_named, papers, sides_fit, turned};
 
 use lengths::{Grains, Paper};
 
@@ -67,7 +68,17 @@ pub fn name_list() -> &'static str
 fn upright_paper(name: &[u8]) -> Option<Paper>
     ensures { result ≡ paper_among papers name.now }
 {
-    for (known, width, height) in PAPERS {
+    paper_in(&PAPERS, name)
+}
+
+/// The paper of the first of these rows with this name.
+fn paper_in(rows: &[(&str, u32, u32)], name: &[u8]) -> Option<Paper>
+    requires names { list_all is_lowercase rows.now ≡ true }
+    requires sides { list_all sides_fit rows.now ≡ true }
+    ensures { result ≡ paper_among (map entry rows.now) name.now }
+{
+    for row in rows {
+        let (known, width, height) = *row;
         if name.eq_ignore_ascii_case(known.as_bytes()) {
             return paper_of_points(width, height);
         }

@@ -3,14 +3,17 @@ use Rattle.std.proofs.Common.{◌≡◌, ℕ, zero, suc, ◌+◌, ◌<◌, ◌�
 use Rattle.std.proofs.Common.{get_or, refl, sym, ap, ◌∙◌, subst, arith, add-one, append_assoc}
 use Rattle.std.proofs.lemmas.List.{length-append}
 use Rattle.std.specs.Prelude.{filter, Option, Some, None, if◌then◌else◌}
+use Rattle.rules.specs.Sheets.{Layout}
+use Rattle.sheet_plan.specs.Places.{places_of}
+use Rattle.gather_table.specs.declared.answers.Published.{Published}
 use Rattle.gather_table.specs.declared.answers.Reply.{Reply}
 use Rattle.gather_table.specs.declared.answers.Reply.TheVariants.{Fresh, Repeated, Completing, Fills}
 use Rattle.gather_table.specs.declared.answers.Closing.{Closing}
 use Rattle.gather_table.specs.Laws.{closes_last}
-use Rattle.gather_table.specs.History.{Entry, Mark, CloseGroup}
-use Rattle.gather_table.specs.Shared.{TableView, SeatView, IsSeatOf, Makes}
+use Rattle.gather_table.specs.History.{Entry, Publish, Mark, CloseGroup}
+use Rattle.gather_table.specs.Shared.{TableView, SeatView, IsSeatOf, Made, Makes}
 use Rattle.gather_table.proofs.Calls.{makes-append, same_makes}
-use Rattle.run_steps.specs.Delivery.{is_filling, place_calls, answer_list, completes_sheet, completed_by, completed}
+use Rattle.run_steps.specs.Delivery.{is_filling, place_calls, answer_list, completes_sheet, delivery_calls, completed_by, completed}
 
 -- one place more
 pub places_push : (xs : List (ℕ × ℕ)) (i : ℕ) (d : ℕ × ℕ) (rs : List Reply) (r : Reply) (cs ds : List Closing)
@@ -96,3 +99,13 @@ pub places_on : (old mid new : SeatView) (xs : List (ℕ × ℕ)) (i : ℕ) (d :
 places_on old mid new xs i d rs rs' r cs cs' ds lt len all is_r is_c m one =
     subst (λ es. Makes old es new) (sym (on_calls xs i d rs rs' r cs cs' ds lt len all is_r is_c))
     (makes-append old mid new _ _ m one)
+
+-- a page was published, and its places were marked
+pub delivered : (layout : Layout) (old mid new : SeatView) (p q i j : ℕ) (was : Published) (places : List (ℕ × ℕ)) (rs : List Reply) (cs : List Closing)
+    → q ≡ p → j ≡ i → places ≡ places_of layout p → Made old (Publish q j was) mid → Makes mid (place_calls places rs cs) new
+    → Makes old (delivery_calls layout p i was rs cs) new
+delivered layout old mid new p q i j was places rs cs page index are put marked = (
+  mid,
+  subst (λ e. Made old e mid) (λ k. Publish (page k) (index k) was) put,
+  subst (λ xs. Makes mid (place_calls xs rs cs) new) are marked,
+)

@@ -37,6 +37,20 @@ begins_len old new b = let l = length-take (length old) new in let e = ap length
 pub begins_self : {X : Type 0} (xs : List X) → Begins xs xs
 begins_self xs = take-length xs
 
+-- an element that is added is the last one
+last_there : {X : Type 0} (xs : List X) (x : X) → slice_get (xs ++ x ∷ []) (length xs) ≡ Some x
+last_there [] x = refl
+last_there (y ∷ xs) x = last_there xs x
+
+pub added_there : {X : Type 0} (old new : List X) (k : ℕ) (x : X) → new ≡ old ++ x ∷ [] → k ≡ length old → slice_get new k ≡ Some x
+added_there old new k x added is = ap (λ xs. slice_get xs k) added ∙ ap (slice_get (old ++ x ∷ [])) is ∙ last_there old x
+
+pub begins_added : {X : Type 0} (old new : List X) (x : X) → new ≡ old ++ x ∷ [] → Begins old new
+begins_added old new x added = ap (take (length old)) added ∙ take-append_seam old (x ∷ [])
+
+pub begins_same : {X : Type 0} (old new : List X) → new ≡ old → Begins old new
+begins_same old new same = subst (Begins old) (sym same) (begins_self old)
+
 pub begins_more : {X : Type 0} (a b c : List X) → Begins a b → Begins b c → Begins a c
 begins_more a b c h g = sym (take-take (length a) (length b) c (begins_len a b h)) ∙ ap (take (length a)) g ∙ h
 

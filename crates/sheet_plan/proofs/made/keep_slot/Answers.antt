@@ -5,8 +5,8 @@ use Rattle.std.proofs.lemmas.Option.{slice_get_within}
 use Rattle.sheet_plan.specs.declared.made.KeptSlot.{KeptSlot}
 use Rattle.sheet_plan.specs.declared.made.Placing.{Placing}
 use Rattle.sheet_plan.specs.OfSheets.{slot_of}
-use Rattle.sheet_plan.specs.Store.{Begins, slot_kept}
-use Rattle.sheet_plan.proofs.Stored.{begins_self, grown_both, added_slot, number_kept}
+use Rattle.sheet_plan.specs.Store.{Begins, IsGrown, slot_kept}
+use Rattle.sheet_plan.proofs.Stored.{begins_same, begins_self, grown_both, grown_placings, added_slot, number_kept}
 use Rattle.sheet_plan.proofs.made.keep_slot.Goals as goal
 use Rattle.sheet_plan.proofs.made.keep_slot.Goals.{in-Blank, in-Placed+in_ok-place-in-Placed+in_ok-count_of-in-Placed}
 
@@ -39,3 +39,18 @@ returns-clause-added c =
           ∙ number_kept _ _ _ _ _ w.in_ok-count_of-in-Placed.ensures w.in_ok-place-in-Placed.ensures.there
           ∙ ap slot_of (sym w.in-Placed.is))
     ]
+
+pub returns-in_err-place-in-Placed-clause-grown : goal.returns-in_err-place-in-Placed-clause-grown
+returns-in_err-place-in-Placed-clause-grown c = grown_placings _ _ _ c.keep.ensures.begins
+
+pub returns-in_err-count_of-in-Placed-clause-grown : goal.returns-in_err-count_of-in-Placed-clause-grown
+returns-in_err-count_of-in-Placed-clause-grown c = grown_placings _ _ _ c.keep.ensures.begins
+
+pub returns-in_err-push-clause-grown : goal.returns-in_err-push-clause-grown
+returns-in_err-push-clause-grown c =
+    subst (IsGrown c.args.placings.now.items c.match-made.placings.items c.args.slots.now.items) (sym c.in_err-push.ensures.items) (
+    elim c.match-made.branch [
+      | in-Blank w ↦ grown_placings _ _ _ (begins_same _ _ (ap (λ (v : Vec Placing Global). v.items) w.placings-is))
+      | in-Placed+in_ok-place-in-Placed+in_ok-count_of-in-Placed w ↦
+          grown_placings _ _ _ (subst (Begins c.args.placings.now.items) (sym (ap (λ (v : Vec Placing Global). v.items) w.placings-is)) w.keep.ensures.begins)
+    ])

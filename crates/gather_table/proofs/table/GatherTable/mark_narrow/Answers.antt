@@ -57,3 +57,56 @@ returns g c =
 
 pub invariant_of-seat : goal.invariant_of-seat
 invariant_of-seat g c = (c.fetch_or-found.ensures.2.0 ∙ c.seat.invariant.0, stands_after IsLegal _ _ _ _ c.fetch_or-found.ensures.2.1 c.seat.invariant.1)
+
+pub index-home-requires : goal.index-home-requires
+index-home-requires g c =
+    let same = ap (λ t. t.layout) c.self.view_is in
+    let layout = layout_of c.self.inside.table.shared.key in
+    let below : c.args.sheet < length layout.sheets = subst (λ p. c.args.sheet < length p.sheets) (sym same) c.requires.sheet in
+    omega (arith, below, c.self.invariant.count)
+
+pub full_bits-full-requires : goal.full_bits-full-requires
+full_bits-full-requires g c =
+    let same = ap (λ t. t.layout) c.self.view_is in
+    let layout = layout_of c.self.inside.table.shared.key in
+    let below : c.args.sheet < length layout.sheets = subst (λ p. c.args.sheet < length p.sheets) (sym same) c.requires.sheet in
+    let slim : is_wide layout c.args.sheet ≡ false = subst (λ (p : Layout). is_wide p c.args.sheet ≡ false) (sym same) c.requires.narrow in
+    let in_sheet : c.args.slot < slot_count layout c.args.sheet = subst (λ (p : Layout). c.args.slot < slot_count p c.args.sheet) (sym same) (below_length _ c.args.slot _ c.requires.slot.needed) in
+    let home : IsHome layout c.args.sheet c.index-home.result.now = subst (IsHome layout c.args.sheet) (sym c.index-home.ensures) (c.self.invariant.homes_are c.args.sheet _ below) in
+    let le = slim_le layout c.args.sheet slim in
+    (omega (arith, home.slots, in_sheet), omega (arith, home.slots, le))
+
+pub overflow_shl-place : goal.overflow_shl-place
+overflow_shl-place g c =
+    let same = ap (λ t. t.layout) c.self.view_is in
+    let layout = layout_of c.self.inside.table.shared.key in
+    let below : c.args.sheet < length layout.sheets = subst (λ p. c.args.sheet < length p.sheets) (sym same) c.requires.sheet in
+    let slim : is_wide layout c.args.sheet ≡ false = subst (λ (p : Layout). is_wide p c.args.sheet ≡ false) (sym same) c.requires.narrow in
+    let in_sheet : c.args.slot < slot_count layout c.args.sheet = subst (λ (p : Layout). c.args.slot < slot_count p c.args.sheet) (sym same) (below_length _ c.args.slot _ c.requires.slot.needed) in
+    let home : IsHome layout c.args.sheet c.index-home.result.now = subst (IsHome layout c.args.sheet) (sym c.index-home.ensures) (c.self.invariant.homes_are c.args.sheet _ below) in
+    let first = (home.lane slim).1 in
+    let inner = inside layout (λ q _. width_le layout q) c.args.sheet below in
+    let width = width_of layout c.args.sheet slim in
+    omega (arith, first, inner, width, in_sheet, c.from.ensures, c.from-2.ensures)
+
+pub overflow_shr-found : goal.overflow_shr-found
+overflow_shr-found g c =
+    let same = ap (λ t. t.layout) c.self.view_is in
+    let layout = layout_of c.self.inside.table.shared.key in
+    let below : c.args.sheet < length layout.sheets = subst (λ p. c.args.sheet < length p.sheets) (sym same) c.requires.sheet in
+    let slim : is_wide layout c.args.sheet ≡ false = subst (λ (p : Layout). is_wide p c.args.sheet ≡ false) (sym same) c.requires.narrow in
+    let in_sheet : c.args.slot < slot_count layout c.args.sheet = subst (λ (p : Layout). c.args.slot < slot_count p c.args.sheet) (sym same) (below_length _ c.args.slot _ c.requires.slot.needed) in
+    let home : IsHome layout c.args.sheet c.index-home.result.now = subst (IsHome layout c.args.sheet) (sym c.index-home.ensures) (c.self.invariant.homes_are c.args.sheet _ below) in
+    let first = (home.lane slim).1 in
+    let inner = inside layout (λ q _. width_le layout q) c.args.sheet below in
+    let width = width_of layout c.args.sheet slim in
+    omega (arith, first, inner, width, in_sheet)
+
+pub overflow_shl-slot : goal.overflow_shl-slot
+overflow_shl-slot g c =
+    let same = ap (λ t. t.layout) c.self.view_is in
+    let layout = layout_of c.self.inside.table.shared.key in
+    let below : c.args.sheet < length layout.sheets = subst (λ p. c.args.sheet < length p.sheets) (sym same) c.requires.sheet in
+    let slim : is_wide layout c.args.sheet ≡ false = subst (λ (p : Layout). is_wide p c.args.sheet ≡ false) (sym same) c.requires.narrow in
+    let in_sheet : c.args.slot < slot_count layout c.args.sheet = subst (λ (p : Layout). c.args.slot < slot_count p c.args.sheet) (sym same) (below_length _ c.args.slot _ c.requires.slot.needed) in
+    omega (arith, in_sheet, slim_le layout c.args.sheet slim)

@@ -1,9 +1,0 @@
-use Rattle.std.proofs.Common.{◌≡◌, drop}
-use Rattle.std.specs.Prelude.{map}
-use Rattle.rules.specs.Papers.{paper_among}
-use Rattle.lengths.proofs.Table.{entry}
-use Rattle.papers.specs.Names.{papers}
-use Rattle.papers.proofs.names.upright_paper.Given as goal
-
-abbrev pub invariant-loop-known : goal.invariant-loop-known
-invariant-loop-known l = paper_among (map entry (drop l.known-index l.known-items)) l.name ≡ paper_among papers l.name
