@@ -5,6 +5,7 @@ use imposer::MemorySink;
 use pstops_cli::{ReadSource, Request, read_command, read_input, run_request};
 use sha2::{Digest, Sha256};
 use std::fs::File;
+use std::io;
 use std::sync::Wait;
 use std::thread::Threads;
 use test_cases::words_of;
@@ -41,7 +42,7 @@ const SPECIFICATIONS: [&str; 5] = [
 const ROOM: usize = 1_000_000;
 
 /// Imposes them, with threads that this handle starts.
-pub fn impose_all<R: Threads + Wait + Sync>(rt: &HostRuntime, threads: &R) -> anyhow::Result<()> {
+pub fn impose_all<R: Threads + Wait + Sync>(rt: &HostRuntime, threads: &R) -> io::Result<()> {
     for name in &DOCUMENTS {
         impose_document(rt, threads, name)?;
     }
@@ -53,7 +54,7 @@ fn impose_document<R: Threads + Wait + Sync>(
     rt: &HostRuntime,
     threads: &R,
     name: &str,
-) -> anyhow::Result<()> {
+) -> io::Result<()> {
     let mut source = ReadSource::new(File::open(rt, name)?);
     match read_input(rt.alloc(), &mut source) {
         Ok(input) => impose_text(rt, threads, name, input.as_slice()),
@@ -66,7 +67,7 @@ fn impose_text<R: Threads + Wait + Sync>(
     threads: &R,
     name: &str,
     text: &[u8],
-) -> anyhow::Result<()> {
+) -> io::Result<()> {
     for spec in &SPECIFICATIONS {
         impose_by(rt, threads, name, text, spec)?;
     }
@@ -79,7 +80,7 @@ fn impose_by<R: Threads + Wait + Sync>(
     name: &str,
     text: &[u8],
     spec: &str,
-) -> anyhow::Result<()> {
+) -> io::Result<()> {
     let words = words_of(rt.alloc(), spec)?;
     match read_command(rt.alloc(), words.as_slice()) {
         Ok(request) => impose(rt, threads, name, text, &request),
@@ -94,7 +95,7 @@ fn impose<R: Threads + Wait + Sync>(
     name: &str,
     text: &[u8],
     request: &Request,
-) -> anyhow::Result<()> {
+) -> io::Result<()> {
     let mut sink = MemorySink::new(rt.alloc(), ROOM, ROOM, 1_000)?;
     let (status, line) = run_request(threads, rt.alloc(), request, text, &mut sink);
     print_run(rt, name, request, status, line.as_slice())?;
@@ -107,19 +108,16 @@ fn print_run(
     request: &Request,
     status: u8,
     line: &[u8],
-) -> anyhow::Result<()> {
+) -> io::Result<()> {
     let line = String::from_utf8_lossy(rt.alloc(), line)?;
-    print!(rt; "{name} {}: status {status}, {line}", request.spec)?;
-    Ok(())
+    print!(rt; "{name} {}: status {status}, {line}", request.spec)
 }
 
-fn print_digest(rt: &HostRuntime, bytes: &[u8]) -> anyhow::Result<()> {
+fn print_digest(rt: &HostRuntime, bytes: &[u8]) -> io::Result<()> {
     let digest = hex::encode(rt.alloc(), Sha256::digest(bytes))?;
-    println!(rt; "    SHA-256 {digest}")?;
-    Ok(())
+    println!(rt; "    SHA-256 {digest}")
 }
 
-fn print_line(rt: &HostRuntime, name: &str, what: &str) -> anyhow::Result<()> {
-    println!(rt; "{name}: {what}")?;
-    Ok(())
+fn print_line(rt: &HostRuntime, name: &str, what: &str) -> io::Result<()> {
+    println!(rt; "{name}: {what}")
 }

@@ -23,16 +23,16 @@ fn lines_of(alloc: Global, request: &Request) -> Result<String, AllocError> {
     let options = &request.options;
     let mut lines = first_lines(alloc, request)?;
     if let Some(width) = options.border {
-        push_value(alloc, &mut lines, "border", width.get())?;
+        push_value(&mut lines, "border", width.get())?;
     }
     if let Some(sides) = options.sides {
-        push_value(alloc, &mut lines, "sides", sides)?;
+        push_value(&mut lines, "sides", sides)?;
     }
     if request.quiet {
         lines.push_str("quiet\n")?;
     }
-    push_name(alloc, &mut lines, "infile", &request.infile)?;
-    push_name(alloc, &mut lines, "outfile", &request.outfile)?;
+    push_name(&mut lines, "infile", &request.infile)?;
+    push_name(&mut lines, "outfile", &request.outfile)?;
     Ok(lines)
 }
 
@@ -49,22 +49,16 @@ fn first_lines(alloc: Global, request: &Request) -> Result<String, AllocError> {
 }
 
 fn push_value<D: Display + Drop>(
-    alloc: Global,
     lines: &mut String,
     what: &str,
     value: D,
 ) -> Result<(), AllocError> {
-    lines.push_str(&format!(in alloc; "{what} {value}\n")?)
+    writeln!(lines, "{what} {value}")
 }
 
-fn push_name(
-    alloc: Global,
-    lines: &mut String,
-    what: &str,
-    name: &Option<String>,
-) -> Result<(), AllocError> {
+fn push_name(lines: &mut String, what: &str, name: &Option<String>) -> Result<(), AllocError> {
     match name {
-        Some(name) => push_value(alloc, lines, what, format_args!("'{name}'")),
+        Some(name) => push_value(lines, what, format_args!("'{name}'")),
         None => Ok(()),
     }
 }

@@ -28,7 +28,7 @@ mod windows;
 use checks::done;
 use gather_table::{GatherTable, Seat};
 use handover::Shelf;
-use imposer::{Gate, Job, Options, Report, RunError, Sink, Workers, run};
+use imposer::{Gate, Job, MemorySink, Options, Report, RunError, Sink, Workers, run};
 use lengths::a4;
 use std::alloc::Global;
 use std::process::Abort;
@@ -103,13 +103,23 @@ fn run_into<R: Threads + Wait + Sync, G: Gate + Sync, S: Sink>(
     run(rt, alloc, input, trial.items, &options, gate, sink)
 }
 
+/// Runs a trial with this gate into memory, which has room for 100,000 bytes: what is reported.
+fn report_of<R: Threads + Wait + Sync + Abort, G: Gate + Sync>(
+    rt: &R,
+    alloc: Global,
+    trial: &Trial<'_>,
+    gate: &G,
+) -> Report {
+    let mut sink = done(rt, MemorySink::new(alloc, 100_000, 100_000, 1_000));
+    done(rt, run_into(rt, alloc, trial, gate, &mut sink))
+}
+
 /// So many pages of so many lines of nine bytes.
 fn large_pages<R: Abort>(rt: &R, alloc: Global, pages: u32, lines: usize) -> String {
     let lines = done(rt, "% a line\n".repeat(alloc, lines));
     let mut text = done(rt, String::from_str(alloc, "%!PS-Adobe-3.0\n"));
     for page in 1..=pages {
-        let heading = done(rt, format!(in alloc; "%%Page: {page} {page}\n"));
-        done(rt, text.push_str(&heading));
+        done(rt, writeln!(text, "%%Page: {page} {page}"));
         done(rt, text.push_str(&lines));
     }
     text

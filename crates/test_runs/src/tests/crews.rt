@@ -3,17 +3,14 @@
 ghost use Rattle.std.specs.Prelude.{◌≡◌, ⊤};
 
 use super::checks::assert_that;
+use super::wait_for;
 use std::alloc::{AllocError, Global};
 use std::process::Abort;
 use std::sync::Wait;
-use std::sync::atomic::AtomicU32;
+use std::sync::atomic::AtomicUsize;
 use std::sync::atomic::Ordering::SeqCst;
-use std::thread;
 use std::thread::Threads;
 use workers::{Collector, Crew, Imposing, Supplies, Work, gather_by};
-
-/// How often a wait yields before it runs out.
-const YIELDS: u32 = 20_000_000;
 
 /// The number of workers of each kind.
 const WORKERS: u32 = 3;
@@ -39,47 +36,36 @@ struct Collected {
 #[derive(Drop)]
 struct Fates<'a, R> {
     rt: &'a R,
-    preparers: u32,
-    imposers: u32,
+    preparers: usize,
+    imposers: usize,
     /// How many preparers, and how many imposers, have begun.
-    begun_preparers: AtomicU32,
-    begun_imposers: AtomicU32,
+    begun_preparers: AtomicUsize,
+    begun_imposers: AtomicUsize,
     /// How often the imposers were told to stop.
-    stopped: AtomicU32,
+    stopped: AtomicUsize,
     /// How many waits ran out.
-    run_out: AtomicU32,
+    run_out: AtomicUsize,
     /// How many collections began after the imposers had been told to stop.
-    late: AtomicU32,
+    late: AtomicUsize,
 }
 
 impl<'a, R> Fates<'a, R> {
-    fn new(rt: &'a R, preparers: u32, imposers: u32) -> Fates<'a, R> {
+    fn new(rt: &'a R, preparers: usize, imposers: usize) -> Fates<'a, R> {
         Fates {
             rt,
             preparers,
             imposers,
-            begun_preparers: AtomicU32::new(0),
-            begun_imposers: AtomicU32::new(0),
-            stopped: AtomicU32::new(0),
-            run_out: AtomicU32::new(0),
-            late: AtomicU32::new(0),
+            begun_preparers: AtomicUsize::new(0),
+            begun_imposers: AtomicUsize::new(0),
+            stopped: AtomicUsize::new(0),
+            run_out: AtomicUsize::new(0),
+            late: AtomicUsize::new(0),
         }
-    }
-
-    /// Waits until the word has this value or more, or any wait ran out.
-    fn wait_for(&self, word: &AtomicU32, height: u32) {
-        for _ in 0..YIELDS {
-            if word.load(SeqCst) >= height || self.run_out.load(SeqCst) > 0 {
-                return;
-            }
-            thread::yield_now();
-        }
-        self.run_out.fetch_add(1, SeqCst);
     }
 }
 
 /// Whether the bit of this number is set.
-fn has_bit(bits: u32, number: u32) -> bool {
+fn has_bit(bits: usize, number: usize) -> bool {
     number < 32 && bits >> number & 1 == 1
 }
 
@@ -110,7 +96,7 @@ impl<'a, R: Abort> Work<Held> for Fates<'a, R> {
         _count: u32,
     ) -> Result<Held, AllocError> {
         self.begun_preparers.fetch_add(1, SeqCst);
-        if has_bit(self.preparers, number) {
+        if has_bit(self.preparers, number as usize) {
             return Err(AllocError);
         }
         Ok(held)
@@ -143,7 +129,7 @@ impl<'a, R: Abort> Imposing<Held, Ticket> for Fates<'a, R> {
         if has_bit(self.imposers, number) {
             return Err(AllocError);
         }
-        self.wait_for(&self.stopped, 1);
+        wait_for(&self.stopped, 1, &self.run_out);
         Ok(held)
     }
 
@@ -168,8 +154,8 @@ impl<'a, R> Collector<Collected> for Fates<'a, R> {
         if self.stopped.load(SeqCst) > 0 {
             self.late.fetch_add(1, SeqCst);
         }
-        self.wait_for(&self.begun_preparers, WORKERS);
-        self.wait_for(&self.begun_imposers, WORKERS);
+        wait_for(&self.begun_preparers, WORKERS as usize, &self.run_out);
+        wait_for(&self.begun_imposers, WORKERS as usize, &self.run_out);
         state.times = state.times.saturating_add(1);
     }
 }
@@ -179,8 +165,8 @@ impl<'a, R> Collector<Collected> for Fates<'a, R> {
 fn gather<R: Threads + Wait + Abort + Sync>(
     rt: &R,
     alloc: Global,
-    preparers: u32,
-    imposers: u32,
+    preparers: usize,
+    imposers: usize,
 ) -> Option<u64> {
     let fates = Fates::new(rt, preparers, imposers);
     let supplies = Supplies {
@@ -199,10 +185,13 @@ fn gather<R: Threads + Wait + Abort + Sync>(
         fates.begun_preparers.load(SeqCst),
         fates.begun_imposers.load(SeqCst),
     ];
-    assert_that(rt, begun == [WORKERS, WORKERS]);
-    assert_that(rt, fates.run_out.load(SeqCst) == 0);
-    assert_that(rt, state.times == 1 && fates.late.load(SeqCst) == 0);
-    assert_that(rt, fates.stopped.load(SeqCst) == 1);
+    assert_that(rt, begun == [WORKERS as usize; 2]);
+    let counts = [
+        fates.run_out.load(SeqCst),
+        fates.late.load(SeqCst),
+        fates.stopped.load(SeqCst),
+    ];
+    assert_that(rt, counts == [0, 0, 1] && state.times == 1);
     match ended {
         Some(held) => Some(held.shares),
         None => None,
@@ -212,8 +201,8 @@ fn gather<R: Threads + Wait + Abort + Sync>(
 // The returned shares are as many as there were, or none.
 #[test]
 fn a_worker_without_memory_lets_nobody_wait(rt: HostRuntime) {
-    for preparers in 0..8u32 {
-        for imposers in 0..8u32 {
+    for preparers in 0..8usize {
+        for imposers in 0..8usize {
             let is_whole = preparers == 0 && imposers == 0;
             let shares = if is_whole { Some(100) } else { None };
             assert_that(&rt, gather(&rt, rt.alloc(), preparers, imposers) == shares);

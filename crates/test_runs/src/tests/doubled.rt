@@ -127,7 +127,7 @@ impl Done {
         gatherer: &mut Gatherer<'_, '_, '_, '_>,
         page: u32,
     ) {
-        let Ok(delivered) = gatherer.deliver_page(rt, alloc, page) else {
+        let Some(delivered) = gatherer.deliver_page(rt, alloc, page) else {
             return self.add(WRONG, page);
         };
         let index = match delivered.published {

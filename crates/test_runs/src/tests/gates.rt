@@ -2,7 +2,7 @@
 //! and one that makes the sheets on its caller's thread doesn't come to them.
 ghost use Rattle.std.specs.Prelude.{None};
 
-use super::{Trial, run_into, wait_for};
+use super::{Trial, report_of, run_into, wait_for};
 use crate::tests::checks::{assert_that, done};
 use imposer::{Gate, Look, Open, Sink, SinkFault, Step};
 use std::alloc::Global;
@@ -65,18 +65,6 @@ impl Gate for Barrier {
     fn after(&self, _step: Step) {}
 }
 
-/// Takes all bytes.
-#[derive(Drop)]
-struct Everything {}
-
-impl Sink for Everything {
-    ghost seen = { λ _. record { bytes = None; failures = 0 } };
-
-    fn accept(&mut self, bytes: &[u8]) -> Result<usize, SinkFault> {
-        Ok(bytes.len())
-    }
-}
-
 /// So many pages, each on a sheet, by so many workers, if so many meet at these steps: a step of each page or sheet is
 /// entered, once, no wait runs out, and no sheet is made at the end.
 fn assert_met<R: Threads + Wait + Sync + Abort>(
@@ -100,7 +88,7 @@ fn assert_met<R: Threads + Wait + Sync + Abort>(
         items: "0",
         counts,
     };
-    let report = done(rt, run_into(rt, alloc, &trial, &gate, &mut Everything {}));
+    let report = report_of(rt, alloc, &trial, &gate);
     let all = (1usize << pages.min(MOST_PAGES)).saturating_sub(1);
     let met = [
         gate.entered.load(SeqCst),
@@ -134,7 +122,7 @@ fn swept_of_one<R: Threads + Wait + Sync + Abort>(rt: &R, alloc: Global, count: 
         items: "0",
         counts: (count, count),
     };
-    done(rt, run_into(rt, alloc, &trial, &Open, &mut Everything {})).swept
+    report_of(rt, alloc, &trial, &Open).swept
 }
 
 #[test]

@@ -6,3 +6,12 @@
 mod joined_texts;
 mod runs;
 mod tables;
+
+/// How many growths after one another weren't refused, with one more, which was or wasn't.
+pub(super) fn unrefused_after(unrefused: u32, is_refused: bool) -> u32 {
+    if is_refused {
+        0
+    } else {
+        unrefused.saturating_add(1)
+    }
+}

@@ -6,19 +6,42 @@ use super::tally::Tally;
 use crate::tests::checks::{assert_that, done};
 use handover::{Full, Pass, Ready};
 use std::ops::Range;
+use std::process::Abort;
 use std::sync::Wait;
 use std::thread;
 use std::thread::{Threads, for_each_mut};
+
+/// A put of this sheet is answered so.
+fn assert_put<R: Wait + Abort>(
+    rt: &R,
+    ready: &Ready,
+    pass: &mut Pass,
+    sheet: u32,
+    answer: Result<(), Full>,
+)
+    requires { IsPassOf ready.now pass.old }
+    ensures { IsPassOf ready.now pass.new }
+{
+    assert_that(rt, ready.put(rt, pass, sheet) == answer);
+}
+
+/// A take gives this sheet, or none.
+fn assert_taken<R: Wait + Abort>(rt: &R, ready: &Ready, pass: &mut Pass, sheet: Option<u32>)
+    requires { IsPassOf ready.now pass.old }
+    ensures { IsPassOf ready.now pass.new }
+{
+    assert_that(rt, ready.take(rt, pass) == sheet);
+}
 
 #[test]
 fn passes_with_a_part_of_the_shares_put_and_take(rt: HostRuntime) {
     let (ready, mut one) = done(&rt, Ready::new(rt.alloc(), 1));
     let mut other = ready.split(&mut one, 7);
     assert_that(&rt, (one.share(), other.share()) == (4_294_967_289, 7));
-    assert_that(&rt, ready.take(&rt, &mut other).is_none());
-    assert_that(&rt, ready.put(&rt, &mut other, 7) == Ok(()));
-    assert_that(&rt, ready.put(&rt, &mut one, 8) == Err(Full(8)));
-    assert_that(&rt, ready.take(&rt, &mut one) == Some(7));
+    assert_taken(&rt, &ready, &mut other, None);
+    assert_put(&rt, &ready, &mut other, 7, Ok(()));
+    assert_put(&rt, &ready, &mut one, 8, Err(Full(8)));
+    assert_taken(&rt, &ready, &mut one, Some(7));
     assert_that(&rt, ready.join(one, other).share() == WHOLE);
 }
 
@@ -27,18 +50,18 @@ fn puts_by_right_are_not_refused(rt: HostRuntime) {
     let (ready, mut pass) = done(&rt, Ready::by_right(rt.alloc(), 2));
     let mut other = ready.split_with_room(&mut pass, 1, 1);
     assert_that(&rt, (pass.room(), other.room()) == (1, 1));
-    assert_that(&rt, ready.put(&rt, &mut pass, 7) == Ok(()));
+    assert_put(&rt, &ready, &mut pass, 7, Ok(()));
     // What room there is belongs to the other one, and a take gives none back.
-    assert_that(&rt, ready.put(&rt, &mut pass, 8) == Err(Full(8)));
-    assert_that(&rt, ready.take(&rt, &mut pass) == Some(7));
-    assert_that(&rt, ready.put(&rt, &mut pass, 8) == Err(Full(8)));
-    assert_that(&rt, ready.put(&rt, &mut other, 9) == Ok(()));
+    assert_put(&rt, &ready, &mut pass, 8, Err(Full(8)));
+    assert_taken(&rt, &ready, &mut pass, Some(7));
+    assert_put(&rt, &ready, &mut pass, 8, Err(Full(8)));
+    assert_put(&rt, &ready, &mut other, 9, Ok(()));
     let mut whole = ready.join(pass, other);
     assert_that(&rt, whole.room() == 0);
     // A pass with all shares knows that nobody else has room.
-    assert_that(&rt, ready.put(&rt, &mut whole, 8) == Ok(()));
-    assert_that(&rt, ready.put(&rt, &mut whole, 7) == Err(Full(7)));
-    assert_that(&rt, ready.take(&rt, &mut whole) == Some(9));
+    assert_put(&rt, &ready, &mut whole, 8, Ok(()));
+    assert_put(&rt, &ready, &mut whole, 7, Err(Full(7)));
+    assert_taken(&rt, &ready, &mut whole, Some(9));
 }
 
 // A thread's pass of the queue.
@@ -128,5 +151,5 @@ fn no_sheet_is_lost_or_doubled(rt: HostRuntime) {
     ];
     work_apart(&rt, &mut workers, &taken);
     assert_that(&rt, taken.are_once(0, 200) && taken.all() == 200);
-    assert_that(&rt, ready.take(&rt, &mut pass).is_none());
+    assert_taken(&rt, ready, &mut pass, None);
 }

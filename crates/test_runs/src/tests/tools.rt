@@ -1,6 +1,13 @@
 //! What tests of several crates write: each text once, written out.
 use crate::tests::checks::{assert_bytes, assert_that, done};
+use std::alloc::AllocError;
+use std::process::Abort;
 use test_tools::{ONE_PAGE, TWO_PAGES, document_of, same_items, two_up_sheets, with_lines};
+
+/// A page of two lines.
+const TWO_LINES: &str =
+    "%!PS-Adobe-3.0\n%%Pages: 1\n%%EndComments\n%%Page: 1 1\n(0) pop\n(0) pop\nshowpage\n\
+    %%Trailer\n%%EOF\n";
 
 /// Two pages side by side.
 const PAIR: &str = "%%Page: 1 1\n\
@@ -20,31 +27,20 @@ const PAIR: &str = "%%Page: 1 1\n\
     ImposeSave restore\n\
     showpage\n";
 
+/// The text that was made is this one.
+fn assert_text<R: Abort>(rt: &R, made: Result<String, AllocError>, wanted: &str) {
+    let text = done(rt, made);
+    assert_bytes(rt, text.as_bytes(), wanted.as_bytes());
+}
+
 #[test]
 fn texts_written_out(rt: HostRuntime) {
     let alloc = rt.alloc();
-    assert_bytes(
-        &rt,
-        done(&rt, document_of(alloc, 1)).as_bytes(),
-        ONE_PAGE.as_bytes(),
-    );
-    assert_bytes(
-        &rt,
-        done(&rt, document_of(alloc, 2)).as_bytes(),
-        TWO_PAGES.as_bytes(),
-    );
-    assert_bytes(
-        &rt,
-        done(&rt, same_items(alloc, "0", 3)).as_bytes(),
-        b"0+0+0",
-    );
-    assert_bytes(&rt, done(&rt, same_items(alloc, "0", 0)).as_bytes(), b"");
-    let long = done(&rt, with_lines(alloc, ONE_PAGE, 2));
-    let body = "(0) pop\n(0) pop\nshowpage\n%%Trailer\n%%EOF\n";
-    assert_that(
-        &rt,
-        long.ends_with(body) && long.len() == ONE_PAGE.len() + 8,
-    );
+    assert_text(&rt, document_of(alloc, 1), ONE_PAGE);
+    assert_text(&rt, document_of(alloc, 2), TWO_PAGES);
+    assert_text(&rt, same_items(alloc, "0", 3), "0+0+0");
+    assert_text(&rt, same_items(alloc, "0", 0), "");
+    assert_text(&rt, with_lines(alloc, ONE_PAGE, 2), TWO_LINES);
     let pairs = done(&rt, two_up_sheets(alloc, 2));
     assert_that(
         &rt,

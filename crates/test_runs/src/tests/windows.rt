@@ -4,7 +4,7 @@ ghost use Rattle.std.specs.Prelude.{◌≡◌, None};
 
 use super::{Trial, large_pages, run_into, wait_for};
 use crate::tests::checks::{assert_that, done};
-use imposer::{Gate, Open, Report, RunError, Sink, SinkFault, Step};
+use imposer::{Gate, Open, RunError, Sink, SinkFault, Step};
 use std::alloc::Global;
 use std::process::Abort;
 use std::sync::Wait;
@@ -159,9 +159,12 @@ fn assert_in_turn<R: Threads + Wait + Sync + Abort>(
     };
     let mut sink = LimitedSink::new(&words, usize::MAX);
     let report = done(rt, run_into(rt, alloc, trial, &gate, &mut sink));
-    let told = (words.run_out.load(SeqCst), words.too_early.load(SeqCst));
-    assert_that(rt, told == (0, 0));
-    assert_that(rt, words.imposed.load(SeqCst) == sheets as usize);
+    let told = [
+        words.run_out.load(SeqCst),
+        words.too_early.load(SeqCst),
+        words.imposed.load(SeqCst),
+    ];
+    assert_that(rt, told == [0, 0, sheets as usize]);
     assert_that(rt, (report.sheets, report.swept) == (sheets, 0));
 }
 
@@ -190,34 +193,30 @@ fn no_sheet_is_imposed_far_before_its_turn(rt: HostRuntime) {
     }
 }
 
-/// Whether the run ends with a failed write after so many bytes, and no wait ran out.
-fn is_stopped(answer: &Result<Report, RunError>, words: &Words, room: usize) -> bool {
-    let told = (words.refused.load(SeqCst), words.run_out.load(SeqCst));
-    let accepted = words.accepted.load(SeqCst);
-    match answer {
-        Err(RunError::Write { written }) => {
-            *written == room as u64 && accepted == room && told == (1, 0)
-        }
-        _ => false,
-    }
-}
-
-/// Whether runs into sinks with room for so many bytes end so.
-fn are_stopped<R: Threads + Wait + Sync>(
+/// Whether a run into a sink with so much room ends with a failed write after so many bytes, and no wait ran out.
+fn is_stopped<R: Threads + Wait + Sync, G: Gate + Sync>(
     rt: &R,
     alloc: Global,
     trial: &Trial<'_>,
-    rooms: &[usize],
+    gate: &G,
+    words: &Words,
+    room: usize,
 ) -> bool {
-    for room in rooms {
+    let mut sink = LimitedSink::new(words, room);
+    let answer = run_into(rt, alloc, trial, gate, &mut sink);
+    let told = (words.refused.load(SeqCst), words.run_out.load(SeqCst));
+    let written = room as u64;
+    answer == Err(RunError::Write { written })
+        && words.accepted.load(SeqCst) == room
+        && told == (1, 0)
+}
+
+/// Runs with more and more room in their sinks end so.
+fn assert_stopped<R: Threads + Wait + Sync + Abort>(rt: &R, alloc: Global, trial: &Trial<'_>) {
+    for room in [0usize, 500_000, 1_500_000] {
         let words = Words::new();
-        let mut sink = LimitedSink::new(&words, *room);
-        let answer = run_into(rt, alloc, trial, &Open, &mut sink);
-        if !is_stopped(&answer, &words, *room) {
-            return false;
-        }
+        assert_that(rt, is_stopped(rt, alloc, trial, &Open, &words, room));
     }
-    true
 }
 
 #[test]
@@ -230,8 +229,7 @@ fn no_turn_is_waited_for_after_a_failed_write(rt: HostRuntime) {
                 items,
                 counts,
             };
-            let rooms = [0, 500_000, 1_500_000];
-            assert_that(&rt, are_stopped(&rt, rt.alloc(), &trial, &rooms));
+            assert_stopped(&rt, rt.alloc(), &trial);
         }
     }
 }
@@ -292,9 +290,7 @@ fn is_stopped_under_way<R: Threads + Wait + Sync>(
         words: &words,
         waits,
     };
-    let mut sink = LimitedSink::new(&words, 100_000);
-    let answer = run_into(rt, alloc, &trial, &gate, &mut sink);
-    is_stopped(&answer, &words, 100_000)
+    is_stopped(rt, alloc, &trial, &gate, &words, 100_000)
 }
 
 #[test]

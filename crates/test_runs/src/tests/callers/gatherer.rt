@@ -50,41 +50,32 @@ pub(crate) fn gatherer_of<'s, 'j, 't, 'd>(
 }
 
 impl<'s, 'j, 't, 'd> Gatherer<'s, 'j, 't, 'd> {
-    /// Delivers a page. Refused also for one that the job doesn't have.
+    /// Delivers a page, with memory for its answers that an earlier delivery leaves, if there is some. Refused also for a page
+    /// that the job doesn't have.
     pub(crate) fn deliver<R: Wait>(
         &mut self,
         rt: &R,
         alloc: Global,
         prepared: Prepared<'d>,
+        answers: Option<Answers>,
     ) -> Result<Delivered<'d>, DeliverError<'d>> {
         let plan = self.job.plan();
         if prepared.page() >= plan.pages() {
             return Err(DeliverError::NoMemory(prepared));
         }
-        deliver(
-            rt,
-            alloc,
-            &mut self.seat,
-            &mut self.pass,
-            self.table,
-            self.shelf,
-            self.ready,
-            plan,
-            prepared,
-        )
-    }
-
-    /// The same with memory for its answers that an earlier delivery leaves.
-    pub(crate) fn deliver_again<R: Wait>(
-        &mut self,
-        rt: &R,
-        prepared: Prepared<'d>,
-        answers: Answers,
-    ) -> Result<Delivered<'d>, DeliverError<'d>> {
-        let plan = self.job.plan();
-        if prepared.page() >= plan.pages() {
-            return Err(DeliverError::NoMemory(prepared));
-        }
+        let Some(answers) = answers else {
+            return deliver(
+                rt,
+                alloc,
+                &mut self.seat,
+                &mut self.pass,
+                self.table,
+                self.shelf,
+                self.ready,
+                plan,
+                prepared,
+            );
+        };
         let delivery = Delivery {
             plan,
             table: self.table,
@@ -95,30 +86,24 @@ impl<'s, 'j, 't, 'd> Gatherer<'s, 'j, 't, 'd> {
         delivery.deliver(rt, &mut self.seat, &mut self.pass, prepared, answers)
     }
 
-    /// Prepares a page of the document. Refused also for a page that isn't there.
-    pub(crate) fn prepare(&self, alloc: Global, page: u32) -> Result<Prepared<'d>, AllocError> {
+    /// Prepares a page of the document. None if that is refused, or the page isn't there.
+    pub(crate) fn prepare(&self, alloc: Global, page: u32) -> Option<Prepared<'d>> {
         let document = self.job.document();
         if page >= document.pages() {
-            return Err(AllocError);
+            return None;
         }
-        match Prepared::new(alloc, page, document.page(page)) {
-            Ok(prepared) => Ok(prepared),
-            Err(_) => Err(AllocError),
-        }
+        Prepared::new(alloc, page, document.page(page)).ok()
     }
 
-    /// Prepares a page of the document and delivers it. Refused also for a page that isn't there.
+    /// Prepares a page of the document and delivers it. None if that is refused, or the page isn't there.
     pub(crate) fn deliver_page<R: Wait>(
         &mut self,
         rt: &R,
         alloc: Global,
         page: u32,
-    ) -> Result<Delivered<'d>, AllocError> {
+    ) -> Option<Delivered<'d>> {
         let prepared = self.prepare(alloc, page)?;
-        match self.deliver(rt, alloc, prepared) {
-            Ok(delivered) => Ok(delivered),
-            Err(_) => Err(AllocError),
-        }
+        self.deliver(rt, alloc, prepared, None).ok()
     }
 
     /// What is missing of a sheet. None for one that the job doesn't have.

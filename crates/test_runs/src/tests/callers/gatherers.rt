@@ -3,46 +3,36 @@
 ghost use Rattle.handover.specs.Shelves.{IsOn};
 
 use super::gatherer::{Gatherer, gatherer_of, outcome_of};
-use super::stories::{Called, call_of, show, tell};
+use super::stories::{Called, call_of, say, show, tell};
 use crate::tests::checks::{assert_that, done};
 use crate::tests::jobs::{Task, with_job};
-use crate::tests::{PAGE_64_TIMES, PAGE_65_TIMES};
+use crate::tests::table_and_shelf;
 use dsc::prepare;
-use gather_table::GatherTable;
 use handover::{Overflow, Prepared, PutError, Ready, Receipt, Shelf};
 use imposer::{DeliverError, Delivered, Job};
 use run_steps::Answers;
-use std::alloc::Global;
-use std::io::Write;
+use std::alloc::{AllocError, Global};
 use std::process::Abort;
 use std::sync::Wait;
-use std::test::Fail;
-use test_tools::{ONE_PAGE, Refused, TWO_PAGES, document_of, has_refused, refuse_each};
-
-/// A gatherer, with what its calls wait by.
-#[derive(Drop)]
-struct InStory<'r, 's, 'j, 't, 'd, R> {
-    rt: &'r R,
-    gatherer: Gatherer<'s, 'j, 't, 'd>,
-}
+use test_tools::{Refused, document_of, has_refused, refuse_each};
 
 /// What a delivery is answered.
-fn show_delivered(delivered: &Delivered<'_>, answer: &mut Vec<u8>) -> anyhow::Result<()> {
+fn show_delivered(delivered: &Delivered<'_>, answer: &mut Vec<u8>) -> Result<(), AllocError> {
     let published = delivered.published;
     let replies = delivered.replies.as_slice();
     let closings = delivered.closings.as_slice();
     let handed_back = delivered.handed_back.as_slice();
-    Ok(write!(
+    say(
+        format_args!("{published:?} {replies:?} {closings:?} {handed_back:?}"),
         answer,
-        "{published:?} {replies:?} {closings:?} {handed_back:?}"
-    )?)
+    )
 }
 
 /// What comes of a delivery.
 fn show_delivery(
     delivery: Result<Delivered<'_>, DeliverError<'_>>,
     answer: &mut Vec<u8>,
-) -> anyhow::Result<()> {
+) -> Result<(), AllocError> {
     match delivery {
         Ok(delivered) => show_delivered(&delivered, answer),
         Err(DeliverError::NoMemory(prepared)) => show_unshelved(&prepared, answer),
@@ -51,8 +41,8 @@ fn show_delivery(
 }
 
 /// A page that comes back for want of memory.
-fn show_unshelved(prepared: &Prepared<'_>, answer: &mut Vec<u8>) -> anyhow::Result<()> {
-    Ok(write!(answer, "NoMemory {}", prepared.page())?)
+fn show_unshelved(prepared: &Prepared<'_>, answer: &mut Vec<u8>) -> Result<(), AllocError> {
+    say(format_args!("NoMemory {}", prepared.page()), answer)
 }
 
 /// Delivers a page; again in the memory of the answers of a first delivery, if so it is asked.
@@ -63,16 +53,14 @@ fn deliver<R: Wait>(
     page: u32,
     is_again: bool,
     answer: &mut Vec<u8>,
-) -> anyhow::Result<()> {
-    let prepared = gatherer.prepare(alloc, page)?;
+) -> Result<(), AllocError> {
+    let prepared = gatherer.prepare(alloc, page).ok_or(AllocError)?;
     if !is_again {
-        return show_delivery(gatherer.deliver(rt, alloc, prepared), answer);
+        return show_delivery(gatherer.deliver(rt, alloc, prepared, None), answer);
     }
-    let first = gatherer.deliver_page(rt, alloc, page)?;
-    show_delivery(
-        gatherer.deliver_again(rt, prepared, Answers::of(first)),
-        answer,
-    )
+    let first = gatherer.deliver_page(rt, alloc, page).ok_or(AllocError)?;
+    let answers = Some(Answers::of(first));
+    show_delivery(gatherer.deliver(rt, alloc, prepared, answers), answer)
 }
 
 /// A page of which the number, the bytes and the body are known.
@@ -110,13 +98,15 @@ fn put<'d, R: Wait>(
     job: &Job<'_, 'd>,
     page: u32,
     answer: &mut Vec<u8>,
-) -> anyhow::Result<()> {
+) -> Result<(), AllocError> {
     let document = job.document();
     if page >= document.pages() {
         return show("no such page", answer);
     }
     let raw = document.page(page);
-    let body = prepare(alloc, raw)?;
+    let Ok(body) = prepare(alloc, raw) else {
+        return Err(AllocError);
+    };
     let known = Known {
         page,
         raw,
@@ -133,7 +123,7 @@ fn put_known<'d, R: Wait>(
     prepared: Prepared<'d>,
     known: Known<'_>,
     answer: &mut Vec<u8>,
-) -> anyhow::Result<()> {
+) -> Result<(), AllocError> {
     match shelf.put(rt, prepared) {
         Ok(receipt) => show(index_on(shelf, &receipt, known), answer),
         Err(PutError::NoMemory(prepared)) => show_unshelved(&prepared, answer),
@@ -149,12 +139,22 @@ fn put_ahead<'d, R: Wait>(
     job: &Job<'_, 'd>,
     page: u32,
     answer: &mut Vec<u8>,
-) -> anyhow::Result<()> {
+) -> Result<(), AllocError> {
     let is_put = put(rt, alloc, shelf, job, page, answer);
     if is_put.is_ok() {
         has_refused(alloc);
     }
     is_put
+}
+
+/// Imposes a sheet: what comes of it.
+fn show_outcome(
+    alloc: Global,
+    gatherer: &mut Gatherer<'_, '_, '_, '_>,
+    sheet: u32,
+    answer: &mut Vec<u8>,
+) -> Result<(), AllocError> {
+    show(outcome_of(alloc, gatherer, sheet)?, answer)
 }
 
 /// The number of the page that the shelf shows at an index.
@@ -165,23 +165,28 @@ fn shown_at(shelf: &Shelf<'_>, index: u32) -> Option<u32> {
     }
 }
 
-impl<'r, 's, 'j, 't, 'd, R: Wait> Called for InStory<'r, 's, 'j, 't, 'd, R> {
-    fn call(&mut self, alloc: Global, words: &str, answer: &mut Vec<u8>) -> anyhow::Result<()> {
+impl<'s, 'j, 't, 'd, R: Wait> Called<R> for Gatherer<'s, 'j, 't, 'd> {
+    fn call(
+        &mut self,
+        rt: &R,
+        alloc: Global,
+        words: &str,
+        answer: &mut Vec<u8>,
+    ) -> Result<(), AllocError> {
         let (name, first, second) = call_of(words);
-        let rt = self.rt;
-        let gatherer = &mut self.gatherer;
         match name {
-            "deliver" | "again" => deliver(rt, alloc, gatherer, first, name == "again", answer),
-            "publish" => show(gatherer.publish(first, second), answer),
-            "mark" => show(gatherer.mark(first, second.min(65_535) as u16), answer),
-            "look" => show(gatherer.look(first), answer),
-            "page" => show(gatherer.page_at(first), answer),
-            "impose" => show(outcome_of(alloc, gatherer, first)?, answer),
-            "take" => show(gatherer.take(rt), answer),
-            "hand_on" => show(gatherer.hand_on(rt, first), answer),
-            "shown" => show(shown_at(gatherer.shelf, first), answer),
-            "ahead" => put_ahead(rt, alloc, gatherer.shelf, gatherer.job, first, answer),
-            _ => put(rt, alloc, gatherer.shelf, gatherer.job, first, answer),
+            "deliver" => deliver(rt, alloc, self, first, false, answer),
+            "again" => deliver(rt, alloc, self, first, true, answer),
+            "publish" => show(self.publish(first, second), answer),
+            "mark" => show(self.mark(first, second.min(65_535) as u16), answer),
+            "look" => show(self.look(first), answer),
+            "page" => show(self.page_at(first), answer),
+            "impose" => show_outcome(alloc, self, first, answer),
+            "take" => show(self.take(rt), answer),
+            "hand_on" => show(self.hand_on(rt, first), answer),
+            "shown" => show(shown_at(self.shelf, first), answer),
+            "ahead" => put_ahead(rt, alloc, self.shelf, self.job, first, answer),
+            _ => put(rt, alloc, self.shelf, self.job, first, answer),
         }
     }
 }
@@ -197,37 +202,36 @@ struct Gathering<'s> {
 
 impl<'s, R: Wait + Abort> Task<R, bool> for Gathering<'s> {
     fn go(&self, rt: &R, alloc: Global, job: &Job<'_, '_>) -> bool {
-        let (table, seat) = done(rt, GatherTable::new(alloc, job.plan()));
-        let shelf = done(rt, Shelf::new(alloc));
+        let (table, seat, shelf) = table_and_shelf(rt, alloc, job);
         let (ready, pass) = done(rt, Ready::new(alloc, self.room.max(1)));
-        let gatherer = gatherer_of(job, &table, &shelf, &ready, seat, pass);
-        let mut in_story = InStory { rt, gatherer };
-        tell(rt, alloc, &mut in_story, self.number, self.story)
+        let mut gatherer = gatherer_of(job, &table, &shelf, &ready, seat, pass);
+        tell(rt, alloc, &mut gatherer, self.number, self.story)
     }
 }
 
-/// The same of a document and a specification.
+/// A story, after a line with the specification, how many pages there are, and for how many sheets the queue has room.
 #[derive(Drop)]
 struct Story<'s> {
-    text: &'s str,
-    items: &'s str,
-    room: u32,
     story: &'s str,
 }
 
 impl<'s, R: Wait + Abort> Refused<R> for Story<'s> {
-    fn refuse(&self, rt: &R, alloc: Global, number: u32) -> Result<bool, Fail> {
+    fn refuse(&self, rt: &R, alloc: Global, number: u32) -> bool {
+        let (setting, story) = self.story.split_once('\n').unwrap_or((self.story, ""));
+        let (items, pages, room) = call_of(setting);
+        let text = done(rt, document_of(alloc, pages));
         let task = Gathering {
-            room: self.room,
+            room,
             number,
-            story: self.story,
+            story,
         };
-        Ok(with_job(rt, alloc, self.text, self.items, &task))
+        with_job(rt, alloc, &text, items, &task)
     }
 }
 
 /// A page that is twice on one sheet.
 const TWICE: &str = "\
+    0+0 1 1\n\
     look 0 = Some(3)\n\
     impose 0 = NotComplete\n\
     deliver 0 = Stored [Fresh, Completing] [] []\n\
@@ -241,6 +245,7 @@ const TWICE: &str = "\
 
 /// The same in the memory of another delivery.
 const AGAIN: &str = "\
+    0+0 1 1\n\
     again 0 = Held(0) [Repeated, Repeated] [] []\n\
     take = Some(0)\n\
     take = None\n\
@@ -248,6 +253,7 @@ const AGAIN: &str = "\
 
 /// A page that completes two sheets, with room for one in the queue.
 const HANDED_BACK: &str = "\
+    0,0 1 1\n\
     deliver 0 = Stored [Completing, Completing] [] [1]\n\
     take = Some(0)\n\
     take = None\n\
@@ -256,12 +262,14 @@ const HANDED_BACK: &str = "\
 
 /// A sheet without pages, which needs no shelf.
 const BLANK: &str = "\
+    2:1 1 1\n\
     look 0 = Some(0)\n\
     impose 0 = Imposed\n\
 ";
 
 /// Another page is at the index of the sheet's own.
 const ANOTHER_PAGE: &str = "\
+    0 2 1\n\
     shown 0 = None\n\
     put 1 = Some(0)\n\
     put 0 = Some(1)\n\
@@ -275,6 +283,7 @@ const ANOTHER_PAGE: &str = "\
 
 /// The sheet's own page does.
 const OWN_PAGE: &str = "\
+    0 2 1\n\
     put 0 = Some(0)\n\
     publish 0 0 = Some(Stored)\n\
     mark 0 0 = Some(Completing)\n\
@@ -286,6 +295,7 @@ const OWN_PAGE: &str = "\
 /// A shelf asks for more room with its 29th page. If that is refused it asks again with the page that needs the room, and this
 /// one comes back. The shelf shows the others.
 const FILLED: &str = "\
+    0 33 1\n\
     put 0 = Some(0)\n\
     put 1 = Some(1)\n\
     put 2 = Some(2)\n\
@@ -328,6 +338,7 @@ const FILLED: &str = "\
 
 /// A queue with room for two. The page comes last, so that a call asks for memory.
 const IN_ORDER: &str = "\
+    0 1 2\n\
     hand_on 7 = Ok(())\n\
     hand_on 8 = Ok(())\n\
     hand_on 9 = Err(Full(9))\n\
@@ -341,6 +352,8 @@ const IN_ORDER: &str = "\
 
 /// A page in each of 64 slots.
 const IN_64_SLOTS: &str = "\
+    0+0+0+0+0+0+0+0+0+0+0+0+0+0+0+0+0+0+0+0+0+0+0+0+0+0+0+0+0+0+0+0+0+0+0+0+0+0+0+0+0+0+0+0+0+0+0+0+0+0+\
+    0+0+0+0+0+0+0+0+0+0+0+0+0+0 1 1\n\
     look 0 = Some(18446744073709551615)\n\
     deliver 0 = Stored [Fresh, Fresh, Fresh, Fresh, Fresh, Fresh, Fresh, Fresh, Fresh, Fresh, Fresh, Fresh, Fresh, \
     Fresh, Fresh, Fresh, Fresh, Fresh, Fresh, Fresh, Fresh, Fresh, Fresh, Fresh, Fresh, Fresh, Fresh, Fresh, \
@@ -351,6 +364,8 @@ const IN_64_SLOTS: &str = "\
 
 /// A page in each of 65 slots.
 const IN_65_SLOTS: &str = "\
+    0+0+0+0+0+0+0+0+0+0+0+0+0+0+0+0+0+0+0+0+0+0+0+0+0+0+0+0+0+0+0+0+0+0+0+0+0+0+0+0+0+0+0+0+0+0+0+0+0+0+\
+    0+0+0+0+0+0+0+0+0+0+0+0+0+0+0 1 1\n\
     look 0 = Some(3)\n\
     deliver 0 = Stored [Fresh, Fresh, Fresh, Fresh, Fresh, Fresh, Fresh, Fresh, Fresh, Fresh, Fresh, Fresh, Fresh, \
     Fresh, Fresh, Fresh, Fresh, Fresh, Fresh, Fresh, Fresh, Fresh, Fresh, Fresh, Fresh, Fresh, Fresh, Fresh, \
@@ -371,27 +386,19 @@ const IN_65_SLOTS: &str = "\
 ";
 
 #[test]
-fn each_call_is_answered_as_told(rt: HostRuntime) -> Result<(), Fail> {
-    let many = done(&rt, document_of(rt.alloc(), 33));
-    for (text, items, room, story) in [
-        (ONE_PAGE, "0+0", 1, TWICE),
-        (ONE_PAGE, "0+0", 1, AGAIN),
-        (ONE_PAGE, "0,0", 1, HANDED_BACK),
-        (ONE_PAGE, "2:1", 1, BLANK),
-        (TWO_PAGES, "0", 1, ANOTHER_PAGE),
-        (TWO_PAGES, "0", 1, OWN_PAGE),
-        (many.as_str(), "0", 1, FILLED),
-        (ONE_PAGE, "0", 2, IN_ORDER),
-        (ONE_PAGE, PAGE_64_TIMES, 1, IN_64_SLOTS),
-        (ONE_PAGE, PAGE_65_TIMES, 1, IN_65_SLOTS),
+fn each_call_is_answered_as_told(rt: HostRuntime) {
+    for story in [
+        TWICE,
+        AGAIN,
+        HANDED_BACK,
+        BLANK,
+        ANOTHER_PAGE,
+        OWN_PAGE,
+        FILLED,
+        IN_ORDER,
+        IN_64_SLOTS,
+        IN_65_SLOTS,
     ] {
-        let story = Story {
-            text,
-            items,
-            room,
-            story,
-        };
-        assert_that(&rt, refuse_each(&rt, rt.alloc(), &story)?);
+        assert_that(&rt, refuse_each(&rt, rt.alloc(), &Story { story }));
     }
-    Ok(())
 }

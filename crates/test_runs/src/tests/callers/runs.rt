@@ -1,5 +1,5 @@
 //! Runs: what is reported of each, and why one is refused before it writes anything.
-use super::stories::{number, parts_of};
+use super::stories::{first_word, number, parts_of};
 use crate::tests::checks::{assert_bytes, assert_that, assert_told, done};
 use crate::tests::workers;
 use dsc::DscError;
@@ -83,7 +83,7 @@ fn run_input<R: Threads + Wait + Sync + Abort>(
 fn assert_run<R: Threads + Wait + Sync + Abort>(rt: &R, alloc: Global, line: &str) {
     let (words, answer) = parts_of(line);
     let (wanted, count) = answer.split_once(", ").unwrap_or((answer, ""));
-    let (word, rest) = words.split_once(' ').unwrap_or((words, ""));
+    let (word, rest) = first_word(words);
     let (settings, items) = rest.rsplit_once(' ').unwrap_or((rest, ""));
     let input = done(rt, input_of(alloc, word));
     let options = options_of(settings);

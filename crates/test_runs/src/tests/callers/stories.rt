@@ -1,15 +1,21 @@
 //! Stories: in each line a call, and what it is answered.
 use crate::tests::checks::{assert_told, done};
-use std::alloc::Global;
-use std::fmt::Debug;
+use std::alloc::{AllocError, Global};
+use std::fmt::{Debug, Display};
 use std::io::Write;
 use std::process::Abort;
 use test_tools::{has_refused, refuse};
 
 /// What the lines of a story call.
-pub(crate) trait Called {
+pub(crate) trait Called<R> {
     /// Makes the call with these words, and appends what it is answered.
-    fn call(&mut self, alloc: Global, words: &str, answer: &mut Vec<u8>) -> anyhow::Result<()>;
+    fn call(
+        &mut self,
+        rt: &R,
+        alloc: Global,
+        words: &str,
+        answer: &mut Vec<u8>,
+    ) -> Result<(), AllocError>;
 }
 
 /// More bytes than an answer has here. They are reserved before a call, so only growths of the call are refused.
@@ -17,7 +23,7 @@ const ROOM: usize = 4_000;
 
 /// Makes the calls of a story, one a line, with the growth of this number refused in each: whether one was. Each call is
 /// answered as its line says.
-pub(crate) fn tell<R: Abort, C: Called>(
+pub(crate) fn tell<R: Abort, C: Called<R>>(
     rt: &R,
     alloc: Global,
     called: &mut C,
@@ -38,7 +44,7 @@ pub(crate) fn tell<R: Abort, C: Called>(
 
 /// Makes a call with the growth of this number refused: whether it was. Then the call reports that memory is out, leaves all
 /// as it was, and is made again with memory.
-fn call_again<R: Abort, C: Called>(
+fn call_again<R: Abort, C: Called<R>>(
     rt: &R,
     alloc: Global,
     called: &mut C,
@@ -47,7 +53,7 @@ fn call_again<R: Abort, C: Called>(
     answer: &mut Vec<u8>,
 ) -> bool {
     refuse(alloc, number);
-    let call = called.call(alloc, words, answer);
+    let call = called.call(rt, alloc, words, answer);
     if !has_refused(alloc) {
         done(rt, call);
         return false;
@@ -58,13 +64,18 @@ fn call_again<R: Abort, C: Called>(
         call.is_err() || answer.as_slice().starts_with(b"NoMemory"),
     );
     answer.clear();
-    done(rt, called.call(alloc, words, answer));
+    done(rt, called.call(rt, alloc, words, answer));
     true
 }
 
 /// The words of a line, and what it says that they are answered.
 pub(crate) fn parts_of(line: &str) -> (&str, &str) {
     line.split_once(" = ").unwrap_or((line, ""))
+}
+
+/// The first word, and what comes after it.
+pub(crate) fn first_word(words: &str) -> (&str, &str) {
+    words.split_once(' ').unwrap_or((words, ""))
 }
 
 /// The name of a call, and the first two numbers after it, 0 where there is none.
@@ -81,6 +92,14 @@ pub(crate) fn number(word: Option<&str>) -> u32 {
 }
 
 /// Appends a value as it is written in a program.
-pub(crate) fn show<T: Debug + Drop>(value: T, answer: &mut Vec<u8>) -> anyhow::Result<()> {
-    Ok(write!(answer, "{value:?}")?)
+pub(crate) fn show<T: Debug + Drop>(value: T, answer: &mut Vec<u8>) -> Result<(), AllocError> {
+    say(format_args!("{value:?}"), answer)
+}
+
+/// Appends a text.
+pub(crate) fn say<D: Display + Drop>(text: D, answer: &mut Vec<u8>) -> Result<(), AllocError> {
+    match write!(answer, "{text}") {
+        Ok(()) => Ok(()),
+        Err(_) => Err(AllocError),
+    }
 }

@@ -7,10 +7,10 @@ ghost use Rattle.gather_table.specs.Table.{HasGroup, slots};
 use super::stories::{Called, call_of, show, tell};
 use crate::tests::PAGE_64_TIMES;
 use crate::tests::checks::{assert_that, done};
-use gather_table::{Closing, GatherTable, NoMemory, PlainTable, Published, Reply, Seat};
+use gather_table::{Closing, GatherTable, PlainTable, Published, Reply, Seat};
 use pagespec::read_spec;
 use sheet_plan::Plan;
-use std::alloc::Global;
+use std::alloc::{AllocError, Global};
 use std::fmt::Debug;
 use std::process::Abort;
 use test_tools::{MOST_GROWTHS, same_items};
@@ -180,7 +180,7 @@ impl<'t, 'p> Tables<'t, 'p> {
 fn show_both<T: Debug + PartialEq + Drop>(
     answers: Both<T>,
     answer: &mut Vec<u8>,
-) -> anyhow::Result<()> {
+) -> Result<(), AllocError> {
     let (plain, shared) = answers;
     if plain == shared {
         show(shared, answer)
@@ -190,8 +190,14 @@ fn show_both<T: Debug + PartialEq + Drop>(
 }
 
 // Makes a call of both tables. Sheets are the first one, but for lanes.
-impl<'t, 'p> Called for Tables<'t, 'p> {
-    fn call(&mut self, _alloc: Global, words: &str, answer: &mut Vec<u8>) -> anyhow::Result<()> {
+impl<'t, 'p, R> Called<R> for Tables<'t, 'p> {
+    fn call(
+        &mut self,
+        _rt: &R,
+        _alloc: Global,
+        words: &str,
+        answer: &mut Vec<u8>,
+    ) -> Result<(), AllocError> {
         let (name, first, second) = call_of(words);
         let group = first.min(255) as u8;
         match name {
@@ -378,11 +384,12 @@ const PAGE_COMES: &str = "\
     publish 0 0 = Some(Stored)\n\
 ";
 
-// Fills a group of 64 slots and closes it. `left` is what a look at the sheet shows then.
-fn fills_group(alloc: Global, group: u32, left: u64) -> Result<String, NoMemory> {
+// Adds the calls that fill a group of 64 slots and close it. `left` is what a look at the sheet shows then.
+fn push_group(story: &mut String, group: u32, left: u64) -> Result<(), AllocError> {
     let first = group.saturating_mul(64);
     let last = first.saturating_add(63);
-    format!(in alloc;
+    write!(
+        story,
         "group {group} = Some(18446744073709551615)\n\
         not_fresh {first} {last} = None\n\
         group {group} = Some(9223372036854775808)\n\
@@ -416,8 +423,7 @@ fn page_to_4095_slots<R: Abort>(rt: &R, alloc: Global) -> String {
     let mut left = u64::MAX;
     for group in 0..63u32 {
         left &= !(1u64 << group);
-        let fills = done(rt, fills_group(alloc, group, left));
-        done(rt, story.push_str(&fills));
+        done(rt, push_group(&mut story, group, left));
     }
     done(rt, story.push_str(LAST_GROUP_OF_63_SLOTS));
     story

@@ -1,8 +1,8 @@
 //! Gates at which threads wait for each other: a run on one thread would never come past them.
 use crate::tests::checks::{assert_that, done};
 use crate::tests::windows::{LimitedSink, Words};
-use crate::tests::{Trial, run_into};
-use imposer::{Gate, Look, MemorySink, Step};
+use crate::tests::{Trial, report_of, run_into};
+use imposer::{Gate, Look, Step};
 use std::alloc::Global;
 use std::process::Abort;
 use std::sync::Wait;
@@ -109,8 +109,7 @@ fn run_counted<R: Threads + Wait + Sync + Abort>(rt: &R, alloc: Global, gate: &C
         items: "0",
         counts: (2, 2),
     };
-    let mut sink = done(rt, MemorySink::new(alloc, 1_000, 1_000, 100));
-    done(rt, run_into(rt, alloc, &trial, gate, &mut sink));
+    report_of(rt, alloc, &trial, gate);
 }
 
 // How often somebody looks depends on the threads. Each of two sheets is found by a look, and each of two imposers ends

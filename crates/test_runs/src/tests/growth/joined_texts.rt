@@ -1,13 +1,12 @@
 //! Texts of several sheets in the same memory, and sheets that come together before their turn, with each growth of each
 //! call refused in turn.
-use crate::tests::callers::stories::{Called, number, show, tell};
+use crate::tests::callers::stories::{Called, first_word, number, show, tell};
 use crate::tests::checks::{assert_that, done};
 use sheet_text::{Pieces, Rope, Texts};
 use sheet_writer::Early;
 use std::alloc::{AllocError, Global};
 use std::mem;
 use std::process::Abort;
-use std::test::Fail;
 use test_tools::{Refused, has_refused, refuse, refuse_each};
 
 /// What a story calls: texts of finished sheets, and sheets that came. A text is made in the same memory again and again,
@@ -49,7 +48,7 @@ impl<'r> InTexts<'r> {
 
     /// Adds a sheet with such a text, which leaves its memory: how many they are then. If memory is refused, they are as many
     /// as before, and the text is as long.
-    fn finish(&mut self, sheet: u32, parts: &str, answer: &mut Vec<u8>) -> anyhow::Result<()> {
+    fn finish(&mut self, sheet: u32, parts: &str, answer: &mut Vec<u8>) -> Result<(), AllocError> {
         self.write(parts)?;
         let before = self.sizes();
         let is_added = self.texts.push(sheet, &mut self.text).is_ok();
@@ -57,7 +56,7 @@ impl<'r> InTexts<'r> {
         if is_added && (after.1, after.2) == (before.1, Some(0)) {
             show(after.0, answer)
         } else if !is_added && after == before {
-            Ok(answer.extend_from_slice(b"NoMemory")?)
+            answer.extend_from_slice(b"NoMemory")
         } else {
             show("something else has changed", answer)
         }
@@ -70,7 +69,7 @@ impl<'r> InTexts<'r> {
         sheet: u32,
         parts: &str,
         answer: &mut Vec<u8>,
-    ) -> anyhow::Result<()> {
+    ) -> Result<(), AllocError> {
         self.write(parts)?;
         self.texts.clear();
         refuse(alloc, 1);
@@ -95,7 +94,7 @@ impl<'r> InTexts<'r> {
     }
 
     /// From a sheet on, which has the index of its number, how many are joined, of so many at most, and their pieces.
-    fn join(&self, sheet: u32, most: u32, answer: &mut Vec<u8>) -> anyhow::Result<()> {
+    fn join(&self, sheet: u32, most: u32, answer: &mut Vec<u8>) -> Result<(), AllocError> {
         if most == 0 {
             return show("no such text", answer);
         }
@@ -107,14 +106,14 @@ impl<'r> InTexts<'r> {
     }
 
     /// The text of a sheet that came.
-    fn text_of(&self, sheet: u32, answer: &mut Vec<u8>) -> anyhow::Result<()> {
+    fn text_of(&self, sheet: u32, answer: &mut Vec<u8>) -> Result<(), AllocError> {
         match self.early.joined(sheet, 1) {
             Some((_, text)) => self.show_pieces(text, answer),
             None => show("no such sheet", answer),
         }
     }
 
-    fn show_pieces(&self, text: Pieces<'_, '_>, answer: &mut Vec<u8>) -> anyhow::Result<()> {
+    fn show_pieces(&self, text: Pieces<'_, '_>, answer: &mut Vec<u8>) -> Result<(), AllocError> {
         let mut pieces = text;
         for _ in 0..MOST_PIECES {
             let Some(piece) = pieces.take_next() else {
@@ -138,7 +137,7 @@ impl<'r> InTexts<'r> {
     }
 
     /// Which of the first sheets are found.
-    fn found(&self, answer: &mut Vec<u8>) -> anyhow::Result<()> {
+    fn found(&self, answer: &mut Vec<u8>) -> Result<(), AllocError> {
         for sheet in 0..8u8 {
             if self.early.joined(u32::from(sheet), 1).is_some() {
                 answer.extend_from_slice(&[b'0' + sheet, b';'])?;
@@ -148,10 +147,16 @@ impl<'r> InTexts<'r> {
     }
 }
 
-impl<'r> Called for InTexts<'r> {
-    fn call(&mut self, alloc: Global, words: &str, answer: &mut Vec<u8>) -> anyhow::Result<()> {
-        let (name, rest) = words.split_once(' ').unwrap_or((words, ""));
-        let (word, parts) = rest.split_once(' ').unwrap_or((rest, ""));
+impl<'r, R> Called<R> for InTexts<'r> {
+    fn call(
+        &mut self,
+        _rt: &R,
+        alloc: Global,
+        words: &str,
+        answer: &mut Vec<u8>,
+    ) -> Result<(), AllocError> {
+        let (name, rest) = first_word(words);
+        let (word, parts) = first_word(rest);
         let first = number(Some(word));
         match name {
             "joined" => self.join(first, number(Some(parts)), answer),
@@ -196,9 +201,9 @@ impl<'s> Story<'s> {
 }
 
 impl<'s, R: Abort> Refused<R> for Story<'s> {
-    fn refuse(&self, rt: &R, alloc: Global, number: u32) -> Result<bool, Fail> {
+    fn refuse(&self, rt: &R, alloc: Global, number: u32) -> bool {
         let mut called = self.called(rt, alloc);
-        Ok(tell(rt, alloc, &mut called, number, self.story))
+        tell(rt, alloc, &mut called, number, self.story)
     }
 }
 
@@ -283,7 +288,7 @@ const TOGETHER: &str = "\
 ";
 
 #[test]
-fn texts_and_sheets_come_out_as_they_were(rt: HostRuntime) -> Result<(), Fail> {
+fn texts_and_sheets_come_out_as_they_were(rt: HostRuntime) {
     let long = [b'x'; 4_096];
     let longer = [b'y'; 5_000];
     for (places, story) in [(1, TEXTS), (1, NEIGHBOURS), (2, ONE_PLACE), (4, TOGETHER)] {
@@ -293,7 +298,6 @@ fn texts_and_sheets_come_out_as_they_were(rt: HostRuntime) -> Result<(), Fail> {
             longer: longer.as_slice(),
             story,
         };
-        assert_that(&rt, refuse_each(&rt, rt.alloc(), &story)?);
+        assert_that(&rt, refuse_each(&rt, rt.alloc(), &story));
     }
-    Ok(())
 }

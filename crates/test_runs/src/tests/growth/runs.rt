@@ -1,6 +1,7 @@
 //! Whole runs and gatherings, over a sink that was made before.
 use crate::tests::checks::{assert_that, done};
 use crate::tests::gatherings::{Way, gather_pairs};
+use crate::tests::growth::unrefused_after;
 use crate::tests::{Trial, large_pages, run_into};
 use imposer::{Gate, MemorySink, Open, Report, RunError, Step, Workers};
 use std::alloc::Global;
@@ -99,15 +100,6 @@ fn refuse_one<R: Threads + Wait + Abort + Sync>(
     assert_that(rt, is_written(output, &sink, ended.written));
     assert_that(rt, is_right(holds, ended));
     ended.is_refused
-}
-
-/// How many growths after one another weren't refused, with one more, which was or wasn't.
-fn unrefused_after(unrefused: u32, is_refused: bool) -> u32 {
-    if is_refused {
-        0
-    } else {
-        unrefused.saturating_add(1)
-    }
 }
 
 /// Each growth of the run is refused in turn. Threads grow what they grow in any order, so the end is where none of

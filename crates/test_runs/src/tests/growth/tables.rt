@@ -8,7 +8,6 @@ use sheet_plan::Plan;
 use sheet_writer::Early;
 use std::alloc::Global;
 use std::process::Abort;
-use std::test::Fail;
 use test_tools::{BOOKLET, Refused, has_refused, refuse, refuse_each};
 
 /// Whether a growth was refused of what was made: then it is an error, and only then.
@@ -46,17 +45,17 @@ struct Made<'t> {
 }
 
 impl<'t, R: Abort> Refused<R> for Made<'t> {
-    fn refuse(&self, rt: &R, alloc: Global, number: u32) -> Result<bool, Fail> {
+    fn refuse(&self, rt: &R, alloc: Global, number: u32) -> bool {
         let spec = done(rt, read_spec(alloc, self.items));
         let plan = done(rt, Plan::new(alloc, &spec, self.pages));
         assert_that(rt, plan.sheets() == self.sheets);
-        Ok(make_all(rt, alloc, number, &plan))
+        make_all(rt, alloc, number, &plan)
     }
 }
 
 // The last plan has the most pages, sheets and places.
 #[test]
-fn tables_queues_and_shelves(rt: HostRuntime) -> Result<(), Fail> {
+fn tables_queues_and_shelves(rt: HostRuntime) {
     for (items, pages, sheets) in [
         (BOOKLET, 5, 4),
         (PAGE_65_TIMES, 5, 5),
@@ -67,7 +66,6 @@ fn tables_queues_and_shelves(rt: HostRuntime) -> Result<(), Fail> {
             pages,
             sheets,
         };
-        assert_that(&rt, refuse_each(&rt, rt.alloc(), &made)?);
+        assert_that(&rt, refuse_each(&rt, rt.alloc(), &made));
     }
-    Ok(())
 }

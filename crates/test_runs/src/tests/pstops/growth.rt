@@ -1,7 +1,8 @@
 //! Single calls in which each growth is refused in turn, and a whole run.
 use super::{request_of, words_of};
-use crate::tests::callers::stories::{Called, show, tell};
+use crate::tests::callers::stories::{Called, first_word, say, show, tell};
 use crate::tests::checks::{assert_bytes, assert_that, done};
+use crate::tests::growth::unrefused_after;
 use dsc::DscError;
 use imposer::{MemorySink, RunError};
 use pagespec::SpecError;
@@ -10,11 +11,9 @@ use pstops_cli::{
     run_request,
 };
 use sheet_plan::PlanError;
-use std::alloc::Global;
-use std::io::Write;
+use std::alloc::{AllocError, Global};
 use std::process::Abort;
 use std::sync::Wait;
-use std::test::Fail;
 use std::thread::Threads;
 use test_tools::{
     MOST_GROWTHS, ONE_PAGE, Refused, has_refused, one_up_output, refuse, refuse_each,
@@ -25,17 +24,17 @@ use test_tools::{
 struct Calls {}
 
 /// The specification of a request, or the status and the line of its refusal.
-fn show_request(alloc: Global, line: &str, answer: &mut Vec<u8>) -> anyhow::Result<()> {
+fn show_request(alloc: Global, line: &str, answer: &mut Vec<u8>) -> Result<(), AllocError> {
     let words = words_of(alloc, line)?;
     match read_command(alloc, words.as_slice()) {
-        Ok(request) => Ok(write!(answer, "{}", request.spec)?),
-        Err(CommandFault::NoMemory) => Ok(write!(answer, "NoMemory")?),
+        Ok(request) => answer.extend_from_slice(request.spec.as_bytes()),
+        Err(CommandFault::NoMemory) => answer.extend_from_slice(b"NoMemory"),
         Err(fault) => show_fault(alloc, &Fault::Command(fault), answer),
     }
 }
 
 /// Reads more than the first piece of room: how many bytes, and whether they are the source's.
-fn show_input(alloc: Global, answer: &mut Vec<u8>) -> anyhow::Result<()> {
+fn show_input(alloc: Global, answer: &mut Vec<u8>) -> Result<(), AllocError> {
     let long = vec![in alloc; 37u8; 300_000]?;
     let mut source = ReadSource::new(long.as_slice());
     match read_input(alloc, &mut source) {
@@ -43,17 +42,17 @@ fn show_input(alloc: Global, answer: &mut Vec<u8>) -> anyhow::Result<()> {
             let is_whole = bytes.as_slice() == long.as_slice();
             show((bytes.len(), is_whole), answer)
         }
-        Err(ReadFault::NoMemory) => Ok(write!(answer, "NoMemory")?),
+        Err(ReadFault::NoMemory) => answer.extend_from_slice(b"NoMemory"),
         Err(ReadFault::Device) => show("the source failed", answer),
     }
 }
 
 /// Status and line of a fault.
-fn show_fault(alloc: Global, fault: &Fault, answer: &mut Vec<u8>) -> anyhow::Result<()> {
+fn show_fault(alloc: Global, fault: &Fault, answer: &mut Vec<u8>) -> Result<(), AllocError> {
     let (status, line) = fault_line(alloc, fault)?;
-    write!(answer, "{status} ")?;
+    say(format_args!("{status} "), answer)?;
     match line.as_slice().strip_suffix(b"\n") {
-        Some(line) => Ok(answer.extend_from_slice(line)?),
+        Some(line) => answer.extend_from_slice(line),
         None => show("a line without an end", answer),
     }
 }
@@ -96,9 +95,15 @@ fn fault_of(name: &str) -> Fault {
     }
 }
 
-impl Called for Calls {
-    fn call(&mut self, alloc: Global, words: &str, answer: &mut Vec<u8>) -> anyhow::Result<()> {
-        let (name, rest) = words.split_once(' ').unwrap_or((words, ""));
+impl<R> Called<R> for Calls {
+    fn call(
+        &mut self,
+        _rt: &R,
+        alloc: Global,
+        words: &str,
+        answer: &mut Vec<u8>,
+    ) -> Result<(), AllocError> {
+        let (name, rest) = first_word(words);
         match name {
             "pstops" => show_request(alloc, rest, answer),
             "input" => show_input(alloc, answer),
@@ -139,15 +144,14 @@ const STORY: &str = "\
 ";
 
 impl<R: Abort> Refused<R> for Calls {
-    fn refuse(&self, rt: &R, alloc: Global, number: u32) -> Result<bool, Fail> {
-        Ok(tell(rt, alloc, &mut Calls {}, number, STORY))
+    fn refuse(&self, rt: &R, alloc: Global, number: u32) -> bool {
+        tell(rt, alloc, &mut Calls {}, number, STORY)
     }
 }
 
 #[test]
-fn commands_inputs_and_lines(rt: HostRuntime) -> Result<(), Fail> {
-    assert_that(&rt, refuse_each(&rt, rt.alloc(), &Calls {})?);
-    Ok(())
+fn commands_inputs_and_lines(rt: HostRuntime) {
+    assert_that(&rt, refuse_each(&rt, rt.alloc(), &Calls {}));
 }
 
 /// Runs a request over a sink that was made before: whether a growth was refused. Then the status is 3, the line reports
@@ -191,11 +195,7 @@ fn refuse_run<R: Threads + Wait + Abort + Sync>(
     for number in 1..MOST_GROWTHS {
         if unrefused < 4 {
             let is_refused = run_refused(rt, alloc, number, request, output);
-            unrefused = if is_refused {
-                0
-            } else {
-                unrefused.saturating_add(1)
-            };
+            unrefused = unrefused_after(unrefused, is_refused);
         }
     }
     assert_that(rt, unrefused == 4);

@@ -1,7 +1,7 @@
 //! Inputs that are read whole, and readers and sources that fail.
 ghost use Rattle.std.specs.Prelude.{None};
 
-use crate::tests::checks::{assert_bytes, assert_that};
+use crate::tests::checks::{assert_bytes, assert_that, done};
 use pstops_cli::{ReadFault, ReadSource, Source, SourceFault, read_input};
 use std::alloc::Global;
 use std::io::{self, ErrorKind, Read};
@@ -65,10 +65,8 @@ fn a_reader_that_fails_at_any_call_is_not_asked_again(rt: HostRuntime) {
 fn a_reader_that_does_not_fail_is_read_whole(rt: HostRuntime) {
     let mut reader = Failing::new(15, ErrorKind::Other);
     let mut source = ReadSource::new(&mut reader);
-    match read_input(rt.alloc(), &mut source) {
-        Ok(input) => assert_bytes(&rt, input.as_slice(), ONE_PAGE.as_bytes()),
-        Err(_) => assert_that(&rt, false),
-    }
+    let input = done(&rt, read_input(rt.alloc(), &mut source));
+    assert_bytes(&rt, input.as_slice(), ONE_PAGE.as_bytes());
 }
 
 /// Gives its bytes one at a time, and then fails.
