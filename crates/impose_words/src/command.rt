@@ -56,10 +56,7 @@ pub fn read_command(alloc: Global, words: &[String]) -> Result<ImposeRequest, Re
     // What the command takes and finds is a function of the words, since it is a simple one.
     ensures simple { is_simple impose ≡ true }
 {
-    let matches = match parse(alloc, words) {
-        Ok(matches) => matches,
-        Err(fault) => return Err(fault),
-    };
+    let matches = parse(alloc, words)?;
     match matches.subcommand() {
         Some((name, found)) => request_of(alloc, name, found),
         None => Err(RequestFault::Lacking),
@@ -99,10 +96,8 @@ fn request_of(
         Ok(sizes) => sizes,
         Err(option) => return Err(bad_value(alloc, found, option)),
     };
-    match layout_of(alloc, name, found) {
-        Ok(layout) => request_for(alloc, sizes, layout, found),
-        Err(fault) => Err(fault),
-    }
+    let layout = layout_of(alloc, name, found)?;
+    request_for(alloc, sizes, layout, found)
 }
 
 /// The request for this layout of these sizes: what else was found is read in its order, and the first fault is reported.
@@ -126,19 +121,10 @@ fn request_for(
         Ok(marks) => marks,
         Err(option) => return Err(bad_value(alloc, found, option)),
     };
-    let choice = match choice_of(alloc, &layout, found) {
-        Ok(choice) => choice,
-        Err(fault) => return Err(fault),
-    };
+    let choice = choice_of(alloc, &layout, found)?;
     let infile = owned(alloc, file_named(text_of(found, "infile")))?;
-    let outfile = match outfile_of(alloc, found) {
-        Ok(outfile) => outfile,
-        Err(fault) => return Err(fault),
-    };
-    let product = match product_of(alloc, &layout, found) {
-        Ok(product) => product,
-        Err(fault) => return Err(fault),
-    };
+    let outfile = outfile_of(alloc, found)?;
+    let product = product_of(alloc, &layout, found)?;
     Ok(ImposeRequest {
         layout,
         spacing,
@@ -382,10 +368,7 @@ fn spacing_of(layout: &Layout, found: &ArgMatches<'_>) -> Result<Spacing, Opt>
     let Some(overlap) = length_of(found, Opt::Overlap) else {
         return Err(Opt::Overlap);
     };
-    let order = match order_of(found) {
-        Ok(order) => order,
-        Err(option) => return Err(option),
-    };
+    let order = order_of(found)?;
     let Some(scale) = scale_of(found) else {
         return Err(Opt::Scale);
     };
@@ -488,14 +471,9 @@ fn marks_of(layout: &Layout, found: &ArgMatches<'_>) -> Result<Marks, Opt>
     ensures read { IfOk result (λ marks. marks_found layout.now (rows_of (found_of found.now)) ≡ Some marks) }
     ensures refused { IfErr result (λ option. wrong_marks layout.now (rows_of (found_of found.now)) ≡ Some (NoValue option)) }
 {
-    let lines = match lines_of(layout, found) {
-        Ok(lines) => lines,
-        Err(option) => return Err(option),
-    };
-    match numbers_of(layout, found) {
-        Ok(numbers) => Ok(Marks { numbers, ..lines }),
-        Err(option) => Err(option),
-    }
+    let lines = lines_of(layout, found)?;
+    let numbers = numbers_of(layout, found)?;
+    Ok(Marks { numbers, ..lines })
 }
 
 /// The marks alone.

@@ -54,10 +54,7 @@ pub fn run<R: Threads + Wait + Sync, G: Gate + Sync, S: Sink>(
     ensures steady { OnOk result ((S.seen sink.new).failures ≡ (S.seen sink.old).failures) }
     ensures failed { IfErr result (λ e. FailedIn e (S.seen sink.old) (S.seen sink.new)) }
 {
-    let read = match read_request(alloc, input, spec, options) {
-        Ok(read) => read,
-        Err(error) => return Err(error),
-    };
+    let read = read_request(alloc, input, spec, options)?;
     run_read(rt, alloc, &read, options, gate, sink)
 }
 

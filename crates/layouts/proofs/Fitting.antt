@@ -1,6 +1,6 @@
 -- Pages of several papers, each fitted into its cell.
-use Rattle.std.proofs.Common.{arith, rules, ◌≡◌, ◌≢◌, ℕ, suc, zero, ◌*◌, ◌/◌, ◌%◌, ◌<◌, ◌≤◌, Bool, true, false, List, Option, None, inl, inr, refl, sym, ap, subst, ◌∙◌, [], ◌∷◌}
-use Rattle.std.specs.Prelude.{◌&&◌, ◌==◌, not, nat_le, nat_lt, nat_abs, if◌then◌else◌, is_none, map}
+use Rattle.std.proofs.Common.{arith, rules, ◌≡◌, ◌≢◌, ℕ, suc, zero, ◌*◌, ◌/◌, ◌%◌, ◌<◌, ◌≤◌, Bool, true, false, List, Ok, Err, Option, None, inl, inr, refl, sym, ap, subst, ◌∙◌, [], ◌∷◌}
+use Rattle.std.specs.Prelude.{◌&&◌, ◌==◌, not, nat_le, nat_lt, nat_abs, if◌then◌else◌, is_none, map, IfErr, IsErrAnd, Result}
 use Rattle.std.specs.List.{range_with_len}
 use Rattle.std.proofs.lemmas.Bool.{cond-false, cond-true, false_from_ne_true, leb-true}
 use Rattle.lengths.proofs.Numbers.{same_byte}
@@ -377,6 +377,11 @@ arranged_made page sheet a t n groups h e f g =
 
 pub one_paper_fits : (page sheet : Paper) (a : Arrangement) (t : Setting) → why_not_arranged page sheet a ≡ None → t ≡ setting_of page sheet a → why_not_fitted t page ≡ None
 one_paper_fits page sheet a t h e = subst (λ u. why_not_fitted u page ≡ None) (sym e) (arranged_is_fitted page sheet a h).0
+
+-- what holds of the error that is handed on
+pub handed_on : {T E : Type 0} (r : Result T E) (e : E) (P : E → Type 0) → IsErrAnd r (λ g. g ≡ e) → P e → IfErr r P
+handed_on (Ok x) e P h p = absurd h
+handed_on (Err g) e P h p = subst P (sym h) p
 
 -- where nothing refuses, only memory does
 pub no_fault : (one other : Option ArrangementError) (e : ArrangementError) → one ≡ None → IsFault one e → IsFault other e

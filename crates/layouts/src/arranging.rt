@@ -47,10 +47,8 @@ pub fn arrange(
         Err(error) => return Err(error),
     };
     let count = arrangement.cells.count();
-    match one_side(alloc, &setting, &papers.page, count as u32) {
-        Ok(groups) => Ok(Spec::of_groups(count as u32, groups)),
-        Err(error) => Err(error),
-    }
+    let groups = one_side(alloc, &setting, &papers.page, count as u32)?;
+    Ok(Spec::of_groups(count as u32, groups))
 }
 
 /// Two pages side by side on each side of a sheet, with the fold parallel to its shorter edge, for a row of pages that
@@ -69,15 +67,11 @@ pub fn bind(alloc: Global, papers: &Papers, binding: &Binding) -> Result<Spec, A
         Err(error) => return Err(error),
     };
     if binding.long_edge {
-        match leaf(alloc, &setting, &papers.page) {
-            Ok(groups) => Ok(Spec::of_groups(4, groups)),
-            Err(error) => Err(error),
-        }
+        let groups = leaf(alloc, &setting, &papers.page)?;
+        Ok(Spec::of_groups(4, groups))
     } else {
-        match one_side(alloc, &setting, &papers.page, 2) {
-            Ok(groups) => Ok(Spec::of_groups(2, groups)),
-            Err(error) => Err(error),
-        }
+        let groups = one_side(alloc, &setting, &papers.page, 2)?;
+        Ok(Spec::of_groups(2, groups))
     }
 }
 
@@ -141,10 +135,7 @@ fn fronts(
 {
     let mut items = Vec::new(alloc);
     for k in 0..n {
-        let item = match setting.item(page_paper, k) {
-            Ok(item) => item,
-            Err(error) => return Err(error),
-        };
+        let item = setting.item(page_paper, k)?;
         match items.push(item) {
             Ok(()) => (),
             Err(_) => return Err(ArrangementError::NoMemory),
@@ -166,10 +157,7 @@ fn backs(
 {
     let mut items = Vec::new(alloc);
     for k in 0..2 {
-        let item = match setting.back_item(page_paper, k) {
-            Ok(item) => item,
-            Err(error) => return Err(error),
-        };
+        let item = setting.back_item(page_paper, k)?;
         match items.push(Item {
             page: 2 + k,
             ..item

@@ -52,10 +52,7 @@ impl Setting {
         if count < 1 || MOST_ON_SHEET < count {
             return Err(ArrangementError::CellsOutOfRange);
         }
-        let room = match found {
-            Ok(room) => room,
-            Err(error) => return Err(error),
-        };
+        let room = found?;
         let grid = grid_of(
             &papers.page,
             &room,
@@ -72,10 +69,8 @@ impl Setting {
             return Ok(setting);
         }
         let largest = scale_in(&papers.page, &room, grid);
-        match scale_found(&room, arrangement.scale, largest) {
-            Ok(_) => Ok(setting),
-            Err(error) => Err(error),
-        }
+        scale_found(&room, arrangement.scale, largest)?;
+        Ok(setting)
     }
 
     /// The two halves of a sheet whose leaves are bound so, if pages of the one paper can be in them: one fold
@@ -91,10 +86,7 @@ impl Setting {
         ensures refused { IfErr result (λ error.
             why_not_bound papers.now.page papers.now.sheet binding.now ≡ Some error) }
     {
-        let room = match sheet_in(papers, &binding.free) {
-            Ok(room) => room,
-            Err(error) => return Err(error),
-        };
+        let room = sheet_in(papers, &binding.free)?;
         if !room.is_even() {
             return Err(ArrangementError::UnevenMargins);
         }
@@ -103,15 +95,13 @@ impl Setting {
         }
         let grid = Grid::beside(true);
         let largest = scale_in(&papers.page, &room, grid);
-        match scale_found(&room, None, largest) {
-            Ok(_) => Ok(Setting {
-                room,
-                grid,
-                order: leaf_order(binding.right_to_left),
-                scale: None,
-            }),
-            Err(error) => Err(error),
-        }
+        scale_found(&room, None, largest)?;
+        Ok(Setting {
+            room,
+            grid,
+            order: leaf_order(binding.right_to_left),
+            scale: None,
+        })
     }
 
     /// The scale of pages of this paper, if they can have it: the one that is asked for, or else the largest.

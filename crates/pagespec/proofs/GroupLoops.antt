@@ -1,6 +1,6 @@
 -- The loops over items and over groups.
 use Rattle.std.proofs.Common.{arith, ◌≡◌, ◌≢◌, ℕ, suc, ◌+◌, ◌<◌, List, [], ◌∷◌, ◌++◌, Bool, true, false, Option, Some, None, refl, sym, ap, subst, ◌∙◌, append_assoc, append-nil, length, true≢false}
-use Rattle.std.specs.Prelude.{map, flat_map, if◌then◌else◌, ◌==◌}
+use Rattle.std.specs.Prelude.{map, flat_map, if◌then◌else◌, ◌==◌, IsErrAnd, MatchResult, Result, Ok, Err}
 use Rattle.std.proofs.lemmas.List.{length-append, map-append, nil_from_length}
 use Rattle.rules.specs.Specification.{WrittenItem, IsItem}
 use Rattle.pagespec.specs.Reading.{byte_at, item_at, group_at, groups_at, bare_at, whole, item_with, is_minus, past_minus, modifiers_at}
@@ -161,6 +161,11 @@ pub stop_same : {X Y U V : Type 0} (R : List ℕ → X → Type 0) (part : List 
     → ((left : ℕ) → StuckIn R part bytes left → StuckIn S whole text left) → IsStop R part bytes s → IsStop S whole text s
 stop_same R part bytes S whole text (Stuck place) f e = f place.left e
 stop_same R part bytes S whole text NoMemory f e = tt
+
+-- what holds of the stop that is handed on
+pub handed_on : {X : Type 0} (r : Result X Stop) (s : Stop) (P : X → Type 0) (Q : Stop → Type 0) → IsErrAnd r (λ t. t ≡ s) → Q s → MatchResult r P Q
+handed_on (Ok x) s P Q h q = absurd h
+handed_on (Err t) s P Q h q = subst Q (sym h) q
 
 pub nil_told : (t : List ℕ) (b : Bool) → b ≡ (length t == 0) → b ≡ true → t ≡ []
 nil_told t b e h = nil_from_length t (same_byte (length t) 0 (sym e ∙ h))

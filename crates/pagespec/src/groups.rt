@@ -51,15 +51,11 @@ fn farther(one: Stuck, other: Stuck) -> Stuck
 fn read_groups_to_end(alloc: Global, bytes: &[u8]) -> Result<ParsedGroups, Stop>
     ensures { MatchResult result (ParsesTo (whole_groups_at bytes.now)) (IsStop AreWhole whole_groups_at bytes.now) }
 {
-    match read_groups(alloc, bytes) {
-        Ok((parsed, rest)) => {
-            if rest.text.is_empty() {
-                Ok(parsed)
-            } else {
-                Err(Stop::Stuck(rest.stuck))
-            }
-        }
-        Err(stop) => Err(stop),
+    let (parsed, rest) = read_groups(alloc, bytes)?;
+    if rest.text.is_empty() {
+        Ok(parsed)
+    } else {
+        Err(Stop::Stuck(rest.stuck))
     }
 }
 
@@ -107,10 +103,7 @@ fn read_groups(alloc: Global, bytes: &[u8]) -> Result<(ParsedGroups, Rest<'_>), 
     let mut lengths = Vec::new(alloc);
     let mut rest = bytes;
     for _ in 0..bytes.len() + 1 {
-        let (length, behind) = match read_group(rest, &mut items) {
-            Ok(found) => found,
-            Err(stop) => return Err(stop),
-        };
+        let (length, behind) = read_group(rest, &mut items)?;
         match lengths.push(length) {
             Ok(_) => (),
             Err(_) => return Err(Stop::NoMemory),
@@ -131,10 +124,7 @@ fn read_group<'t>(bytes: &'t [u8], items: &mut Vec<ParsedItem>) -> Result<(usize
 {
     let mut rest = bytes;
     for i in 0..bytes.len() + 1 {
-        let behind = match append_item(rest, items) {
-            Ok(found) => found,
-            Err(stop) => return Err(stop),
-        };
+        let behind = append_item(rest, items)?;
         match read_byte(b'+', behind.text) {
             Some(next) => rest = next,
             None => return Ok((i + 1, behind)),

@@ -56,10 +56,8 @@ fn read_written(alloc: Global, bytes: &[u8]) -> Result<(u32, ParsedGroups), Stop
     ensures { MatchResult result (λ x. WrittenRead bytes.now x.0 x.1) (IsStop IsSpec spec_at bytes.now) }
 {
     let (modulo, rest) = split_modulo(bytes);
-    match read_all_groups(alloc, rest) {
-        Ok(parsed) => Ok((modulo, parsed)),
-        Err(stop) => Err(stop),
-    }
+    let parsed = read_all_groups(alloc, rest)?;
+    Ok((modulo, parsed))
 }
 
 /// The value of the digits before a colon, or 100,000 if it is larger, and what follows the colon.

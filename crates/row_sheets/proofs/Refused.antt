@@ -1,6 +1,5 @@
 -- Which page of a row is refused first.
-use Rattle.std.proofs.Common.{arith, ◌≡◌, ◌⊎◌, inl, inr, ℕ, suc, zero, ◌+◌, ◌*◌, ◌/◌, ◌%◌, ◌<◌, length, List, Ok, Err, Option, Some, None, ap, ap₂, refl, subst, sym, ◌∙◌}
-use Rattle.std.specs.Prelude.{IfErr, IsErrAnd, Result}
+use Rattle.std.proofs.Common.{arith, ◌≡◌, ◌⊎◌, inl, inr, ℕ, suc, zero, ◌+◌, ◌*◌, ◌/◌, ◌%◌, ◌<◌, length, List, Option, Some, None, ap, ap₂, refl, subst, sym, ◌∙◌}
 use Rattle.std.specs.Option.{option_or}
 use Rattle.std.proofs.Math.Nat.{eq-or-lt_of_le}
 use Rattle.std.proofs.lemmas.Bool.{cases_lt}
@@ -47,11 +46,6 @@ first_entry fault_of row i e blank none here = elim (cases_lt i (length row)) [
   | inl less ↦ is_first (λ j. fault_of j (entry_of row j)) (length row) i e less none here
   | inr past ↦ absurd (none-some e (sym (ap (fault_of i) (past_end row i past) ∙ blank i) ∙ here))
 ]
-
--- what holds of the error that is handed on
-pub handed_on : {T E : Type 0} (r : Result T E) (e : E) (P : E → Type 0) → IsErrAnd r (λ g. g ≡ e) → P e → IfErr r P
-handed_on (Ok x) e P h p = absurd h
-handed_on (Err g) e P h p = subst P (sym h) p
 
 -- ---- in cells
 

@@ -68,16 +68,10 @@ pub fn creeping_booklet_sheets(
         let place = 2 * u128::from(s);
         let entry = entry_at(row, place);
         let before = half_before(&made, creep, s, 0);
-        let first = match creeping_slot(setting, papers, side, before, entry, 0) {
-            Ok(slot) => slot,
-            Err(error) => return Err(error),
-        };
+        let first = creeping_slot(setting, papers, side, before, entry, 0)?;
         let next = entry_at(row, place + 1);
         let before_next = half_before(&made, creep, s, 1);
-        let second = match creeping_slot(setting, papers, side, before_next, next, 1) {
-            Ok(slot) => slot,
-            Err(error) => return Err(error),
-        };
+        let second = creeping_slot(setting, papers, side, before_next, next, 1)?;
         match made.push(&setting.room.paper, &[first, second]) {
             Ok(()) => (),
             Err(_) => return Err(ArrangementError::NoMemory),

@@ -1,10 +1,12 @@
 -- Parts of a row, entry by entry.
-use Rattle.std.proofs.Common.{ℕ, suc, ◌+◌, ◌-◌, ◌*◌, ◌/◌, ◌%◌, min, ◌<◌, ◌≤◌, ◌≡◌, ◌∙◌, refl, ap, sym, arith, [], ◌∷◌, ◌++◌, Option, None, length, drop, drop-drop, append_assoc, append-nil}
+use Rattle.std.proofs.Common.{ℕ, suc, ◌+◌, ◌-◌, ◌*◌, ◌/◌, ◌%◌, min, ◌<◌, ◌≤◌, ◌≡◌, ◌∙◌, refl, ap, sym, arith, true, false, Bool, [], ◌∷◌, ◌++◌, Option, None, length, drop, drop-drop, append_assoc, append-nil}
 use Rattle.std.proofs.Math.Seq.{drop-cons}
 use Rattle.std.proofs.Math.ListN.{drop_of_length-le}
 use Rattle.std.proofs.lemmas.Grind.{div_ceil_times}
+use Rattle.std.proofs.lemmas.List.{length-reverse}
 use Rattle.std.proofs.lemmas.Nat.{div-mul-add}
 use Rattle.rules.specs.Signatures.{entry_of}
+use Rattle.made_sheets.specs.Choice.{Part, All, Odd, Even, part_of, reversed_if}
 use Rattle.made_sheets.specs.Rows.{Row, odd_part, even_part}
 
 odd_cons : (x : Option ℕ) (rest : Row) → odd_part (x ∷ rest) ≡ x ∷ odd_part (drop 1 rest)
@@ -55,3 +57,17 @@ even_count row n len =
     let e = length (even_part row) in
     let split : e * 2 + (n - e * 2) ≡ n = omega (arith, l.0, len) in
     sym (div-mul-add e 2 (n - e * 2) (omega (arith, l.0, l.1, len))) ∙ ap (λ k. k / 2) split
+
+part_few : (p : Part) (row : Row) → length (part_of p row) ≤ length row
+part_few All row = omega arith
+part_few Odd row = let l = odd_length row in omega (arith, l.0, l.1)
+part_few Even row = let l = even_length row in omega (arith, l.0, l.1)
+
+-- no more are chosen than there were
+pub chosen_few : (backwards : Bool) (p : Part) (row new : Row) (n most : ℕ) → new ≡ reversed_if backwards (part_of p row) → n ≡ length row → n ≤ most → length new ≤ most
+chosen_few true p row new n most is len few =
+    let same : length new ≡ length (part_of p row) = ap (λ (r : Row). length r) is ∙ length-reverse (part_of p row) in
+    omega (arith, same, len, few, part_few p row)
+chosen_few false p row new n most is len few =
+    let same : length new ≡ length (part_of p row) = ap (λ (r : Row). length r) is in
+    omega (arith, same, len, few, part_few p row)

@@ -1,7 +1,6 @@
 pub mod Alternate
 pub mod Between
 pub mod Examples
-pub mod Faults
 pub mod InBlocks
 pub mod Parted
 pub mod RangeParts

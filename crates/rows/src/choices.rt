@@ -39,10 +39,7 @@ pub fn chosen_row(
     ensures few { IfOk result (λ row. length row.items ≤ most_entries) }
     ensures refused { IfErr result (RefusesRow (chosen pages (choice_of choice.now))) }
 {
-    let entries = match named_count(pages, choice.ranges) {
-        Ok(entries) => entries,
-        Err(error) => return Err(error),
-    };
+    let entries = named_count(pages, choice.ranges)?;
     if part_count(choice.part, entries) == 0 {
         return Err(RowError::NoEntries);
     }

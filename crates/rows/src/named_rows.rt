@@ -17,10 +17,7 @@ pub fn read_row(alloc: Global, pages: u32, text: &[u8]) -> Result<Vec<Option<u32
     ensures row { IfOk result (λ row. row_of_text pages text.now ≡ Ok row.items) }
     ensures refused { IfErr result (RefusesRow (row_of_text pages text.now)) }
 {
-    let entries = match entry_count(pages, text) {
-        Ok(entries) => entries,
-        Err(error) => return Err(error),
-    };
+    let entries = entry_count(pages, text)?;
     match text_row(alloc, pages, text, entries) {
         Ok(row) => Ok(row),
         Err(_) => Err(RowError::NoMemory),

@@ -107,10 +107,7 @@ pub fn imposed_row(
     ensures row { IfOk result (λ row. imposed_row pages (choice_of choice.now) (option_map signing_of signing) ≡ Ok row.items) }
     ensures refused { IfErr result (RefusesRow (imposed_row pages (choice_of choice.now) (option_map signing_of signing))) }
 {
-    let row = match chosen_row(alloc, pages, choice) {
-        Ok(row) => row,
-        Err(error) => return Err(error),
-    };
+    let row = chosen_row(alloc, pages, choice)?;
     match signed_row(alloc, row, signing) {
         Ok(row) => Ok(row),
         Err(_) => Err(RowError::NoMemory),

@@ -28,13 +28,9 @@ pub fn created<W: World>(
         Ok(writer) => writer,
         Err(cause) => return Err(Refused { world, cause }),
     };
-    match world.create(name) {
-        Ok(output) => {
-            writer.get_mut().output = Some(output);
-            Ok(WriteSink::new(writer))
-        }
-        Err(refused) => Err(refused),
-    }
+    let output = world.create(name)?;
+    writer.get_mut().output = Some(output);
+    Ok(WriteSink::new(writer))
 }
 
 /// Writes out what the buffer holds, and gives the writer back: whether all was written.

@@ -3,19 +3,21 @@ use Rattle.std.specs.Prelude.{string_bytes}
 use Rattle.std.proofs.lemmas.Result.{IfErr-weaker, IfOk-weaker}
 use Rattle.clap.specs.Words.{found_of, rows_of}
 use Rattle.impose_words.specs.Words.{Enters}
+use Rattle.layouts.proofs.Fitting.{handed_on}
 use Rattle.impose_words.proofs.Found.{met, refuses_parse, refuses_words, unmet}
 use Rattle.impose_words.proofs.command.read_command.Goals as goal
 
-pub returns-in-Err-clause-refused : goal.returns-in-Err-clause-refused
-returns-in-Err-clause-refused c = refuses_parse (map string_bytes c.args.words.now) c.in-Err.fault c.in-Err.ensures.refused
+pub returns-in_err-matches-clause-refused : goal.returns-in_err-matches-clause-refused
+returns-in_err-matches-clause-refused c =
+    handed_on c.from_residual.result _ _ c.from_residual.ensures.1 (refuses_parse (map string_bytes c.args.words.now) _ c.in_err-matches.ensures.refused)
 
 pub returns-in-Some-clause-read : goal.returns-in-Some-clause-read
 returns-in-Some-clause-read c =
     let words = map string_bytes c.args.words.now in
     let name = c.in-Some.name.now in
     let found = rows_of (found_of c.in-Some.found.now) in
-    let entered = sym c.in-Ok.ensures.found ∙ met c.in-Ok.matches name found (sym c.in-Some.ensures.name) (sym c.in-Some.ensures.rows) in
-    let enters : Enters words name found = record { taken = c.in-Ok.ensures.taken; entered = entered } in
+    let entered = sym c.in_ok-matches.ensures.found ∙ met c.in_ok-matches.matches name found (sym c.in-Some.ensures.name) (sym c.in-Some.ensures.rows) in
+    let enters : Enters words name found = record { taken = c.in_ok-matches.ensures.taken; entered = entered } in
     IfOk-weaker c.request_of.result _ _ (λ r h. (name, found, enters, h)) c.request_of.ensures.read
 
 pub returns-in-Some-clause-refused : goal.returns-in-Some-clause-refused
@@ -23,9 +25,9 @@ returns-in-Some-clause-refused c =
     let words = map string_bytes c.args.words.now in
     let name = c.in-Some.name.now in
     let found = rows_of (found_of c.in-Some.found.now) in
-    let entered = sym c.in-Ok.ensures.found ∙ met c.in-Ok.matches name found (sym c.in-Some.ensures.name) (sym c.in-Some.ensures.rows) in
-    let enters : Enters words name found = record { taken = c.in-Ok.ensures.taken; entered = entered } in
+    let entered = sym c.in_ok-matches.ensures.found ∙ met c.in_ok-matches.matches name found (sym c.in-Some.ensures.name) (sym c.in-Some.ensures.rows) in
+    let enters : Enters words name found = record { taken = c.in_ok-matches.ensures.taken; entered = entered } in
     IfErr-weaker c.request_of.result _ _ (λ f h. refuses_words words name found f enters h) c.request_of.ensures.refused
 
 pub returns-clause-refused : goal.returns-clause-refused
-returns-clause-refused c = inl (sym c.in-Ok.ensures.found ∙ unmet c.in-Ok.matches c.in-None.ensures.name)
+returns-clause-refused c = inl (sym c.in_ok-matches.ensures.found ∙ unmet c.in_ok-matches.matches c.in-None.ensures.name)

@@ -7,5 +7,5 @@ use Rattle.impose_words.proofs.command.spacing_of.Goals as goal
 pub returns-in_default-scale_of-clause-refused : goal.returns-in_default-scale_of-clause-refused
 returns-in_default-scale_of-clause-refused c =
     scale_wrong (keeps_room c.args.layout.now) (rows_of (found_of c.args.found.now)) c.in-Some.margins c.in-Some-gaps_of.gaps c.in-Some-length_of.trim
-    c.in-Some-length_of-2.creep c.in-Some-length_of-3.overlap c.in-Ok.order
-    (search rules) (search rules) (search rules) (search rules) (search rules) (search rules) c.in-Ok.ensures.read (search rules)
+    c.in-Some-length_of-2.creep c.in-Some-length_of-3.overlap c.in_ok-order.order
+    (search rules) (search rules) (search rules) (search rules) (search rules) (search rules) c.in_ok-order.ensures.read (search rules)

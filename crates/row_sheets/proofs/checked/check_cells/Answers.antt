@@ -3,7 +3,8 @@ use Rattle.rules.specs.Signatures.{entry_of}
 use Rattle.row_sheets.specs.Shapes.{filling, first_refused, why_no_place}
 use Rattle.row_sheets.specs.Standing.{EntryFits}
 use Rattle.row_sheets.proofs.Filling.{one_more}
-use Rattle.row_sheets.proofs.Refused.{first_entry, fits_none, handed_on}
+use Rattle.layouts.proofs.Fitting.{handed_on}
+use Rattle.row_sheets.proofs.Refused.{first_entry, fits_none}
 use Rattle.row_sheets.proofs.checked.check_cells.Goals as goal
 
 pub loop-entry-preserved : goal.loop-entry-preserved

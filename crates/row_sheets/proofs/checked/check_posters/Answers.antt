@@ -2,7 +2,8 @@ use Rattle.std.proofs.Common.{rules, ◌≡◌, Some}
 use Rattle.rules.specs.Signatures.{entry_of}
 use Rattle.row_sheets.specs.Posters.{EntryMayBePoster, first_no_poster, why_no_tiles}
 use Rattle.row_sheets.proofs.Filling.{one_more}
-use Rattle.row_sheets.proofs.Refused.{first_poster, handed_on}
+use Rattle.layouts.proofs.Fitting.{handed_on}
+use Rattle.row_sheets.proofs.Refused.{first_poster}
 use Rattle.row_sheets.proofs.checked.check_posters.Goals as goal
 
 pub loop-entry-preserved : goal.loop-entry-preserved

@@ -12,6 +12,7 @@ use Rattle.row_sheets.proofs.Filling.{sheet, sheet_more, one_more}
 use Rattle.row_sheets.proofs.OnLeaves.{leaves_stand}
 use Rattle.row_sheets.proofs.Places.{creeping_fit}
 use Rattle.row_sheets.proofs.Creeping.{both_slots, both_creep, entry_creeps, entry_is}
+use Rattle.layouts.proofs.Fitting.{handed_on}
 use Rattle.row_sheets.proofs.Refused.{first_half, second_half, sides_none}
 use Rattle.row_sheets.proofs.creep.creeping_booklet_sheets.Goals as goal
 
@@ -49,24 +50,24 @@ creeping_slot-requires-in-loop-s-clause-before c =
     half_before f c.args.turned_backs c.args.creep.innermost c.args.creep.leaves c.args.row.now c.loop-s.made c.loop-s.s _ c.is_turned-by_half.result c.creep_on-by.result c.half_before-before_next.result c.loop-s.invariant.made
     c.loop-s.invariant.fits (omega arith) c.is_turned-by_half.ensures c.creep_on-by.ensures c.half_before-before_next.ensures
 
-pub returns-in-Err-clause-refused : goal.returns-in-Err-clause-refused
-returns-in-Err-clause-refused c =
+pub returns-in_err-first-clause-refused : goal.returns-in_err-first-clause-refused
+returns-in_err-first-clause-refused c =
     let f = filling c.args.setting.now c.args.papers.now in
     let row = c.args.row.now in
     let leaves = c.args.creep.leaves in
     let s = c.loop-s.s in
     let none = sides_none f c.args.creep.innermost leaves s row c.loop-s.invariant.fits in
-    first_half f row c.args.creep.innermost leaves s c.creep_on-by.result _ c.entry_at-entry.result c.in-Err.error none c.creep_on-by.ensures c.entry_at-entry.ensures (omega arith) c.in-Err.ensures.refused
+    handed_on _ _ _ c.from_residual-in_err-first.ensures.1 (first_half f row c.args.creep.innermost leaves s c.creep_on-by.result _ c.entry_at-entry.result c.in_err-first.field-0.0 none c.creep_on-by.ensures c.entry_at-entry.ensures (omega arith) c.in_err-first.ensures.refused)
 
-pub returns-in-Err-creeping_slot-clause-refused : goal.returns-in-Err-creeping_slot-clause-refused
-returns-in-Err-creeping_slot-clause-refused c =
+pub returns-in_err-second-clause-refused : goal.returns-in_err-second-clause-refused
+returns-in_err-second-clause-refused c =
     let f = filling c.args.setting.now c.args.papers.now in
     let row = c.args.row.now in
     let leaves = c.args.creep.leaves in
     let s = c.loop-s.s in
     let none = sides_none f c.args.creep.innermost leaves s row c.loop-s.invariant.fits in
-    second_half f row c.args.creep.innermost leaves s c.creep_on-by.result _ _ c.entry_at-entry.result c.entry_at-next.result c.in-Err-creeping_slot.error none c.creep_on-by.ensures
-    c.entry_at-entry.ensures (omega arith) c.in-Ok.ensures.fits c.entry_at-next.ensures (omega arith) c.in-Err-creeping_slot.ensures.refused
+    handed_on _ _ _ c.from_residual-in_err-second.ensures.1 (second_half f row c.args.creep.innermost leaves s c.creep_on-by.result _ _ c.entry_at-entry.result c.entry_at-next.result c.in_err-second.field-0.0 none c.creep_on-by.ensures
+    c.entry_at-entry.ensures (omega arith) c.in_ok-first.ensures.fits c.entry_at-next.ensures (omega arith) c.in_err-second.ensures.refused)
 
 pub loop-s-preserved : goal.loop-s-preserved
 loop-s-preserved c =
@@ -76,13 +77,13 @@ loop-s-preserved c =
     let s = c.loop-s.s in
     let half = is_turned c.args.turned_backs s in
     let by = creep_on c.args.creep.innermost c.args.creep.leaves s in
-    let one = slot_of c.in-Ok.slot in
-    let other = slot_of c.in-Ok-creeping_slot.slot in
-    let first = entry_is f row c.is_turned-by_half.result half 0 c.creep_on-by.result by _ (s * 2 + 0) c.entry_at-entry.result one c.in-Ok.ensures.made c.is_turned-by_half.ensures c.creep_on-by.ensures c.entry_at-entry.ensures (omega arith) in
-    let second = entry_is f row c.is_turned-by_half.result half 1 c.creep_on-by.result by _ (s * 2 + 1) c.entry_at-next.result other c.in-Ok-creeping_slot.ensures.made c.is_turned-by_half.ensures c.creep_on-by.ensures c.entry_at-next.ensures (omega arith) in
+    let one = slot_of c.in_ok-first.first in
+    let other = slot_of c.in_ok-second.second in
+    let first = entry_is f row c.is_turned-by_half.result half 0 c.creep_on-by.result by _ (s * 2 + 0) c.entry_at-entry.result one c.in_ok-first.ensures.made c.is_turned-by_half.ensures c.creep_on-by.ensures c.entry_at-entry.ensures (omega arith) in
+    let second = entry_is f row c.is_turned-by_half.result half 1 c.creep_on-by.result by _ (s * 2 + 1) c.entry_at-next.result other c.in_ok-second.ensures.made c.is_turned-by_half.ensures c.creep_on-by.ensures c.entry_at-next.ensures (omega arith) in
     let e : c.push.new.self ≡ c.loop-s.made ++ sheet t.room.paper (one ∷ other ∷ []) ∷ [] = search rules in
-    let fits_one = entry_creeps f row c.creep_on-by.result by _ (s * 2 + 0) c.entry_at-entry.result c.in-Ok.ensures.fits c.creep_on-by.ensures c.entry_at-entry.ensures (omega arith) in
-    let fits_other = entry_creeps f row c.creep_on-by.result by _ (s * 2 + 1) c.entry_at-next.result c.in-Ok-creeping_slot.ensures.fits c.creep_on-by.ensures c.entry_at-next.ensures (omega arith) in
+    let fits_one = entry_creeps f row c.creep_on-by.result by _ (s * 2 + 0) c.entry_at-entry.result c.in_ok-first.ensures.fits c.creep_on-by.ensures c.entry_at-entry.ensures (omega arith) in
+    let fits_other = entry_creeps f row c.creep_on-by.result by _ (s * 2 + 1) c.entry_at-next.result c.in_ok-second.ensures.fits c.creep_on-by.ensures c.entry_at-next.ensures (omega arith) in
     record {
       made = sheet_more t.room.paper (λ n. map (λ k. creeping_slot f (is_turned c.args.turned_backs n) k (creep_on c.args.creep.innermost c.args.creep.leaves n) (grid_entry 2 row n k)) (range_with_len 0 2))
           c.loop-s.made c.push.new.self (one ∷ other ∷ []) s c.loop-s.invariant.made (both_slots (λ k. creeping_slot f half k by (grid_entry 2 row s k)) one other first second) e;

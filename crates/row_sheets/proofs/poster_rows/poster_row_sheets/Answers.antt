@@ -3,7 +3,8 @@ use Rattle.std.proofs.lemmas.Grind.{common_steps}
 use Rattle.rules.specs.Signatures.{entry_of}
 use Rattle.row_sheets.specs.Posters.{EntryMayBePoster, IsNoPoster, IsNoPosterFor, why_no_tiles}
 use Rattle.row_sheets.proofs.Filling.{one_more}
-use Rattle.row_sheets.proofs.Refused.{handed_on, row_of_posters}
+use Rattle.layouts.proofs.Fitting.{handed_on}
+use Rattle.row_sheets.proofs.Refused.{row_of_posters}
 use Rattle.row_sheets.proofs.poster_rows.poster_row_sheets.Goals as goal
 
 pub loop-entry-preserved : goal.loop-entry-preserved

@@ -4,7 +4,8 @@ use Rattle.rules.specs.Signatures.{entry_of}
 use Rattle.row_sheets.specs.Shapes.{filling}
 use Rattle.row_sheets.specs.SameScale.{first_unscaled, why_no_own_scale}
 use Rattle.row_sheets.proofs.Filling.{one_more}
-use Rattle.row_sheets.proofs.Refused.{first_entry, handed_on, no_fault}
+use Rattle.layouts.proofs.Fitting.{handed_on}
+use Rattle.row_sheets.proofs.Refused.{first_entry, no_fault}
 use Rattle.row_sheets.proofs.same_scale.at_one_scale.Goals as goal
 
 pub loop-entry-preserved : goal.loop-entry-preserved
