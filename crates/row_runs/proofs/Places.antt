@@ -1,5 +1,5 @@
 -- A row whose pages are named by their places, and the sheets that it is laid on.
-use Rattle.std.proofs.Common.{ℕ, zero, suc, List, [], ◌∷◌, Option, Some, ◌+◌, ◌++◌, ◌≡◌, ◌∙◌, ap, ap₂, refl, sym, subst, length, take, arith, map, Ok}
+use Rattle.std.proofs.Common.{ℕ, zero, suc, List, [], ◌∷◌, Option, Some, ◌+◌, ◌++◌, ◌≡◌, ◌∙◌, ap, ap₂, refl, sym, length, take, arith, map, Ok}
 use Rattle.std.specs.Prelude.{slice_get}
 use Rattle.std.proofs.lemmas.Option.{none-some, same_Some}
 use Rattle.rules.specs.Papers.{Paper}

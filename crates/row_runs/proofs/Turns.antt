@@ -9,7 +9,7 @@ use Rattle.rules.specs.Placement.{Point, moved, turned}
 use Rattle.rules.specs.Specification.{Item, Measure, Turn, Upright, Left, Half, Right}
 use Rattle.made_sheets.specs.Made.{MadeSlot, Blank, Placed, MadeSheet}
 use Rattle.sheet_plan.specs.OfSheets.{slots_at}
-use Rattle.layouts.specs.Placed.{fine, finer, stands, times}
+use Rattle.layouts.specs.Placed.{fine, finer, times}
 use Rattle.row_runs.specs.Turning.{IsDrawnTurned, IsLittle, TurnedStands, TurnsAddUp, both, corner, excess, farther, further, long, on_turned, turned_item, turned_paper, turned_sheet, turned_slot}
 
 abbrev point : ℤ → ℤ → Point

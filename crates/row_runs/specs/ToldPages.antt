@@ -1,11 +1,11 @@
 -- How many pages a document says that it has (DSC 3.0, %%Pages): in its header, or at its end if the header says so by (atend). The
 -- end is looked for line by line, so that it is found in a document that was left open too.
-use Rattle.std.specs.Prelude.{ℕ, Bool, ◌^◌, ◌-◌, min, List, [], ◌∷◌, if◌then◌else◌, Option, Some, None, codes, option_and_then}
+use Rattle.std.specs.Prelude.{ℕ, zero, suc, Bool, true, ◌&&◌, ◌^◌, ◌-◌, min, List, [], ◌∷◌, drop, slice_index, if◌then◌else◌, Option, Some, None, codes, option_and_then}
 use Rattle.std.specs.List.{list_all}
 use Rattle.std.specs.Str.{bytes_eq}
 use Rattle.std.specs.Char.{is_ascii_digit}
 use Rattle.rules.specs.Numbers.{number_of}
-use Rattle.rules.specs.Units.{key}
+use Rattle.rules.specs.Units.{is_end, content_of, key}
 use Rattle.papers.specs.Media.{comment_fields, contents, header}
 
 -- the number that a field makes, or the greatest one, if all of it are digits
@@ -23,6 +23,15 @@ pages_field lines = first_field (comment_fields (codes "%%Pages") lines)
 
 abbrev pub begins_trailer : (line : List ℕ) → Bool
 begins_trailer line = bytes_eq (key line) (codes "%%Trailer")
+
+-- a line begins at this byte, which is no line feed
+abbrev pub begins_line : ℕ → List ℕ → Bool
+begins_line zero text = true
+begins_line (suc k) text = is_end (slice_index text k)
+
+-- a line that begins the trailer begins at this byte
+abbrev pub trailer_at : ℕ → List ℕ → Bool
+trailer_at at text = begins_line at text && begins_trailer (content_of (drop at text))
 
 -- the lines after the last `%%Trailer`, or these if there is none
 abbrev pub behind_trailer : (all : List (List ℕ)) → List (List ℕ) → List (List ℕ)

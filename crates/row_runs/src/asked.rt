@@ -93,10 +93,7 @@ pub fn asked_sheets(
         Ok(laying) => laying,
         Err(error) => return Err(arrangement_error(error)),
     };
-    match laid(alloc, &laying, leaves, papers, entries) {
-        Ok(sheets) => Ok(sheets),
-        Err(error) => Err(error),
-    }
+    laid(alloc, &laying, leaves, papers, entries)
 }
 
 /// How many leaves a signature of the row has; none if it isn't put into signatures.

@@ -1,11 +1,12 @@
 //! How many pages a document says that it has.
-ghost use Rattle.std.specs.Prelude.{◌≡◌, ◌≤◌, ℕ, List, codes, length, if◌then◌else◌, option_map};
+ghost use Rattle.std.specs.Prelude.{◌≡◌, ◌≤◌, codes, drop, length, option_map};
 ghost use Rattle.dsc.specs.Fields.{fields_in};
+ghost use Rattle.rules.specs.Units.{line_len};
 ghost use Rattle.papers.specs.Media.{comment_fields, contents};
 ghost use Rattle.row_runs.specs.ToldPages as meaning;
 
-use dsc::{first_content, header_len, key_of, line_end_after, next_field, plain_len};
-use memchr::memmem::Finder;
+use dsc::{content_end, first_content, header_len, key_of, line_end_after, next_field};
+use memchr::memmem::FinderRev;
 use papers::first_comment;
 
 /// How many pages a document says that it has, by the first `%%Pages:` of its header; if that is `(atend)`, by the first one
@@ -52,45 +53,58 @@ fn pages_value(lines: &[u8]) -> Option<&[u8]>
     }
 }
 
-/// What comes after the last `%%Trailer`; all, if there is none.
+/// What comes after the last `%%Trailer`; all, if there is none. It is searched for from the end, where it is in most documents.
 fn last_lines(text: &[u8]) -> &[u8]
     ensures { contents result.now ≡ meaning.last_lines text.now }
 {
-    let percent_signs = Finder::new(b"%%".as_slice());
-    let mut last = text;
-    let mut rest = after_plain(&percent_signs, text);
-    while !rest.is_empty() {
-        let content = first_content(rest);
-        let begins = begins_trailer(content);
-        let (_, others) = rest.split_at(line_end_after(rest, content.len()));
-        last = last_from(last, others, begins);
-        rest = after_plain(&percent_signs, others);
+    let trailer = FinderRev::new(b"%%Trailer".as_slice());
+    let mut front = text;
+    while let Some(at) = trailer.rfind(front) {
+        if trailer_at(text, at) {
+            return after_line(text, at);
+        }
+        // Those that begin before this one end before its last byte.
+        let (before, _) = front.split_at(at + 8);
+        front = before;
     }
-    last
+    text
 }
 
-/// What comes after the lines at the start that don't begin with two percent signs, so begin no trailer.
-fn after_plain<'t>(percent_signs: &Finder<'_>, text: &'t [u8]) -> &'t [u8]
-    requires { percent_signs.now ≡ codes "%%" }
-    ensures passed { (all : List (List ℕ)) →
-        meaning.behind_trailer all (contents result.now) ≡ meaning.behind_trailer all (contents text.now) }
-    ensures shorter { length result.now ≤ length text.now }
+/// Whether a line that begins the trailer begins at this byte.
+fn trailer_at(text: &[u8], at: usize) -> bool
+    requires { at ≤ length text.now }
+    ensures { result ≡ meaning.trailer_at at text.now }
 {
-    let (_, rest) = text.split_at(plain_len(percent_signs, text));
-    rest
+    let (_, line) = text.split_at(at);
+    begins_line(text, at) && begins_trailer(first_content(line))
+}
+
+/// Whether a line begins at this byte, which is no line feed.
+fn begins_line(text: &[u8], at: usize) -> bool
+    requires { at ≤ length text.now }
+    ensures { result ≡ meaning.begins_line at text.now }
+{
+    if at == 0 {
+        return true;
+    }
+    let before = text[at - 1];
+    before == b'\r' || before == b'\n'
+}
+
+/// What comes after the line that begins at this byte.
+fn after_line(text: &[u8], at: usize) -> &[u8]
+    requires { at ≤ length text.now }
+    ensures { result.now ≡ drop (line_len (drop at text.now)) (drop at text.now) }
+{
+    let (_, line) = text.split_at(at);
+    let (_, others) = line.split_at(line_end_after(line, content_end(line)));
+    others
 }
 
 fn begins_trailer(content: &[u8]) -> bool
     ensures { result ≡ meaning.begins_trailer content.now }
 {
     key_of(content) == b"%%Trailer".as_slice()
-}
-
-/// The lines from here on, after a line that begins the trailer.
-fn last_from<'t>(last: &'t [u8], others: &'t [u8], begins: bool) -> &'t [u8]
-    ensures { result.now ≡ if begins then others.now else last.now }
-{
-    if begins { others } else { last }
 }
 
 /// The number that digits make, or the greatest one.

@@ -25,13 +25,13 @@ pub(crate) fn evened_if(
         return Ok(*laying);
     }
     match laying {
-        Laying::InCells { setting, scheme } => match at_one_scale(setting, papers, row) {
-            Ok(setting) => Ok(Laying::InCells {
+        Laying::InCells { setting, scheme } => {
+            let setting = at_one_scale(setting, papers, row)?;
+            Ok(Laying::InCells {
                 setting,
                 scheme: *scheme,
-            }),
-            Err(error) => Err(error),
-        },
+            })
+        }
         Laying::AsTheyAre { .. } | Laying::Poster { .. } => Ok(*laying),
     }
 }

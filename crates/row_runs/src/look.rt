@@ -26,10 +26,7 @@ pub fn row_plan(alloc: Global, job: &RowJob<'_, '_>, most: u32) -> Result<Vec<u8
     ensures told { IfOk result (λ text. TellsPlan job.now most text.items) }
     ensures refused { IfErr result (RefusesRun job.now) }
 {
-    let sheets = match planned_sheets(alloc, job) {
-        Ok(sheets) => sheets,
-        Err(error) => return Err(error),
-    };
+    let sheets = planned_sheets(alloc, job)?;
     let mirror = mirror_in(job.mirrored, &job.asked.laying);
     let reading = reading_of(&mirror, &job.asked.laying);
     match plan_text(alloc, &sheets, &reading, most) {
@@ -46,10 +43,7 @@ pub fn row_preview(alloc: Global, job: &RowJob<'_, '_>, most: u32) -> Result<Vec
     ensures told { IfOk result (λ text. TellsPicture job.now most text.items) }
     ensures refused { IfErr result (RefusesRun job.now) }
 {
-    let sheets = match planned_sheets(alloc, job) {
-        Ok(sheets) => sheets,
-        Err(error) => return Err(error),
-    };
+    let sheets = planned_sheets(alloc, job)?;
     match drawn(alloc, &sheets, job, most) {
         Ok(text) => Ok(text),
         Err(_) => Err(AskedError::NoMemory),
@@ -93,10 +87,7 @@ fn planned_sheets(alloc: Global, job: &RowJob<'_, '_>) -> Result<MadeSheets, Ask
     ensures refused { IfErr result (RefusesRun job.now) }
 {
     let count = job.document.pages();
-    let sheets = match asked_sheets(alloc, count, job.papers, &job.asked) {
-        Ok(sheets) => sheets,
-        Err(error) => return Err(error),
-    };
+    let sheets = asked_sheets(alloc, count, job.papers, &job.asked)?;
     let mirror = mirror_in(job.mirrored, &job.asked.laying);
     let Ok(sheets) = turned_sheets(alloc, job.turn, &mirror, sheets) else {
         return Err(AskedError::NoMemory);
@@ -112,8 +103,6 @@ fn check_plan(alloc: Global, pages: u32, sheets: &MadeSheets) -> Result<(), Made
     ensures planned { OnOk result (made_plan_of pages sheets.now ≡ Ok sheets.now) }
     ensures refused { IfErr result (RefusesMade pages sheets.now) }
 {
-    match Plan::of_sheets(alloc, pages, sheets) {
-        Ok(_) => Ok(()),
-        Err(error) => Err(error),
-    }
+    Plan::of_sheets(alloc, pages, sheets)?;
+    Ok(())
 }

@@ -46,10 +46,7 @@ impl<'j, 'd> RowJob<'j, 'd> {
         ensures refused { IfErr result (RefusesRun self.now) }
     {
         let count = self.document.pages();
-        let sheets = match asked_sheets(alloc, count, self.papers, &self.asked) {
-            Ok(sheets) => sheets,
-            Err(error) => return Err(error),
-        };
+        let sheets = asked_sheets(alloc, count, self.papers, &self.asked)?;
         let Ok(strokes) = strokes_of(alloc, self.marks, &self.asked.laying) else {
             return Err(AskedError::NoMemory);
         };

@@ -1,4 +1,6 @@
-use Rattle.std.proofs.Common.{rules, ◌≡◌, Ok, subst}
+use Rattle.std.specs.Prelude.{IfOk, OnOk, Result}
+use Rattle.std.proofs.Common.{rules, ◌≡◌, Ok, Err, subst}
+use Rattle.std.proofs.lemmas.Result.{IfErr-weaker, IfOk-weaker}
 use Rattle.row_runs.specs.Sheets.{leaves_in, row_chosen, sewn}
 use Rattle.made_sheets.specs.Choice.{signed}
 use Rattle.row_runs.specs.Standing.{StandAsLaid}
@@ -7,6 +9,11 @@ use Rattle.row_runs.proofs.Fit.{asked_so}
 use Rattle.row_runs.proofs.NotLaid.{asked_told, even_told}
 use Rattle.row_runs.proofs.OneScale.{evened_stand}
 use Rattle.row_runs.proofs.asked.asked_sheets.Goals as goal
+
+-- what two clauses give
+ok_with : {X E Q : Type 0} {P R : X → Type 0} (r : Result X E) → ((x : X) → P x → Q → R x) → IfOk r P → OnOk r Q → IfOk r R
+ok_with (Ok x) f p q = f x p q
+ok_with (Err e) f p q = tt
 
 pub returns-in-Err-evened_if-clause-refused : goal.returns-in-Err-evened_if-clause-refused
 returns-in-Err-evened_if-clause-refused c =
@@ -25,28 +32,31 @@ returns-clause-refused c =
     let is_row : row_chosen c.args.pages a ≡ Ok row = search rules in
     let is_printed : printed ≡ signed (sewn a) row = search rules in
     let many : c.leaves_in-leaves.result ≡ leaves_in (sewn a) row = search rules in
-    asked_told c.args.pages c.args.papers.now a row printed c.leaves_in-leaves.result c.in-Ok-evened_if.laying c.in-Err-laid.error c.requires.pages is_row is_printed many
-    c.in-Ok-evened_if.ensures.made c.in-Ok-evened_if.ensures.accepted c.in-Err-laid.ensures.refused
+    IfErr-weaker c.laid.result _ _
+    (λ error h. asked_told c.args.pages c.args.papers.now a row printed c.leaves_in-leaves.result c.in-Ok-evened_if.laying error c.requires.pages is_row is_printed many
+    c.in-Ok-evened_if.ensures.made c.in-Ok-evened_if.ensures.accepted h) c.laid.ensures.refused
 
-pub returns-in-Ok-laid-clause-stands : goal.returns-in-Ok-laid-clause-stands
-returns-in-Ok-laid-clause-stands c =
+pub returns-clause-stands : goal.returns-clause-stands
+returns-clause-stands c =
     let a = c.args.asked.now in
-    evened_stand a.same_scale a.laying c.args.papers.now c.as_slice-entries.result.now c.in-Ok-laid.sheets
-    (subst (λ l. StandAsLaid l c.in-Ok-laid.sheets) c.in-Ok-evened_if.ensures.made c.in-Ok-laid.ensures.stands)
+    IfOk-weaker c.laid.result _ _
+    (λ sheets h. evened_stand a.same_scale a.laying c.args.papers.now c.as_slice-entries.result.now sheets (subst (λ l. StandAsLaid l sheets) c.in-Ok-evened_if.ensures.made h)) c.laid.ensures.stands
 
-pub returns-in-Ok-laid-clause-made : goal.returns-in-Ok-laid-clause-made
-returns-in-Ok-laid-clause-made c =
+pub returns-clause-made : goal.returns-clause-made
+returns-clause-made c =
     let a = c.args.asked.now in
     let row = c.in-Ok.row.items in
     let printed = c.as_slice-entries.result.now in
     let is_row : row_chosen c.args.pages a ≡ Ok row = search rules in
     let is_printed : printed ≡ signed (sewn a) row = search rules in
     let many : c.leaves_in-leaves.result ≡ leaves_in (sewn a) row = search rules in
-    asked_so c.args.pages c.args.papers.now a row printed c.leaves_in-leaves.result c.in-Ok-evened_if.laying c.in-Ok-laid.sheets is_row is_printed many
-    c.in-Ok-evened_if.ensures.made c.in-Ok-evened_if.ensures.accepted (c.in-Ok-laid.ensures.made, c.in-Ok-laid.ensures.fits)
+    ok_with c.laid.result
+    (λ sheets made fits. asked_so c.args.pages c.args.papers.now a row printed c.leaves_in-leaves.result c.in-Ok-evened_if.laying sheets is_row is_printed many
+    c.in-Ok-evened_if.ensures.made c.in-Ok-evened_if.ensures.accepted (made, fits)) c.laid.ensures.made c.laid.ensures.fits
 
-pub returns-in-Ok-laid-clause-few : goal.returns-in-Ok-laid-clause-few
-returns-in-Ok-laid-clause-few c =
+pub returns-clause-few : goal.returns-clause-few
+returns-clause-few c =
     let a = c.args.asked.now in
-    few_made a.same_scale a.laying c.in-Ok-evened_if.laying c.leaves_in-leaves.result c.args.papers.now c.as_slice-entries.result.now c.in-Ok-laid.sheets
-    c.in-Ok-evened_if.ensures.made c.in-Ok-laid.ensures.made c.in-Ok-laid.ensures.few
+    ok_with c.laid.result
+    (λ sheets made few. few_made a.same_scale a.laying c.in-Ok-evened_if.laying c.leaves_in-leaves.result c.args.papers.now c.as_slice-entries.result.now sheets
+    c.in-Ok-evened_if.ensures.made made few) c.laid.ensures.made c.laid.ensures.few

@@ -1,10 +1,12 @@
-use Rattle.std.proofs.Common.{◌≡◌, length}
-use Rattle.papers.specs.Media.{contents}
-use Rattle.row_runs.specs.ToldPages.{behind_trailer, last_lines}
+use Rattle.std.proofs.Common.{◌≡◌, length, take}
+use Rattle.row_runs.proofs.TrailerLines.{NoneLater}
 use Rattle.row_runs.proofs.counted_pages.last_lines.Given as goal
 
-abbrev pub invariant-loop-rest : goal.invariant-loop-rest
-invariant-loop-rest l = behind_trailer (contents l.last) (contents l.rest) ≡ last_lines l.text
+abbrev pub invariant-loop-at : goal.invariant-loop-at
+invariant-loop-at l = record {
+  front : l.front ≡ take (length l.front) l.text;
+  none : NoneLater l.text l.front;
+}
 
-abbrev pub decreases-loop-rest : goal.decreases-loop-rest
-decreases-loop-rest l = length l.rest
+abbrev pub decreases-loop-at : goal.decreases-loop-at
+decreases-loop-at l = length l.front

@@ -1,4 +1,4 @@
-use Rattle.std.proofs.Common.{rules, ◌≡◌, ◌∙◌, ◌<◌, ◌++◌, ◌∷◌, [], ap, length, take, None}
+use Rattle.std.proofs.Common.{rules, ◌∙◌, ◌<◌, ◌++◌, ◌∷◌, [], ap, length, take, None}
 use Rattle.std.proofs.lemmas.Option.{slice_get-get_or}
 use Rattle.row_runs.specs.Numbers.{places_from}
 use Rattle.row_runs.proofs.Places.{place_more}
