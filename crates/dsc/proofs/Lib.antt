@@ -30,3 +30,4 @@ pub mod LineBlocks
 pub mod LineByLine
 pub mod HeaderRun
 pub mod Examples
+pub mod Serving

@@ -1,4 +1,4 @@
--- For what the calls promise, read `Units`, `Views`, `Faults`, `Bodies`, `TrailerBoxes`, `PagesBehind` and `Laws`,
+-- For what the calls promise, read `Units`, `Views`, `Faults`, `Bodies`, `TrailerBoxes`, `PagesBehind`, `Serving` and `Laws`,
 -- in this order; the others are about parts of the code.
 pub mod Bodies
 pub mod Plain
@@ -12,6 +12,8 @@ pub mod BodyStarts
 pub mod Faults
 pub mod Units
 pub mod Documents
+pub mod Later
+pub mod Serving
 pub mod Filters
 pub mod TrailerBoxes
 pub mod PagesBehind

@@ -6,7 +6,7 @@ ghost use Rattle.dsc.specs.Faults.{block_fault_told, page_fault_told, IsPageErro
 ghost use Rattle.dsc.specs.Laws.{HasBody};
 ghost use Rattle.dsc.specs.declared.errors.DscError.TheVariants.{NoMemory};
 
-use crate::errors::{CutError, DscError, widen};
+use crate::errors::{CutError, DscError};
 use crate::filters::{Drops, Kept, end_line, filter, wants_end};
 use std::alloc::{AllocError, Global};
 use std::marker::Model;
@@ -44,10 +44,8 @@ impl<'d> Body<'d> {
         ensures refusals { IfErr result IsPageError }
         ensures memory_alone { HasBody page.now → IfErr result (λ e. e ≡ NoMemory) }
     {
-        match cut_body(alloc, page) {
-            Ok(body) => Ok(body),
-            Err(error) => Err(widen(error)),
-        }
+        let body = cut_body(alloc, page)?;
+        Ok(body)
     }
 
     /// A run of a page's bytes as its body.
@@ -74,14 +72,9 @@ impl<'d> Body<'d> {
 fn cut_body<'d>(alloc: Global, page: &'d [u8]) -> Result<Body<'d>, CutError>
     ensures { Gives (λ b. b) block_fault_told result (prepared page.now) }
 {
-    let kept = match filter(Vec::new(alloc), Drops::PageSetup, page) {
-        Ok(kept) => kept,
-        Err(e) => return Err(e),
-    };
-    match body_of(alloc, kept) {
-        Ok(body) => Ok(body),
-        Err(_) => Err(CutError::NoMemory),
-    }
+    let kept = filter(Vec::new(alloc), Drops::PageSetup, page)?;
+    let body = body_of(alloc, kept)?;
+    Ok(body)
 }
 
 /// What was kept, with a line end at its end.

@@ -11,12 +11,15 @@ ghost use Rattle.dsc.specs.Views.{Gives};
 ghost use Rattle.dsc.specs.Faults.{fault_told, PassedFirstChecks};
 ghost use Rattle.dsc.specs.Laws.{HasBody};
 ghost use Rattle.dsc.specs.PagesBehind.{pages_behind};
+ghost use Rattle.dsc.specs.Serving.{ArePartsOf, Serve};
+ghost use Rattle.dsc.specs.declared.errors.DscError.TheVariants.{TooLong};
 
 use crate::bodies::Body;
-use crate::errors::{DscError, widen};
+use crate::errors::DscError;
 use crate::filters::{Drops, drops_with, end_line, filter_header, with_count};
 use crate::lines::{content_end, line_end_after};
 use crate::page_lines::page_lines;
+use crate::parts::{Parts, move_bodies, move_starts};
 use crate::scan::scan;
 use std::alloc::{AllocError, Global};
 use std::fmt;
@@ -66,10 +69,7 @@ impl<'d> Document<'d> {
         if !text.starts_with(b"%!") {
             return Err(DscError::NotPostScript);
         }
-        let (seen, bodies) = match scan(alloc, text) {
-            Ok(found) => found,
-            Err(error) => return Err(widen(error)),
-        };
+        let (seen, bodies) = scan(alloc, text)?;
         if seen.starts.len() > MOST_PAGES {
             return Err(DscError::TooManyPages);
         }
@@ -83,6 +83,52 @@ impl<'d> Document<'d> {
             bodies,
             stop,
         })
+    }
+
+    /// Reads a text by the parts of a document from which it differs only before the first page. Refused with TooLong
+    /// alone.
+    pub fn from_parts(text: &'d [u8], parts: Parts) -> Result<Document<'d>, DscError>
+        requires serve { Serve parts text.now }
+        ensures answer { Gives (λ d. d) fault_told result (document_of text.now) }
+        ensures too_long { IfErr result (λ e. e ≡ TooLong) }
+    {
+        let len = text.len();
+        if len > MOST_BYTES {
+            return Err(DscError::TooLong);
+        }
+        let by = len - parts.len;
+        let Parts {
+            len: _,
+            mut starts,
+            mut bodies,
+            stop,
+        } = parts;
+        move_starts(&mut starts, by as u32);
+        move_bodies(&mut bodies, by as u32);
+        Ok(Document {
+            text,
+            starts,
+            bodies,
+            stop: stop + by,
+        })
+    }
+
+    /// Where its parts begin.
+    pub fn into_parts(self) -> Parts
+        ensures parts { ArePartsOf (bytes_of self.entry) result }
+    {
+        let Document {
+            text,
+            starts,
+            bodies,
+            stop,
+        } = self;
+        Parts {
+            len: text.len(),
+            starts,
+            bodies,
+            stop,
+        }
     }
 
     /// The text that it was read from.

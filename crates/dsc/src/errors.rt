@@ -1,8 +1,10 @@
 //! Why an input is refused.
 ghost use Rattle.std.specs.Prelude.{◌≡◌};
 ghost use Rattle.dsc.specs.Faults.{widened};
+ghost use Rattle.dsc.specs.declared.errors.CutError.TheVariants.{Faulty, NoMemory};
 
 use crate::units::UnitError;
+use std::alloc::AllocError;
 use thiserror::Error;
 
 /// Why a document or a page is refused. A byte index is that of the first byte of a faulty data block's first line.
@@ -45,15 +47,32 @@ pub enum CutError {
     NoMemory,
 }
 
-/// The same, in the type that callers get.
-pub fn widen(error: CutError) -> DscError
-    ensures { result ≡ widened error }
-{
-    match error {
-        CutError::Faulty(block) => match block.fault {
-            UnitError::BadCount => DscError::BadCount(block.at),
-            UnitError::ShortData => DscError::ShortData(block.at),
-        },
-        CutError::NoMemory => DscError::NoMemory,
+impl From<AllocError> for CutError {
+    ghost from_gives = { λ _ error. error ≡ NoMemory };
+
+    fn from(_error: AllocError) -> CutError {
+        CutError::NoMemory
+    }
+}
+
+impl From<FaultyBlock> for CutError {
+    ghost from_gives = { λ block error. error ≡ Faulty block };
+
+    fn from(block: FaultyBlock) -> CutError {
+        CutError::Faulty(block)
+    }
+}
+
+impl From<CutError> for DscError {
+    ghost from_gives = { λ error widened_to. widened_to ≡ widened error };
+
+    fn from(error: CutError) -> DscError {
+        match error {
+            CutError::Faulty(block) => match block.fault {
+                UnitError::BadCount => DscError::BadCount(block.at),
+                UnitError::ShortData => DscError::ShortData(block.at),
+            },
+            CutError::NoMemory => DscError::NoMemory,
+        }
     }
 }

@@ -14,7 +14,7 @@ ghost use Rattle.dsc.specs.Laws.{HasBody};
 ghost use Rattle.dsc.specs.declared.errors.DscError.TheVariants.{NoMemory};
 ghost use Rattle.dsc.specs.Filters.{drops_of, is_dropped, filter_on};
 
-use crate::errors::{CutError, DscError, widen};
+use crate::errors::{CutError, DscError};
 use crate::keys::{comment_letter, key_of};
 use crate::lines::is_line_end;
 use crate::units::LineOrBlock;
@@ -166,15 +166,9 @@ pub fn filter<'d>(copied: Vec<u8>, drops: Drops, text: &'d [u8]) -> Result<Kept<
     let mut walk = Walk::new(text);
     let mut was = false;
     while !walk.is_done() {
-        let step = match walk.step() {
-            Ok(step) => step,
-            Err(block) => return Err(CutError::Faulty(block)),
-        };
+        let step = walk.step()?;
         was = drops_unit(drops, was, &step.unit, step.depth);
-        match kept.go_on(step.unit.bytes.len(), was) {
-            Ok(()) => {}
-            Err(_) => return Err(CutError::NoMemory),
-        }
+        kept.go_on(step.unit.bytes.len(), was)?;
     }
     Ok(kept)
 }
@@ -254,30 +248,17 @@ pub fn prepare(alloc: Global, page: &[u8]) -> Result<Vec<u8>, DscError>
     ensures refusals { IfErr result IsPageError }
     ensures memory_alone { HasBody page.now → IfErr result (λ e. e ≡ NoMemory) }
 {
-    match prepare_page(alloc, page) {
-        Ok(body) => Ok(body),
-        Err(error) => Err(widen(error)),
-    }
+    let body = prepare_page(alloc, page)?;
+    Ok(body)
 }
 
 /// The prepared body of a page, or why it isn't cut.
 fn prepare_page(alloc: Global, page: &[u8]) -> Result<Vec<u8>, CutError>
     ensures { Gives (λ v. v.items) block_fault_told result (prepared page.now) }
 {
-    let room = match Vec::with_capacity(alloc, page.len() + 1) {
-        Ok(room) => room,
-        Err(_) => return Err(CutError::NoMemory),
-    };
-    let kept = match filter(room, Drops::PageSetup, page) {
-        Ok(kept) => kept,
-        Err(e) => return Err(e),
-    };
-    let mut copy = match kept.into_copy() {
-        Ok(copy) => copy,
-        Err(_) => return Err(CutError::NoMemory),
-    };
-    match end_line(&mut copy) {
-        Ok(()) => Ok(copy),
-        Err(_) => Err(CutError::NoMemory),
-    }
+    let room = Vec::with_capacity(alloc, page.len() + 1)?;
+    let kept = filter(room, Drops::PageSetup, page)?;
+    let mut copy = kept.into_copy()?;
+    end_line(&mut copy)?;
+    Ok(copy)
 }

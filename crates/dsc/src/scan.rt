@@ -72,19 +72,11 @@ pub fn scan(alloc: Global, text: &[u8]) -> Result<(Seen, Vec<u32>), CutError>
     let mut bodies = BodyStarts::new(alloc);
     let mut walk = Walk::new(text);
     while !walk.is_done() {
-        let step = match walk.step() {
-            Ok(step) => step,
-            Err(block) => return Err(CutError::Faulty(block)),
-        };
-        match note(&mut seen, &mut bodies, &step) {
-            Ok(()) => {}
-            Err(_) => return Err(CutError::NoMemory),
-        }
+        let step = walk.step()?;
+        note(&mut seen, &mut bodies, &step)?;
     }
-    match bodies.into_starts() {
-        Ok(bodies) => Ok((seen, bodies)),
-        Err(_) => Err(CutError::NoMemory),
-    }
+    let bodies = bodies.into_starts()?;
+    Ok((seen, bodies))
 }
 
 /// Notes a unit. Where bodies begin is noted only while there aren't too many pages.

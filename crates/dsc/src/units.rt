@@ -101,10 +101,7 @@ pub fn first_unit(text: &[u8]) -> Result<LineOrBlock<'_>, UnitError>
         }
         Some((behind, may_count_lines)) => {
             let (_, rest) = text.split_at(line_len);
-            let len = match data_len(behind, may_count_lines, rest) {
-                Ok(len) => len,
-                Err(e) => return Err(e),
-            };
+            let len = data_len(behind, may_count_lines, rest)?;
             let (bytes, _) = text.split_at(line_len + len);
             Ok(LineOrBlock {
                 content,

@@ -8,7 +8,7 @@ use Rattle.std.proofs.lemmas.Bool.{eqb-true}
 use Rattle.std.proofs.Math.Seq.{drop-append_seam}
 use Rattle.rules.specs.Bytes.{line}
 use Rattle.rules.specs.Units.{TextUnit, is_end, end_len, content_of, line_len, AreUnits, key, has_key, is_comment, begins_block, cut}
-use Rattle.rules.specs.Parts.{depth_after, nested, begins_page, begins_trailer, up_to, split_pages, bytes_of, pages, trailer, is_outermost_line}
+use Rattle.rules.specs.Parts.{depth_after, nested, begins_page, begins_trailer, up_to, starting_at, split_pages, bytes_of, pages, trailer, is_outermost_line}
 use Rattle.rules.specs.Filters.{ended}
 use Rattle.rules.specs.Run.{document_of}
 use Rattle.dsc.specs.Units.{or_none, units_of}
@@ -241,6 +241,8 @@ guarded_by (first ∷ more) text u us g d m l =
     lines_put_in w.front w.back first more (ap cut whole ∙ units_are text (w.front ++ w.back) are) back g.0 g.1 in
     let stay = pages_stay w.front (map line_unit lines) w.back 0 w.passing g.2 in
     let old : nested (u ∷ us) ≡ nested (w.front ++ w.back) = ap nested w.whole in
+    let rest_stays : starting_at begins_page (nested units) ≡ starting_at begins_page (nested (w.front ++ w.back)) =
+    from_passed begins_page 0 w.front (map line_unit lines ++ w.back) 0 w.passing ∙ from_passed begins_page 0 (map line_unit lines) w.back 0 g.2 ∙ sym (from_passed begins_page 0 w.front w.back 0 w.passing) in
     let same : pages (nested units) ≡ pages (nested (u ∷ us)) = stay.0 ∙ sym (ap pages old) in
     let made : AreUnits (put_in lines text) units = subst (λ t. AreUnits t units) (sym out) (are_units _ units put) in
     let starts : starts_with nat_eq (put_in lines text) (codes "%!") ≡ true =
@@ -253,6 +255,7 @@ guarded_by (first ∷ more) text u us g d m l =
         header = w.bytes;
         old = old;
         new = r.1;
+        same_rest = ap (starting_at begins_page) r.1 ∙ rest_stays ∙ sym (ap (starting_at begins_page) old);
         same_pages = ap pages r.1 ∙ same;
         same_trailer = ap trailer r.1 ∙ stay.1 ∙ sym (ap trailer old);
       },

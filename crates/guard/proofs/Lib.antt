@@ -1,5 +1,6 @@
 pub mod Guarding
 pub mod Gluing
 pub mod TheGuard
+pub mod Serving
 pub mod Sizes
 pub mod Examples

@@ -2,7 +2,7 @@
 use Rattle.std.specs.Prelude.{◌≡◌, ℕ, ◌<◌, ◌≤◌, List, [], ◌∷◌, ◌++◌, length, take, map, Option, Some, Ok, IfSome}
 use Rattle.std.specs.Prelude.{IsTrue}
 use Rattle.rules.specs.Units.{TextUnit}
-use Rattle.rules.specs.Parts.{NestedUnit, nested, begins_page, pages, trailer}
+use Rattle.rules.specs.Parts.{NestedUnit, nested, begins_page, starting_at, pages, trailer}
 use Rattle.rules.specs.Papers.{Paper, is_paper}
 use Rattle.rules.specs.Run.{document_of, most_input_bytes}
 use Rattle.dsc.specs.Units.{units_of}
@@ -18,13 +18,14 @@ CanBePutIn (first ∷ more) =
     (0 < length first) × AreLines (first ∷ more) × (passes begins_page 0 (map line_unit (first ∷ more)) ≡ Some 0)
 
 -- The text has the units `us`, and with the lines inserted the units `changed`, which have the lines' own units
--- after those of the header comments. Pages and trailer stay.
+-- after those of the header comments. From the first page on all stays.
 pub record ChangesPreambleAlone (lines : List (List ℕ)) (text : List ℕ) (us changed : List NestedUnit) : Type 0 where
   pub front : List TextUnit
   pub back : List TextUnit
   pub header : joined front ≡ take (header_len text) text
   pub old : us ≡ nested (front ++ back)
   pub new : changed ≡ nested (front ++ (map line_unit lines ++ back))
+  pub same_rest : starting_at begins_page changed ≡ starting_at begins_page us
   pub same_pages : pages changed ≡ pages us
   pub same_trailer : trailer changed ≡ trailer us
 

@@ -1,5 +1,7 @@
 //! A document's text with room before it, in which the guard is put without moving all of it.
 ghost use Rattle.std.specs.Prelude.{◌≡◌, ◌≤◌, drop, vec_len, option_map, OnErr, OnOk};
+ghost use Rattle.dsc.specs.Serving.{ArePartsOf, Serve};
+ghost use Rattle.dsc.specs.declared.parts.Parts.{Parts};
 ghost use Rattle.guard.specs.Guard.{guarded};
 
 use crate::text::put_guard_before;
@@ -44,10 +46,12 @@ impl RoomyText {
     }
 
     /// Puts the guard in, for this paper of the sheet. If there is room for it before the text, the header comments alone
-    /// are moved. Refused for memory alone; the text is as it was then.
+    /// are moved. The parts of the document serve for the guarded one. Refused for memory alone; the text is as it was
+    /// then.
     pub fn put_guard(&mut self, sheet_paper: Option<&Paper>) -> Result<(), AllocError>
         ensures put_in { OnOk result
             (self.new.items ≡ guarded (option_map (λ p. p.now) sheet_paper.entry) self.old.items) }
+        ensures parts { OnOk result ((parts : Parts) → ArePartsOf self.old.items parts → Serve parts self.new.items) }
         ensures unchanged { OnErr result (self.new.items ≡ self.old.items) }
     {
         self.start = put_guard_before(&mut self.bytes, self.start, sheet_paper)?;

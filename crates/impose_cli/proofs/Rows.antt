@@ -1,5 +1,5 @@
 -- What comes of a task with a row, and of a request.
-use Rattle.std.proofs.Common.{◌≡◌, ◌⊎◌, ◌∙◌, ap, sym, subst, refl, inl, inr, Bool, true, List, ℕ, Option, Some, None, Result, Ok, Err}
+use Rattle.std.proofs.Common.{◌≡◌, ◌⊎◌, ◌∙◌, ap, sym, subst, refl, arith, inl, inr, Bool, true, List, ℕ, Option, Some, None, Result, Ok, Err}
 use Rattle.std.specs.Prelude.{IfSome, length, map, option_map, string_bytes}
 use Rattle.made_sheets.specs.Rows.{Row}
 use Rattle.rules.specs.Papers.{Paper}
@@ -23,6 +23,8 @@ use Rattle.papers.specs.declared.cuts.Cut.{Cut}
 use Rattle.papers.specs.Names.{paper_named}
 use Rattle.impose_said.specs.Faults.{without_memory}
 use Rattle.dsc.specs.PagesBehind.{pages_behind}
+use Rattle.dsc.specs.Serving.{ArePartsOf, Serve}
+use Rattle.dsc.specs.declared.parts.Parts.{Parts}
 use Rattle.impose_said.specs.declared.finished.PaperOrigin.{PaperOrigin}
 use Rattle.impose_cli.specs.Claims.{IsToldBy}
 use Rattle.impose_said.specs.declared.finished.Told.{Told}
@@ -84,6 +86,13 @@ has_reach r input us reach read e = (us, read, e ∙ ap (λ t. reach_in true r (
 pub has_reach_over : (r : ImposeRequest) (input : List ℕ) (us : List NestedUnit) (paper : Paper) (reach : Option Reach) → document_of input ≡ Ok us
     → reach ≡ reach_over r paper (bytes_of us) us → HasReachOver r input paper reach
 has_reach_over r input us paper reach read e = (us, read, e ∙ ap (λ t. reach_over r paper t us) (whole input us read))
+
+-- a document's own parts serve for it, and are those of its text
+pub are_parts : (input : List ℕ) (us : List NestedUnit) (p : Parts) → document_of input ≡ Ok us → ArePartsOf (bytes_of us) p → ArePartsOf input p
+are_parts input us p read are = subst (λ text. ArePartsOf text p) (whole input us read) are
+
+pub serve_itself : (text : List ℕ) (p : Parts) → ArePartsOf text p → Serve p text
+serve_itself text p are = record { of = text; are = are; longer = omega arith; accepted = λ few. are.parts.accepted; same = λ few. refl }
 
 pub has_behind : (input : List ℕ) (us : List NestedUnit) (n : ℕ) → document_of input ≡ Ok us → n ≡ pages_behind us → HasBehind input n
 has_behind input us n read e = (us, read, e)

@@ -1,6 +1,7 @@
 //! A look at what a request would impose.
 ghost use Rattle.std.specs.Prelude.{IfErr, IfOk, IfSome};
 ghost use Rattle.rows.specs.Sewing.{MayBeSewn};
+ghost use Rattle.dsc.specs.Serving.{Serve};
 ghost use Rattle.row_runs.specs.Runs.{RefusesRun};
 ghost use Rattle.row_runs.specs.Sheets.{MayBeAsked, MayBeLaid};
 ghost use Rattle.impose_cli.specs.Endings.{RefusesRow, RefusesRowTaskRun};
@@ -8,7 +9,7 @@ ghost use Rattle.impose_cli.specs.Looks.{Tells, TellsRow, TellsTask};
 ghost use Rattle.impose_cli.specs.RowTasks.{LaysRows};
 
 use crate::row_task::{RowTask, asked_fault_of, row_task};
-use dsc::Document;
+use dsc::{Document, Parts};
 use guard::RoomyText;
 use impose_said::ImposeFault;
 use impose_words::ImposeRequest;
@@ -40,29 +41,26 @@ pub fn look_text(
     ensures told { IfOk result (λ text. TellsRow request.now input.items look text.items) }
     ensures refused { IfErr result (RefusesRow request.now input.items) }
 {
-    let task = match row_task(alloc, request, input) {
-        Ok(task) => task,
-        Err(fault) => return Err(fault),
-    };
-    match task_text(alloc, request, &task, look) {
-        Ok(text) => Ok(text),
-        Err(fault) => Err(fault),
-    }
+    let (task, parts) = row_task(alloc, request, input)?;
+    let text = task_text(alloc, request, &task, parts, look)?;
+    Ok(text)
 }
 
-/// The plan or the picture of a task.
+/// The plan or the picture of a task, whose text is read by these parts.
 fn task_text(
     alloc: Global,
     request: &ImposeRequest,
     task: &RowTask,
+    parts: Parts,
     look: Overview,
 ) -> Result<Vec<u8>, ImposeFault>
     requires laid { MayBeLaid task.now.laying }
     requires sewn { IfSome task.now.signing MayBeSewn }
+    requires parts { Serve parts task.now.text.items }
     ensures told { IfOk result (λ text. TellsTask request.now task.now look text.items) }
     ensures refused { IfErr result (RefusesRowTaskRun request.now task.now) }
 {
-    let document = match Document::read(alloc, task.text.as_slice()) {
+    let document = match Document::from_parts(task.text.as_slice(), parts) {
         Ok(document) => document,
         Err(error) => return Err(ImposeFault::Run(RunError::from(error))),
     };

@@ -127,10 +127,7 @@ fn read_head<I: Read + Drop>(alloc: Global, file: I) -> Result<Vec<u8>, ReadFaul
     ensures { IfOk result (λ head. IsFirst most_home_bytes (I.remaining file) head.items) }
 {
     let mut source = ReadSource::new(file.take(HOME_BYTES));
-    match read_input(alloc, &mut source) {
-        Ok(head) => Ok(head),
-        Err(fault) => Err(fault),
-    }
+    read_input(alloc, &mut source)
 }
 
 /// Checks the request, reads the input, and then makes what is asked for.

@@ -21,6 +21,7 @@ ghost use Rattle.impose_cli.specs.Reaches.{reach_in};
 ghost use Rattle.impose_cli.specs.Refusals.{RefusesDocument, RefusesRowTask};
 ghost use Rattle.impose_cli.specs.Tasks.{HasBehind, HasPages, page_paper_found};
 ghost use Rattle.dsc.specs.PagesBehind.{pages_behind};
+ghost use Rattle.dsc.specs.Serving.{ArePartsOf, Serve};
 
 use crate::laying::{laying_for, papers_for, signing_for};
 use crate::left::{Left, stopped};
@@ -29,7 +30,7 @@ use crate::runs::impose_job;
 use crate::taken::{papers_on_row, papers_taken, row_of_choice};
 use crate::task::{paper_of_pages, text_to_impose};
 use command_words::name_of;
-use dsc::Document;
+use dsc::{Document, Parts};
 use guard::RoomyText;
 use impose_said::{ImposeFault, PaperOrigin, of_document};
 use impose_words::{ImposeRequest, Layout, PageChoice};
@@ -62,49 +63,38 @@ pub struct RowTask {
     pub(crate) signing: Option<Signing>,
 }
 
-/// The request for this document, and the fault if it is found before the run.
+/// The request for this document, with parts that serve for its text, and the fault if it is found before the run.
 pub(crate) fn row_task(
     alloc: Global,
     request: &ImposeRequest,
     input: RoomyText,
-) -> Result<RowTask, ImposeFault>
+) -> Result<(RowTask, Parts), ImposeFault>
     requires rows { LaysRows request.now.layout }
-    ensures is_task { IfOk result (IsRowTask request.now input.items) }
+    ensures is_task { IfOk result (λ found. IsRowTask request.now input.items found.0) }
+    ensures parts { IfOk result (λ found. Serve found.1 found.0.text.items) }
     ensures refused { IfErr result (RefusesRowTask request.now input.items) }
 {
     // The document is read as it came, so that a fault has its place there.
-    let found = match papers_of(alloc, request, input.as_slice()) {
-        Ok(found) => found,
-        Err(fault) => return Err(fault),
-    };
+    let (found, parts) = papers_of(alloc, request, input.as_slice())?;
     let papers = papers_for(request, &found.page_paper);
-    let laying = match laying_for(&request.layout, &request.spacing, &papers) {
-        Ok(Some(laying)) => laying,
-        Ok(None) => unreachable!(),
-        Err(fault) => return Err(fault),
+    let Some(laying) = laying_for(&request.layout, &request.spacing, &papers)? else {
+        unreachable!()
     };
-    let signing = match signing_for(request) {
-        Ok(signing) => signing,
-        Err(fault) => return Err(fault),
+    let signing = signing_for(request)?;
+    let sheet = guarded_paper(alloc, request, &found, &papers.sheet)?;
+    let text = text_to_impose(request.is_guarded, &sheet, input)?;
+    let task = RowTask {
+        text,
+        page_paper: found.page_paper,
+        origin: found.origin,
+        papers: found.papers,
+        cut: found.cut,
+        reach: found.reach,
+        behind: found.behind,
+        laying,
+        signing,
     };
-    let sheet = match guarded_paper(alloc, request, &found, &papers.sheet) {
-        Ok(sheet) => sheet,
-        Err(fault) => return Err(fault),
-    };
-    match text_to_impose(request.is_guarded, &sheet, input) {
-        Ok(text) => Ok(RowTask {
-            text,
-            page_paper: found.page_paper,
-            origin: found.origin,
-            papers: found.papers,
-            cut: found.cut,
-            reach: found.reach,
-            behind: found.behind,
-            laying,
-            signing,
-        }),
-        Err(_) => Err(ImposeFault::no_memory()),
-    }
+    Ok((task, parts))
 }
 
 /// The papers of a document's pages.
@@ -126,18 +116,19 @@ struct FoundPapers {
     behind: usize,
 }
 
-/// The papers of the pages of this document, or why it is refused.
+/// The papers of the pages of this document, and where its parts begin, or why it is refused.
 fn papers_of(
     alloc: Global,
     request: &ImposeRequest,
     input: &[u8],
-) -> Result<FoundPapers, ImposeFault>
-    ensures found { IfOk result (λ found. ArePapersOf request.now input.now found.papers.items found.cut) }
-    ensures paper { IfOk result (λ found. IsRowPaper request.now input.now (found.page_paper, found.origin)) }
-    ensures reach { IfOk result (λ found. HasReach request.now input.now found.reach) }
-    ensures behind { IfOk result (λ found. HasBehind input.now found.behind) }
-    ensures count { IfOk result (λ found. found.pages ≡ length found.papers.items) }
-    ensures few { IfOk result (λ found. found.pages ≤ most_pages) }
+) -> Result<(FoundPapers, Parts), ImposeFault>
+    ensures found { IfOk result (λ found. ArePapersOf request.now input.now found.0.papers.items found.0.cut) }
+    ensures paper { IfOk result (λ found. IsRowPaper request.now input.now (found.0.page_paper, found.0.origin)) }
+    ensures reach { IfOk result (λ found. HasReach request.now input.now found.0.reach) }
+    ensures behind { IfOk result (λ found. HasBehind input.now found.0.behind) }
+    ensures count { IfOk result (λ found. found.0.pages ≡ length found.0.papers.items) }
+    ensures few { IfOk result (λ found. found.0.pages ≤ most_pages) }
+    ensures parts { IfOk result (λ found. ArePartsOf input.now found.1) }
     ensures refused { IfErr result (λ f.
         RefusesDocument input.now f ⊎ ((n : ℕ) × HasPages input.now n × (f ≡ without_memory))) }
 {
@@ -145,10 +136,8 @@ fn papers_of(
         Ok(document) => document,
         Err(error) => return Err(of_document(error, input)),
     };
-    match papers_in(alloc, request, &document) {
-        Ok(found) => Ok(found),
-        Err(_) => Err(ImposeFault::no_memory()),
-    }
+    let found = papers_in(alloc, request, &document)?;
+    Ok((found, document.into_parts()))
 }
 
 /// Whether the document's pages all have this paper, and sheets and cells are made for it.
@@ -161,10 +150,8 @@ pub(crate) fn has_one_paper(
     ensures told { IfOk result (TellsOnePaper request.now input.now paper.now) }
     ensures refused { IfErr result (λ f. RefusesDocument input.now f ⊎ (f ≡ without_memory)) }
 {
-    match papers_of(alloc, request, input) {
-        Ok(found) => Ok(are_all(&found.page_paper, found.papers.as_slice(), paper)),
-        Err(fault) => Err(fault),
-    }
+    let (found, _) = papers_of(alloc, request, input)?;
+    Ok(are_all(&found.page_paper, found.papers.as_slice(), paper))
 }
 
 /// Whether this first paper and the others are that one.
@@ -330,22 +317,24 @@ fn paper_of_first(row: &[Option<u32>], papers: &[Paper], blank: &Paper) -> Paper
     }
 }
 
-/// Imposes a task.
+/// Imposes a task, whose text is read by these parts.
 pub(crate) fn impose_task<R: Threads + Wait + Sync, W: World>(
     rt: &R,
     alloc: Global,
     request: &ImposeRequest,
     task: &RowTask,
+    parts: Parts,
     world: W,
 ) -> Left<W, Report>
     requires laid { MayBeLaid task.now.laying }
     requires sewn { IfSome task.now.signing MayBeSewn }
     requires border { IsTrue (is_border request.now.border) }
+    requires parts { Serve parts task.now.text.items }
     ensures { Comes (RefusesRowTaskRun request.now task.now) (ImposesTask request.now task.now)
         (option_map string_bytes request.now.outfile) (W.tells world) result.outcome
         world result.rest (shown W.Output.contents result.rest) }
 {
-    let document = match Document::read(alloc, task.text.as_slice()) {
+    let document = match Document::from_parts(task.text.as_slice(), parts) {
         Ok(document) => document,
         Err(error) => return stopped(ImposeFault::Run(RunError::from(error)), world),
     };

@@ -76,11 +76,11 @@ fn run_row<R: Threads + Wait + Sync, W: World>(
         world result.rest (shown W.Output.contents result.rest) }
 {
     let told = told_by(alloc, request, input.as_slice());
-    let task = match row_task(alloc, request, input) {
-        Ok(task) => task,
+    let (task, parts) = match row_task(alloc, request, input) {
+        Ok(found) => found,
         Err(fault) => return stopped(fault, world),
     };
-    let left = impose_task(rt, alloc, request, &task, world);
+    let left = impose_task(rt, alloc, request, &task, parts, world);
     let about = About {
         page_paper: task.page_paper,
         origin: task.origin,

@@ -51,31 +51,20 @@ pub(crate) fn spec_row_task(
 {
     // The document is read as it came, so that a fault has its place there.
     let (page_paper, origin) = paper_of_pages(request, input.as_slice());
-    let counted = match pages_of(alloc, request, input.as_slice(), &page_paper) {
-        Ok(counted) => counted,
-        Err(fault) => return Err(fault),
-    };
-    let spec = match named_spec(alloc, &request.layout) {
-        Ok(spec) => spec,
-        Err(fault) => return Err(fault),
-    };
-    let signing = match signing_for(request) {
-        Ok(signing) => signing,
-        Err(fault) => return Err(fault),
-    };
+    let counted = pages_of(alloc, request, input.as_slice(), &page_paper)?;
+    let spec = named_spec(alloc, &request.layout)?;
+    let signing = signing_for(request)?;
     let sheet_paper = *paper_of_sheets(&request.sheet_paper, &page_paper);
-    match text_to_impose(request.is_guarded, &sheet_paper, input) {
-        Ok(text) => Ok(SpecRowTask {
-            text,
-            spec,
-            signing,
-            page_paper,
-            sheet_paper,
-            origin,
-            counted,
-        }),
-        Err(_) => Err(ImposeFault::no_memory()),
-    }
+    let text = text_to_impose(request.is_guarded, &sheet_paper, input)?;
+    Ok(SpecRowTask {
+        text,
+        spec,
+        signing,
+        page_paper,
+        sheet_paper,
+        origin,
+        counted,
+    })
 }
 
 /// The specification that the layout names.

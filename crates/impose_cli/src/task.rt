@@ -2,6 +2,8 @@
 ghost use Rattle.std.specs.Prelude.{◌≡◌, ◌⊎◌, ℕ, List, ◌<◌, ◌≤◌, IfErr, IfOk, None, OnOk, Some, not, option_map, pos, string_bytes, unwrap_or};
 ghost use Rattle.std.specs.Ordering.{int_eq};
 ghost use Rattle.rules.specs.Run.{most_pages};
+ghost use Rattle.dsc.specs.Serving.{ArePartsOf, Serve};
+ghost use Rattle.dsc.specs.declared.parts.Parts.{Parts};
 ghost use Rattle.made_sheets.specs.Choice.{sides_for};
 ghost use Rattle.rows.specs.Sewing.{signing_of};
 ghost use Rattle.layouts.specs.Grids.{bound};
@@ -123,36 +125,24 @@ pub fn task_for(
 {
     // The document is read as it came, so that a fault has its place there.
     let (page_paper, origin) = paper_of_pages(request, input.as_slice());
-    let counted = match pages_of(alloc, request, input.as_slice(), &page_paper) {
-        Ok(counted) => counted,
-        Err(fault) => return Err(fault),
-    };
+    let counted = pages_of(alloc, request, input.as_slice(), &page_paper)?;
     if !is_said(request) {
         return Err(ImposeFault::NoSpecification);
     }
     let sheet_paper = *paper_of_sheets(&request.sheet_paper, &page_paper);
-    match check_one_paper(alloc, request, input.as_slice(), &page_paper) {
-        Ok(()) => {}
-        Err(fault) => return Err(fault),
-    }
+    check_one_paper(alloc, request, input.as_slice(), &page_paper)?;
     let papers = Papers {
         page: page_paper,
         sheet: sheet_paper,
     };
-    let (spec, sides) = match placing(
+    let (spec, sides) = placing(
         alloc,
         &request.layout,
         &request.spacing,
         &papers,
         counted.pages,
-    ) {
-        Ok(placed) => placed,
-        Err(fault) => return Err(fault),
-    };
-    let text = match text_to_impose(request.is_guarded, &sheet_paper, input) {
-        Ok(text) => text,
-        Err(_) => return Err(ImposeFault::no_memory()),
-    };
+    )?;
+    let text = text_to_impose(request.is_guarded, &sheet_paper, input)?;
     let options = Options {
         paper: page_paper,
         border: request.border,
@@ -182,10 +172,10 @@ fn check_one_paper(
     if !has_specification(&request.layout) {
         return Ok(());
     }
-    match has_one_paper(alloc, request, input, paper) {
-        Ok(true) => Ok(()),
-        Ok(false) => Err(ImposeFault::SeveralPapers),
-        Err(fault) => Err(fault),
+    if has_one_paper(alloc, request, input, paper)? {
+        Ok(())
+    } else {
+        Err(ImposeFault::SeveralPapers)
     }
 }
 
@@ -196,18 +186,20 @@ fn has_specification(layout: &Layout) -> bool
     matches!(layout, Layout::NUp(_) | Layout::Booklet { .. })
 }
 
-/// The document, with the guard in it if it is asked for.
+/// The document, with the guard in it if it is asked for. Its parts serve for that text.
 pub(crate) fn text_to_impose(
     is_guarded: bool,
     sheet_paper: &Paper,
     input: RoomyText,
 ) -> Result<RoomyText, AllocError>
-    ensures { IfOk result (λ text. text.items ≡ taken_text is_guarded sheet_paper.now input.items) }
+    ensures taken { IfOk result (λ text. text.items ≡ taken_text is_guarded sheet_paper.now input.items) }
+    ensures parts { IfOk result (λ text. (parts : Parts) → ArePartsOf input.items parts → Serve parts text.items) }
 {
-    let mut text = input;
-    if is_guarded {
-        text.put_guard(Some(sheet_paper))?;
+    if !is_guarded {
+        return Ok(input);
     }
+    let mut text = input;
+    text.put_guard(Some(sheet_paper))?;
     Ok(text)
 }
 

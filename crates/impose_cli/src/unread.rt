@@ -21,10 +21,8 @@ pub fn check_request(alloc: Global, request: &ImposeRequest) -> Result<(), Impos
     if let Some(fault) = option_fault(request) {
         return Err(fault);
     }
-    match check_layout(alloc, request) {
-        Ok(()) => check_ranges(alloc, &request.choice),
-        Err(fault) => Err(fault),
-    }
+    check_layout(alloc, request)?;
+    check_ranges(alloc, &request.choice)
 }
 
 /// Why the options are refused, if they are.

@@ -3,6 +3,7 @@ use Rattle.std.specs.Prelude.{option_map}
 use Rattle.std.specs.Io.Take.{take_inner, take_limit, take_remaining}
 use Rattle.std.specs.declared.io.Take.{Take}
 use Rattle.std.proofs.lemmas.List.{length-take, take_all}
+use Rattle.std.proofs.lemmas.Result.{IfOk-weaker}
 use Rattle.world.specs.Input.{IsFirst, most_bytes}
 use Rattle.impose_cli.specs.Programs.{most_home_bytes}
 use Rattle.impose_cli.proofs.program.read_head.Goals as goal
@@ -21,6 +22,8 @@ of_head remaining t file given bytes limit inner is h =
     ap (λ n. option_map (take n) (remaining t.inner)) limit ∙ ap (λ r. option_map (take 4_096) (remaining r)) inner in
     of_few (remaining file) bytes (subst (λ (g : Option (List ℕ)). IsFirst most_bytes g bytes) (is ∙ few) h)
 
-pub returns-in-Ok : goal.returns-in-Ok
-returns-in-Ok g c =
-    of_head g.I.Read.remaining c.take.result c.args.file _ c.in-Ok.head.items c.take.ensures.limit c.take.ensures.inner c.new-source.ensures.remaining c.in-Ok.ensures.read
+pub returns : goal.returns
+returns g c =
+    IfOk-weaker c.read_input.result _ _
+    (λ head h. of_head g.I.Read.remaining c.take.result c.args.file _ head.items c.take.ensures.limit c.take.ensures.inner c.new-source.ensures.remaining h)
+    c.read_input.ensures.read

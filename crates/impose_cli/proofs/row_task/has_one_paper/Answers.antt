@@ -1,14 +1,19 @@
-use Rattle.std.proofs.Common.{inl, inr}
+use Rattle.std.proofs.Common.{◌≡◌, ◌⊎◌, inl, inr}
+use Rattle.layouts.proofs.Fitting.{handed_on}
+use Rattle.impose_said.specs.Faults.{without_memory}
+use Rattle.impose_cli.specs.Refusals.{RefusesDocument}
 use Rattle.impose_cli.proofs.OnePaper.{tells_one}
 use Rattle.impose_cli.proofs.row_task.has_one_paper.Goals as goal
 
-pub returns-in-Ok-clause-told : goal.returns-in-Ok-clause-told
-returns-in-Ok-clause-told c =
-    tells_one c.args.request.now c.args.input.now (c.in-Ok.found.page_paper, c.in-Ok.found.origin) c.in-Ok.found.papers.items c.in-Ok.found.cut c.args.paper.now _
-    c.in-Ok.ensures.paper c.in-Ok.ensures.found (rw c.as_slice.ensures.value at c.are_all.ensures)
+pub returns-clause-told : goal.returns-clause-told
+returns-clause-told c =
+    tells_one c.args.request.now c.args.input.now (c.in_ok-found.found.page_paper, c.in_ok-found.found.origin) c.in_ok-found.found.papers.items c.in_ok-found.found.cut c.args.paper.now _
+    c.in_ok-found.ensures.paper c.in_ok-found.ensures.found (rw c.as_slice.ensures.value at c.are_all.ensures)
 
-pub returns-in-Err-clause-refused : goal.returns-in-Err-clause-refused
-returns-in-Err-clause-refused c = elim c.in-Err.ensures.refused [
-  | inl refused ↦ inl refused
-  | inr spent ↦ inr spent.2
-]
+pub returns-in_err-found-clause-refused : goal.returns-in_err-found-clause-refused
+returns-in_err-found-clause-refused c =
+    handed_on c.from_residual.result c.in_err-found.field-0.0 (λ f. RefusesDocument c.args.input.now f ⊎ (f ≡ without_memory)) c.from_residual.ensures.1
+    (elim c.in_err-found.ensures.refused [
+      | inl refused ↦ inl refused
+      | inr spent ↦ inr spent.2
+    ])

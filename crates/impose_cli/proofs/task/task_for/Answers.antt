@@ -5,63 +5,68 @@ use Rattle.impose_said.specs.Faults.{without_memory}
 use Rattle.impose_said.specs.declared.fault.ImposeFault.TheVariants as fault
 use Rattle.impose_cli.specs.Tasks.{is_said, page_paper_found, sheet_paper_found}
 use Rattle.impose_cli.specs.Refusals.{HasOnePaper, HasOtherPapers, RefusesDocument, RefusesFor, why_not_specified}
+use Rattle.layouts.proofs.Fitting.{handed_on}
 use Rattle.impose_cli.proofs.OnePaper.{no_fault, refused_check, refused_count, refused_late, refused_part, refused_placing}
 use Rattle.impose_said.specs.declared.finished.PaperOrigin.{PaperOrigin}
 use Rattle.impose_cli.proofs.task.task_for.Goals as goal
 
 pub returns-clause-is_task : goal.returns-clause-is_task
 returns-clause-is_task c = record {
-  page_count = c.in-Ok.counted.pages;
-  document = rw c.as_slice-2.ensures.value at c.in-Ok.ensures.counted;
+  page_count = c.in_ok-counted.counted.pages;
+  document = rw c.as_slice-2.ensures.value at c.in_ok-counted.ensures.counted;
   said = search rules;
-  behind = rw c.as_slice-2.ensures.value at c.in-Ok.ensures.behind;
-  reach = rw c.as_slice-2.ensures.value at c.in-Ok.ensures.reach;
+  behind = rw c.as_slice-2.ensures.value at c.in_ok-counted.ensures.behind;
+  reach = rw c.as_slice-2.ensures.value at c.in_ok-counted.ensures.reach;
   page_paper = rw c.as_slice.ensures.value at c.paper_of_pages-page_paper.ensures;
-  placed = rw c.paper_of_sheets.ensures at c.in-Ok-placing.ensures.placed;
-  text = rw c.paper_of_sheets.ensures at c.in-Ok-text_to_impose.ensures;
+  placed = rw c.paper_of_sheets.ensures at c.in_ok-spec.ensures.placed;
+  text = rw c.paper_of_sheets.ensures at c.in_ok-text.ensures.taken;
   border = refl;
   workers = refl;
 }
 
-pub returns-in-Err-clause-refused : goal.returns-in-Err-clause-refused
-returns-in-Err-clause-refused c =
-    refused_count c.args.request.now c.args.input.items c.in-Err.fault (rw c.as_slice-2.ensures.value at c.in-Err.ensures.refused)
+pub returns-in_err-counted-clause-refused : goal.returns-in_err-counted-clause-refused
+returns-in_err-counted-clause-refused c =
+    handed_on c.from_residual.result _ _ c.from_residual.ensures.1
+    (refused_count c.args.request.now c.args.input.items c.in_err-counted.field-0.0 (rw c.as_slice-2.ensures.value at c.in_err-counted.ensures.refused))
 
-pub returns-in-Err-placing-clause-refused : goal.returns-in-Err-placing-clause-refused
-returns-in-Err-placing-clause-refused c =
+pub returns-in_err-spec-clause-refused : goal.returns-in_err-spec-clause-refused
+returns-in_err-spec-clause-refused c =
     let request = c.args.request.now in
     let found : c.paper_of_pages-page_paper.result ≡ page_paper_found request.page_paper request.home_paper c.args.input.items = rw c.as_slice.ensures.value at c.paper_of_pages-page_paper.ensures in
     let said : is_said request ≡ true = search rules in
-    let one = subst (λ (p : Paper × PaperOrigin). HasOnePaper request c.args.input.items p.0) found (rw c.as_slice-3.ensures.value at c.in-Ok-check_one_paper.ensures.one) in
-    let refused = rw c.paper_of_sheets.ensures at c.in-Err-placing.ensures.refused in
-    let there = subst (λ (p : Paper × PaperOrigin). RefusesFor (why_not_specified request.layout request.spacing p.0 (sheet_paper_found request.sheet_paper p.0)) c.in-Err-placing.fault) found refused in
-    refused_placing request c.args.input.items c.in-Ok.counted.pages c.in-Err-placing.fault (rw c.as_slice-2.ensures.value at c.in-Ok.ensures.counted) said one there
+    let one = subst (λ (p : Paper × PaperOrigin). HasOnePaper request c.args.input.items p.0) found (rw c.as_slice-3.ensures.value at c.in_ok-check_one_paper.ensures.one) in
+    let refused = rw c.paper_of_sheets.ensures at c.in_err-spec.ensures.refused in
+    let there = subst (λ (p : Paper × PaperOrigin). RefusesFor (why_not_specified request.layout request.spacing p.0 (sheet_paper_found request.sheet_paper p.0)) c.in_err-spec.field-0.0) found refused in
+    handed_on c.from_residual-in_err-spec.result _ _ c.from_residual-in_err-spec.ensures.1
+    (refused_placing request c.args.input.items c.in_ok-counted.counted.pages c.in_err-spec.field-0.0 (rw c.as_slice-2.ensures.value at c.in_ok-counted.ensures.counted) said one there)
 
 pub returns-then-not-is_said-clause-refused : goal.returns-then-not-is_said-clause-refused
 returns-then-not-is_said-clause-refused c =
     let part : is_said c.args.request.now ≡ false = search rules in
-    refused_part c.args.request.now c.args.input.items c.in-Ok.counted.pages fault.NoSpecification (rw c.as_slice-2.ensures.value at c.in-Ok.ensures.counted) part refl
+    refused_part c.args.request.now c.args.input.items c.in_ok-counted.counted.pages fault.NoSpecification (rw c.as_slice-2.ensures.value at c.in_ok-counted.ensures.counted) part refl
 
-pub returns-in-Err-text_to_impose-clause-refused : goal.returns-in-Err-text_to_impose-clause-refused
-returns-in-Err-text_to_impose-clause-refused c =
-    refused_late c.args.request.now c.args.input.items c.in-Ok.counted.pages c.no_memory.result (rw c.as_slice-2.ensures.value at c.in-Ok.ensures.counted) c.no_memory.ensures
+pub returns-in_err-text-clause-refused : goal.returns-in_err-text-clause-refused
+returns-in_err-text-clause-refused c =
+    handed_on c.from_residual-in_err-text.result _ _ c.from_residual-in_err-text.ensures.1
+    (refused_late c.args.request.now c.args.input.items c.in_ok-counted.counted.pages without_memory (rw c.as_slice-2.ensures.value at c.in_ok-counted.ensures.counted) refl)
 
 pub returns-clause-accepted : goal.returns-clause-accepted
 returns-clause-accepted c =
     let request = c.args.request.now in
     let found : c.paper_of_pages-page_paper.result ≡ page_paper_found request.page_paper request.home_paper c.args.input.items = rw c.as_slice.ensures.value at c.paper_of_pages-page_paper.ensures in
     let said : is_said request ≡ true = search rules in
-    let one = subst (λ (p : Paper × PaperOrigin). HasOnePaper request c.args.input.items p.0) found (rw c.as_slice-3.ensures.value at c.in-Ok-check_one_paper.ensures.one) in
-    let possible = rw c.paper_of_sheets.ensures at c.in-Ok-placing.ensures.possible in
+    let one = subst (λ (p : Paper × PaperOrigin). HasOnePaper request c.args.input.items p.0) found (rw c.as_slice-3.ensures.value at c.in_ok-check_one_paper.ensures.one) in
+    let possible = rw c.paper_of_sheets.ensures at c.in_ok-spec.ensures.possible in
     let there = subst (λ (p : Paper × PaperOrigin). why_not_specified request.layout request.spacing p.0 (sheet_paper_found request.sheet_paper p.0) ≡ None) found possible in
-    no_fault request c.args.input.items c.in-Ok.counted.pages (rw c.as_slice-2.ensures.value at c.in-Ok.ensures.counted) said one there
+    no_fault request c.args.input.items c.in_ok-counted.counted.pages (rw c.as_slice-2.ensures.value at c.in_ok-counted.ensures.counted) said one there
 
-pub returns-in-Err-check_one_paper-clause-refused : goal.returns-in-Err-check_one_paper-clause-refused
-returns-in-Err-check_one_paper-clause-refused c =
+pub returns-in_err-check_one_paper-clause-refused : goal.returns-in_err-check_one_paper-clause-refused
+returns-in_err-check_one_paper-clause-refused c =
     let request = c.args.request.now in
     let found : c.paper_of_pages-page_paper.result ≡ page_paper_found request.page_paper request.home_paper c.args.input.items = rw c.as_slice.ensures.value at c.paper_of_pages-page_paper.ensures in
     let said : is_said request ≡ true = search rules in
-    let refused = rw c.as_slice-3.ensures.value at c.in-Err-check_one_paper.ensures.refused in
-    refused_check request c.args.input.items c.in-Ok.counted.pages c.in-Err-check_one_paper.fault (rw c.as_slice-2.ensures.value at c.in-Ok.ensures.counted) said
-    (subst (λ (p : Paper × PaperOrigin). RefusesDocument c.args.input.items c.in-Err-check_one_paper.fault
-    ⊎ ((c.in-Err-check_one_paper.fault ≡ without_memory) ⊎ ((c.in-Err-check_one_paper.fault ≡ fault.SeveralPapers) × HasOtherPapers request c.args.input.items p.0))) found refused)
+    let refused = rw c.as_slice-3.ensures.value at c.in_err-check_one_paper.ensures.refused in
+    handed_on c.from_residual-in_err-check_one_paper.result _ _ c.from_residual-in_err-check_one_paper.ensures.1
+    (refused_check request c.args.input.items c.in_ok-counted.counted.pages c.in_err-check_one_paper.field-0.0 (rw c.as_slice-2.ensures.value at c.in_ok-counted.ensures.counted) said
+    (subst (λ (p : Paper × PaperOrigin). RefusesDocument c.args.input.items c.in_err-check_one_paper.field-0.0
+    ⊎ ((c.in_err-check_one_paper.field-0.0 ≡ without_memory) ⊎ ((c.in_err-check_one_paper.field-0.0 ≡ fault.SeveralPapers) × HasOtherPapers request c.args.input.items p.0))) found refused))
