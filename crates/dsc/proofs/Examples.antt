@@ -1,9 +1,17 @@
--- Which lines belong to the header comments, and which have a box, worked out.
-use Rattle.std.proofs.Common.{◌≡◌, ℕ, true, false, List, [], ◌∷◌, refl}
-use Rattle.std.specs.Prelude.{codes, None, Some}
-use Rattle.rules.specs.Parts.{NestedUnit}
+-- Which lines belong to the header comments, which have a box, and when parts serve for another text, worked out.
+use Rattle.std.proofs.Common.{◌≡◌, ◌<◌, ℕ, zero, suc, true, false, List, [], ◌∷◌, ap, arith, refl, Result}
+use Rattle.std.specs.Prelude.{codes, None, Some, Ok, Err, slice_index_or}
+use Rattle.rules.specs.Parts.{NestedUnit, page_run, split_pages}
+use Rattle.rules.specs.Run.{document_of, DocumentFault}
+use Rattle.dsc.specs.Units.{units_of}
+use Rattle.dsc.specs.Marks.{starts_of}
+use Rattle.dsc.specs.BodyStarts.{IsBodyStart}
+use Rattle.dsc.specs.Documents.{HasItsParts}
+use Rattle.dsc.specs.Serving.{ArePartsOf, Serve}
+use Rattle.dsc.specs.declared.parts.Parts.{Parts}
 use Rattle.dsc.specs.Header.{stays, is_last}
 use Rattle.dsc.specs.TrailerBoxes.{box_in, box_among}
+use Rattle.dsc.proofs.Serving.{served}
 
 -- Which lines continue the header comments.
 
@@ -111,3 +119,45 @@ box_of_an_embedded_document = refl
 -- of two boxes the first one counts
 first_box : box_among (a_line 0 (codes "showpage") ∷ a_line 0 (codes "%%BoundingBox: 1") ∷ a_line 0 (codes "%%BoundingBox: 2") ∷ []) ≡ Some (codes "1" ∷ [])
 first_box = refl
+
+-- When the parts of a document serve for another text.
+
+-- a document of one page, and the same with one more line before the page
+abbrev one_page : List ℕ
+one_page = codes "%!\n%%Page: 1 1\nx\n"
+
+abbrev with_a_line : List ℕ
+with_a_line = codes "%!\n%g\n%%Page: 1 1\nx\n"
+
+its_parts : HasItsParts one_page (3 ∷ []) (15 ∷ []) 17
+its_parts = record {
+  accepted = refl;
+  is_cut = refl;
+  starts_are = refl;
+  some = omega arith;
+  few = omega arith;
+  stop_is = refl;
+  bodies_are = record {
+    count = refl;
+    each = body;
+  };
+}
+  where
+    body : (p : ℕ) → p < 1 → IsBodyStart (slice_index_or (starts_of (units_of one_page)) p 0) (slice_index_or (15 ∷ []) p 0) (slice_index_or (split_pages (page_run (units_of one_page))) p [])
+    body zero below = λ some. (omega arith, omega arith, refl, refl)
+    body (suc p) below = absurd (omega (arith, below))
+
+serves : (p : Parts) → ArePartsOf one_page p → Serve p with_a_line
+serves p are = record { of = one_page; are = are; longer = omega arith; accepted = λ few. refl; same = λ few. refl }
+
+-- where the page, its body and the end are then
+moved : HasItsParts with_a_line (6 ∷ []) (18 ∷ []) 20
+moved = served one_page with_a_line (3 ∷ []) (15 ∷ []) 17 3 its_parts refl refl refl
+
+-- they serve for no text without a page
+without_a_page : (p : Parts) → Serve p (codes "%!\n") → ⊥
+without_a_page p s = let e : 0 ≡ 1 = ap taken (s.accepted (omega arith)) in absurd (omega (arith, e))
+  where
+    taken : Result (List NestedUnit) DocumentFault → ℕ
+    taken (Ok us) = 1
+    taken (Err f) = 0

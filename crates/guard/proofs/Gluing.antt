@@ -109,7 +109,7 @@ put_before lines bytes start n begin end front new is f within e h =
     ∙ ap (λ k. ended (take k (drop start bytes)) ++ (flat_map line lines ++ drop k (drop start bytes))) is
 
 -- adding a line end loses no byte
-ended_grows : (xs : List ℕ) → length xs ≤ length (ended xs)
+pub ended_grows : (xs : List ℕ) → length xs ≤ length (ended xs)
 ended_grows [] = omega arith
 ended_grows (b ∷ []) = by (is_end b)
   where

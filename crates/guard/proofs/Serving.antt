@@ -1,9 +1,8 @@
 -- The parts of a document serve for the document with the guard.
-use Rattle.std.specs.Prelude.{flat_map, if◌then◌else◌, Option}
-use Rattle.std.proofs.Common.{Bool, true, false, ◌≤◌, ℕ, List, [], ◌∷◌, ◌++◌, length, take, drop, ap, arith, length-append}
+use Rattle.std.specs.Prelude.{flat_map, Option}
+use Rattle.std.proofs.Common.{◌≤◌, ℕ, List, ◌++◌, length, take, drop, ap, arith, length-append}
 use Rattle.std.proofs.lemmas.List.{take-append-drop}
 use Rattle.rules.specs.Bytes.{line}
-use Rattle.rules.specs.Units.{is_end}
 use Rattle.rules.specs.Papers.{Paper}
 use Rattle.rules.specs.Filters.{ended}
 use Rattle.dsc.specs.Header.{header_len}
@@ -12,24 +11,15 @@ use Rattle.dsc.specs.Units.{units_of}
 use Rattle.dsc.specs.declared.parts.Parts.{Parts}
 use Rattle.guard.specs.PutIn.{put_in}
 use Rattle.guard.specs.Guard.{guard_lines, guarded}
+use Rattle.guard.proofs.Gluing.{ended_grows}
 use Rattle.guard.proofs.TheGuard.{guard_stays}
-
--- lines make a text no shorter
-ended_longer : (t : List ℕ) → length t ≤ length (ended t)
-ended_longer [] = omega arith
-ended_longer (b ∷ []) = by_end (is_end b)
-  where
-    by_end : (e : Bool) → 1 ≤ length (if e then b ∷ [] else b ∷ 10 ∷ [])
-    by_end true = omega arith
-    by_end false = omega arith
-ended_longer (b ∷ c ∷ bs) = let more = ended_longer (c ∷ bs) in omega (arith, more)
 
 put_in_longer : (lines : List (List ℕ)) (text : List ℕ) → length text ≤ length (put_in lines text)
 put_in_longer lines text =
     let n : ℕ = header_len text in
     let whole = length-append (take n text) (drop n text) in
     let same = ap length (take-append-drop n text) in
-    let front = ended_longer (take n text) in
+    let front = ended_grows (take n text) in
     let one = length-append (ended (take n text)) (flat_map line lines ++ drop n text) in
     let two = length-append (flat_map line lines) (drop n text) in
     omega (arith, whole, same, front, one, two)

@@ -81,7 +81,7 @@ short_edge : (t : Setting) (page : Paper) (b : Bool) → b ≡ false → halves 
 short_edge t page b e = ap (halves t page) e
 
 pub booklet_is_specified : BookletIsSpecified
-booklet_is_specified page sheet b row possible short =
+booklet_is_specified page sheet b entries possible short =
     let t = binding_setting_of sheet b in
-    ap (λ spec. by_spec spec sheet page row) ((bound_is_fitted page sheet b possible).1 ∙ short_edge t page b.long_edge short)
-    ∙ grid_is t page row 2
+    ap (λ spec. by_spec spec sheet page entries) ((bound_is_fitted page sheet b possible).1 ∙ short_edge t page b.long_edge short)
+    ∙ grid_is t page entries 2
