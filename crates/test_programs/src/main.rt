@@ -1,10 +1,13 @@
-//! Runs each case of its folder `data`: command lines of impose over files in memory, and faults that are made up. It
-//! prints what differs.
+//! Imposes the documents in its folder `data`, which real programs wrote. Then it runs the cases of the files there: command
+//! lines of pstops and impose over files in memory, and faults that are made up. It prints what differs.
 #![tactic(auto)]
 
 mod asked;
+mod corpus;
 mod cut_off;
 mod made_faults;
+mod pstops_runs;
+mod requests;
 mod runs;
 
 use runs::found_of_case;
@@ -12,8 +15,13 @@ use std::sync::Wait;
 use std::thread::Threads;
 use test_cases::{Tally, load};
 
-/// The case files.
-const FILES: [&str; 8] = [
+/// The case files, those of pstops first.
+const FILES: [&str; 13] = [
+    "examples.cases",
+    "files.cases",
+    "refused.cases",
+    "refused_words.cases",
+    "words.cases",
     "messages.cases",
     "specifications.cases",
     "looks.cases",
@@ -25,6 +33,7 @@ const FILES: [&str; 8] = [
 ];
 
 fn main(rt: HostRuntime) -> anyhow::Result<()> {
+    corpus::impose_all(&rt, &rt)?;
     let mut tally = Tally::new();
     for name in &FILES {
         run_file(&rt, &rt, name, &mut tally)?;

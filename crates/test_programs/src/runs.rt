@@ -2,6 +2,8 @@
 use crate::asked::{Asked, asked_of};
 use crate::cut_off::found_of_cut_offs;
 use crate::made_faults::fault_named;
+use crate::pstops_runs::run_pstops;
+use crate::requests::requested;
 use impose_cli::{
     Done, Ended, ImposeFault, RequestFault, Rest, RoomyText, fault_status, impose, read_command,
     text_said,
@@ -60,6 +62,8 @@ fn found_of_words<R: Threads + Wait + Sync>(
 ) -> Option<Found> {
     let (command, more) = words.split_first()?;
     match command.as_str() {
+        "pstops" => run_pstops(rt, alloc, files, more, asked.takes).ok(),
+        "read_command" => requested(alloc, more).ok(),
         "impose" => run(rt, alloc, files, words, asked, asked.takes).ok(),
         "cut_off" => found_of_cut_offs(rt, alloc, files, more, asked).ok(),
         "fault" => found_of_fault(alloc, more),
@@ -68,7 +72,7 @@ fn found_of_words<R: Threads + Wait + Sync>(
     }
 }
 
-/// Runs the program with these words over these files, into outputs that take so much.
+/// Runs impose with these words over these files, into outputs that take so much.
 pub fn run<R: Threads + Wait + Sync>(
     rt: &R,
     alloc: Global,

@@ -1,11 +1,11 @@
-//! What words ask for, in lines.
+//! What words ask of pstops, in lines.
 use pstops_cli::{Request, read_command};
 use std::alloc::{AllocError, Global};
 use std::fmt::Display;
 use test_cases::Found;
 
 /// The request in words, as lines. Status 2 if they are no request.
-pub(crate) fn asked(alloc: Global, words: &[String]) -> Result<Found, AllocError> {
+pub(crate) fn requested(alloc: Global, words: &[String]) -> Result<Found, AllocError> {
     let (status, output) = match read_command(alloc, words) {
         Ok(request) => (0, lines_of(alloc, &request)?),
         Err(_) => (2, String::new(alloc)),
