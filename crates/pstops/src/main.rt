@@ -15,7 +15,7 @@ fn main(rt: HostRuntime) -> ExitCode {
     let (status, line) = match words(&rt) {
         Ok(words) => {
             let world = Host::new(&rt, rt.stdin(), rt.stdout());
-            let ended = pstops(&rt, alloc, words.as_slice(), world);
+            let ended = pstops(&rt, alloc, after_name(words.as_slice()), world);
             (ended.status, ended.line)
         }
         Err(fault) => ending_of(alloc, fault),
@@ -23,12 +23,19 @@ fn main(rt: HostRuntime) -> ExitCode {
     ExitCode::from(tell(&mut rt.stderr(), line.as_slice(), status))
 }
 
-// The words after the program's name. Words that are no UTF-8 text are a bad command line.
+// The words, of which the first is the program's name. Words that are no UTF-8 text are a bad command line.
 fn words(rt: &(impl Env + AllocGlobal)) -> Result<Vec<String>, CommandFault> {
     match env::args(rt) {
-        Ok(args) => Ok(args.skip(1).collect(rt.alloc())?),
+        Ok(args) => Ok(args.collect(rt.alloc())?),
         Err(error) if error.kind() == ErrorKind::OutOfMemory => Err(CommandFault::NoMemory),
         Err(_) => Err(CommandFault::BadWords),
+    }
+}
+
+fn after_name(words: &[String]) -> &[String] {
+    match words {
+        [_, rest @ ..] => rest,
+        [] => words,
     }
 }
 

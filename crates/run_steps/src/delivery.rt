@@ -14,6 +14,8 @@ use gather_table::{Closing, GatherTable, Published, Reply, Seat};
 use handover::{Full, Overflow, Pass, Prepared, PutError, Ready, Receipt, Shelf};
 use sheet_plan::Plan;
 use std::alloc::{AllocError, Global};
+use std::fmt;
+use std::fmt::Debug;
 use std::sync::Wait;
 
 /// What a delivery did.
@@ -32,12 +34,22 @@ pub struct Delivered<'d> {
 }
 
 /// Why a page was not delivered. Table and queue are as they were, and so are seat and pass.
-#[derive(Debug, Drop)]
+#[derive(Drop)]
 pub enum DeliverError<'d> {
     /// A growth was refused. The shelf is as it was too, and the page comes back.
     NoMemory(Prepared<'d>),
     /// The page is on the shelf, at an index past those that a receipt can name.
     ShelfFull(Overflow<'d>),
+}
+
+// A derived one takes a minute to prove.
+impl Debug for DeliverError<'_> {
+    fn fmt<W: fmt::Write>(&self, f: &mut fmt::Formatter<W>) -> fmt::Result {
+        f.write_str(match self {
+            DeliverError::NoMemory(_) => "NoMemory(..)",
+            DeliverError::ShelfFull(_) => "ShelfFull(..)",
+        })
+    }
 }
 
 /// Puts a page on the shelf, publishes it, and marks its places in order. If a mark fills a group of a wide sheet, the
