@@ -1,4 +1,4 @@
--- barcode.ps of crates/test_programs/data.
+-- barcode.ps of cases/documents.
 use Rattle.std.specs.Prelude.{ℕ, List, [], ◌∷◌, flat_map, codes}
 use Rattle.rules.specs.Bytes.{line}
 use Rattle.real_documents.specs.Shown.{IsShown}

@@ -1,4 +1,4 @@
--- groff.ps of crates/test_programs/data.
+-- groff.ps of cases/documents.
 use Rattle.std.specs.Prelude.{ℕ, List, [], ◌∷◌, flat_map, codes}
 use Rattle.rules.specs.Bytes.{line}
 use Rattle.real_documents.specs.Shown.{IsShown}

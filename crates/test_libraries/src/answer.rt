@@ -113,6 +113,20 @@ impl Answer {
         self.text("\n");
     }
 
+    /// A value on a line of its own, after what it is.
+    pub fn labelled<D: Display + Drop>(&mut self, label: &str, value: D) {
+        self.text(label);
+        self.text(" ");
+        self.line(value);
+    }
+
+    /// Two values on a line of their own.
+    pub fn pair<A: Display + Drop, B: Display + Drop>(&mut self, one: A, other: B) {
+        self.show(one);
+        self.text(" ");
+        self.line(other);
+    }
+
     pub fn verdict(&mut self, is_so: bool) {
         self.text(if is_so { "yes\n" } else { "no\n" });
     }

@@ -12,17 +12,7 @@ mod sheets;
 
 use crate::answer::Answer;
 pub use crate::documents::known_laws::call_laws;
-use test_cases::Document;
-
-/// The case files of these commands.
-pub const FILES: [&str; 6] = [
-    "cuts.cases",
-    "documents.cases",
-    "guards.cases",
-    "papers.cases",
-    "rows.cases",
-    "sheets.cases",
-];
+use crate::words::Document;
 
 /// Runs a command. None if no command has this name, or its words aren't understood.
 pub fn run(out: &mut Answer, words: &[String], documents: &[Document]) -> Option<()> {

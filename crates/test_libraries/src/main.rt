@@ -1,20 +1,32 @@
-//! Goes through the case files in `data`: calls of libraries, and what they answer. It prints the cases that differ, and how
-//! many there are.
+//! Calls what its words name, as `paper a4`, and prints the answer. Words may be names of files, which are documents. Without a
+//! word it does nothing.
 #![tactic(auto)]
 
 mod answer;
-mod differing;
 mod documents;
-mod files;
+mod programs;
 mod refusals;
 mod specifications;
 mod words;
 
-use crate::files::run_all;
+use crate::refusals::answer_of;
+use crate::words::documents_of;
+use std::env;
+use std::io::Write;
 
 fn main(rt: HostRuntime) -> anyhow::Result<()> {
     documents::call_laws();
-    run_all(&rt, &["differing.cases"])?;
-    run_all(&rt, &documents::FILES)?;
-    run_all(&rt, &specifications::FILES)
+    let words: Vec<String> = env::args(&rt)?.collect(rt.alloc())?;
+    let [_, words @ ..] = words.as_slice() else {
+        return Ok(());
+    };
+    if words.is_empty() {
+        return Ok(());
+    }
+    let documents = documents_of(&rt, rt.alloc(), words)?;
+    match answer_of(&rt, rt.alloc(), words, documents.as_slice()) {
+        Some(answer) => rt.stdout().write_all(answer.as_slice())?,
+        None => println!(rt; "no such command, or no memory")?,
+    }
+    Ok(())
 }

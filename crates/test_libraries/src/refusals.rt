@@ -1,14 +1,60 @@
-//! Growths that are refused in turn in each case, beside the library of `checks/refuse.c`.
+//! The answer of a command, which has it again where each of its growths is refused in turn by the library of `checks/refuse.c`.
+use crate::answer::Answer;
+use crate::words::{Document, without_form};
+use crate::{documents, programs, specifications};
+use std::alloc::Global;
+use std::sync::Wait;
+use std::thread::Threads;
+use test_tools::{has_refused, refuse};
 
-/// Of each case so many growths are refused, one after the other.
-pub const MOST_REFUSED: u32 = 40;
+/// Of each command so many growths are refused, one after the other.
+const MOST_REFUSED: u32 = 40;
 
-/// Whether a call in which a growth is refused may have this result: it reports that memory is out, or it is the usual one.
-pub fn is_fair(text: &[u8], usual: &[u8]) -> bool {
+/// The answer of a command, if it is one, once no growth of it is refused. One in which a growth is refused has no answer,
+/// reports that memory is out, or has the answer that it always has.
+pub fn answer_of<R: Threads + Wait + Sync>(
+    rt: &R,
+    alloc: Global,
+    words: &[String],
+    documents: &[Document],
+) -> Option<Vec<u8>> {
+    let usual = answer_once(rt, alloc, words, documents)?;
+    for number in 1..MOST_REFUSED {
+        refuse(alloc, number);
+        let answer = answer_once(rt, alloc, words, documents);
+        if !has_refused(alloc) {
+            return answer;
+        }
+        if let Some(text) = answer {
+            if !is_fair(text.as_slice(), usual.as_slice()) {
+                return Vec::from_slice(alloc, b"a refused growth isn't reported\n").ok();
+            }
+        }
+    }
+    Some(usual)
+}
+
+/// The answer of a command, if it is one.
+fn answer_once<R: Threads + Wait + Sync>(
+    rt: &R,
+    alloc: Global,
+    words: &[String],
+    documents: &[Document],
+) -> Option<Vec<u8>> {
+    let mut out = Answer::new(alloc);
+    let words = without_form(&mut out, words);
+    let is_command = documents::run(&mut out, words, documents).is_some()
+        || specifications::run(&mut out, words).is_some()
+        || programs::run(rt, &mut out, words, documents).is_some();
+    if is_command { out.whole() } else { None }
+}
+
+/// Whether a call in which a growth is refused may have this answer: it reports that memory is out, or it is the usual one.
+fn is_fair(text: &[u8], usual: &[u8]) -> bool {
     text == usual || reports_no_memory(text)
 }
 
-/// Whether a result names an error for want of memory, or has its message.
+/// Whether an answer names an error for want of memory, or has its message.
 fn reports_no_memory(text: &[u8]) -> bool {
     for start in 0..text.len() {
         let (_, rest) = text.split_at(start);

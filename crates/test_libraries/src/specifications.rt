@@ -11,17 +11,6 @@ mod specifications;
 
 use crate::answer::Answer;
 
-/// The case files of these commands.
-pub const FILES: [&str; 7] = [
-    "measures.cases",
-    "specifications.cases",
-    "plans.cases",
-    "matrices.cases",
-    "layouts.cases",
-    "filled_sheets.cases",
-    "laws.cases",
-];
-
 /// Runs a command. None if no command has this name, or its words aren't understood.
 pub fn run(out: &mut Answer, words: &[String]) -> Option<()> {
     let is_command = measures::run(out, words).is_some()

@@ -3,7 +3,35 @@ use crate::answer::{Answer, Form};
 use lengths::{Grains, NoMemory, Number, Paper, paper_by_name};
 use pagespec::{Item, Spec, read_spec};
 use std::alloc::Global;
-use test_cases::Document;
+use std::fs::File;
+use std::io;
+use std::io::Read;
+
+/// A document, by the name of its file.
+#[derive(Drop)]
+pub struct Document {
+    pub name: String,
+    pub bytes: Vec<u8>,
+}
+
+/// The documents that words name.
+pub fn documents_of(
+    rt: &HostRuntime,
+    alloc: Global,
+    words: &[String],
+) -> io::Result<Vec<Document>> {
+    let mut documents = Vec::new(alloc);
+    for word in words {
+        if let Ok(mut file) = File::open(rt, word.as_str()) {
+            let mut bytes = Vec::new(alloc);
+            if file.read_to_end(&mut bytes).is_ok() {
+                let name = String::from_str(alloc, word.as_str())?;
+                documents.push(Document { name, bytes })?;
+            }
+        }
+    }
+    Ok(documents)
+}
 
 /// The words after `line` or `taken`, which say what is shown of the answer.
 pub fn without_form<'w>(out: &mut Answer, words: &'w [String]) -> &'w [String] {

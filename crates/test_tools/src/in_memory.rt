@@ -22,20 +22,7 @@ pub enum Takes {
     Nothing,
 }
 
-impl Takes {
-    /// What a setting of a case asks for: `output N`, `output none`, `output unflushed` or `pieces N`.
-    pub fn asked(key: &str, value: &str) -> Option<Takes> {
-        match (key, value) {
-            ("output", "none") => Some(Takes::Nothing),
-            ("output", "unflushed") => Some(Takes::NoFlush),
-            ("output", count) => Some(Takes::Bytes(count.parse::<usize>().ok()?)),
-            ("pieces", count) => Some(Takes::Pieces(count.parse::<usize>().ok()?)),
-            _ => None,
-        }
-    }
-}
-
-/// A world of one file that can be read, and of the one that names the paper at home. Standard input is empty.
+/// A world of one file that can be read. Standard input is empty.
 #[derive(Drop)]
 pub struct InMemory<'a> {
     pub alloc: Global,
@@ -43,8 +30,6 @@ pub struct InMemory<'a> {
     pub opened: &'a AtomicU32,
     pub name: &'a str,
     pub text: &'a str,
-    /// The text of `/etc/papersize`, if there is one.
-    pub home: Option<&'a str>,
     pub takes: Takes,
 }
 
@@ -76,17 +61,12 @@ impl<'a> World for InMemory<'a> {
             Some(name) if name == self.name => Ok(Given {
                 rest: self.text.as_bytes(),
             }),
-            Some(name) => match self.home {
-                Some(text) if name == "/etc/papersize" => Ok(Given {
-                    rest: text.as_bytes(),
-                }),
-                _ => Err(io::Error::from(ErrorKind::NotFound)),
-            },
+            Some(_) => Err(io::Error::from(ErrorKind::NotFound)),
         }
     }
 
     fn is_file(&self, name: &str) -> bool {
-        name == self.name || (name == "/etc/papersize" && self.home.is_some())
+        name == self.name
     }
 
     fn create(self, name: Option<&str>) -> Result<Written, Refused<InMemory<'a>>> {

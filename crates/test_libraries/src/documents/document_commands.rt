@@ -3,8 +3,7 @@ use crate::answer::Answer;
 use crate::documents::changes::{every_change, every_prefix};
 use crate::documents::cuts::{bodies, counted, cut, refusals};
 use crate::documents::guards::guard;
-use crate::words::{count, text_of, word};
-use test_cases::Document;
+use crate::words::{Document, count, text_of, word};
 
 pub fn run(out: &mut Answer, words: &[String], documents: &[Document]) -> Option<()> {
     match word(words, 0)? {

@@ -1,7 +1,7 @@
 //! Documents with the guard inserted.
 use crate::answer::Answer;
 use crate::words::paper;
-use guard::{guarded, put_guard, put_guard_before};
+use guard::{RoomyText, guarded, put_guard, put_guard_before};
 use lengths::Paper;
 use std::alloc::{AllocError, Global};
 
@@ -21,8 +21,10 @@ fn compare(out: &mut Answer, copy: &[u8], text: &[u8], paper: Option<&Paper>) {
     if !gives(out, copy, put_in_place(out.alloc, text, paper)) {
         out.text("but not in its place\n");
     }
-    for room in [2_560, 7, 0] {
-        if !gives(out, copy, put_behind(out.alloc, room, text, paper)) {
+    for room in [5_000, 2_560, 2_048, 100, 7, 1, 0] {
+        let with_room = gives(out, copy, put_behind(out.alloc, room, text, paper))
+            && gives(out, copy, put_into_roomy(out.alloc, room, text, paper));
+        if !with_room {
             out.line(format_args!("but not with room for {room} bytes"));
         }
     }
@@ -56,4 +58,17 @@ fn put_behind(
     bytes.extend_from_slice(text)?;
     let begin = put_guard_before(&mut bytes, room, paper)?;
     Vec::from_slice(alloc, &bytes[begin..])
+}
+
+fn put_into_roomy(
+    alloc: Global,
+    room: usize,
+    text: &[u8],
+    paper: Option<&Paper>,
+) -> Result<Vec<u8>, AllocError> {
+    let mut bytes = vec![in alloc; b'%'; room]?;
+    bytes.extend_from_slice(text)?;
+    let mut roomy = RoomyText::behind(room, bytes);
+    roomy.put_guard(paper)?;
+    Vec::from_slice(alloc, roomy.as_slice())
 }

@@ -146,7 +146,7 @@ fn row_line(out: &mut Answer, row: &[Option<u32>]) {
     show_entries(out, first);
     out.text(" .. ");
     show_entries(out, last);
-    out.line(format_args!(", entries {}", row.len()));
+    out.labelled(", entries", row.len());
 }
 
 fn show_entries(out: &mut Answer, row: &[Option<u32>]) {

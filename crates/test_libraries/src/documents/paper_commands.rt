@@ -3,8 +3,7 @@ use crate::answer::Answer;
 use crate::documents::paper_texts::{
     counted, cutting, home_papers, instead_of, told, trailing_box, value_of_title,
 };
-use crate::words::{paper, text_of, word};
-use test_cases::Document;
+use crate::words::{Document, paper, text_of, word};
 
 pub fn run(out: &mut Answer, words: &[String], documents: &[Document]) -> Option<()> {
     match word(words, 0)? {

@@ -72,7 +72,9 @@ fn papers_at(
 /// A line for each page.
 fn paper_lines(out: &mut Answer, papers: &[Paper]) {
     for (page, paper) in papers.iter().enumerate() {
-        out.show(format_args!("page {} ", page.saturating_add(1)));
+        out.text("page ");
+        out.show(page.saturating_add(1));
+        out.text(" ");
         paper_line(out, paper);
     }
 }

@@ -94,7 +94,7 @@ fn sheet_lines(out: &mut Answer, made: &MadeSheets) {
         }
     }
     if sheets > FEW {
-        out.line(format_args!("sheets {sheets}"));
+        out.labelled("sheets", sheets);
     }
 }
 

@@ -161,7 +161,7 @@ fn offsets(out: &mut Answer, made: &MadeSheets) {
                 Some(placed) => {
                     let (x, y) = placed.item.offset;
                     let (x, y) = (x.number.billionths(), y.number.billionths());
-                    out.line(format_args!("{x} {y}"));
+                    out.pair(x, y);
                 }
                 None => out.text("-\n"),
             }

@@ -54,12 +54,12 @@ fn parts(out: &mut Answer, item: &Item, paper: &Paper) {
         out.show(number.billionths());
         out.text(" ");
     }
-    out.line(format_args!("{} {}", tx.get(), ty.get()));
+    out.pair(tx.get(), ty.get());
 }
 
 fn applied(out: &mut Answer, item: &Item, paper: &Paper, point: (i32, i32)) {
     let (x, y) = matrix_of(item, paper).apply(point.0, point.1);
-    out.line(format_args!("{x} {y}"));
+    out.pair(x, y);
 }
 
 /// What comes before a page, appended to a text, and what comes after the page.

@@ -26,14 +26,14 @@ pub fn run(out: &mut Answer, words: &[String]) -> Option<()> {
 
 fn number_at_start(out: &mut Answer, text: &str) {
     match read_number(text.as_bytes()) {
-        Ok((number, len)) => out.line(format_args!("{} {len}", number.billionths())),
+        Ok((number, len)) => out.pair(number.billionths(), len),
         Err(error) => out.refusal::<NumberError>(error),
     }
 }
 
 fn digits_at_start(out: &mut Answer, text: &str) {
     match read_digits(text.as_bytes()) {
-        Some((value, rest)) => out.line(format_args!("{value} {}", rest.len())),
+        Some((value, rest)) => out.pair(value, rest.len()),
         None => out.text("none\n"),
     }
 }

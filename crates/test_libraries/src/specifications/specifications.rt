@@ -25,9 +25,9 @@ pub fn run(out: &mut Answer, words: &[String]) -> Option<()> {
 
 /// The modulo, and the items of each group.
 fn items(out: &mut Answer, spec: &Spec) {
-    out.line(format_args!("modulo {}", spec.modulo()));
+    out.labelled("modulo", spec.modulo());
     for (number, group) in spec.groups().iter().enumerate() {
-        out.line(format_args!("group {number}"));
+        out.labelled("group", number);
         for item in group.iter() {
             item_line(out, item);
         }
@@ -65,7 +65,7 @@ fn syntax(out: &mut Answer, text: &str) {
         Ok(_) => out.text("taken"),
     }
     match longest_prefix(out.alloc, text) {
-        Ok(longest) => out.line(format_args!(" {longest}")),
+        Ok(longest) => out.labelled("", longest),
         Err(_) => out.note(false),
     }
 }

@@ -30,7 +30,6 @@ fn ended<'a, R: Threads + Wait + Sync + Abort>(
         opened,
         name: "in.ps",
         text: document,
-        home: None,
         takes,
     };
     pstops(rt, alloc, words.as_slice(), world)
@@ -130,4 +129,36 @@ fn a_writer_that_fails_at_any_byte(rt: HostRuntime) {
         assert_cut_off(&rt, rt.alloc(), &document, &sheet, most);
     }
     assert_that(&rt, sheet.len() == 40_265);
+}
+
+#[test]
+fn what_a_call_does_not_take_is_offered_again(rt: HostRuntime) {
+    let output = done(&rt, one_up_output(rt.alloc()));
+    for most in [1, 2, 7, 100, 272, 273, 274usize] {
+        let opened = AtomicU32::new(0);
+        let takes = Takes::Pieces(most);
+        let end = ended(&rt, rt.alloc(), "0 in.ps out.ps", ONE_PAGE, takes, &opened);
+        assert_bytes(
+            &rt,
+            end.line.as_slice(),
+            b"pstops: pages 1, sheets 1, bytes 273\n",
+        );
+        match &end.rest {
+            Rest::Output(Some(written)) => assert_bytes(
+                &rt,
+                written.bytes.as_slice(),
+                output.as_bytes(),
+            ),
+            _ => assert_that(&rt, false),
+        }
+    }
+}
+
+#[test]
+fn an_output_that_is_not_flushed_is_reported(rt: HostRuntime) {
+    let opened = AtomicU32::new(0);
+    let words = "0 in.ps out.ps";
+    let end = ended(&rt, rt.alloc(), words, ONE_PAGE, Takes::NoFlush, &opened);
+    assert_that(&rt, end.status == 3);
+    assert_bytes(&rt, end.line.as_slice(), b"pstops: cannot write output\n");
 }

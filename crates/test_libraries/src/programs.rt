@@ -1,0 +1,31 @@
+//! Commands that call the libraries of the programs.
+mod faults;
+mod in_memory;
+mod made_faults;
+mod requests;
+
+use crate::answer::Answer;
+use crate::words::{Document, text_of, word};
+use std::sync::Wait;
+use std::thread::Threads;
+
+/// Runs a command. None if no command has this name, or its words aren't understood.
+pub fn run<R: Threads + Wait + Sync>(
+    rt: &R,
+    out: &mut Answer,
+    words: &[String],
+    documents: &[Document],
+) -> Option<()> {
+    let (command, more) = words.split_first()?;
+    match command.as_str() {
+        "fault" => return faults::reported(out, more),
+        "read_command" => requests::requested(out, more),
+        "at_home" => {
+            let (paper_size, home) = (word(more, 0)?, text_of(documents, more, 1)?);
+            in_memory::at_home(rt, out, paper_size, home, word(more, 2).is_none());
+        }
+        "unflushed" => in_memory::unflushed(rt, out),
+        _ => return None,
+    }
+    Some(())
+}

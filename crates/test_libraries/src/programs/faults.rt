@@ -1,0 +1,15 @@
+//! What impose reports of a fault.
+use crate::answer::Answer;
+use crate::programs::made_faults::fault_named;
+use crate::words::word;
+use impose_cli::{fault_status, read_command, text_said};
+
+/// The status after the fault that the first word names, and the report of it. All the words are those of the command.
+pub fn reported(out: &mut Answer, words: &[String]) -> Option<()> {
+    let fault = fault_named(word(words, 0)?)?;
+    let request = read_command(out.alloc, words).ok()?;
+    out.labelled("status", fault_status(&fault));
+    let said = text_said(out.alloc, &Err(fault), Some(&request), words);
+    out.text(said.as_str());
+    Some(())
+}

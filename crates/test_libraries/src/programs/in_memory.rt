@@ -1,0 +1,72 @@
+//! Runs of impose over files in memory.
+use crate::answer::Answer;
+use impose_cli::{impose, text_said};
+use std::alloc::{AllocError, Global};
+use std::sync::Wait;
+use std::thread::Threads;
+use test_tools::{Folder, GivenFile, Takes};
+
+/// A page without a paper.
+const PAGE: GivenFile<'static> = GivenFile {
+    name: "in.ps",
+    bytes: b"%!PS-Adobe-3.0\n%%EndComments\n%%Page: 1 1\n(0) pop\nshowpage\n%%EOF\n",
+    is_regular: true,
+};
+
+/// What is reported by this value of `PAPERSIZE` and this text of `/etc/papersize`.
+pub fn at_home<R: Threads + Wait + Sync>(
+    rt: &R,
+    out: &mut Answer,
+    paper_size: &str,
+    home: &[u8],
+    is_regular: bool,
+) {
+    let home = GivenFile {
+        name: "/etc/papersize",
+        bytes: home,
+        is_regular,
+    };
+    report(rt, out, paper_size, &[PAGE, home], Takes::Bytes(10_000));
+}
+
+/// What is reported of an output that takes each byte, but can't be flushed.
+pub fn unflushed<R: Threads + Wait + Sync>(rt: &R, out: &mut Answer) {
+    report(rt, out, "", &[PAGE], Takes::NoFlush);
+}
+
+/// What is reported of the page on a sheet of its own.
+fn report<R: Threads + Wait + Sync>(
+    rt: &R,
+    out: &mut Answer,
+    paper_size: &str,
+    files: &[GivenFile<'_>],
+    takes: Takes,
+) {
+    let alloc = out.alloc;
+    let Ok(words) = command(alloc) else {
+        return out.note(false);
+    };
+    let world = Folder {
+        alloc,
+        files,
+        takes,
+    };
+    let ended = impose(rt, alloc, words.as_slice(), paper_size.as_bytes(), world);
+    let said = text_said(
+        alloc,
+        &ended.outcome,
+        ended.request.as_ref(),
+        words.as_slice(),
+    );
+    // The report is left out where memory runs out for it.
+    out.note(!said.is_empty());
+    out.text(said.as_str());
+}
+
+fn command(alloc: Global) -> Result<Vec<String>, AllocError> {
+    let mut words = Vec::new(alloc);
+    for word in ["impose", "nup", "1", "in.ps", "out.ps"] {
+        words.push(String::from_str(alloc, word)?)?;
+    }
+    Ok(words)
+}
