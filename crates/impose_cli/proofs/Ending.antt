@@ -19,7 +19,7 @@ use Rattle.sheet_writer.specs.Sinks.{fresh_sink}
 use Rattle.imposer.proofs.Answered.{job_answers}
 use Rattle.imposer.proofs.Refusals.{refused_plan}
 use Rattle.planned_runs.specs.Outcomes.{of_plan}
-use Rattle.imposer.specs.Runs.{Accepted, Reports, frame_of, request}
+use Rattle.imposer.specs.Runs.{Accepted, Reports, frame_of}
 use Rattle.imposer.specs.Options.{AreOptions}
 use Rattle.planned_runs.specs.Workers.{AreWorkers}
 use Rattle.planned_runs.specs.declared.outcome.RunError.{RunError}
@@ -135,7 +135,3 @@ job_comes t spec us plan n job name tells outcome world rest written sides optio
     (subst (λ s. plan ≡ planned_in s spec n) (sym sides) is_plan) (subst (λ s. plan_in s spec n ≡ Ok (sheets_in s spec n)) (sym sides) accepted) is_job
     (done.0, refl, done.1)).0)
     h
-
--- what is asked of a run by a task's parts
-pub asked_as : (t : Task) (spec input : List ℕ) → spec ≡ string_bytes t.spec → input ≡ t.text.items → request t.options spec input ≡ asked_by t
-asked_as t spec input named text = ap (λ s. request t.options s input) named ∙ ap (λ i. request t.options (string_bytes t.spec) i) text

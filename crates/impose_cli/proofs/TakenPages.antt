@@ -1,9 +1,7 @@
 -- Pages that a row takes, an entry or a page at a time.
-use Rattle.std.proofs.Common.{Bool, true, false, ◌≡◌, ◌∙◌, ℕ, zero, suc, ◌+◌, ◌<◌, ◌≤◌, List, [], ◌∷◌, ◌++◌, length, take, set, refl, ap, arith, sym}
-use Rattle.std.specs.Prelude.{Option, None, Some, option_and_then, slice_get, get_or, ◌||◌, ◌==◌, if◌then◌else◌}
-use Rattle.std.proofs.lemmas.Bool.{eqb-true, eqb-false}
-use Rattle.dsc.proofs.Cases.{by_test}
-use Rattle.std.proofs.lemmas.List.{take_more, length-take-le, get_or-set_same, get_or-set_other}
+use Rattle.std.proofs.Common.{Bool, true, false, ◌≡◌, ◌∙◌, ℕ, zero, suc, ◌+◌, ◌<◌, List, [], ◌∷◌, ◌++◌, length, take, refl, ap, arith, sym}
+use Rattle.std.specs.Prelude.{Option, None, Some, option_and_then, slice_get, get_or, ◌||◌, if◌then◌else◌}
+use Rattle.std.proofs.lemmas.List.{take_more, length-take-le}
 use Rattle.rules.specs.Papers.{Paper}
 use Rattle.made_sheets.specs.Rows.{Row}
 use Rattle.impose_cli.specs.Reaches.{is_page, takes}
@@ -39,18 +37,6 @@ pub any_default : {A : Type 0} (xs : List A) (i : ℕ) (a b : A) → i < length 
 any_default [] i a b l = absurd (omega (arith, l))
 any_default (x ∷ xs) zero a b l = refl
 any_default (x ∷ xs) (suc i) a b l = any_default xs i a b (omega (arith, l))
-
--- a page was marked
-pub set_marks : (xs : List Bool) (i k : ℕ) → i < length xs → get_or (set xs i true) k false ≡ ((i == k) || get_or xs k false)
-set_marks xs i k l = by_test (i == k)
-    (λ is. rw is (ap (λ n. get_or (set xs i true) n false) (sym (eqb-true i k is)) ∙ get_or-set_same xs i true false l))
-    (λ isnt. rw isnt (get_or-set_other xs i k true false (λ e. eqb-false i k isnt (sym e))))
-
--- no page is marked behind the last one
-pub past_marks : (xs : List Bool) (i k : ℕ) → k < length xs → length xs ≤ i → get_or xs k false ≡ ((i == k) || get_or xs k false)
-past_marks xs i k l past = by_test (i == k)
-    (λ is. let e = eqb-true i k is in absurd (omega (arith, l, past, e)))
-    (λ isnt. rw isnt refl)
 
 -- the papers of a row with one entry more
 or_after : (found : Option Paper) (ps qs : List Paper) → or_without found ps ++ qs ≡ or_without found (ps ++ qs)

@@ -1,6 +1,6 @@
 -- How a request ends that is to be imposed: it is refused, and the world is back; or there is something to write, and it was
 -- written, or its first bytes were, or no output could be created.
-use Rattle.std.specs.Prelude.{◌≡◌, ◌⊎◌, ℕ, ◌≤◌, ◌++◌, List, [], length, take, Bool, true, false, Option, None, Some, Result, Ok, Err, IfSome, option_and_then, option_map, string_bytes}
+use Rattle.std.specs.Prelude.{◌≡◌, ◌⊎◌, ℕ, ◌≤◌, ◌++◌, List, [], length, take, Bool, false, Option, Some, Result, Ok, Err, IfSome, option_map, string_bytes}
 use Rattle.std.specs.Io.KnownBytes.{Appends}
 use Rattle.rules.specs.Output.{output}
 use Rattle.sheet_text.specs.Jobs.{JobView, output_of}
@@ -21,7 +21,7 @@ use Rattle.impose_cli.specs.RowTasks.{FinishesRow, IsJobOf, IsRowTask}
 use Rattle.impose_cli.specs.SpecRows.{FinishesSpecRow, RefusesSpecRowRun}
 use Rattle.impose_cli.specs.Refusals.{RefusesRowTask, RefusesTask, RefusesText}
 use Rattle.world.specs.declared.rest.Rest.{Rest}
-use Rattle.world.specs.declared.rest.Rest.TheVariants.{World, Output}
+use Rattle.world.specs.declared.rest.Rest.TheVariants.{World}
 use Rattle.impose_cli.specs.declared.row_task.RowTask.{RowTask}
 use Rattle.impose_cli.specs.declared.task.Task.{Task}
 use Rattle.impose_words.specs.declared.request.Layout.{Layout}

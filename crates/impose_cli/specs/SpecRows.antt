@@ -17,7 +17,6 @@ use Rattle.impose_cli.specs.Faults.{of_asked}
 use Rattle.impose_cli.specs.Refusals.{RefusesDocument, RefusesOptions, RefusesText}
 use Rattle.impose_cli.specs.RowTasks.{HasOptions, signing_in}
 use Rattle.impose_cli.specs.Tasks.{HasBehind, HasPages, page_paper_found, sheet_paper_found, taken_text}
-use Rattle.row_runs.specs.ToldPages.{told_pages}
 use Rattle.impose_cli.specs.Claims.{IsToldBy}
 use Rattle.impose_cli.specs.Reaches.{HasReachOver}
 use Rattle.impose_cli.specs.Unread.{RefusesSpecification}

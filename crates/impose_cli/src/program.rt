@@ -225,8 +225,8 @@ fn print_input<W: World>(
     ensures { Prints request.now input.items (W.tells world) result.outcome world result.rest
         (shown W.Output.contents result.rest) }
 {
-    let task = match task_for(alloc, request, input) {
-        Ok(task) => task,
+    let (task, _) = match task_for(alloc, request, input) {
+        Ok(found) => found,
         Err(fault) => return stopped(fault, world),
     };
     let lines = match printed_task(alloc, request, &task) {

@@ -5,11 +5,12 @@ ghost use Rattle.rules.specs.Run.{document_of};
 ghost use Rattle.rows.specs.Sewing.{MayBeSewn};
 ghost use Rattle.sheet_text.specs.Jobs.{is_border};
 ghost use Rattle.planned_runs.specs.Outcomes.{IsNoRefusal};
-ghost use Rattle.imposer.specs.Runs.{IsRefusal, IsUnwritten, request as asked};
+ghost use Rattle.imposer.specs.Runs.{IsRefusal, IsUnwritten};
 ghost use Rattle.imposer.specs.Options.{AreOptions};
 ghost use Rattle.planned_runs.specs.Workers.{AreWorkers};
 ghost use Rattle.row_runs.specs.Sheets.{MayBeAsked};
-ghost use Rattle.impose_cli.specs.Tasks.{IsSpec};
+ghost use Rattle.dsc.specs.Serving.{Serve};
+ghost use Rattle.impose_cli.specs.Tasks.{IsSpec, asked_by};
 ghost use Rattle.impose_cli.specs.RowRuns.{Imposes, ImposesBySpec};
 ghost use Rattle.impose_cli.specs.RowTasks.{LaysRows};
 ghost use Rattle.impose_cli.specs.SpecRows.{LaysSpecRow, RefusesSpecRowJob};
@@ -26,11 +27,11 @@ use crate::row_task::{asked_fault_of, impose_task, row_task};
 use crate::spec_row::{impose_spec_task, spec_row_task};
 use crate::task::{Task, WORKERS, task_for};
 use command_words::name_of;
-use dsc::Document;
+use dsc::{Document, Parts};
 use guard::RoomyText;
 use impose_said::{Done, Finished, ImposeFault, PaperOrigin, Told};
 use impose_words::{ImposeRequest, Layout};
-use imposer::{Job, Nobody, Open, Options, Report, RunError, run_plan};
+use imposer::{Job, Nobody, Open, Report, RunError, run_plan};
 use lengths::{Grains, Paper};
 use pagespec::{Spec, read_spec};
 use papers::{Cut, Reach};
@@ -136,11 +137,11 @@ fn run_spec_row<R: Threads + Wait + Sync, W: World>(
         world result.rest (shown W.Output.contents result.rest) }
 {
     let told = told_by(alloc, request, input.as_slice());
-    let task = match spec_row_task(alloc, request, input) {
-        Ok(task) => task,
+    let (task, parts) = match spec_row_task(alloc, request, input) {
+        Ok(found) => found,
         Err(fault) => return stopped(fault, world),
     };
-    let left = impose_spec_task(rt, alloc, request, &task, world);
+    let left = impose_spec_task(rt, alloc, request, &task, parts, world);
     let about = About {
         page_paper: task.page_paper,
         origin: task.origin,
@@ -197,11 +198,11 @@ fn run_spec<R: Threads + Wait + Sync, W: World>(
         world result.rest (shown W.Output.contents result.rest) }
 {
     let told = told_by(alloc, request, input.as_slice());
-    let task = match task_for(alloc, request, input) {
-        Ok(task) => task,
+    let (task, parts) = match task_for(alloc, request, input) {
+        Ok(found) => found,
         Err(fault) => return stopped(fault, world),
     };
-    let left = impose_by_spec(rt, alloc, &task, name_of(&request.outfile), world);
+    let left = impose_by_spec(rt, alloc, &task, parts, name_of(&request.outfile), world);
     let about = About {
         page_paper: task.options.paper,
         origin: task.origin,
@@ -216,21 +217,22 @@ fn run_spec<R: Threads + Wait + Sync, W: World>(
     }
 }
 
-/// Imposes a task as `run` of imposer does it.
+/// Imposes a task, whose text is read by these parts, as `run` of imposer does it.
 fn impose_by_spec<R: Threads + Wait + Sync, W: World>(
     rt: &R,
     alloc: Global,
     task: &Task,
+    parts: Parts,
     name: Option<&str>,
     world: W,
 ) -> Left<W, Report>
     requires sides { task.now.options.sides ≡ None }
     requires workers { AreWorkers task.now.options.workers }
+    requires parts { Serve parts task.now.text.items }
     ensures { Comes (RefusesTaskRun task.now) (WritesTask task.now) (option_map (λ n. n.now) name.entry) (W.tells world) result.outcome
         world result.rest (shown W.Output.contents result.rest) }
 {
-    let text = task.text.as_slice();
-    let (spec, document) = match read_task(alloc, text, task.spec.as_str(), &task.options) {
+    let (spec, document) = match read_task(alloc, task, parts) {
         Ok(read) => read,
         Err(error) => return stopped(ImposeFault::Run(error), world),
     };
@@ -242,26 +244,26 @@ fn impose_by_spec<R: Threads + Wait + Sync, W: World>(
     write_job(rt, alloc, &job, name, world)
 }
 
-/// Checks the border, and reads the specification and the document.
+/// Checks the border, and reads the specification and the document, the latter by its parts.
 fn read_task<'t>(
     alloc: Global,
-    input: &'t [u8],
-    spec: &str,
-    options: &Options,
+    task: &'t Task,
+    parts: Parts,
 ) -> Result<(Spec, Document<'t>), RunError>
-    requires sides { options.now.sides ≡ None }
-    requires workers { AreWorkers options.now.workers }
-    ensures options { OnOk result (AreOptions options.now) }
-    ensures spec { IfOk result (λ read. Takes most_slots spec.now read.0) }
-    ensures document { IfOk result (λ read. document_of input.now ≡ Ok read.1) }
-    ensures refused { IfErr result (IsRefusal (asked options.now spec.now input.now)) }
+    requires sides { task.now.options.sides ≡ None }
+    requires workers { AreWorkers task.now.options.workers }
+    requires parts { Serve parts task.now.text.items }
+    ensures options { OnOk result (AreOptions task.now.options) }
+    ensures spec { IfOk result (λ read. Takes most_slots (string_bytes task.now.spec) read.0) }
+    ensures document { IfOk result (λ read. document_of task.now.text.items ≡ Ok read.1) }
+    ensures refused { IfErr result (IsRefusal (asked_by task.now)) }
     ensures unwritten { IfErr result IsUnwritten }
 {
-    if !is_drawn(options.border) {
+    if !is_drawn(task.options.border) {
         return Err(RunError::Options);
     }
-    let spec = read_spec(alloc, spec)?;
-    let document = Document::read(alloc, input)?;
+    let spec = read_spec(alloc, task.spec.as_str())?;
+    let document = Document::from_parts(task.text.as_slice(), parts)?;
     Ok((spec, document))
 }
 

@@ -3,6 +3,7 @@ ghost use Rattle.std.specs.Prelude.{IfErr, IfOk, IfSome, IsTrue, option_map, str
 ghost use Rattle.sheet_text.specs.Jobs.{is_border};
 ghost use Rattle.impose_cli.specs.Endings.{Comes, shown};
 ghost use Rattle.rows.specs.Sewing.{MayBeSewn};
+ghost use Rattle.dsc.specs.Serving.{Serve};
 ghost use Rattle.impose_cli.specs.SpecRows.{ImposesSpecTask, IsSpecRowTask, LaysSpecRow, TakesNamed};
 ghost use Rattle.impose_cli.specs.SpecRows.{RefusesNamed, RefusesSpecRowTask, RefusesSpecTaskRun};
 
@@ -11,7 +12,7 @@ use crate::left::{Left, stopped};
 use crate::runs::impose_spec_job;
 use crate::task::{CountedPages, pages_of, paper_of_pages, paper_of_sheets, text_to_impose};
 use command_words::name_of;
-use dsc::Document;
+use dsc::{Document, Parts};
 use guard::RoomyText;
 use impose_said::{ImposeFault, PaperOrigin};
 use impose_words::{ImposeRequest, Layout};
@@ -39,24 +40,25 @@ pub struct SpecRowTask {
     pub(crate) counted: CountedPages,
 }
 
-/// The request for this document, and the fault if it is found before the run.
+/// The request for this document, with parts that serve for its text, and the fault if it is found before the run.
 pub(crate) fn spec_row_task(
     alloc: Global,
     request: &ImposeRequest,
     input: RoomyText,
-) -> Result<SpecRowTask, ImposeFault>
+) -> Result<(SpecRowTask, Parts), ImposeFault>
     requires rows { LaysSpecRow request.now.layout }
-    ensures is_task { IfOk result (IsSpecRowTask request.now input.items) }
+    ensures is_task { IfOk result (λ found. IsSpecRowTask request.now input.items found.0) }
+    ensures parts { IfOk result (λ found. Serve found.1 found.0.text.items) }
     ensures refused { IfErr result (RefusesSpecRowTask request.now input.items) }
 {
     // The document is read as it came, so that a fault has its place there.
     let (page_paper, origin) = paper_of_pages(request, input.as_slice());
-    let counted = pages_of(alloc, request, input.as_slice(), &page_paper)?;
+    let (counted, parts) = pages_of(alloc, request, input.as_slice(), &page_paper)?;
     let spec = named_spec(alloc, &request.layout)?;
     let signing = signing_for(request)?;
     let sheet_paper = *paper_of_sheets(&request.sheet_paper, &page_paper);
     let text = text_to_impose(request.is_guarded, &sheet_paper, input)?;
-    Ok(SpecRowTask {
+    let task = SpecRowTask {
         text,
         spec,
         signing,
@@ -64,7 +66,8 @@ pub(crate) fn spec_row_task(
         sheet_paper,
         origin,
         counted,
-    })
+    };
+    Ok((task, parts))
 }
 
 /// The specification that the layout names.
@@ -83,21 +86,23 @@ fn named_spec(alloc: Global, layout: &Layout) -> Result<Spec, ImposeFault>
     }
 }
 
-/// Imposes a task.
+/// Imposes a task, whose text is read by these parts.
 pub(crate) fn impose_spec_task<R: Threads + Wait + Sync, W: World>(
     rt: &R,
     alloc: Global,
     request: &ImposeRequest,
     task: &SpecRowTask,
+    parts: Parts,
     world: W,
 ) -> Left<W, Report>
     requires sewn { IfSome task.now.signing MayBeSewn }
     requires border { IsTrue (is_border request.now.border) }
+    requires parts { Serve parts task.now.text.items }
     ensures { Comes (RefusesSpecTaskRun request.now task.now) (ImposesSpecTask request.now task.now)
         (option_map string_bytes request.now.outfile) (W.tells world) result.outcome
         world result.rest (shown W.Output.contents result.rest) }
 {
-    let document = match Document::read(alloc, task.text.as_slice()) {
+    let document = match Document::from_parts(task.text.as_slice(), parts) {
         Ok(document) => document,
         Err(error) => return stopped(ImposeFault::Run(RunError::from(error)), world),
     };

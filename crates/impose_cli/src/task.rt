@@ -23,7 +23,7 @@ ghost use Rattle.impose_said.specs.declared.fault.ImposeFault.TheVariants as fau
 use crate::laying::{laying_for, papers_for};
 use crate::reach::reach_over;
 use crate::row_task::has_one_paper;
-use dsc::Document;
+use dsc::{Document, Parts};
 use guard::RoomyText;
 use impose_said::{ImposeFault, PaperOrigin, of_document};
 use impose_words::{ImposeRequest, Layout, Spacing};
@@ -113,19 +113,20 @@ fn is_said(request: &ImposeRequest) -> bool
 
 /// The specification that says what a request asks for, with what a run by it takes; and the fault if there is none: a
 /// document that is refused, then pages that are chosen or turned, marks, one scale, or an inner edge, then pages of other papers than the
-/// specification would have, then a layout that there isn't, or that no specification says.
+/// specification would have, then a layout that there isn't, or that no specification says. The parts serve for the task's text.
 pub fn task_for(
     alloc: Global,
     request: &ImposeRequest,
     input: RoomyText,
-) -> Result<Task, ImposeFault>
-    ensures is_task { IfOk result (IsTask request.now input.items) }
+) -> Result<(Task, Parts), ImposeFault>
+    ensures is_task { IfOk result (λ found. IsTask request.now input.items found.0) }
+    ensures parts { IfOk result (λ found. Serve found.1 found.0.text.items) }
     ensures accepted { OnOk result (HasNoFault request.now input.items) }
     ensures refused { IfErr result (RefusesTask request.now input.items) }
 {
     // The document is read as it came, so that a fault has its place there.
     let (page_paper, origin) = paper_of_pages(request, input.as_slice());
-    let counted = pages_of(alloc, request, input.as_slice(), &page_paper)?;
+    let (counted, parts) = pages_of(alloc, request, input.as_slice(), &page_paper)?;
     if !is_said(request) {
         return Err(ImposeFault::NoSpecification);
     }
@@ -149,13 +150,14 @@ pub fn task_for(
         sides,
         workers: WORKERS,
     };
-    Ok(Task {
+    let task = Task {
         text,
         spec,
         options,
         origin,
         counted,
-    })
+    };
+    Ok((task, parts))
 }
 
 /// A layout for which a specification is made has pages of this paper alone, as the specification has.
@@ -226,18 +228,19 @@ pub(crate) fn paper_of_sheets<'p>(named: &'p Option<Paper>, page_paper: &'p Pape
     }
 }
 
-/// What is counted of a document's pages, if all are placed by this paper.
+/// What is counted of a document's pages, if all are placed by this paper, and where its parts begin.
 pub(crate) fn pages_of(
     alloc: Global,
     request: &ImposeRequest,
     input: &[u8],
     paper: &Paper,
-) -> Result<CountedPages, ImposeFault>
-    ensures counted { IfOk result (λ c. HasPages input.now c.pages) }
-    ensures behind { IfOk result (λ c. HasBehind input.now c.behind) }
-    ensures reach { IfOk result (λ c. HasReachOver request.now input.now paper.now c.reach) }
-    ensures some { IfOk result (λ c. 0 < c.pages) }
-    ensures within { IfOk result (λ c. c.pages ≤ most_pages) }
+) -> Result<(CountedPages, Parts), ImposeFault>
+    ensures counted { IfOk result (λ found. HasPages input.now found.0.pages) }
+    ensures behind { IfOk result (λ found. HasBehind input.now found.0.behind) }
+    ensures reach { IfOk result (λ found. HasReachOver request.now input.now paper.now found.0.reach) }
+    ensures some { IfOk result (λ found. 0 < found.0.pages) }
+    ensures within { IfOk result (λ found. found.0.pages ≤ most_pages) }
+    ensures parts { IfOk result (λ found. ArePartsOf input.now found.1) }
     ensures refused { IfErr result (λ f.
         RefusesDocument input.now f ⊎ ((n : ℕ) × HasPages input.now n × (f ≡ without_memory))) }
 {
@@ -245,14 +248,13 @@ pub(crate) fn pages_of(
         Ok(document) => document,
         Err(error) => return Err(of_document(error, input)),
     };
-    match reach_over(alloc, request, &document, paper) {
-        Ok(reach) => Ok(CountedPages {
-            pages: document.pages(),
-            behind: document.pages_behind_trailer(),
-            reach,
-        }),
-        Err(_) => Err(ImposeFault::no_memory()),
-    }
+    let reach = reach_over(alloc, request, &document, paper)?;
+    let counted = CountedPages {
+        pages: document.pages(),
+        behind: document.pages_behind_trailer(),
+        reach,
+    };
+    Ok((counted, document.into_parts()))
 }
 
 /// The text of the specification, and the sides of a signature if the pages go into signatures.
@@ -308,10 +310,7 @@ fn named_placing(alloc: Global, specs: &str, sides: Option<u32>) -> Result<Place
     ensures sides { IfOk result (λ placed. placed.1 ≡ sides) }
     ensures refused { IfErr result (λ f. f ≡ without_memory) }
 {
-    match String::from_str(alloc, specs) {
-        Ok(text) => Ok((text, sides)),
-        Err(_) => Err(ImposeFault::no_memory()),
-    }
+    Ok((String::from_str(alloc, specs)?, sides))
 }
 
 fn nup_placing(
@@ -359,10 +358,7 @@ fn written(alloc: Global, spec: &Spec, sides: Option<u32>) -> Result<PlacedItem,
     ensures sides { IfOk result (λ placed. placed.1 ≡ sides) }
     ensures refused { IfErr result (λ f. f ≡ without_memory) }
 {
-    match write_spec(alloc, spec) {
-        Ok(text) => Ok((text, sides)),
-        Err(_) => Err(ImposeFault::no_memory()),
-    }
+    Ok((write_spec(alloc, spec)?, sides))
 }
 
 /// How many sides a signature of a specification's row has, if the row goes into signatures.

@@ -1,18 +1,15 @@
-use Rattle.std.proofs.Common.{◌≡◌, Ok, option_map, refl, subst}
-use Rattle.rules.specs.Admissible.{Takes, most_slots}
-use Rattle.rules.specs.Run.{document_of}
-use Rattle.imposer.specs.Runs.{IsRefusal}
+use Rattle.std.proofs.Common.{option_map, refl}
 use Rattle.impose_said.specs.declared.fault.ImposeFault.TheVariants as fault
 use Rattle.impose_cli.specs.Endings.{RefusesTaskRun, WritesTask, shown}
 use Rattle.impose_cli.proofs.Coming.{comes_refused}
-use Rattle.impose_cli.proofs.Ending.{asked_as, job_comes, plan_refused}
+use Rattle.impose_cli.proofs.Ending.{job_comes, plan_refused}
 use Rattle.impose_cli.proofs.runs.impose_by_spec.Goals as goal
 
 pub returns-in-Err : goal.returns-in-Err
 returns-in-Err g c =
     comes_refused (RefusesTaskRun c.args.task.now) (WritesTask c.args.task.now) _ (g.W.World.tells c.args.world) (fault.Run c.in-Err.error)
     c.stopped.result.outcome c.args.world c.stopped.result.rest (shown g.W.Output.Write.contents c.stopped.result.rest) c.stopped.ensures.outcome c.stopped.ensures.rest
-    (c.in-Err.error, refl, subst (λ q. IsRefusal q c.in-Err.error) (asked_as c.args.task.now c.as_str.result.now c.as_slice-text.result.now c.as_str.ensures.value c.as_slice-text.ensures.value) c.in-Err.ensures.refused, c.in-Err.ensures.unwritten)
+    (c.in-Err.error, refl, c.in-Err.ensures.refused, c.in-Err.ensures.unwritten)
 
 pub returns-in-Err-new : goal.returns-in-Err-new
 returns-in-Err-new g c =
@@ -20,7 +17,7 @@ returns-in-Err-new g c =
     comes_refused (RefusesTaskRun c.args.task.now) (WritesTask c.args.task.now) _ (g.W.World.tells c.args.world) (fault.Run c.from.result)
     left.result.outcome c.args.world left.result.rest (shown g.W.Output.Write.contents left.result.rest) left.ensures.outcome left.ensures.rest
     (plan_refused c.args.task.now c.in-Ok.read.0 c.in-Ok.read.1 c.pages.result c.in-Err-new.error (fault.Run c.from.result) c.from.result refl c.from.ensures c.requires.sides
-    c.in-Ok.ensures.options (subst (λ s. Takes most_slots s c.in-Ok.read.0) c.as_str.ensures.value c.in-Ok.ensures.spec) (subst (λ i. document_of i ≡ Ok c.in-Ok.read.1) c.as_slice-text.ensures.value c.in-Ok.ensures.document) c.pages.ensures.count c.in-Err-new.ensures.refused)
+    c.in-Ok.ensures.options c.in-Ok.ensures.spec c.in-Ok.ensures.document c.pages.ensures.count c.in-Err-new.ensures.refused)
 
 pub new-job-requires-clause-border : goal.new-job-requires-clause-border
 new-job-requires-clause-border g c = c.in-Ok.ensures.options.1
@@ -29,4 +26,4 @@ pub returns : goal.returns
 returns g c =
     job_comes c.args.task.now c.in-Ok.read.0 c.in-Ok.read.1 c.in-Ok-new.plan c.pages.result c.new-job.result (option_map (λ n. n.now) c.args.name) (g.W.World.tells c.args.world)
     c.write_job.result.outcome c.args.world c.write_job.result.rest (shown g.W.Output.Write.contents c.write_job.result.rest) c.requires.sides
-    c.in-Ok.ensures.options (subst (λ s. Takes most_slots s c.in-Ok.read.0) c.as_str.ensures.value c.in-Ok.ensures.spec) (subst (λ i. document_of i ≡ Ok c.in-Ok.read.1) c.as_slice-text.ensures.value c.in-Ok.ensures.document) c.pages.ensures.count c.in-Ok-new.ensures.planned c.in-Ok-new.ensures.accepted c.new-job.ensures.value c.write_job.ensures
+    c.in-Ok.ensures.options c.in-Ok.ensures.spec c.in-Ok.ensures.document c.pages.ensures.count c.in-Ok-new.ensures.planned c.in-Ok-new.ensures.accepted c.new-job.ensures.value c.write_job.ensures

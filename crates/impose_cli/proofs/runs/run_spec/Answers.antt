@@ -9,14 +9,14 @@ returns-in-Err g c =
     (shown g.W.Output.Write.contents c.stopped.result.rest) c.requires.spec c.stopped.ensures.outcome c.stopped.ensures.rest c.in-Err.ensures.refused
 
 pub impose_by_spec-left-requires-clause-sides : goal.impose_by_spec-left-requires-clause-sides
-impose_by_spec-left-requires-clause-sides g c κs bounds = sides_of c.args.request.now c.args.input.items c.in-Ok.task c.requires.spec c.in-Ok.ensures.is_task
+impose_by_spec-left-requires-clause-sides g c κs bounds = sides_of c.args.request.now c.args.input.items c.in-Ok.found.0 c.requires.spec c.in-Ok.ensures.is_task
 
 pub impose_by_spec-left-requires-clause-workers : goal.impose_by_spec-left-requires-clause-workers
-impose_by_spec-left-requires-clause-workers g c κs bounds = workers_of c.args.request.now c.args.input.items c.in-Ok.task c.in-Ok.ensures.is_task
+impose_by_spec-left-requires-clause-workers g c κs bounds = workers_of c.args.request.now c.args.input.items c.in-Ok.found.0 c.in-Ok.ensures.is_task
 
 pub returns : goal.returns
 returns g c =
     let left = c.impose_by_spec-left.result in
-    spec_runs c.args.request.now c.args.input.items c.in-Ok.task c.told_by-told.result (g.W.World.tells c.args.world) c.reported.result left.outcome c.args.world left.rest
+    spec_runs c.args.request.now c.args.input.items c.in-Ok.found.0 c.told_by-told.result (g.W.World.tells c.args.world) c.reported.result left.outcome c.args.world left.rest
     (option_map (λ n. n.now) c.name_of.result) (shown g.W.Output.Write.contents left.rest) c.requires.spec c.in-Ok.ensures.is_task (rw c.as_slice.ensures.value at c.told_by-told.ensures) c.reported.ensures c.name_of.ensures
     c.impose_by_spec-left.ensures

@@ -10,5 +10,5 @@ returns-in-Err g c =
 pub returns : goal.returns
 returns g c =
     let left = c.impose_spec_task-left.result in
-    spec_row_runs c.args.request.now c.args.input.items c.in-Ok.task c.told_by-told.result (g.W.World.tells c.args.world) c.reported.result left.outcome c.args.world left.rest
+    spec_row_runs c.args.request.now c.args.input.items c.in-Ok.found.0 c.told_by-told.result (g.W.World.tells c.args.world) c.reported.result left.outcome c.args.world left.rest
     (shown g.W.Output.Write.contents left.rest) c.requires.rows c.in-Ok.ensures.is_task (rw c.as_slice.ensures.value at c.told_by-told.ensures) c.reported.ensures c.impose_spec_task-left.ensures

@@ -42,3 +42,6 @@ returns-in_err-counted-clause-refused c =
       | inl refused ↦ inl refused
       | inr spent ↦ inr (spent.0, spent.1, inl spent.2)
     ])
+
+pub returns-clause-parts : goal.returns-clause-parts
+returns-clause-parts c = c.in_ok-text.ensures.parts c.in_ok-counted.parts (rw c.as_slice-2.ensures.value at c.in_ok-counted.ensures.parts)

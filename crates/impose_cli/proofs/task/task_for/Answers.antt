@@ -70,3 +70,6 @@ returns-in_err-check_one_paper-clause-refused c =
     (refused_check request c.args.input.items c.in_ok-counted.counted.pages c.in_err-check_one_paper.field-0.0 (rw c.as_slice-2.ensures.value at c.in_ok-counted.ensures.counted) said
     (subst (λ (p : Paper × PaperOrigin). RefusesDocument c.args.input.items c.in_err-check_one_paper.field-0.0
     ⊎ ((c.in_err-check_one_paper.field-0.0 ≡ without_memory) ⊎ ((c.in_err-check_one_paper.field-0.0 ≡ fault.SeveralPapers) × HasOtherPapers request c.args.input.items p.0))) found refused))
+
+pub returns-clause-parts : goal.returns-clause-parts
+returns-clause-parts c = c.in_ok-text.ensures.parts c.in_ok-counted.parts (rw c.as_slice-2.ensures.value at c.in_ok-counted.ensures.parts)
