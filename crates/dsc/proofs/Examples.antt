@@ -2,7 +2,7 @@
 use Rattle.std.proofs.Common.{◌≡◌, ◌<◌, ℕ, zero, suc, true, false, List, [], ◌∷◌, ap, arith, refl, Result}
 use Rattle.std.specs.Prelude.{codes, None, Some, Ok, Err, slice_index_or}
 use Rattle.rules.specs.Parts.{NestedUnit, page_run, split_pages}
-use Rattle.rules.specs.Run.{document_of, DocumentFault}
+use Rattle.rules.specs.Run.{DocumentFault}
 use Rattle.dsc.specs.Units.{units_of}
 use Rattle.dsc.specs.Marks.{starts_of}
 use Rattle.dsc.specs.BodyStarts.{IsBodyStart}

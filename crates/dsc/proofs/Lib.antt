@@ -8,7 +8,6 @@ pub mod Rows
 pub mod PlainUnits
 pub mod FirstUnits
 pub mod Walking
-pub mod CommentFields
 pub mod FieldRows
 pub mod Headings
 pub mod DataLengths

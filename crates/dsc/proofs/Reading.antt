@@ -1,24 +1,18 @@
 -- What is read from a document.
-use Rattle.std.specs.Prelude.{All, IfSome, Result, Ok, Err, Option, Some, None, nat_lt, not, codes}
+use Rattle.std.specs.Prelude.{All, Result, Ok, Err, Option, Some, None, nat_lt, not, codes}
 use Rattle.std.specs.List.{starts_with}
 use Rattle.std.proofs.Common.{append-nil, Bool, true, false, nat_eq, ◌==◌, ◌≡◌, ℕ, zero, suc, ◌<◌, ◌≤◌, List, [], length, take, refl, ap, arith, length-take, sym, ◌∙◌, min, subst}
 use Rattle.std.proofs.lemmas.Bool.{le-ltb, lt-ltb, eqb-true}
 use Rattle.std.proofs.lemmas.List.{take_all}
-use Rattle.dsc.specs.declared.errors.CutError.{CutError}
-use Rattle.dsc.specs.declared.errors.CutError.TheVariants as cut_fault
-use Rattle.rules.specs.Units.{TextUnit, BlockFault, FaultyBlock, cut, ◌>>=◌}
+use Rattle.rules.specs.Units.{TextUnit, FaultyBlock, cut, ◌>>=◌}
 use Rattle.rules.specs.Parts.{NestedUnit, nested_from, nested, pages}
-use Rattle.rules.specs.Run.{DocumentFault, InputTooLong, NotPostScript, BadBlock, InputTooManyPages, NoPages, document_of, most_input_bytes, most_pages, with_pages, refuse_if, of_block}
-use Rattle.dsc.specs.Units.{or_none, units_of, faulty_block}
+use Rattle.rules.specs.Run.{DocumentFault, InputTooLong, NotPostScript, InputTooManyPages, NoPages, document_of, most_input_bytes, most_pages, with_pages, refuse_if, of_block}
+use Rattle.dsc.specs.Units.{or_none, units_of}
 use Rattle.dsc.specs.Marks.{starts_of, end_of, marks_on, scan_on, stop_at}
-use Rattle.dsc.specs.declared.units.UnitError.{UnitError}
-use Rattle.dsc.specs.declared.units.UnitError.TheVariants as unit_fault
-use Rattle.dsc.specs.Views.{fault_of}
-use Rattle.dsc.specs.Faults.{block_fault_told, fault_told, refusal_at, widened, PassedFirstChecks}
 use Rattle.dsc.specs.Laws.{HasBody, PagesHaveBodies}
 use Rattle.dsc.proofs.Cases.{by_test}
 use Rattle.dsc.proofs.Alone.{bodies}
-use Rattle.dsc.proofs.PartMarks.{scanned, page_count, fault_found}
+use Rattle.dsc.proofs.PartMarks.{scanned, page_count}
 
 -- the checks that come before the cut
 abbrev pub Opens : List ℕ → Type 0
@@ -28,9 +22,6 @@ opened : (text : List ℕ) → Opens text → document_of text ≡ (of_block (cu
 opened text h =
     ap (λ t. refuse_if t InputTooLong (refuse_if (not (starts_with nat_eq text (codes "%!"))) NotPostScript (of_block (cut text) >>= λ ps. with_pages (nested_from 0 ps)))) (le-ltb most_input_bytes (length text) h.0)
     ∙ ap (λ t. refuse_if (not t) NotPostScript (of_block (cut text) >>= λ ps. with_pages (nested_from 0 ps))) h.1
-
-pub faulty_read : (most : ℕ) (text : List ℕ) (at : ℕ) (bad : BlockFault) → Opens text → scan_on most [] None 0 0 text ≡ Err (faulty_block at bad) → document_of text ≡ Err (BadBlock (faulty_block at bad))
-faulty_read most text at bad h e = opened text h ∙ ap (λ r. of_block r >>= λ ps. with_pages (nested_from 0 ps)) (fault_found most text (faulty_block at bad) e)
 
 -- what holds at the end of a pass
 ends_as : (most : ℕ) (starts : List ℕ) (stop : Option ℕ) (len : ℕ) → ((marks_on most starts stop len []).starts ≡ take most starts) × ((marks_on most starts stop len []).stop ≡ stop_at stop len)
@@ -99,23 +90,6 @@ some_of (suc n) h = omega arith
 
 pub none_of : (n : ℕ) → (n == 0) ≡ true → n ≡ 0
 none_of n h = eqb-true n 0 h
-
-refused_at : (text : List ℕ) (at : ℕ) (f : UnitError) → document_of text ≡ Err (BadBlock (faulty_block at (fault_of f))) → IfSome (fault_told (refusal_at at f)) (λ g. document_of text ≡ Err g)
-refused_at text at unit_fault.BadCount e = e
-refused_at text at unit_fault.ShortData e = e
-
-pub fault_read : (most : ℕ) (text : List ℕ) (e : CutError) → Opens text → IfSome (block_fault_told e) (λ f. scan_on most [] None 0 0 text ≡ Err f)
-    → IfSome (fault_told (widened e)) (λ f. document_of text ≡ Err f)
-fault_read most text (cut_fault.Faulty b) h e = refused_at text b.at b.fault (faulty_read most text b.at (fault_of b.fault) h e)
-fault_read most text cut_fault.NoMemory h e = e
-
-pub checks_passed : (text : List ℕ) (e : CutError) → Opens text → PassedFirstChecks (widened e) text
-checks_passed text (cut_fault.Faulty b) h = of_refusal b.at b.fault
-  where
-    of_refusal : (at : ℕ) (f : UnitError) → PassedFirstChecks (refusal_at at f) text
-    of_refusal at unit_fault.BadCount = tt
-    of_refusal at unit_fault.ShortData = tt
-checks_passed text cut_fault.NoMemory h = h
 
 -- What is known of an accepted document.
 

@@ -2,7 +2,6 @@
 use Rattle.std.proofs.Common.{◌≡◌, ℕ, zero, suc, ◌<◌, true, true≢false, List, [], ◌∷◌, length, refl, sym, arith, Option, Some, None}
 use Rattle.std.specs.Prelude.{is_none}
 use Rattle.std.specs.List.{list_all}
-use Rattle.sheet_plan.specs.Places as places
 use Rattle.gather_table.specs.Table.{slots, is_blank}
 use Rattle.gather_table.specs.Laws.{BlankSheetsAreComplete}
 use Rattle.gather_table.proofs.Groups.{complete_closed, none_missing}

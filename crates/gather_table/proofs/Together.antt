@@ -1,5 +1,5 @@
 -- All seats of a table together, and how a table is left.
-use Rattle.std.proofs.Common.{◌≡◌, ℕ, zero, suc, ◌*◌, ◌+◌, ◌<◌, ◌≤◌, true, List, [], ◌∷◌, length, sym, ap, ◌∙◌, arith}
+use Rattle.std.proofs.Common.{◌≡◌, ℕ, zero, suc, ◌≤◌, List, [], ◌∷◌, sym, ap, ◌∙◌, arith}
 use Rattle.std.specs.Prelude.{if◌then◌else◌, slice_index}
 use mathlib.Core.Option.{some, some-ne-none, some-injective}
 use lib.ListN.{get_elem?}
@@ -11,7 +11,7 @@ use Rattle.histories.proofs.Together.{seats_stand_together}
 use Rattle.gather_table.specs.History.{Entry, IsLegal, after_history}
 use Rattle.gather_table.specs.Laws.{completes, completings}
 use Rattle.gather_table.specs.Rule.{Sight, Kept, StandTogether, Tells, WordsHold}
-use Rattle.gather_table.specs.Table.{HasGroup, group_size, in_group}
+use Rattle.gather_table.specs.Table.{group_size, in_group}
 use Rattle.gather_table.specs.Words.{has_bit}
 use Rattle.gather_table.proofs.Groups.{closed_full}
 use Rattle.gather_table.proofs.Legal.{all_at, at_most_one}

@@ -1,6 +1,6 @@
 -- What clauses see of the shared table and of its seats. What holds of the seats of any history is in the crate
 -- histories.
-use Rattle.std.specs.Prelude.{ℕ, List}
+use Rattle.std.specs.Prelude.{List}
 use Rattle.atomic_table.specs.Seated.{TableId}
 use Rattle.rules.specs.Sheets.{Layout}
 use Rattle.histories.specs.Calls.{IsOf, opening, own_entries}

@@ -1,12 +1,12 @@
 -- What each step reveals, as clauses see it; and a pass between two calls stays one.
-use Rattle.std.proofs.Common.{◌≡◌, inl, inr, ℕ, zero, suc, ◌+◌, ◌-◌, ◌<◌, Option, Some, None, refl, sym, ap, ◌∙◌, subst, arith}
+use Rattle.std.proofs.Common.{◌≡◌, inl, inr, ℕ, zero, suc, ◌+◌, Option, Some, None, refl, sym, ap, ◌∙◌, subst, arith}
 use Rattle.std.specs.Prelude.{IfSome, MatchOption}
 use Rattle.atomic_table.specs.Seated.{TableId}
 use Rattle.histories.specs.Seats.{Learned, whole_share}
 use Rattle.handover.specs.Queue.{Move, Take, IsQueueHistory}
-use Rattle.handover.specs.Passes.{PassView, seat_of, puts_in, Made, Joined, opening_pass, room_after, room_kept, room_given, both_rooms}
+use Rattle.handover.specs.Passes.{PassView, seat_of, puts_in, Made, Joined, opening_pass, room_after, both_rooms}
 use Rattle.handover.specs.Rule.{Sight, StandsAlone, pass_view}
-use Rattle.handover.specs.Steps.{Adds, keeps_of, gets_of, both_of, opened}
+use Rattle.handover.specs.Steps.{Adds, both_of, opened}
 use Rattle.handover.proofs.RuleKept.{MayTry}
 
 abbrev pub Held : Sight → Type 0
@@ -48,27 +48,6 @@ may_try v share room s may = by_room v.room refl
 pub view_opens : (t t' : TableId) (v : Sight) (key key' : ℕ) (room : Option ℕ) → t ≡ t' → v ≡ opened key room → key ≡ key'
     → pass_view t v ≡ record (opening_pass (record { queue = t'; capacity = key' })) { room = room }
 view_opens t t' v key key' room same is same_key = (λ i. pass_view (same i) (is i)) ∙ (λ i. record (opening_pass (record { queue = t'; capacity = same_key i })) { room = room })
-
-pub stands_open : (w : Sight) (key share : ℕ) (room its : Option ℕ) → w ≡ opened key room → share ≡ 4_294_967_296 → its ≡ room → StandsAlone w share its
-stands_open w key share room its is all same = record {
-  seat = Rattle.histories.proofs.Views.stands_open IsQueueHistory w.seat key share tt (ap (λ (u : Sight). u.seat) is) all;
-  room = same ∙ sym (ap (λ (u : Sight). u.room) is);
-}
-
--- a split
-pub stands_kept : (v w : Sight) (share rest give room : ℕ) (its left : Option ℕ) → w ≡ keeps_of give room v → 0 < give → give < v.seat.share → rest ≡ share - give → left ≡ room_kept room its
-    → StandsAlone v share its → StandsAlone w rest left
-stands_kept v w share rest give room its left is some less is_rest is_left s = record {
-  seat = Rattle.histories.proofs.Views.stands_kept IsQueueHistory v.seat w.seat share rest give (ap (λ (u : Sight). u.seat) is) some less is_rest s.seat;
-  room = is_left ∙ ap (room_kept room) s.room ∙ sym (ap (λ (u : Sight). u.room) is);
-}
-
-pub stands_given : (v w : Sight) (share give room : ℕ) (its got : Option ℕ) → w ≡ gets_of give room v → 0 < give → give < v.seat.share → got ≡ room_given room its
-    → StandsAlone v share its → StandsAlone w give got
-stands_given v w share give room its got is some less is_got s = record {
-  seat = Rattle.histories.proofs.Views.stands_given IsQueueHistory v.seat w.seat share give (ap (λ (u : Sight). u.seat) is) some less s.seat;
-  room = is_got ∙ ap (room_given room) s.room ∙ sym (ap (λ (u : Sight). u.room) is);
-}
 
 -- a join
 pub stands_joined : (v w u : Sight) (share part sum : ℕ) (one two all : Option ℕ) → u ≡ both_of v w → Learned u.seat → w.seat.key ≡ v.seat.key → sum ≡ share + part → all ≡ both_rooms one two

@@ -1,11 +1,9 @@
 -- The calls of a seat, one after the other.
-use Rattle.std.proofs.Common.{◌≡◌, ⊎_elim, ◌⊎◌, inl, inr, ℕ, zero, suc, ◌+◌, ◌-◌, ◌<◌, ◌≤◌, List, [], ◌∷◌, ◌++◌, length, refl, sym, ap, ◌∙◌, subst, arith}
+use Rattle.std.proofs.Common.{◌≡◌, ℕ, ◌+◌, ◌-◌, ◌≤◌, List, [], ◌∷◌, ◌++◌, refl, sym, ap, ◌∙◌, subst, arith}
 use mathlib.Core.List.{IsPrefix}
 use Rattle.histories.specs.Seats.{longer, times, total}
-use Rattle.histories.specs.Own.{entries_at}
-use Rattle.histories.specs.Calls.{SeatView, IsSeat, Agree, Made, Makes, Split, Met, Joined, own_entries}
+use Rattle.histories.specs.Calls.{SeatView, IsSeat, Agree, Made, Makes, Split, own_entries}
 use Rattle.histories.specs.Laws.{CallsStandInOneHistory, OwnEntriesAreKept, WholeSeatMadeAll, OwnEntriesAreOfTheFront, SharesAreKept}
-use Rattle.histories.proofs.Fronts.{length_begins}
 use Rattle.histories.proofs.Own.{entries_joined, entries_longer, whole_weight, part_weight, joined_inside}
 use Rattle.histories.proofs.Runs.{Runs, run_begins, run_places, run_owns, run_stands, run_alone, run_entries}
 use Rattle.histories.proofs.Totals.{total-append, times-append}

@@ -1,10 +1,10 @@
 -- Where the calls of a course are.
-use Rattle.std.proofs.Common.{◌≡◌, ⊎_elim, ◌⊎◌, ℕ, zero, suc, ◌+◌, ◌<◌, ◌≤◌, List, [], ◌∷◌, ◌++◌, length, refl, sym, ap, ◌∙◌, subst, arith, append_assoc, append-nil, length-append}
+use Rattle.std.proofs.Common.{◌≡◌, ⊎_elim, ℕ, zero, suc, ◌+◌, ◌≤◌, List, [], ◌∷◌, ◌++◌, length, refl, sym, ap, ◌∙◌, subst, arith, append_assoc, append-nil, length-append}
 use Rattle.std.specs.Prelude.{Some, slice_get}
 use mathlib.Core.List.{IsPrefix}
 use Rattle.histories.specs.Seats.{times, longer}
-use Rattle.histories.specs.Calls.{SeatView, IsSeat, Agree, Made, Split, Met, Joined}
-use Rattle.histories.specs.Laws.{Course, Rests, Calls, Meets, Gives, TakesIn, Then, InTwo, CourseStands, Goes, CourseStandsInOneHistory, CoursesStandInOneHistory}
+use Rattle.histories.specs.Calls.{SeatView, IsSeat, Made, Split, Met, Joined}
+use Rattle.histories.specs.Laws.{Course, Rests, Calls, Meets, Gives, TakesIn, Then, InTwo, CourseStands, Goes, CoursesStandInOneHistory}
 use Rattle.histories.proofs.Fronts.{begins_self, begins_further, length_begins}
 use Rattle.histories.proofs.Runs.{last_there}
 use Rattle.histories.proofs.Totals.{times-append, times_push}

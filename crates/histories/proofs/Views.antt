@@ -1,7 +1,7 @@
 -- What a step reveals, as clauses see it; and a seat between two calls stays one.
-use Rattle.std.proofs.Common.{◌≡◌, ℕ, ◌+◌, ◌-◌, ◌<◌, List, [], ◌++◌, refl, sym, ap, ◌∙◌, subst, arith}
+use Rattle.std.proofs.Common.{◌≡◌, ℕ, ◌+◌, ◌-◌, ◌<◌, List, [], refl, sym, ap, ◌∙◌, subst, arith}
 use Rattle.atomic_table.specs.Seated.{TableId}
-use Rattle.histories.specs.Seats.{Sight, Adds, Learned, keeps_back, given, absorbed, opening_sight, longer, times, whole_share}
+use Rattle.histories.specs.Seats.{Sight, Adds, Learned, keeps_back, given, absorbed, opening_sight, longer}
 use Rattle.histories.specs.Own.{IsHeld, StandsAlone}
 use Rattle.histories.specs.Calls.{SeatView, seat_view, Agree, Made, Met, Joined, opening}
 use Rattle.histories.proofs.Fronts.{both_begin}

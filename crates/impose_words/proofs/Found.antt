@@ -184,16 +184,6 @@ marks_right l found marks e =
     let read = parts (lines_found l found) (numbers_found l found) marks e in
     next (lines_right l found read.0.0 read.0.1) (numbers_right (has_numbers l) found read.1.0 read.1.1)
 
--- the size alone is wrong, or the first number
-pub size_wrong : (has : Bool) (found : List Row) → true ≡ has → number_size_found found ≡ None → wrong_numbers has found ≡ Some (NoValue opt.Numbers)
-size_wrong false found has s = absurd (true≢false has)
-size_wrong true found has s = stop _ _ s
-
-pub first_wrong : (has : Bool) (found : List Row) (size : Option ℤ) → true ≡ has → number_size_found found ≡ Some size → first_found found ≡ None
-    → wrong_numbers has found ≡ Some (NoValue opt.NumbersFrom)
-first_wrong false found size has s f = absurd (true≢false has)
-first_wrong true found size has s f = past _ s (stop _ _ f)
-
 pub choice_right : (id : Option Text) (found : List Row) (choice : PageChoice) → ChoosesBy id found choice → wrong_choice id found ≡ None
 choice_right None found choice k = refl
 choice_right (Some id) found choice k = past _ k.1 refl

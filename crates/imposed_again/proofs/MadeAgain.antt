@@ -1,7 +1,7 @@
 -- The output of made sheets is a document again.
 use Rattle.std.specs.Prelude.{Option, Some, None, Ok, codes, map, flat_map, if◌then◌else◌}
 use Rattle.std.specs.List.{starts_with, enumerate_from}
-use Rattle.std.proofs.Common.{nat_eq, ◌==◌, ◌&&◌, Bool, true, false, append_assoc, ◌≡◌, ℕ, ◌+◌, ◌<◌, ◌≤◌, List, [], ◌∷◌, ◌++◌, length, refl, ap, arith, length-append, sym, ◌∙◌, subst}
+use Rattle.std.proofs.Common.{nat_eq, ◌==◌, ◌&&◌, true, false, append_assoc, ◌≡◌, ℕ, ◌<◌, ◌≤◌, List, [], ◌∷◌, ◌++◌, length, refl, ap, arith, length-append, sym, ◌∙◌, subst}
 use Rattle.std.proofs.lemmas.List.{append-nil}
 use Rattle.rules.specs.Bytes.{line}
 use Rattle.rules.specs.Filters.{ended, kept, kept_after, drops_in_header, trailer_text}

@@ -18,7 +18,7 @@ use Rattle.made_sheets.specs.MadeOutput.{made_slot_text, made_sheet_text}
 use Rattle.imposed_again.specs.MadeAgain.{AreTame, IsTame, IsTameDress}
 use Rattle.imposed_again.proofs.Assembly.{EachSheet}
 use Rattle.imposed_again.proofs.Pieces.{AllBodies, Piece, Sheet, append, closed, known, nothing, opening, page_content, page_whole, tame_depth, tame_line}
-use Rattle.imposed_again.proofs.Recut.{Row, Stands}
+use Rattle.imposed_again.proofs.Recut.{Row}
 
 -- ---- sheets
 lines_piece : (c : Type 0) (lines : List (List ℕ)) → AreTame lines → Piece c (lines_text lines)

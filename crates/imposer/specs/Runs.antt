@@ -1,6 +1,6 @@
 -- What the answers of a run mean.
 use Rattle.std.specs.Io.KnownBytes.{Appends, Keeps}
-use Rattle.std.specs.Prelude.{Result, Ok, Err, IsSomeAnd, ⊤, ◌⊎◌, ◌≡◌, ℕ, ◌≤◌, ◌+◌, List, length, take, Option}
+use Rattle.std.specs.Prelude.{Result, Ok, Err, IsSomeAnd, ⊤, ◌⊎◌, ◌≡◌, ℕ, ◌≤◌, List, length, take, Option}
 use Rattle.sheet_writer.specs.Sinks.{SinkView}
 use Rattle.rules.specs.Specification.{Spec}
 use Rattle.rules.specs.Admissible.{Takes, Refuses, most_slots, most_spec_bytes}

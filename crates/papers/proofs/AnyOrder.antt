@@ -1,5 +1,5 @@
 -- Papers that count as one don't depend on the order of pages, nor on how often a page is taken.
-use Rattle.std.proofs.Common.{arith, ◌≡◌, ◌⊎◌, inl, inr, ℕ, zero, suc, ◌+◌, ◌<◌, List, [], ◌∷◌, Bool, true, false, refl, sym, ap, ap₂, ◌∙◌, subst, length, get_or, cond, true≢false}
+use Rattle.std.proofs.Common.{arith, ◌≡◌, inl, inr, ℕ, zero, suc, List, [], ◌∷◌, Bool, true, false, refl, sym, ap, ap₂, ◌∙◌, subst, cond, true≢false}
 use Rattle.std.specs.Prelude.{ℤ, pos, negsuc, int_lt, int_le, nat_lt, nat_le, not, ◌&&◌, ◌||◌, if◌then◌else◌, fold, map}
 use Rattle.std.specs.List.{Contains}
 use Rattle.std.specs.Ordering.{int_eq}
@@ -7,7 +7,7 @@ use Rattle.std.proofs.lemmas.Bool.Decides.{Decides-int_eq, nat_tests}
 use Rattle.rules.specs.Papers.{Paper}
 use Rattle.papers.specs.Own.{covering, covers, is_near, larger}
 use Rattle.papers.specs.declared.kinds.PaperKind.{PaperKind}
-use Rattle.papers.specs.AsOne.{OrderIsNothing, apart_from, as_one, is_larger, kind_of, kinds, larger_of, most_kinds, paper_among, with_near}
+use Rattle.papers.specs.AsOne.{OrderIsNothing, apart_from, is_larger, kind_of, kinds, larger_of, most_kinds, paper_among, with_near}
 use Rattle.papers.proofs.Covered.{both, by_test}
 use Rattle.papers.proofs.CountedAsOne.{In, contained, left_over, near_covered, stays_covered}
 

@@ -40,10 +40,6 @@ pub continues : (text : List ℕ) → starts_with nat_eq (content_of text) (code
 continues [] is = absurd (true≢false (sym is))
 continues (b ∷ bs) is = ap continued (contents_step b bs) ∙ ap (go_on (content_of (b ∷ bs)) (contents (drop (line_len (b ∷ bs)) (b ∷ bs)))) is
 
-pub continues_not : (text : List ℕ) → starts_with nat_eq (content_of text) (codes "%%+") ≡ false → continued (contents text) ≡ []
-continues_not [] is = refl
-continues_not (b ∷ bs) is = ap continued (contents_step b bs) ∙ ap (go_on (content_of (b ∷ bs)) (contents (drop (line_len (b ∷ bs)) (b ∷ bs)))) is
-
 -- the first line of a comment is the comment itself
 abbrev first_of : List (List ℕ) → Option (List ℕ)
 first_of [] = None

@@ -1,41 +1,15 @@
 -- Papers that count as one: as the code finds them, and what holds of them.
-use Rattle.std.proofs.Common.{arith, ◌≡◌, ◌⊎◌, inl, inr, ℕ, zero, suc, ◌+◌, ◌<◌, ◌-◌, List, [], ◌∷◌, ◌++◌, Bool, true, false, refl, sym, ap, ap₂, ◌∙◌, subst, true≢false, Some, None, is_some, length, get_or, cond}
+use Rattle.std.proofs.Common.{arith, ◌≡◌, ◌⊎◌, inl, inr, ℕ, zero, suc, ◌+◌, ◌<◌, ◌-◌, List, [], ◌∷◌, ◌++◌, true, false, refl, sym, ap, ◌∙◌, subst, length, get_or, cond}
 use Rattle.std.specs.Prelude.{not, if◌then◌else◌, fold}
 use Rattle.std.specs.List.{Contains}
-use Rattle.std.proofs.lemmas.List.{append_assoc, get_or-map}
+use Rattle.std.proofs.lemmas.List.{get_or-map}
 use Rattle.rules.specs.Papers.{Paper}
 use Rattle.papers.specs.Own.{covering, covers, is_near}
 use Rattle.papers.specs.declared.kinds.PaperKind.{PaperKind}
-use Rattle.papers.specs.AsOne.{NearAreOne, NothingIsCut, apart_from, as_one, kind_of, kinds, larger_of, largest_of, most_kinds, paper_among, with_near}
+use Rattle.papers.specs.AsOne.{NearAreOne, NothingIsCut, apart_from, as_one, kind_of, kinds, larger_of, most_kinds, paper_among, with_near}
 use Rattle.papers.proofs.Covered.{by_test, covers_first, covers_second, covers_self, covers_through}
 
 -- ---- as the code finds them
-
--- no kind is left
-pub no_kind : (room : ℕ) → kinds room [] ≡ []
-no_kind zero = refl
-no_kind (suc room) = refl
-
-pub none_taken : (old : List PaperKind) (ps : List Paper) → largest_of ps ≡ None → (room : ℕ) → old ++ kinds room ps ≡ old ++ kinds (suc room) ps
-none_taken old [] e room = ap (λ ks. old ++ ks) (no_kind room)
-none_taken old (p ∷ ps) e room = absurd (some≢none e)
-  where
-    some≢none : Some (fold larger_of p ps) ≡ None → ⊥
-    some≢none same = true≢false (ap is_some same)
-
-same_some : {a b : Paper} → Some a ≡ Some b → a ≡ b
-same_some e = cc
-
-first_kind : (ps : List Paper) (f : Paper) (room : ℕ) → largest_of ps ≡ Some f → kinds (suc room) ps ≡ kind_of f ps ∷ kinds room (apart_from f ps)
-first_kind [] f room e = absurd (true≢false (sym (ap is_some e)))
-first_kind (p ∷ ps) f room e = ap (λ g. kind_of g (p ∷ ps) ∷ kinds room (apart_from g (p ∷ ps))) (same_some e)
-
-pub kind_taken : (old new : List PaperKind) (k : PaperKind) (ps rest : List Paper) (f : Paper) → largest_of ps ≡ Some f → new ≡ old ++ k ∷ []
-    → k ≡ kind_of f ps → rest ≡ apart_from f ps → (room : ℕ) → new ++ kinds room rest ≡ old ++ kinds (suc room) ps
-kind_taken old new k ps rest f e made is left room =
-    ap₂ (λ ks qs. ks ++ kinds room qs) (made ∙ ap (λ j. old ++ j ∷ []) is) left
-    ∙ append_assoc old (kind_of f ps ∷ []) (kinds room (apart_from f ps))
-    ∙ ap (λ ks. old ++ ks) (sym (first_kind ps f room e))
 
 -- one turn of many
 pub one_turn : (room n : ℕ) (ks old : List PaperKind) (ps qs : List Paper) → n < room

@@ -1,12 +1,9 @@
 -- The head of a page, a line at a time.
-use Rattle.std.specs.Prelude.{◌&&◌, ◌||◌, ◌==◌, if◌then◌else◌, codes, nat_eq, nat_le, not}
+use Rattle.std.specs.Prelude.{if◌then◌else◌, codes, nat_eq}
 use Rattle.std.specs.List.{starts_with}
-use Rattle.std.proofs.Common.{Bool, true, false, cond, ◌≡◌, ℕ, zero, suc, ◌<◌, ◌≤◌, List, [], ◌∷◌, Option, Some, None, length, length-drop, drop, refl, sym, ap, arith, ◌∙◌}
+use Rattle.std.proofs.Common.{Bool, true, false, ◌≡◌, ℕ, zero, suc, ◌<◌, ◌≤◌, List, [], ◌∷◌, Option, Some, None, length, length-drop, drop, refl, sym, ap, arith, ◌∙◌}
 use Rattle.std.proofs.lemmas.Bool.{true≢false}
-use Rattle.std.proofs.lemmas.Bool.Decides.{nat_tests}
-use Rattle.std.proofs.lemmas.List.Sums.{take_while-cons}
-use Rattle.rules.specs.Units.{content_of, has_key, is_comment, is_end, key, line_len}
-use Rattle.dsc.specs.Header.{is_header}
+use Rattle.rules.specs.Units.{content_of, is_comment, line_len}
 use Rattle.dsc.proofs.LineByLine.{by_line}
 use Rattle.dsc.proofs.LineLengths.{line_len-pos}
 use Rattle.papers.specs.Media.{comment_value, value_of}
@@ -46,29 +43,6 @@ head_ends name [] l ends = absurd (omega (arith, l))
 head_ends name (b ∷ bs) l ends =
     let rest = head (drop (line_len (b ∷ bs)) (b ∷ bs)) in
     ap (comment_value name) (head_step b bs ∙ ap (with_content (content_of (b ∷ bs)) rest) ends)
-
--- ---- what begins with no percent sign
-no_header : (b : ℕ) (bs : List ℕ) → (b == 37) ≡ false → is_header (b ∷ bs) ≡ false
-no_header b [] other = refl
-no_header b (c ∷ cs) other = ap (λ t. t && (nat_le 33 c && nat_le c 126)) other
-
-no_comment : (goes : Bool) (b : ℕ) (bs : List ℕ) → (b == 37) ≡ false → is_in_head (cond goes (b ∷ bs) []) ≡ false
-no_comment true b bs other =
-    ap (λ t. t && (not (starts_with nat_eq (key (b ∷ bs)) (codes "%%Begin")) || has_key (codes "%%BeginPageSetup" ∷ []) (b ∷ bs))) (no_header b bs other)
-no_comment false b bs other = refl
-
-both_ways : (t : Bool) → (t && true) ≡ false → t ≡ false
-both_ways true is = is
-both_ways false is = refl
-
-other_byte : (b : ℕ) → (37 == b) ≡ false → (b == 37) ≡ false
-other_byte b is = grind (arith, nat_tests)
-
-pub head_plain : (name text : List ℕ) → starts_with nat_eq text (codes "%") ≡ false → comment_value name (head text) ≡ None
-head_plain name [] plain = refl
-head_plain name (b ∷ bs) plain =
-    let other : (b == 37) ≡ false = other_byte b (both_ways (37 == b) plain) in
-    head_ends name (b ∷ bs) (omega arith) (ap is_in_head (take_while-cons (λ b. not (is_end b)) b bs) ∙ no_comment (not (is_end b)) b (content_of bs) other)
 
 pub begins : (text : List ℕ) → starts_with nat_eq text (codes "%") ≡ true → 0 < length text
 begins [] is = absurd (true≢false (sym is))

@@ -52,10 +52,6 @@ still : (b : Bool) (f : Option (Option (Option Paper))) → f ≡ Some None → 
 still true f is = refl
 still false f is = is
 
-pub kept_still : (old new : KnownMedia) (name : List ℕ) → ((at : List ℕ) → found_at new at ≡ update bytes_eq (found_at old) name (Some None) at)
-    → (at : List ℕ) → found_at old at ≡ Some None → found_at new at ≡ Some None
-kept_still old new name put at is = put at ∙ still (bytes_eq name at) (found_at old at) is
-
 told_in : (page text : List ℕ) → text ≡ drop (line_len page) page → medium_told (head text) ≡ medium_told (page_head page)
 told_in page text at = ap medium_told (sym (page_head_is page ∙ ap head (sym at)))
 

@@ -11,7 +11,7 @@ use Rattle.layouts.specs.declared.arrangement.Run.TheVariants.{Rows, Columns}
 use Rattle.layouts.specs.declared.arrangement.Turned.TheVariants as sideways
 use Rattle.preview.specs.declared.naming.Edge.TheVariants.{Short}
 use Rattle.preview.specs.declared.naming.Sides.TheVariants.{One, Both}
-use Rattle.preview.specs.declared.reading.Places.TheVariants.{Cells, Tiles}
+use Rattle.preview.specs.declared.reading.Places.TheVariants.{Cells}
 use Rattle.preview.specs.declared.reading.Reading.{Reading}
 use Rattle.preview.specs.Listing.{cells_text, plan_text, tile_name}
 use Rattle.preview.specs.Drawing.{slot_picture, square_at}

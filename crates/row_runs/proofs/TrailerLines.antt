@@ -255,9 +255,6 @@ shorter text front before n e b size =
     let fits : length before ≡ min n (length front) = ap length b ∙ length-take n front in
     b ∙ ap (take n) e ∙ take-take n (length front) text (omega (arith, fits, size)) ∙ ap (λ k. take k text) (sym size)
 
-pub none_at_start : (text : List ℕ) → NoneLater text text
-none_at_start text k h is = let fits = (trailer_occurs k text is).fits in absurd (omega (arith, h, fits))
-
 in_front : (text front : List ℕ) (k : ℕ) → front ≡ take (length front) text → k + 9 ≤ length front → trailer_at k text ≡ true → OccursAt front TRAILER k
 in_front text front k e h is = subst (λ t. OccursAt t TRAILER k) (sym e) (occurs_in (length front) k text (trailer_occurs k text is) h)
 

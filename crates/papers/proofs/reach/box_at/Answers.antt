@@ -1,5 +1,4 @@
-use Rattle.std.proofs.Common.{rules, arith, ◌≡◌, ◌<◌, ◌≤◌, [], length, option_map, ◌∙◌}
-use Rattle.std.specs.Prelude.{get_or}
+use Rattle.std.proofs.Common.{rules, ◌<◌, ◌≤◌, length, option_map, ◌∙◌}
 use Rattle.dsc.specs.Fields.{fields_in}
 use Rattle.rules.specs.Parts.{pages}
 use Rattle.papers.proofs.PageBoxes.{box_there, no_page}
