@@ -2,10 +2,11 @@
 mod faults;
 mod in_memory;
 mod made_faults;
+mod pstops_calls;
 mod requests;
 
 use crate::answer::Answer;
-use crate::words::{Document, text_of, word};
+use crate::words::{Document, count, text_of, word};
 use std::sync::Wait;
 use std::thread::Threads;
 
@@ -19,6 +20,12 @@ pub fn run<R: Threads + Wait + Sync>(
     let (command, more) = words.split_first()?;
     match command.as_str() {
         "fault" => return faults::reported(out, more),
+        "pstops_fault" => return pstops_calls::reported(out, more),
+        "pstops" => return pstops_calls::ran(rt, out, more),
+        "long_input" => pstops_calls::long_input(out, count(more, 0)?),
+        "failing_input" => {
+            pstops_calls::failing_input(out, count(more, 0)?, word(more, 1).is_some());
+        }
         "read_command" => requests::requested(out, more),
         "at_home" => {
             let (paper_size, home) = (word(more, 0)?, text_of(documents, more, 1)?);

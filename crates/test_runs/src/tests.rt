@@ -14,7 +14,6 @@ mod gatherings;
 mod groups;
 mod growth;
 mod jobs;
-mod pstops;
 mod queues;
 mod refused_puts;
 mod sets;

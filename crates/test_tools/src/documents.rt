@@ -37,9 +37,3 @@ fn numbered_page(alloc: Global, page: u32) -> Result<String, AllocError> {
 pub(crate) fn document_with(alloc: Global, pages: u32, text: &str) -> Result<String, AllocError> {
     format!(in alloc; "%!PS-Adobe-3.0\n%%Pages: {pages}\n%%EndComments\n{text}%%Trailer\n%%EOF\n")
 }
-
-/// A document of one page, or its sheet, with this many lines in the page.
-pub fn with_lines(alloc: Global, text: &str, lines: usize) -> Result<String, AllocError> {
-    let long = "(0) pop\n".repeat(alloc, lines)?;
-    text.replace(alloc, "(0) pop\n", &long)
-}

@@ -5,6 +5,8 @@ use crate::in_memory::{Given, Takes, Written};
 use std::alloc::Global;
 use std::io;
 use std::io::ErrorKind;
+use std::sync::atomic::AtomicU32;
+use std::sync::atomic::Ordering::SeqCst;
 use world::{Refused, World};
 
 /// A file that can be read.
@@ -21,6 +23,8 @@ pub struct GivenFile<'a> {
 pub struct Folder<'a> {
     pub alloc: Global,
     pub files: &'a [GivenFile<'a>],
+    /// How many inputs were to be opened.
+    pub opened: &'a AtomicU32,
     pub takes: Takes,
 }
 
@@ -32,6 +36,7 @@ impl<'a> World for Folder<'a> {
     ghost tells = { λ _. true };
 
     fn open(&self, name: Option<&str>) -> io::Result<Given<'a>> {
+        self.opened.fetch_add(1, SeqCst);
         let wanted = name.unwrap_or("-");
         for file in self.files.iter() {
             if file.name == wanted {

@@ -1,15 +1,12 @@
-//! A world of files that lies in memory, and reports what is written.
+//! Inputs and outputs that lie in memory.
 ghost use Rattle.std.specs.Prelude.{◌≡◌, IfOk, [], option_map, string_bytes, true};
 ghost use Rattle.world.specs.Outputs.{told_if};
 
 use std::alloc::Global;
 use std::io;
 use std::io::{ErrorKind, Read, Write};
-use std::sync::atomic::AtomicU32;
-use std::sync::atomic::Ordering::SeqCst;
-use world::{Refused, World};
 
-/// What the outputs of a world take.
+/// What an output takes.
 #[derive(Clone, Copy)]
 pub enum Takes {
     /// So many bytes; a write of more fails.
@@ -18,20 +15,10 @@ pub enum Takes {
     Pieces(usize),
     /// Each byte, but flushing fails.
     NoFlush,
-    /// Nothing: no output can be created.
-    Nothing,
 }
 
-/// A world of one file that can be read. Standard input is empty.
-#[derive(Drop)]
-pub struct InMemory<'a> {
-    pub alloc: Global,
-    /// How many inputs were to be opened.
-    pub opened: &'a AtomicU32,
-    pub name: &'a str,
-    pub text: &'a str,
-    pub takes: Takes,
-}
+/// The bytes for which an output has room from the start, so that writing these needs no memory.
+const ROOM: usize = 4_096;
 
 /// A file that is read.
 #[derive(Drop)]
@@ -45,36 +32,6 @@ pub struct Written {
     pub name: Option<String>,
     pub bytes: Vec<u8>,
     takes: Takes,
-}
-
-impl<'a> World for InMemory<'a> {
-    type Input = Given<'a>;
-
-    type Output = Written;
-
-    ghost tells = { λ _. true };
-
-    fn open(&self, name: Option<&str>) -> io::Result<Given<'a>> {
-        self.opened.fetch_add(1, SeqCst);
-        match name {
-            None => Ok(Given { rest: &[] }),
-            Some(name) if name == self.name => Ok(Given {
-                rest: self.text.as_bytes(),
-            }),
-            Some(_) => Err(io::Error::from(ErrorKind::NotFound)),
-        }
-    }
-
-    fn is_file(&self, name: &str) -> bool {
-        name == self.name
-    }
-
-    fn create(self, name: Option<&str>) -> Result<Written, Refused<InMemory<'a>>> {
-        match Written::new(self.alloc, name, self.takes) {
-            Ok(output) => Ok(output),
-            Err(cause) => Err(Refused { world: self, cause }),
-        }
-    }
 }
 
 impl<'a> Given<'a> {
@@ -91,9 +48,6 @@ impl Written {
         ensures named { IfOk result (λ output.
             option_map string_bytes output.name ≡ option_map (λ n. n.now) name.entry) }
     {
-        if matches!(takes, Takes::Nothing) {
-            return Err(io::Error::from(ErrorKind::PermissionDenied));
-        }
         let name = match name {
             None => None,
             Some(name) => match String::from_str(alloc, name) {
@@ -101,11 +55,10 @@ impl Written {
                 Err(_) => return Err(io::Error::from(ErrorKind::OutOfMemory)),
             },
         };
-        Ok(Written {
-            name,
-            bytes: Vec::new(alloc),
-            takes,
-        })
+        match Vec::with_capacity(alloc, ROOM) {
+            Ok(bytes) => Ok(Written { name, bytes, takes }),
+            Err(_) => Err(io::Error::from(ErrorKind::OutOfMemory)),
+        }
     }
 }
 

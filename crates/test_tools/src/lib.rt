@@ -9,9 +9,9 @@ mod in_memory;
 mod sheets;
 mod specifications;
 
-pub use documents::{ONE_PAGE, TWO_PAGES, document_of, with_lines};
+pub use documents::{ONE_PAGE, TWO_PAGES, document_of};
 pub use folder::{Folder, GivenFile};
 pub use growth::{MOST_GROWTHS, Refused, has_refused, refuse, refuse_each};
-pub use in_memory::{Given, InMemory, Takes, Written};
+pub use in_memory::{Given, Takes, Written};
 pub use sheets::{one_up_output, two_up_output, two_up_sheets};
 pub use specifications::{BOOKLET, TWO_UP, same_items};

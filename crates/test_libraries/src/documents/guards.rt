@@ -1,4 +1,6 @@
 //! Documents with the guard inserted.
+ghost use Rattle.std.specs.Prelude.{◌≤◌, IfOk, vec_len};
+
 use crate::answer::Answer;
 use crate::words::paper;
 use guard::{RoomyText, guarded, put_guard, put_guard_before};
@@ -47,15 +49,23 @@ fn put_in_place(alloc: Global, text: &[u8], paper: Option<&Paper>) -> Result<Vec
     Ok(bytes)
 }
 
-/// Inserts the guard into a text that follows this many bytes, and returns the result.
+/// A text that follows this many bytes.
+fn behind_room(alloc: Global, room: usize, text: &[u8]) -> Result<Vec<u8>, AllocError>
+    ensures { IfOk result (λ bytes. room ≤ vec_len bytes) }
+{
+    let mut bytes = vec![in alloc; b'%'; room]?;
+    bytes.extend_from_slice(text)?;
+    Ok(bytes)
+}
+
+/// Inserts the guard into such a text, and returns the result.
 fn put_behind(
     alloc: Global,
     room: usize,
     text: &[u8],
     paper: Option<&Paper>,
 ) -> Result<Vec<u8>, AllocError> {
-    let mut bytes = vec![in alloc; b'%'; room]?;
-    bytes.extend_from_slice(text)?;
+    let mut bytes = behind_room(alloc, room, text)?;
     let begin = put_guard_before(&mut bytes, room, paper)?;
     Vec::from_slice(alloc, &bytes[begin..])
 }
@@ -66,9 +76,7 @@ fn put_into_roomy(
     text: &[u8],
     paper: Option<&Paper>,
 ) -> Result<Vec<u8>, AllocError> {
-    let mut bytes = vec![in alloc; b'%'; room]?;
-    bytes.extend_from_slice(text)?;
-    let mut roomy = RoomyText::behind(room, bytes);
+    let mut roomy = RoomyText::behind(room, behind_room(alloc, room, text)?);
     roomy.put_guard(paper)?;
     Vec::from_slice(alloc, roomy.as_slice())
 }

@@ -6,10 +6,13 @@ use impose_cli::{fault_status, read_command, text_said};
 
 /// The status after the fault that the first word names, and the report of it. All the words are those of the command.
 pub fn reported(out: &mut Answer, words: &[String]) -> Option<()> {
-    let fault = fault_named(word(words, 0)?)?;
+    let name = word(words, 0)?;
+    let fault = fault_named(name)?;
     let request = read_command(out.alloc, words).ok()?;
     out.labelled("status", fault_status(&fault));
     let said = text_said(out.alloc, &Err(fault), Some(&request), words);
+    // There is none of a pipe that is closed; another is left out where memory runs out for it.
+    out.note(!said.is_empty() || name.starts_with("Write.BrokenPipe"));
     out.text(said.as_str());
     Some(())
 }

@@ -3,6 +3,7 @@ use crate::answer::Answer;
 use impose_cli::{impose, text_said};
 use std::alloc::{AllocError, Global};
 use std::sync::Wait;
+use std::sync::atomic::AtomicU32;
 use std::thread::Threads;
 use test_tools::{Folder, GivenFile, Takes};
 
@@ -46,9 +47,11 @@ fn report<R: Threads + Wait + Sync>(
     let Ok(words) = command(alloc) else {
         return out.note(false);
     };
+    let opened = AtomicU32::new(0);
     let world = Folder {
         alloc,
         files,
+        opened: &opened,
         takes,
     };
     let ended = impose(rt, alloc, words.as_slice(), paper_size.as_bytes(), world);

@@ -36,6 +36,7 @@ fn spec_error_named(name: &str, number: u32) -> Option<SpecError> {
         "ScaleZero" => Some(SpecError::ScaleZero(number)),
         "TooManySlots" => Some(SpecError::TooManySlots(number)),
         "TooManyGroups" => Some(SpecError::TooManyGroups),
+        "NoMemory" => Some(SpecError::NoMemory),
         _ => None,
     }
 }
@@ -67,6 +68,8 @@ fn other_fault_named(name: &str, written: u64) -> Option<ImposeFault> {
         "Document.TooManyPages" => Some(ImposeFault::Run(RunError::Document(
             DscError::TooManyPages,
         ))),
+        "Document.NoMemory" => Some(ImposeFault::Run(RunError::Document(DscError::NoMemory))),
+        "Plan.NoMemory" => Some(ImposeFault::Run(RunError::Plan(PlanError::NoMemory))),
         "Plan.TooManySheets" => Some(ImposeFault::Run(RunError::Plan(PlanError::TooManySheets))),
         "Plan.TooManyPages" => Some(ImposeFault::Run(RunError::Plan(PlanError::TooManyPages))),
         "Plan.TooManyPlaces" => Some(ImposeFault::Run(RunError::Plan(PlanError::TooManyPlaces))),

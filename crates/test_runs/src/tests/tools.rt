@@ -2,12 +2,7 @@
 use crate::tests::checks::{assert_bytes, assert_that, done};
 use std::alloc::AllocError;
 use std::process::Abort;
-use test_tools::{ONE_PAGE, TWO_PAGES, document_of, same_items, two_up_sheets, with_lines};
-
-/// A page of two lines.
-const TWO_LINES: &str =
-    "%!PS-Adobe-3.0\n%%Pages: 1\n%%EndComments\n%%Page: 1 1\n(0) pop\n(0) pop\nshowpage\n\
-    %%Trailer\n%%EOF\n";
+use test_tools::{ONE_PAGE, TWO_PAGES, document_of, same_items, two_up_sheets};
 
 /// Two pages side by side.
 const PAIR: &str = "%%Page: 1 1\n\
@@ -40,7 +35,6 @@ fn texts_written_out(rt: HostRuntime) {
     assert_text(&rt, document_of(alloc, 2), TWO_PAGES);
     assert_text(&rt, same_items(alloc, "0", 3), "0+0+0");
     assert_text(&rt, same_items(alloc, "0", 0), "");
-    assert_text(&rt, with_lines(alloc, ONE_PAGE, 2), TWO_LINES);
     let pairs = done(&rt, two_up_sheets(alloc, 2));
     assert_that(
         &rt,

@@ -1,0 +1,136 @@
+//! Calls of the command of pstops: faults, inputs that fail, and runs over files in memory.
+use crate::answer::Answer;
+use crate::programs::made_faults::fault_named;
+use crate::words::{count_in, word};
+use impose_cli::ImposeFault;
+use imposer::RunError;
+use pstops_cli::{
+    CommandFault, Fault, ReadFault, ReadSource, Rest, fault_line, pstops, read_input,
+};
+use std::io;
+use std::io::{ErrorKind, Read};
+use std::sync::Wait;
+use std::sync::atomic::AtomicU32;
+use std::sync::atomic::Ordering::SeqCst;
+use std::thread::Threads;
+use test_tools::{Folder, GivenFile, ONE_PAGE, Takes};
+
+/// The status after the fault that the first word names, and its line.
+pub fn reported(out: &mut Answer, words: &[String]) -> Option<()> {
+    let fault = pstops_fault_named(word(words, 0)?)?;
+    match fault_line(out.alloc, &fault) {
+        Ok((status, line)) => {
+            out.labelled("status", status);
+            out.lossy(line.as_slice());
+        }
+        Err(_) => out.note(false),
+    }
+    Some(())
+}
+
+/// The fault of that name.
+fn pstops_fault_named(name: &str) -> Option<Fault> {
+    match name {
+        "Command.NoMemory" => Some(Fault::Command(CommandFault::NoMemory)),
+        "Read.NoMemory" => Some(Fault::Read(ReadFault::NoMemory)),
+        "Options" => Some(Fault::Run(RunError::Options)),
+        name => match fault_named(name)? {
+            ImposeFault::Run(error) => Some(Fault::Run(error)),
+            _ => None,
+        },
+    }
+}
+
+/// What is read of so many bytes: how many they are, and whether they are those.
+pub fn long_input(out: &mut Answer, len: u32) {
+    let Ok(long) = vec![in out.alloc; b'%'; len as usize] else {
+        return out.note(false);
+    };
+    let mut source = ReadSource::new(long.as_slice());
+    match read_input(out.alloc, &mut source) {
+        Ok(input) => {
+            out.labelled("bytes", input.len());
+            out.verdict(input.as_slice() == long.as_slice());
+        }
+        Err(fault) => out.line(format_args!("{fault:?}")),
+    }
+}
+
+/// A reader of one page that gives seven bytes a call, fails at its call with this number, and counts its calls.
+#[derive(Drop)]
+struct Failing {
+    rest: &'static [u8],
+    fails_at: u32,
+    cause: ErrorKind,
+    calls: u32,
+}
+
+impl Read for Failing {
+    fn read(&mut self, buffer: &mut [u8]) -> io::Result<usize> {
+        self.calls = self.calls.saturating_add(1);
+        if self.calls == self.fails_at {
+            return Err(io::Error::from(self.cause));
+        }
+        let (mut piece, _) = self.rest.split_at(self.rest.len().min(7));
+        let count = piece.read(buffer)?;
+        let (_, rest) = self.rest.split_at(count.min(self.rest.len()));
+        self.rest = rest;
+        Ok(count)
+    }
+}
+
+/// What is read by a reader that fails at the call with this number, and how often it was called.
+pub fn failing_input(out: &mut Answer, fails_at: u32, is_interrupted: bool) {
+    let cause = if is_interrupted {
+        ErrorKind::Interrupted
+    } else {
+        ErrorKind::Other
+    };
+    let mut reader = Failing {
+        rest: ONE_PAGE.as_bytes(),
+        fails_at,
+        cause,
+        calls: 0,
+    };
+    let mut source = ReadSource::new(&mut reader);
+    let answer = read_input(out.alloc, &mut source);
+    drop(source);
+    match answer {
+        Ok(input) => out.lossy(input.as_slice()),
+        Err(fault) => out.line(format_args!("{fault:?}")),
+    }
+    out.labelled("calls", reader.calls);
+}
+
+/// The run of these words over one page in the file `in.ps`: status, line, how many inputs were to be opened, and the output. The
+/// first word says what the output takes: `all`, `unflushed`, or so many bytes in a call.
+pub fn ran<R: Threads + Wait + Sync>(rt: &R, out: &mut Answer, words: &[String]) -> Option<()> {
+    let (takes, words) = words.split_first()?;
+    let takes = match takes.as_str() {
+        "all" => Takes::Bytes(100_000),
+        "unflushed" => Takes::NoFlush,
+        most => Takes::Pieces(count_in(most)? as usize),
+    };
+    let opened = AtomicU32::new(0);
+    let page = GivenFile {
+        name: "in.ps",
+        bytes: ONE_PAGE.as_bytes(),
+        is_regular: true,
+    };
+    let world = Folder {
+        alloc: out.alloc,
+        files: &[page],
+        opened: &opened,
+        takes,
+    };
+    let ended = pstops(rt, out.alloc, words, world);
+    out.labelled("status", ended.status);
+    // The line is left out where memory runs out for it.
+    out.note(ended.status == 0 || !ended.line.is_empty());
+    out.lossy(ended.line.as_slice());
+    out.labelled("inputs", opened.load(SeqCst));
+    if let Rest::Output(Some(output)) = &ended.rest {
+        out.lossy(output.bytes.as_slice());
+    }
+    Some(())
+}
