@@ -5,6 +5,11 @@ use Rattle.std.specs.Io.KnownBytes.{Appends, Keeps}
 use Rattle.std.proofs.KnownBytes.{Appends-kept}
 use Rattle.std.proofs.Math.Seq.{take-length}
 use Rattle.std.proofs.lemmas.List.{length-map}
+use Rattle.std.specs.declared.io.ErrorKind.{ErrorKind}
+use Rattle.std.specs.declared.io.ErrorKind.TheVariants.{OutOfMemory}
+use Rattle.std.below.std_io.specs.declared.io.error.Error.{Error}
+use Rattle.impose_said.specs.Faults.{without_memory}
+use Rattle.world.specs.Worlds.{HasRefused, creating}
 use Rattle.world.specs.Outputs.{IsFrontOf, counted, told_if}
 use Rattle.world.proofs.Counting.{counted_front, uncounted_kept}
 use Rattle.sheet_text.specs.Jobs.{JobView, output_of}
@@ -27,7 +32,7 @@ use Rattle.planned_runs.specs.declared.outcome.RunError.{RunError}
 use Rattle.planned_runs.specs.declared.outcome.RunError.TheVariants as run
 use Rattle.impose_cli.specs.RowRuns.{ReportsOn}
 use Rattle.impose_cli.specs.Abouts.{finished_by, reported_by}
-use Rattle.impose_cli.specs.Endings.{AfterWrite, Comes, HasFirst, HasFront, IsNotCreated, IsSaidOf, TellsCount, WritesJob}
+use Rattle.impose_cli.specs.Endings.{Edge, AfterWrite, Comes, HasFirst, HasFront, IsNotCreated, IsSaidOf, TellsCount, WritesJob}
 use Rattle.world.specs.declared.rest.Rest.{Rest}
 use Rattle.world.specs.declared.rest.Rest.TheVariants.{World}
 use Rattle.impose_cli.specs.declared.runs.About.{About}
@@ -46,13 +51,13 @@ after_as other P Q P' Q' failed spent h = absurd h
 -- ---- what comes of it
 
 -- it is refused
-pub comes_refused : {T V O : Type 0} (R : ImposeFault → Type 0) (W : (old new : Option (List ℕ)) → T → Type 0) (name : Option (List ℕ)) (tells : Bool) (f : ImposeFault) (outcome : Result T ImposeFault) (world : V) (rest : Rest V O) (written : Option (List ℕ))
+pub comes_refused : {T V O : Type 0} (R : ImposeFault → Type 0) (W : (old new : Option (List ℕ)) → T → Type 0) (name : Option (List ℕ)) (tells : Edge V) (f : ImposeFault) (outcome : Result T ImposeFault) (world : V) (rest : Rest V O) (written : Option (List ℕ))
     → outcome ≡ Err f → rest ≡ World world → R f → Comes R W name tells outcome world rest written
 comes_refused R W name tells f outcome world rest written is none why =
     subst (λ o. Comes R W name tells o world rest written) (sym is) (inl (why, none))
 
 -- the same of other words for it
-pub comes_as : {T V O : Type 0} (R R' : ImposeFault → Type 0) (W W' : (old new : Option (List ℕ)) → T → Type 0) (name : Option (List ℕ)) (tells : Bool) (outcome : Result T ImposeFault) (world : V) (rest : Rest V O) (written : Option (List ℕ))
+pub comes_as : {T V O : Type 0} (R R' : ImposeFault → Type 0) (W W' : (old new : Option (List ℕ)) → T → Type 0) (name : Option (List ℕ)) (tells : Edge V) (outcome : Result T ImposeFault) (world : V) (rest : Rest V O) (written : Option (List ℕ))
     → ((f : ImposeFault) → R f → R' f) → ((old new : Option (List ℕ)) (x : T) → W old new x → W' old new x)
     → Comes R W name tells outcome world rest written → Comes R' W' name tells outcome world rest written
 comes_as R R' W W' name tells (Ok x) world rest written refused wrote h = wrote _ _ x h
@@ -61,20 +66,20 @@ comes_as R R' W W' name tells (Err f) world rest written refused wrote h = elim 
   | inr some ↦ inr (some.0, some.1, wrote _ _ some.1 some.2, some.3)
 ]
 
+uncreated_as : {V O : Type 0} (e : Edge V) (name : Option (List ℕ)) (f : ImposeFault) (world : V) (rest : Rest V O) (written : Option (List ℕ)) (text : List ℕ) → IsNotCreated {T = Report} e name world (Err f) rest ⊎ HasFront (told_if e.tells name []) written text f
+    → IsNotCreated {T = Done} e name world (Err f) rest ⊎ HasFront (told_if e.tells name []) written text f
+uncreated_as e name f world rest written text h = h
+
 -- and of what is reported
-pub comes_reported : {V O : Type 0} (R R' : ImposeFault → Type 0) (W : (old new : Option (List ℕ)) → Report → Type 0) (W' : (old new : Option (List ℕ)) → Done → Type 0) (about : About) (name : Option (List ℕ)) (tells : Bool)
+pub comes_reported : {V O : Type 0} (R R' : ImposeFault → Type 0) (W : (old new : Option (List ℕ)) → Report → Type 0) (W' : (old new : Option (List ℕ)) → Done → Type 0) (about : About) (name : Option (List ℕ)) (tells : Edge V)
     (outcome : Result Report ImposeFault) (world : V) (rest : Rest V O) (written : Option (List ℕ))
     → ((f : ImposeFault) → R f → R' f) → ((old new : Option (List ℕ)) (report : Report) → W old new report → W' old new (done.Imposed (finished_by about report)))
     → Comes R W name tells outcome world rest written → Comes R' W' name tells (reported_by about outcome) world rest written
 comes_reported R R' W W' about name tells (Ok report) world rest written refused wrote h = wrote _ _ report h
 comes_reported R R' W W' about name tells (Err f) world rest written refused wrote h = elim h [
   | inl stopped ↦ inl (refused f stopped.0, stopped.1)
-  | inr some ↦ inr (some.0, done.Imposed (finished_by about some.1), wrote _ _ some.1 some.2, not_created f world rest written some.0 some.3)
+  | inr some ↦ inr (some.0, done.Imposed (finished_by about some.1), wrote _ _ some.1 some.2, uncreated_as tells name f world rest written some.0 some.3)
 ]
-  where
-    not_created : {V O : Type 0} (f : ImposeFault) (world : V) (rest : Rest V O) (written : Option (List ℕ)) (text : List ℕ) → IsNotCreated {T = Report} (Err f) rest ⊎ HasFront (told_if tells name []) written text f
-        → IsNotCreated {T = Done} (Err f) rest ⊎ HasFront (told_if tells name []) written text f
-    not_created f world rest written text h = h
 
 -- ---- made sheets
 
@@ -92,7 +97,7 @@ report_told j plan n border drawn all us report of planned laid count out told =
 
 -- what comes of their job comes of them
 pub made_comes : {V O : Type 0} (R : ImposeFault → Type 0) (W : (old new : Option (List ℕ)) → Report → Type 0) (j : JobView) (plan : Plan) (n : ℕ) (border : Option Border) (dress : Dress) (drawn : Drawn) (all : List MadeSheet) (us : List NestedUnit)
-    (name : Option (List ℕ)) (tells : Bool) (outcome : Result Report ImposeFault) (world : V) (rest : Rest V O) (written : Option (List ℕ))
+    (name : Option (List ℕ)) (tells : Edge V) (outcome : Result Report ImposeFault) (world : V) (rest : Rest V O) (written : Option (List ℕ))
     → j.plan ≡ plan → plan ≡ made_plan n all → layout plan ≡ made_layout n all → n ≡ length (pages us) → output_of j ≡ made_output border dress all us → dress ≡ drawn_on drawn (telling all)
     → ((old new : Option (List ℕ)) (report : Report) → Appends old new (told_output border drawn all us) → ReportsOn border drawn all us report → W old new report)
     → Comes (λ f. ⊥) (WritesJob j) name tells outcome world rest written → Comes R W name tells outcome world rest written
@@ -116,18 +121,30 @@ report_of j = record {
 whole : (j : JobView) → WritesJob j (Some []) (Some (output_of j)) (report_of j)
 whole j = (refl, record { page_count = refl; sheet_count = refl; born_blank = refl; swept_within = omega arith; byte_count = refl })
 
-abbrev Left : {V O : Type 0} → JobView → (name : Option (List ℕ)) → (tells : Bool) → Result Report ImposeFault → (world : V) → (rest : Rest V O) → (written : Option (List ℕ)) → Type 0
+abbrev Left : {V O : Type 0} → JobView → (name : Option (List ℕ)) → (tells : Edge V) → Result Report ImposeFault → (world : V) → (rest : Rest V O) → (written : Option (List ℕ)) → Type 0
 Left j name tells outcome world rest written = Comes (λ f. ⊥) (WritesJob j) name tells outcome world rest written
 
+-- an output wasn't created, and the fault is that of its error's kind
+pub is_not_created : {V O : Type 0} (e : Edge V) (name : Option (List ℕ)) (world left : V) (kind : ErrorKind) (cause : Error) (outcome : Result Report ImposeFault) (rest : Rest V O)
+    → ((left ≡ world) × (kind ≡ OutOfMemory)) ⊎ HasRefused (creating name) (e.seen world) (e.seen left)
+    → (kind ≡ OutOfMemory → outcome ≡ Err without_memory) → (outcome ≡ Err without_memory) ⊎ (outcome ≡ Err (fault.Write 0 (Some cause)))
+    → rest ≡ World left → IsNotCreated e name world outcome rest
+is_not_created e name world left kind cause outcome rest (inl same) memory either back =
+    subst (λ o. IsNotCreated e name world o rest) (sym (memory same.1)) (inl (refl, inl (back ∙ ap World same.0)))
+is_not_created e name world left kind cause outcome rest (inr refused) memory (inl is) back =
+    subst (λ o. IsNotCreated e name world o rest) (sym is) (inl (refl, inr (left, back, refused)))
+is_not_created e name world left kind cause outcome rest (inr refused) memory (inr is) back =
+    subst (λ o. IsNotCreated e name world o rest) (sym is) (inr (refl, (left, back, refused)))
+
 -- no output could be created for them
-pub job_uncreated : {V O : Type 0} (j : JobView) (name : Option (List ℕ)) (tells : Bool) (outcome : Result Report ImposeFault) (world : V) (rest : Rest V O) (written : Option (List ℕ))
-    → IsNotCreated outcome rest → Left j name tells outcome world rest written
+pub job_uncreated : {V O : Type 0} (j : JobView) (name : Option (List ℕ)) (tells : Edge V) (outcome : Result Report ImposeFault) (world : V) (rest : Rest V O) (written : Option (List ℕ))
+    → IsNotCreated tells name world outcome rest → Left j name tells outcome world rest written
 job_uncreated j name tells (Ok report) world rest written none = absurd none
 job_uncreated j name tells (Err f) world rest written none = inr (output_of j, report_of j, whole j, inl none)
 
 -- they were written
-pub job_written : {V O : Type 0} (j : JobView) (name : Option (List ℕ)) (tells : Bool) (n : ℕ) (report : Report) (outcome : Result Report ImposeFault) (output out : Option (List ℕ)) (world : V) (rest : Rest V O) (start all : Option (List ℕ))
-    → outcome ≡ Ok report → output ≡ out → start ≡ told_if tells name [] → Appends start all (output_of j) × ReportsOf j report → Keeps all (counted n out)
+pub job_written : {V O : Type 0} (j : JobView) (name : Option (List ℕ)) (tells : Edge V) (n : ℕ) (report : Report) (outcome : Result Report ImposeFault) (output out : Option (List ℕ)) (world : V) (rest : Rest V O) (start all : Option (List ℕ))
+    → outcome ≡ Ok report → output ≡ out → start ≡ told_if tells.tells name [] → Appends start all (output_of j) × ReportsOf j report → Keeps all (counted n out)
     → Left j name tells outcome world rest output
 job_written j name tells n report outcome output out world rest start all is same began wrote kept =
     subst (λ o. Left j name tells o world rest output) (sym is) (
@@ -147,8 +164,8 @@ has_front n text start out f is h =
     after_as f (λ m. m ≡ n) (λ m. m ≡ n) (HasFirst start out text) (HasFirst start out text) (λ m e. subst (λ k. HasFirst start out text k) (sym e) h) (λ m e. subst (λ k. HasFirst start out text k) (sym e) h) is
 
 -- a part of them was
-job_broken : {V O : Type 0} (j : JobView) (name : Option (List ℕ)) (tells : Bool) (n k : ℕ) (outcome : Result Report ImposeFault) (output out : Option (List ℕ)) (world : V) (rest : Rest V O) (start all : Option (List ℕ))
-    → TellsCount n outcome → output ≡ out → start ≡ told_if tells name [] → Appends start all (take k (output_of j)) → IsFrontOf (counted n out) all
+job_broken : {V O : Type 0} (j : JobView) (name : Option (List ℕ)) (tells : Edge V) (n k : ℕ) (outcome : Result Report ImposeFault) (output out : Option (List ℕ)) (world : V) (rest : Rest V O) (start all : Option (List ℕ))
+    → TellsCount n outcome → output ≡ out → start ≡ told_if tells.tells name [] → Appends start all (take k (output_of j)) → IsFrontOf (counted n out) all
     → Left j name tells outcome world rest output
 job_broken j name tells n k (Ok report) output out world rest start all tells_it same began wrote front = absurd tells_it
 job_broken j name tells n k (Err f) output out world rest start all tells_it same began wrote front =
@@ -156,22 +173,22 @@ job_broken j name tells n k (Err f) output out world rest start all tells_it sam
       output_of j,
       report_of j,
       whole j,
-      inr (has_front n (output_of j) (told_if tells name []) output f tells_it
-          (subst (λ o. HasFirst (told_if tells name []) o (output_of j) n) (sym same)
-          (front_of name tells n k (output_of j) all out (subst (λ s. Appends s all (take k (output_of j))) began wrote) front))),
+      inr (has_front n (output_of j) (told_if tells.tells name []) output f tells_it
+          (subst (λ o. HasFirst (told_if tells.tells name []) o (output_of j) n) (sym same)
+          (front_of name tells.tells n k (output_of j) all out (subst (λ s. Appends s all (take k (output_of j))) began wrote) front))),
     )
 
 -- all of them were handed on, but not all were written out
-pub job_unwritten : {V O : Type 0} (j : JobView) (name : Option (List ℕ)) (tells : Bool) (n : ℕ) (outcome : Result Report ImposeFault) (output out : Option (List ℕ)) (world : V) (rest : Rest V O) (start all : Option (List ℕ))
-    → TellsCount n outcome → output ≡ out → start ≡ told_if tells name [] → Appends start all (output_of j) → IsFrontOf (counted n out) all
+pub job_unwritten : {V O : Type 0} (j : JobView) (name : Option (List ℕ)) (tells : Edge V) (n : ℕ) (outcome : Result Report ImposeFault) (output out : Option (List ℕ)) (world : V) (rest : Rest V O) (start all : Option (List ℕ))
+    → TellsCount n outcome → output ≡ out → start ≡ told_if tells.tells name [] → Appends start all (output_of j) → IsFrontOf (counted n out) all
     → Left j name tells outcome world rest output
 job_unwritten j name tells n outcome output out world rest start all tells_it same began wrote front =
     job_broken j name tells n (length (output_of j)) outcome output out world rest start all tells_it same began
     (subst (λ t. Appends start all t) (sym (take-length (output_of j))) wrote) front
 
 -- the run broke off
-pub job_broken_off : {V O : Type 0} (j : JobView) (name : Option (List ℕ)) (tells : Bool) (n : ℕ) (error : RunError) (outcome : Result Report ImposeFault) (output out : Option (List ℕ)) (world : V) (rest : Rest V O) (start all : Option (List ℕ))
-    → TellsCount n outcome → output ≡ out → start ≡ told_if tells name []
+pub job_broken_off : {V O : Type 0} (j : JobView) (name : Option (List ℕ)) (tells : Edge V) (n : ℕ) (error : RunError) (outcome : Result Report ImposeFault) (output out : Option (List ℕ)) (world : V) (rest : Rest V O) (start all : Option (List ℕ))
+    → TellsCount n outcome → output ≡ out → start ≡ told_if tells.tells name []
     → AfterError error ⊥ (λ k. (k ≤ length (output_of j)) × Appends start all (take k (output_of j))) (λ k. (k ≤ length (output_of j)) × Appends start all (take k (output_of j)))
     → IsFrontOf (counted n out) all → Left j name tells outcome world rest output
 job_broken_off j name tells n (run.NoMemory k) outcome output out world rest start all tells_it same began wrote front =

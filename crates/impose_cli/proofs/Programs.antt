@@ -1,15 +1,16 @@
 -- What comes of a request.
-use Rattle.std.proofs.Common.{◌≡◌, ℕ, ◌<◌, List, [], length, take, Bool, true, false, Option, None, Result, Ok, Err, inl, inr, refl, subst, sym}
+use Rattle.std.proofs.Common.{◌≡◌, ap, ℕ, ◌<◌, List, [], length, take, Bool, true, false, Option, None, Result, Ok, Err, inl, inr, refl, subst, sym}
 use Rattle.clap.specs.Words.{Row, Text}
 use Rattle.std.specs.Prelude.{⊤, ◌⊎◌, option_map, string_bytes}
 use Rattle.std.specs.Io.KnownBytes.{Appends}
 use Rattle.world.specs.Outputs.{told_if}
-use Rattle.impose_cli.specs.Endings.{AfterWrite, HasFirst, IsUncreated, Runs, has_output}
+use Rattle.impose_cli.specs.Endings.{Edge, AfterWrite, HasFirst, IsUncreated, Refused, Runs, has_output}
 use Rattle.impose_cli.proofs.Coming.{after_as}
 use Rattle.world.specs.Input.{IsFirst, most_bytes}
+use Rattle.world.specs.Worlds.{WorldView}
 use Rattle.impose_cli.specs.Looks.{MayBeMade, TellsRow}
 use Rattle.impose_words.specs.Products.{lays_rows}
-use Rattle.impose_cli.specs.Programs.{BreaksAt, CarriesOut, FailsToWrite, Gives, IsCreatedFor, IsReading, Makes, Prints, Shows, Writes}
+use Rattle.impose_cli.specs.Programs.{BreaksAt, CarriesOut, FailsToWrite, Gives, HasGiven, IsCreatedFor, IsReading, Makes, Prints, Shows, Writes}
 use Rattle.impose_cli.specs.RowTasks.{LaysRows}
 use Rattle.rules.specs.Papers.{Paper}
 use Rattle.impose_words.specs.Words.{Entered, MakesBy, Reads}
@@ -31,20 +32,34 @@ use Rattle.impose_words.specs.declared.request.ImposeRequest.{ImposeRequest}
 use Rattle.impose_cli.specs.declared.task.Task.{Task}
 
 -- nothing was created: the request is refused unread, or the input can't be read
-pub stopped_before : {V O : Type 0} (r : ImposeRequest) (gives : Gives) (tells : Bool) (f : ImposeFault) (outcome : Result Done ImposeFault)
-    (world : V) (rest : Rest V O) (written : Option (List ℕ)) → outcome ≡ Err f → rest ≡ World world
-    → RefusesRequest r f ⊎ (MayBeRead r × IsReading f)
-    → CarriesOut r gives tells outcome world rest written
-stopped_before r gives tells f outcome world rest written told none why = inl (f, told, none, why)
+pub stopped_before : {V O : Type 0} (seen : V → WorldView) (r : ImposeRequest) (gives : Gives) (tells : Edge V) (f : ImposeFault) (outcome : Result Done ImposeFault)
+    (world left : V) (rest : Rest V O) (written : Option (List ℕ)) → outcome ≡ Err f → rest ≡ World left
+    → (RefusesRequest r f × (left ≡ world)) ⊎ (MayBeRead r × IsReading (option_map string_bytes r.infile) (seen world) (seen left) f)
+    → CarriesOut seen r gives tells outcome world rest written
+stopped_before seen r gives tells f outcome world left rest written told none why = inl (f, left, told, none, why)
 
 -- the input was read, and what is asked for was made of it
-pub took : {V O : Type 0} (r : ImposeRequest) (gives : Gives) (tells : Bool) (input : List ℕ) (name : Option (List ℕ))
-    (outcome : Result Done ImposeFault) (world : V) (rest : Rest V O) (written : Option (List ℕ))
-    → name ≡ option_map string_bytes r.infile → IsFirst most_bytes (gives name) input
-    → MayBeRead r → Makes r.product r input tells outcome world rest written
-    → CarriesOut r gives tells outcome world rest written
-took r gives tells input name outcome world rest written named read possible taken =
-    inr (input, subst (λ n. IsFirst most_bytes (gives n) input) named read, possible, taken)
+pub took : {V O : Type 0} (seen : V → WorldView) (r : ImposeRequest) (gives : Gives) (tells told : Edge V) (input : List ℕ) (name : Option (List ℕ))
+    (outcome : Result Done ImposeFault) (world read : V) (rest : Rest V O) (written : Option (List ℕ))
+    → name ≡ option_map string_bytes r.infile → IsFirst most_bytes (gives name) input → HasGiven name (seen world) (seen read)
+    → MayBeRead r → told ≡ tells → Makes r.product r input told outcome read rest written
+    → CarriesOut seen r gives tells outcome world rest written
+took seen r gives tells told input name outcome world read rest written named first given possible same taken =
+    inr (
+      input,
+      read,
+      subst (λ n. IsFirst most_bytes (gives n) input) named first,
+      subst (λ n. HasGiven n (seen world) (seen read)) named given,
+      possible,
+      subst (λ t. Makes r.product r input t outcome read rest written) same taken,
+    )
+
+-- the request was carried out in the world that was asked for the paper at home, which is as it was else
+pub at_home : {V O : Type 0} (seen : V → WorldView) (r : ImposeRequest) (gives given : Gives) (tells told : Edge V) (outcome : Result Done ImposeFault)
+    (world : V) (rest : Rest V O) (written : Option (List ℕ)) → given ≡ gives → told ≡ tells
+    → CarriesOut seen r given told outcome world rest written → CarriesOut seen r gives tells outcome world rest written
+at_home seen r gives given tells told outcome world rest written same_gives same_tells h =
+    subst (λ t. CarriesOut seen r gives t outcome world rest written) same_tells (subst (λ g. CarriesOut seen r g told outcome world rest written) same_gives h)
 
 -- a text was written
 pub wrote_text : (name : Option (List ℕ)) (text : List ℕ) (tells : Bool) (start written : Option (List ℕ))
@@ -57,31 +72,31 @@ pub wrote_part : (name : Option (List ℕ)) (text : List ℕ) (tells : Bool) (st
 wrote_part name text tells start written f began broke = subst (λ s. BreaksAt s written text f) began broke
 
 -- no output could be created
-pub uncreated : {V O : Type 0} (name : Option (List ℕ)) (text : List ℕ) (what : Done) (tells : Bool) (f : ImposeFault) (outcome : Result Done ImposeFault)
-    (rest : Rest V O) (written : Option (List ℕ)) → outcome ≡ Err f → IsUncreated f rest
-    → Writes name text what tells outcome rest written
-uncreated name text what tells f outcome rest written told none =
-    subst (λ o. Writes name text what tells o rest written) (sym told) (inl none)
+pub uncreated : {V O : Type 0} (name : Option (List ℕ)) (text : List ℕ) (what : Done) (tells : Edge V) (f : ImposeFault) (outcome : Result Done ImposeFault)
+    (world : V) (rest : Rest V O) (written : Option (List ℕ)) → outcome ≡ Err f → IsUncreated tells name world f rest
+    → Writes name text what tells outcome world rest written
+uncreated name text what tells f outcome world rest written told none =
+    subst (λ o. Writes name text what tells o world rest written) (sym told) (inl none)
 
 -- the specification was printed to standard output
-printed_whole : {V O : Type 0} (r : ImposeRequest) (input : List ℕ) (tells : Bool) (task : Task) (outcome : Result Done ImposeFault) (world : V) (rest : Rest V O)
+printed_whole : {V O : Type 0} (r : ImposeRequest) (input : List ℕ) (tells : Edge V) (task : Task) (outcome : Result Done ImposeFault) (world : V) (rest : Rest V O)
     (written : Option (List ℕ)) → IsTask r input task → HasNoFault r input
-    → Writes None (printed_text r task) done.Printed tells outcome rest written → Prints r input tells outcome world rest written
+    → Writes None (printed_text r task) done.Printed tells outcome world rest written → Prints r input tells outcome world rest written
 printed_whole r input tells task (Ok what) world rest written is_task none h =
     subst (λ d. Prints r input tells (Ok d) world rest written) (sym h.0) (task, is_task, none, h.1)
 printed_whole r input tells task (Err f) world rest written is_task none h = inr (task, is_task, none, h)
 
-pub printed : {V O : Type 0} (r : ImposeRequest) (input : List ℕ) (tells : Bool) (task : Task) (lines : List ℕ) (outcome : Result Done ImposeFault)
+pub printed : {V O : Type 0} (r : ImposeRequest) (input : List ℕ) (tells : Edge V) (task : Task) (lines : List ℕ) (outcome : Result Done ImposeFault)
     (world : V) (rest : Rest V O) (written : Option (List ℕ)) → lines ≡ printed_text r task → IsTask r input task → HasNoFault r input
-    → Writes None lines done.Printed tells outcome rest written → Prints r input tells outcome world rest written
+    → Writes None lines done.Printed tells outcome world rest written → Prints r input tells outcome world rest written
 printed r input tells task lines outcome world rest written is is_task none h =
     printed_whole r input tells task outcome world rest written is_task none
-    (subst (λ l. Writes None l done.Printed tells outcome rest written) is h)
+    (subst (λ l. Writes None l done.Printed tells outcome world rest written) is h)
 
 -- the plan or the picture was written to the output of that name
-pub shown_whole : {V O : Type 0} (l : Overview) (name : Option (List ℕ)) (r : ImposeRequest) (input : List ℕ) (tells : Bool) (text : List ℕ)
+pub shown_whole : {V O : Type 0} (l : Overview) (name : Option (List ℕ)) (r : ImposeRequest) (input : List ℕ) (tells : Edge V) (text : List ℕ)
     (outcome : Result Done ImposeFault) (world : V) (rest : Rest V O) (written : Option (List ℕ)) → TellsRow r input l text
-    → Writes name text done.Shown tells outcome rest written → Shows l name r input tells outcome world rest written
+    → Writes name text done.Shown tells outcome world rest written → Shows l name r input tells outcome world rest written
 shown_whole l name r input tells text (Ok what) world rest written told h =
     subst (λ d. Shows l name r input tells (Ok d) world rest written) (sym h.0) (text, told, h.1)
 shown_whole l name r input tells text (Err f) world rest written told h = inr (text, told, h)
@@ -112,42 +127,42 @@ may_be_made_at_home words r given home e h = subst (λ (q : ImposeRequest). MayB
 after_any : (f : ImposeFault) (P Q : ℕ → Type 0) → AfterWrite f P Q → AfterWrite f (λ n. ⊤) (λ n. ⊤)
 after_any f P Q h = after_as f P Q (λ n. ⊤) (λ n. ⊤) (λ n e. tt) (λ n e. tt) h
 
-text_created : {V O : Type 0} (name : Option (List ℕ)) (text : List ℕ) (tells : Bool) (f : ImposeFault) (world : V) (rest : Rest V O) (written : Option (List ℕ)) → FailsToWrite name text tells f rest written → IsCreatedFor (Err f) world rest
+text_created : {V O : Type 0} (name : Option (List ℕ)) (text : List ℕ) (tells : Edge V) (f : ImposeFault) (world : V) (rest : Rest V O) (written : Option (List ℕ)) → FailsToWrite name text tells f world rest written → IsCreatedFor (Err f) rest
 text_created name text tells f world rest written h = elim h [
-  | inl absent ↦ inr (after_any f (λ n. (n ≡ 0) × (has_output rest ≡ false)) (λ n. ⊥) absent)
-  | inr broke ↦ inr (after_any f (λ n. (n < length text) × Appends (told_if tells name []) written (take n text)) (λ n. ⊥) broke)
+  | inl absent ↦ inr (after_any f (λ n. (n ≡ 0) × Refused tells name world rest) (λ n. ⊥) absent)
+  | inr broke ↦ inr (after_any f (λ n. (n < length text) × Appends (told_if tells.tells name []) written (take n text)) (λ n. ⊥) broke)
 ]
 
-run_created : {V O : Type 0} (r : ImposeRequest) (input : List ℕ) (tells : Bool) (f : ImposeFault) (world : V) (rest : Rest V O) (written : Option (List ℕ)) → Runs r input tells (Err f) world rest written → IsCreatedFor (Err f) world rest
+run_created : {V O : Type 0} (r : ImposeRequest) (input : List ℕ) (tells : Edge V) (f : ImposeFault) (world : V) (rest : Rest V O) (written : Option (List ℕ)) → Runs r input tells (Err f) world rest written → IsCreatedFor (Err f) rest
 run_created r input tells f world rest written h = elim h [
-  | inl stopped ↦ inl stopped.1
+  | inl stopped ↦ inl (ap has_output stopped.1)
   | inr some ↦ elim some.3 [
     | inl absent ↦ elim absent [
       | inl spent ↦ inr (subst (λ e. AfterWrite e (λ n. ⊤) (λ n. ⊤)) (sym spent.0) tt)
-      | inr refused ↦ inr (after_any f (λ n. (n ≡ 0) × (has_output rest ≡ false)) (λ n. ⊥) refused)
+      | inr refused ↦ inr (after_any f (λ n. (n ≡ 0) × Refused tells (option_map string_bytes r.outfile) world rest) (λ n. ⊥) refused)
     ]
-    | inr front ↦ let first = HasFirst (told_if tells (option_map string_bytes r.outfile) []) written some.0 in inr (after_any f first first front)
+    | inr front ↦ let first = HasFirst (told_if tells.tells (option_map string_bytes r.outfile) []) written some.0 in inr (after_any f first first front)
   ]
 ]
 
-made_created : {V O : Type 0} (p : Product) (r : ImposeRequest) (input : List ℕ) (tells : Bool) (f : ImposeFault) (world : V) (rest : Rest V O) (written : Option (List ℕ)) → Makes p r input tells (Err f) world rest written → IsCreatedFor (Err f) world rest
+made_created : {V O : Type 0} (p : Product) (r : ImposeRequest) (input : List ℕ) (tells : Edge V) (f : ImposeFault) (world : V) (rest : Rest V O) (written : Option (List ℕ)) → Makes p r input tells (Err f) world rest written → IsCreatedFor (Err f) rest
 made_created product.Sheets r input tells f world rest written h = run_created r input tells f world rest written h
 made_created product.Specification r input tells f world rest written h = elim h [
-  | inl stopped ↦ inl stopped.1
+  | inl stopped ↦ inl (ap has_output stopped.1)
   | inr some ↦ text_created None (printed_text r some.0) tells f world rest written some.3
 ]
 made_created product.Plan r input tells f world rest written h = elim h [
-  | inl stopped ↦ inl stopped.1
+  | inl stopped ↦ inl (ap has_output stopped.1)
   | inr some ↦ text_created None some.0 tells f world rest written some.2
 ]
 made_created (product.Picture file) r input tells f world rest written h = elim h [
-  | inl stopped ↦ inl stopped.1
+  | inl stopped ↦ inl (ap has_output stopped.1)
   | inr some ↦ text_created (option_map string_bytes file) some.0 tells f world rest written some.2
 ]
 
-pub created_for : {V O : Type 0} (r : ImposeRequest) (gives : Gives) (tells : Bool) (outcome : Result Done ImposeFault) (world : V) (rest : Rest V O) (written : Option (List ℕ)) → CarriesOut r gives tells outcome world rest written → IsCreatedFor outcome world rest
-created_for r gives tells (Ok what) world rest written h = tt
-created_for r gives tells (Err f) world rest written h = elim h [
-  | inl stopped ↦ inl stopped.2
-  | inr made ↦ made_created r.product r made.0 tells f world rest written made.3
+pub created_for : {V O : Type 0} (seen : V → WorldView) (r : ImposeRequest) (gives : Gives) (tells : Edge V) (outcome : Result Done ImposeFault) (world : V) (rest : Rest V O) (written : Option (List ℕ)) → CarriesOut seen r gives tells outcome world rest written → IsCreatedFor outcome rest
+created_for seen r gives tells (Ok what) world rest written h = tt
+created_for seen r gives tells (Err f) world rest written h = elim h [
+  | inl stopped ↦ inl (ap has_output stopped.3)
+  | inr made ↦ made_created r.product r made.0 tells f made.1 rest written made.5
 ]

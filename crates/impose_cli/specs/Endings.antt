@@ -1,10 +1,11 @@
 -- How a request ends that is to be imposed: it is refused, and the world is back; or there is something to write, and it was
 -- written, or its first bytes were, or no output could be created.
-use Rattle.std.specs.Prelude.{◌≡◌, ◌⊎◌, ℕ, ◌≤◌, ◌++◌, List, [], length, take, Bool, false, Option, Some, Result, Ok, Err, IfSome, option_map, string_bytes}
+use Rattle.std.specs.Prelude.{◌≡◌, ◌⊎◌, ℕ, ◌≤◌, ◌++◌, List, [], length, take, Bool, Option, Some, Result, Ok, Err, IfSome, option_map, string_bytes}
 use Rattle.std.specs.Io.KnownBytes.{Appends}
 use Rattle.rules.specs.Output.{output}
 use Rattle.sheet_text.specs.Jobs.{JobView, output_of}
 use Rattle.world.specs.Outputs.{told_if}
+use Rattle.world.specs.Worlds.{HasRefused, WorldView, creating}
 pub use Rattle.world.specs.Rests.{has_output, shown}
 use Rattle.planned_runs.specs.Gathering.{ReportsOf}
 use Rattle.imposer.specs.Runs.{Accepted, IsRefusal, IsUnwritten, Reports, frame_of}
@@ -41,14 +42,27 @@ AfterWrite (fault.Write n cause) failed spent = failed n
 AfterWrite (fault.Run (run.NoMemory n)) failed spent = spent n
 AfterWrite other failed spent = ⊥
 
--- no output could be created
-abbrev pub IsUncreated : {W O : Type 0} → ImposeFault → Rest W O → Type 0
-IsUncreated f rest = AfterWrite f (λ n. (n ≡ 0) × (has_output rest ≡ false)) (λ n. ⊥)
+-- what clauses say of a world: whether its outputs report what they have, and what it was asked
+pub record Edge (W : Type 0) : Type 0 where
+  pub tells : Bool
+  pub seen : W → WorldView
 
--- nor was there memory for its buffer
-abbrev pub IsNotCreated : {T W O : Type 0} → Result T ImposeFault → Rest W O → Type 0
-IsNotCreated (Ok x) rest = ⊥
-IsNotCreated (Err f) rest = ((f ≡ without_memory) × (has_output rest ≡ false)) ⊎ IsUncreated f rest
+abbrev pub edge : {W : Type 0} → Bool → (W → WorldView) → Edge W
+edge tells seen = record { tells = tells; seen = seen }
+
+-- the world is back, and has refused an output of this name
+abbrev pub Refused : {W O : Type 0} → Edge W → (name : Option (List ℕ)) → (world : W) → Rest W O → Type 0
+Refused {W} e name world rest = (left : W) × (rest ≡ World left) × HasRefused (creating name) (e.seen world) (e.seen left)
+
+-- no output of this name could be created
+abbrev pub IsUncreated : {W O : Type 0} → Edge W → (name : Option (List ℕ)) → (world : W) → ImposeFault → Rest W O → Type 0
+IsUncreated e name world f rest = AfterWrite f (λ n. (n ≡ 0) × Refused e name world rest) (λ n. ⊥)
+
+-- nor was there memory for its buffer: then the very world is back, or it has refused for want of memory
+abbrev pub IsNotCreated : {T W O : Type 0} → Edge W → (name : Option (List ℕ)) → (world : W) → Result T ImposeFault → Rest W O → Type 0
+IsNotCreated e name world (Ok x) rest = ⊥
+IsNotCreated e name world (Err f) rest =
+    ((f ≡ without_memory) × ((rest ≡ World world) ⊎ Refused e name world rest)) ⊎ IsUncreated e name world f rest
 
 -- the output has the first bytes of this text, so many, if it reports what it has
 abbrev pub HasFirst : (old new : Option (List ℕ)) → (text : List ℕ) → (n : ℕ) → Type 0
@@ -72,12 +86,12 @@ IsSaidOf other n f = AfterWrite f (λ m. m ≡ n) (λ m. ⊥)
 -- back; or a whole output would have this text, and none could be created, or one has its front. `Refuses` says why it is
 -- refused, and `Wrote` what a whole output was before and is now.
 abbrev pub Comes : {T W O : Type 0} → (Refuses : ImposeFault → Type 0) → (Wrote : (old new : Option (List ℕ)) → T → Type 0)
-    → (name : Option (List ℕ)) → (tells : Bool) → Result T ImposeFault → (world : W) → (rest : Rest W O) → (written : Option (List ℕ)) → Type 0
-Comes {T} Refuses Wrote name tells (Ok what) world rest written = Wrote (told_if tells name []) written what
+    → (name : Option (List ℕ)) → (tells : Edge W) → Result T ImposeFault → (world : W) → (rest : Rest W O) → (written : Option (List ℕ)) → Type 0
+Comes {T} Refuses Wrote name tells (Ok what) world rest written = Wrote (told_if tells.tells name []) written what
 Comes {T} Refuses Wrote name tells (Err f) world rest written =
     (Refuses f × (rest ≡ World world))
     ⊎ ((text : List ℕ) × (what : T) × Wrote (Some []) (Some text) what
-    × (IsNotCreated {T = T} (Err f) rest ⊎ HasFront (told_if tells name []) written text f))
+    × (IsNotCreated {T = T} tells name world (Err f) rest ⊎ HasFront (told_if tells.tells name []) written text f))
 
 -- ---- the sheets of a job
 
@@ -142,7 +156,7 @@ RefusesImposing (layout.SpecRow specs signing) r input f = RefusesSpecRowRun r i
 RefusesImposing other r input f = RefusesRow r input f
 
 -- what comes of a request to impose this input
-abbrev pub Runs : {W O : Type 0} → ImposeRequest → (input : List ℕ) → (tells : Bool) → Result Done ImposeFault
+abbrev pub Runs : {W O : Type 0} → ImposeRequest → (input : List ℕ) → (tells : Edge W) → Result Done ImposeFault
     → (world : W) → (rest : Rest W O) → (written : Option (List ℕ)) → Type 0
 Runs r input tells outcome world rest written =
     Comes (RefusesImposing r.layout r input) (IsImposed r input) (option_map string_bytes r.outfile) tells outcome world rest written

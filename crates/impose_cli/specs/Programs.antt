@@ -1,13 +1,15 @@
 -- The whole program: what its words ask for, what it reads, what it creates and writes, and how it ends.
-use Rattle.std.specs.Prelude.{⊤, ◌≡◌, ◌⊎◌, ◌<◌, ℕ, List, [], length, take, Bool, Option, Some, None, Result, Ok, Err}
+use Rattle.std.specs.Prelude.{⊤, ◌≡◌, ◌⊎◌, ◌+◌, ◌<◌, ℕ, List, [], length, take, false, Option, Some, None, Result, Ok, Err}
 use Rattle.std.specs.Prelude.{codes, option_map, string_bytes}
 use Rattle.std.specs.Io.KnownBytes.{Appends}
 use Rattle.clap.specs.Words.{Text}
 use Rattle.world.specs.Outputs.{told_if}
 use Rattle.world.specs.Input.{IsFirst, most_bytes}
+use Rattle.world.specs.Rests.{has_output}
+use Rattle.world.specs.Worlds.{HasGranted, WasAsked, WorldView, opening}
 use Rattle.rules.specs.Papers.{Paper}
 use Rattle.papers.specs.Home.{home_paper}
-use Rattle.impose_cli.specs.Endings.{AfterWrite, IsUncreated, RefusesRow, Runs}
+use Rattle.impose_cli.specs.Endings.{AfterWrite, Edge, IsUncreated, RefusesRow, Runs}
 use Rattle.impose_said.specs.Faults.{without_memory}
 use Rattle.impose_cli.specs.Looks.{TellsRow}
 use Rattle.impose_cli.specs.Printed.{printed_text}
@@ -54,13 +56,26 @@ abbrev pub IsHome : (variable : List ℕ) → Gives → Paper → Type 0
 IsHome variable gives home =
     (file : List ℕ) × ((file ≡ []) ⊎ IsFirst most_home_bytes (gives (Some home_file)) file) × (home ≡ home_paper variable file)
 
+-- that file was asked for at most, and may have been refused
+abbrev pub LooksHome : (old new : WorldView) → Type 0
+LooksHome old new =
+    (new ≡ old) ⊎ (WasAsked (opening (Some home_file)) old new × ((new.failures ≡ old.failures) ⊎ (new.failures ≡ old.failures + 1)))
+
 -- ---- faults
 
--- the input couldn't be opened or read
-abbrev pub IsReading : ImposeFault → Type 0
-IsReading (fault.Read cause) = ⊤
-IsReading (fault.Run e) = fault.Run e ≡ without_memory
-IsReading other = ⊥
+-- how often more a world failed whose input couldn't be opened or read: once, but for want of memory perhaps never
+abbrev pub IsUnread : (old new : ℕ) → ImposeFault → Type 0
+IsUnread old new (fault.Read cause) = new ≡ old + 1
+IsUnread old new (fault.Run e) = (fault.Run e ≡ without_memory) × ((new ≡ old) ⊎ (new ≡ old + 1))
+IsUnread old new other = ⊥
+
+-- the input of this name was asked for, and nothing else, and it couldn't be opened or read
+abbrev pub IsReading : (name : Option (List ℕ)) → (old new : WorldView) → ImposeFault → Type 0
+IsReading name old new f = WasAsked (opening name) old new × IsUnread old.failures new.failures f
+
+-- the input of this name was asked for, and nothing else, and it was read without a failure
+abbrev pub HasGiven : (name : Option (List ℕ)) → (old new : WorldView) → Type 0
+HasGiven name old new = HasGranted (opening name) old new
 
 -- ---- texts
 
@@ -69,51 +84,51 @@ abbrev pub BreaksAt : (old new : Option (List ℕ)) → (text : List ℕ) → Im
 BreaksAt old new text f = AfterWrite f (λ n. (n < length text) × Appends old new (take n text)) (λ n. ⊥)
 
 -- a text wasn't written whole to the output of this name
-abbrev pub FailsToWrite : {W O : Type 0} → (name : Option (List ℕ)) → (text : List ℕ) → (tells : Bool) → ImposeFault
-    → (rest : Rest W O) → (written : Option (List ℕ)) → Type 0
-FailsToWrite name text tells f rest written =
-    IsUncreated f rest ⊎ BreaksAt (told_if tells name []) written text f
+abbrev pub FailsToWrite : {W O : Type 0} → (name : Option (List ℕ)) → (text : List ℕ) → (tells : Edge W) → ImposeFault
+    → (world : W) → (rest : Rest W O) → (written : Option (List ℕ)) → Type 0
+FailsToWrite name text tells f world rest written =
+    IsUncreated tells name world f rest ⊎ BreaksAt (told_if tells.tells name []) written text f
 
 -- What comes of a text that is written to the output of this name: the output tells its name and exactly the text; or a
 -- write failed.
-abbrev pub Writes : {W O : Type 0} → (name : Option (List ℕ)) → (text : List ℕ) → Done → (tells : Bool) → Result Done ImposeFault
-    → (rest : Rest W O) → (written : Option (List ℕ)) → Type 0
-Writes name text what tells (Ok said) rest written = (said ≡ what) × Appends (told_if tells name []) written text
-Writes name text what tells (Err f) rest written = FailsToWrite name text tells f rest written
+abbrev pub Writes : {W O : Type 0} → (name : Option (List ℕ)) → (text : List ℕ) → Done → (tells : Edge W) → Result Done ImposeFault
+    → (world : W) → (rest : Rest W O) → (written : Option (List ℕ)) → Type 0
+Writes name text what tells (Ok said) world rest written = (said ≡ what) × Appends (told_if tells.tells name []) written text
+Writes name text what tells (Err f) world rest written = FailsToWrite name text tells f world rest written
 
 -- What comes of a request to print the specification for this input: there is a task, which nothing refuses, and standard
 -- output has what was printed of it; or there is none, or no memory, and the world is back; or there is such a task, and a
 -- write failed.
-abbrev pub Prints : {W O : Type 0} → ImposeRequest → (input : List ℕ) → (tells : Bool) → Result Done ImposeFault
+abbrev pub Prints : {W O : Type 0} → ImposeRequest → (input : List ℕ) → (tells : Edge W) → Result Done ImposeFault
     → (world : W) → (rest : Rest W O) → (written : Option (List ℕ)) → Type 0
 Prints r input tells (Ok (done.Imposed finished)) world rest written = ⊥
 Prints r input tells (Ok done.Printed) world rest written =
     (task : Task) × IsTask r input task × HasNoFault r input
-    × Appends (told_if tells None []) written (printed_text r task)
+    × Appends (told_if tells.tells None []) written (printed_text r task)
 Prints r input tells (Ok done.Shown) world rest written = ⊥
 Prints r input tells (Err f) world rest written =
     ((RefusesTask r input f ⊎ (f ≡ without_memory)) × (rest ≡ World world))
     ⊎ ((task : Task) × IsTask r input task × HasNoFault r input
-    × FailsToWrite None (printed_text r task) tells f rest written)
+    × FailsToWrite None (printed_text r task) tells f world rest written)
 
 -- What comes of a request to show the sheets for this input: the output of this name has exactly the text that reports on the
 -- sheets that would be imposed; or the request is refused as its run would be, and the world is back; or there is such a
 -- text, and a write failed.
-abbrev pub Shows : {W O : Type 0} → Overview → (name : Option (List ℕ)) → ImposeRequest → (input : List ℕ) → (tells : Bool) → Result Done ImposeFault
+abbrev pub Shows : {W O : Type 0} → Overview → (name : Option (List ℕ)) → ImposeRequest → (input : List ℕ) → (tells : Edge W) → Result Done ImposeFault
     → (world : W) → (rest : Rest W O) → (written : Option (List ℕ)) → Type 0
 Shows l name r input tells (Ok (done.Imposed finished)) world rest written = ⊥
 Shows l name r input tells (Ok done.Printed) world rest written = ⊥
 Shows l name r input tells (Ok done.Shown) world rest written =
-    (text : List ℕ) × TellsRow r input l text × Appends (told_if tells name []) written text
+    (text : List ℕ) × TellsRow r input l text × Appends (told_if tells.tells name []) written text
 Shows l name r input tells (Err f) world rest written =
     (RefusesRow r input f × (rest ≡ World world))
-    ⊎ ((text : List ℕ) × TellsRow r input l text × FailsToWrite name text tells f rest written)
+    ⊎ ((text : List ℕ) × TellsRow r input l text × FailsToWrite name text tells f world rest written)
 
 -- ---- all of it
 
 -- this is made of what the input gives: the sheets in OUTFILE, a specification or a plan on standard output, or a picture in
 -- its own file
-abbrev pub Makes : {W O : Type 0} → Product → ImposeRequest → (input : List ℕ) → (tells : Bool) → Result Done ImposeFault
+abbrev pub Makes : {W O : Type 0} → Product → ImposeRequest → (input : List ℕ) → (tells : Edge W) → Result Done ImposeFault
     → (world : W) → (rest : Rest W O) → (written : Option (List ℕ)) → Type 0
 Makes product.Sheets r input tells outcome world rest written = Runs r input tells outcome world rest written
 Makes product.Specification r input tells outcome world rest written = Prints r input tells outcome world rest written
@@ -124,27 +139,30 @@ Makes (product.Picture file) r input tells outcome world rest written =
 
 -- What comes of a request: it is refused before its input is read; or it isn't, and its input can't be read, and the world is
 -- back; or the input was read, and what is asked for is made of it (RULES, 16)
-abbrev pub CarriesOut : {W O : Type 0} → ImposeRequest → Gives → (tells : Bool) → Result Done ImposeFault
+abbrev pub CarriesOut : {W O : Type 0} → (seen : W → WorldView) → ImposeRequest → Gives → (tells : Edge W) → Result Done ImposeFault
     → (world : W) → (rest : Rest W O) → (written : Option (List ℕ)) → Type 0
-CarriesOut r gives tells outcome world rest written =
-    ((f : ImposeFault) × (outcome ≡ Err f) × (rest ≡ World world) × (RefusesRequest r f ⊎ (MayBeRead r × IsReading f)))
-    ⊎ ((input : List ℕ) × IsFirst most_bytes (gives (option_map string_bytes r.infile)) input × MayBeRead r
-    × Makes r.product r input tells outcome world rest written)
+CarriesOut {W} seen r gives tells outcome world rest written =
+    ((f : ImposeFault) × (left : W) × (outcome ≡ Err f) × (rest ≡ World left)
+    × ((RefusesRequest r f × (left ≡ world)) ⊎ (MayBeRead r × IsReading (option_map string_bytes r.infile) (seen world) (seen left) f)))
+    ⊎ ((input : List ℕ) × (read : W) × IsFirst most_bytes (gives (option_map string_bytes r.infile)) input
+    × HasGiven (option_map string_bytes r.infile) (seen world) (seen read) × MayBeRead r
+    × Makes r.product r input tells outcome read rest written)
 
--- what is refused has this very world back: an output that exists is that of a request that was carried out, or for which a
--- write failed or memory ran out
-abbrev pub IsCreatedFor : {W O : Type 0} → Result Done ImposeFault → (world : W) → (rest : Rest W O) → Type 0
-IsCreatedFor (Ok what) world rest = ⊤
-IsCreatedFor (Err f) world rest = (rest ≡ World world) ⊎ AfterWrite f (λ n. ⊤) (λ n. ⊤)
+-- what is refused has no output: one that exists is that of a request that was carried out, or for which a write failed or
+-- memory ran out
+abbrev pub IsCreatedFor : {W O : Type 0} → Result Done ImposeFault → (rest : Rest W O) → Type 0
+IsCreatedFor (Ok what) rest = ⊤
+IsCreatedFor (Err f) rest = (has_output rest ≡ false) ⊎ AfterWrite f (λ n. ⊤) (λ n. ⊤)
 
 -- How the program ends: the words are refused, and the world is back; or they make a request, with the paper at home,
 -- and this comes of it.
-abbrev pub EndsProgram : {W O : Type 0} → (words : List Text) → (variable : List ℕ) → Gives → (tells : Bool) → Option ImposeRequest
+abbrev pub EndsProgram : {W O : Type 0} → (seen : W → WorldView) → (words : List Text) → (variable : List ℕ) → Gives → (tells : Edge W) → Option ImposeRequest
     → Result Done ImposeFault → (world : W) → (rest : Rest W O) → (written : Option (List ℕ)) → Type 0
-EndsProgram words variable gives tells None (Ok what) world rest written = ⊥
-EndsProgram words variable gives tells None (Err (fault.Command f)) world rest written =
+EndsProgram seen words variable gives tells None (Ok what) world rest written = ⊥
+EndsProgram seen words variable gives tells None (Err (fault.Command f)) world rest written =
     Refuses words f × (rest ≡ World world)
-EndsProgram words variable gives tells None (Err other) world rest written = ⊥
-EndsProgram words variable gives tells (Some r) outcome world rest written =
+EndsProgram seen words variable gives tells None (Err other) world rest written = ⊥
+EndsProgram {W} seen words variable gives tells (Some r) outcome world rest written =
     Entered words (λ name found. Reads name found r) × IsHome variable gives r.home_paper
-    × CarriesOut r gives tells outcome world rest written
+    × (looked : W) × LooksHome (seen world) (seen looked)
+    × CarriesOut seen r gives tells outcome looked rest written

@@ -1,11 +1,11 @@
 //! The whole program, over the files and standard streams around it.
-ghost use Rattle.std.specs.Prelude.{◌≡◌, map, option_map, string_bytes};
+ghost use Rattle.std.specs.Prelude.{◌≡◌, ◌+◌, ◌<◌, ◌≤◌, map, option_map, string_bytes};
 ghost use Rattle.std.specs.Prelude.{Some, IfOk, IfErr, OnOk};
 ghost use Rattle.std.specs.Io.KnownBytes.{Appends};
 ghost use Rattle.world.specs.Input.{IsFirst, most_bytes};
-ghost use Rattle.impose_cli.specs.Endings.{shown};
+ghost use Rattle.impose_cli.specs.Endings.{edge, shown};
 ghost use Rattle.impose_cli.specs.Looks.{MayBeMade};
-ghost use Rattle.impose_cli.specs.Programs.{BreaksAt, CarriesOut, EndsProgram, IsCreatedFor, IsHome, IsReading, Makes};
+ghost use Rattle.impose_cli.specs.Programs.{BreaksAt, CarriesOut, EndsProgram, IsCreatedFor, HasGiven, IsHome, IsReading, IsUnread, LooksHome, Makes};
 ghost use Rattle.impose_cli.specs.Programs.{Prints, Shows, Writes, most_home_bytes, status_of};
 ghost use Rattle.impose_cli.specs.RowTasks.{LaysRows};
 ghost use Rattle.impose_said.specs.declared.fault.ImposeFault.TheVariants as faults;
@@ -27,7 +27,7 @@ use std::io;
 use std::io::{ErrorKind, Read, Write};
 use std::sync::Wait;
 use std::thread::Threads;
-use world::{KeepingReader, ReadFault, ReadSource, Rest, World, read_input, read_input_behind};
+use world::{ReadFault, ReadSource, Rest, World, read_input, read_input_behind};
 
 /// How the program ended.
 #[derive(Drop)]
@@ -63,17 +63,18 @@ pub fn impose<R: Threads + Wait + Sync, W: World>(
     alloc: Global,
     words: &[String],
     paper_size: &[u8],
-    world: W,
+    mut world: W,
 ) -> Ended<W>
-    ensures ended { EndsProgram (map string_bytes words.now) paper_size.now (W.gives world) (W.tells world)
+    requires countable { (W.seen world).failures + 1 < u64.MAX }
+    ensures ended { EndsProgram W.seen (map string_bytes words.now) paper_size.now (W.gives world) (edge (W.tells world) W.seen)
         result.request result.outcome world result.rest (shown W.Output.contents result.rest) }
-    // What is refused has created no output, and has the very world back. An output that exists has all that was to be
+    // What is refused has created no output, and has the world back. An output that exists has all that was to be
     // written, or a write failed or memory ran out.
-    ensures created { IsCreatedFor result.outcome world result.rest }
+    ensures created { IsCreatedFor result.outcome result.rest }
 {
     match read_command(alloc, words) {
         Ok(read) => {
-            let request = at_home(read, home_of(alloc, paper_size, &world));
+            let request = at_home(read, home_of(alloc, paper_size, &mut world));
             let left = carry_out(rt, alloc, &request, world);
             Ended {
                 request: Some(request),
@@ -107,8 +108,12 @@ const HOME_BYTES: u64 = 4_096;
 
 /// The paper at home, by the value of `PAPERSIZE` and by what the file begins with. What can't be read, or is no regular
 /// file, counts as empty.
-fn home_of<W: World>(alloc: Global, paper_size: &[u8], world: &W) -> Paper
-    ensures { IsHome paper_size.now (W.gives world.now) result }
+fn home_of<W: World>(alloc: Global, paper_size: &[u8], world: &mut W) -> Paper
+    requires countable { (W.seen world.old).failures < u64.MAX }
+    ensures home { IsHome paper_size.now (W.gives world.old) result }
+    ensures looked { LooksHome (W.seen world.old) (W.seen world.new) }
+    ensures again { W.gives world.new ≡ W.gives world.old }
+    ensures tells { W.tells world.new ≡ W.tells world.old }
 {
     if !world.is_file(HOME_FILE) {
         return home_paper(paper_size, b"");
@@ -135,17 +140,18 @@ fn carry_out<R: Threads + Wait + Sync, W: World>(
     rt: &R,
     alloc: Global,
     request: &ImposeRequest,
-    world: W,
+    mut world: W,
 ) -> Left<W, Done>
-    requires { MayBeMade request.now.product request.now.layout }
-    ensures { CarriesOut request.now (W.gives world) (W.tells world) result.outcome world result.rest
+    requires product { MayBeMade request.now.product request.now.layout }
+    requires countable { (W.seen world).failures < u64.MAX }
+    ensures { CarriesOut W.seen request.now (W.gives world) (edge (W.tells world) W.seen) result.outcome world result.rest
         (shown W.Output.contents result.rest) }
 {
     match check_request(alloc, request) {
         Ok(()) => {}
         Err(fault) => return stopped(fault, world),
     }
-    match input_of(alloc, name_of(&request.infile), &world) {
+    match input_of(alloc, name_of(&request.infile), &mut world) {
         Ok(input) => make(rt, alloc, request, input, world),
         Err(fault) => stopped(fault, world),
     }
@@ -159,8 +165,9 @@ fn make<R: Threads + Wait + Sync, W: World>(
     input: RoomyText,
     world: W,
 ) -> Left<W, Done>
-    requires { MayBeMade request.now.product request.now.layout }
-    ensures { Makes request.now.product request.now input.items (W.tells world) result.outcome world result.rest
+    requires product { MayBeMade request.now.product request.now.layout }
+    requires countable { (W.seen world).failures < u64.MAX }
+    ensures { Makes request.now.product request.now input.items (edge (W.tells world) W.seen) result.outcome world result.rest
         (shown W.Output.contents result.rest) }
 {
     match &request.product {
@@ -184,14 +191,17 @@ fn make<R: Threads + Wait + Sync, W: World>(
 fn input_of<W: World>(
     alloc: Global,
     name: Option<&str>,
-    world: &W,
+    world: &mut W,
 ) -> Result<RoomyText, ImposeFault>
+    requires countable { (W.seen world.old).failures < u64.MAX }
     ensures read { IfOk result (λ input.
-        IsFirst most_bytes (W.gives world.now (option_map (λ n. n.now) name.entry)) input.items) }
-    ensures refused { IfErr result IsReading }
+        IsFirst most_bytes (W.gives world.old (option_map (λ n. n.now) name.entry)) input.items) }
+    ensures given { IfOk result (λ _. HasGiven (option_map (λ n. n.now) name.entry) (W.seen world.old) (W.seen world.new)) }
+    ensures refused { IfErr result (IsReading (option_map (λ n. n.now) name.entry) (W.seen world.old) (W.seen world.new)) }
+    ensures tells { W.tells world.new ≡ W.tells world.old }
 {
     match world.open(name) {
-        Ok(input) => read_from(alloc, input),
+        Ok(input) => read_from(alloc, input, world),
         Err(error) if error.kind() == ErrorKind::OutOfMemory => Err(ImposeFault::no_memory()),
         Err(error) => Err(ImposeFault::Read(Some(error))),
     }
@@ -200,18 +210,26 @@ fn input_of<W: World>(
 /// Room for the guard before the document: more bytes than it has, with any paper.
 const ROOM: u32 = 2_560;
 
-fn read_from<I: Read + Drop>(alloc: Global, input: I) -> Result<RoomyText, ImposeFault>
-    ensures read { IfOk result (λ bytes. IsFirst most_bytes (I.remaining input) bytes.items) }
-    ensures refused { IfErr result IsReading }
+/// All that an input of this world gives. It is closed.
+fn read_from<W: World>(
+    alloc: Global,
+    input: W::Input,
+    world: &mut W,
+) -> Result<RoomyText, ImposeFault>
+    requires countable { (W.seen world.old).failures < u64.MAX }
+    ensures read { IfOk result (λ bytes. IsFirst most_bytes (W.Input.remaining input) bytes.items) }
+    ensures asked { (W.seen world.new).asked ≡ (W.seen world.old).asked }
+    ensures steady { OnOk result ((W.seen world.new).failures ≡ (W.seen world.old).failures) }
+    ensures refused { IfErr result (IsUnread (W.seen world.old).failures (W.seen world.new).failures) }
+    ensures tells { W.tells world.new ≡ W.tells world.old }
 {
-    let mut reader = KeepingReader::new(input);
-    let mut source = ReadSource::new(&mut reader);
+    let mut source = ReadSource::new(input);
     let read = read_input_behind(alloc, ROOM, &mut source);
-    drop(source);
+    let cause = world.close(source);
     match read {
         Ok(bytes) => Ok(RoomyText::behind(ROOM as usize, bytes)),
         Err(ReadFault::NoMemory) => Err(ImposeFault::no_memory()),
-        Err(ReadFault::Device) => Err(ImposeFault::Read(reader.into_cause())),
+        Err(ReadFault::Device) => Err(ImposeFault::Read(cause)),
     }
 }
 
@@ -222,7 +240,8 @@ fn print_input<W: World>(
     input: RoomyText,
     world: W,
 ) -> Left<W, Done>
-    ensures { Prints request.now input.items (W.tells world) result.outcome world result.rest
+    requires countable { (W.seen world).failures < u64.MAX }
+    ensures { Prints request.now input.items (edge (W.tells world) W.seen) result.outcome world result.rest
         (shown W.Output.contents result.rest) }
 {
     let (task, _) = match task_for(alloc, request, input) {
@@ -246,7 +265,8 @@ fn show_input<W: World>(
     world: W,
 ) -> Left<W, Done>
     requires rows { LaysRows request.now.layout }
-    ensures { Shows look (option_map (λ n. n.now) name.entry) request.now input.items (W.tells world) result.outcome
+    requires countable { (W.seen world).failures < u64.MAX }
+    ensures { Shows look (option_map (λ n. n.now) name.entry) request.now input.items (edge (W.tells world) W.seen) result.outcome
         world result.rest (shown W.Output.contents result.rest) }
 {
     match look_text(alloc, request, input, look) {
@@ -257,7 +277,8 @@ fn show_input<W: World>(
 
 /// Writes a text to the output of that name, which is created for it.
 fn write_text<W: World>(name: Option<&str>, text: &[u8], done: Done, world: W) -> Left<W, Done>
-    ensures { Writes (option_map (λ n. n.now) name.entry) text.now done (W.tells world) result.outcome result.rest
+    requires countable { (W.seen world).failures < u64.MAX }
+    ensures { Writes (option_map (λ n. n.now) name.entry) text.now done (edge (W.tells world) W.seen) result.outcome world result.rest
         (shown W.Output.contents result.rest) }
 {
     let mut output = match world.create(name) {

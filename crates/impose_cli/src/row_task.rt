@@ -1,9 +1,9 @@
 //! What is imposed of a row of pages that a layout lays on sheets, and how.
-ghost use Rattle.std.specs.Prelude.{◌≡◌, ◌≤◌, ◌&&◌, ◌⊎◌, ℕ, length, true, IfErr, IfOk, IfSome, IsTrue, None, Ok};
+ghost use Rattle.std.specs.Prelude.{◌≡◌, ◌<◌, ◌≤◌, ◌&&◌, ◌⊎◌, ℕ, length, true, IfErr, IfOk, IfSome, IsTrue, None, Ok};
 ghost use Rattle.std.specs.Prelude.{option_map, string_bytes};
 ghost use Rattle.rows.specs.Sewing.{MayBeSewn};
 ghost use Rattle.row_runs.specs.Sheets.{MayBeLaid};
-ghost use Rattle.impose_cli.specs.Endings.{Comes, RefusesRowTaskRun, shown};
+ghost use Rattle.impose_cli.specs.Endings.{Comes, RefusesRowTaskRun, edge, shown};
 ghost use Rattle.rules.specs.Parts.{bytes_of};
 ghost use Rattle.sheet_text.specs.Jobs.{is_border};
 ghost use Rattle.impose_said.specs.Faults.{without_memory};
@@ -326,12 +326,13 @@ pub(crate) fn impose_task<R: Threads + Wait + Sync, W: World>(
     parts: Parts,
     world: W,
 ) -> Left<W, Report>
+    requires countable { (W.seen world).failures < u64.MAX }
     requires laid { MayBeLaid task.now.laying }
     requires sewn { IfSome task.now.signing MayBeSewn }
     requires border { IsTrue (is_border request.now.border) }
     requires parts { Serve parts task.now.text.items }
     ensures { Comes (RefusesRowTaskRun request.now task.now) (ImposesTask request.now task.now)
-        (option_map string_bytes request.now.outfile) (W.tells world) result.outcome
+        (option_map string_bytes request.now.outfile) (edge (W.tells world) W.seen) result.outcome
         world result.rest (shown W.Output.contents result.rest) }
 {
     let document = match Document::from_parts(task.text.as_slice(), parts) {

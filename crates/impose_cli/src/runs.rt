@@ -1,5 +1,8 @@
 //! Runs of requests, into outputs that are created once nothing is left to refuse.
-ghost use Rattle.std.specs.Prelude.{◌≡◌, ◌⊎◌, ℕ, List, IfErr, IfOk, IfSome, IsTrue, MatchResult, OnOk, None, Ok, Err, option_map, string_bytes};
+ghost use Rattle.std.specs.Prelude.{◌≡◌, ◌<◌, ◌⊎◌, ℕ, List, IfErr, IfOk, IfSome, IsTrue, MatchResult, OnOk, None, Some, Ok, Err, option_map, string_bytes};
+ghost use Rattle.std.specs.IoError.{error_kind};
+ghost use Rattle.std.specs.declared.io.ErrorKind.TheVariants.{OutOfMemory};
+ghost use Rattle.impose_said.specs.Faults.{without_memory};
 ghost use Rattle.rules.specs.Admissible.{Takes, most_slots};
 ghost use Rattle.rules.specs.Run.{document_of};
 ghost use Rattle.rows.specs.Sewing.{MayBeSewn};
@@ -14,7 +17,7 @@ ghost use Rattle.impose_cli.specs.Tasks.{IsSpec, asked_by};
 ghost use Rattle.impose_cli.specs.RowRuns.{Imposes, ImposesBySpec};
 ghost use Rattle.impose_cli.specs.RowTasks.{LaysRows};
 ghost use Rattle.impose_cli.specs.SpecRows.{LaysSpecRow, RefusesSpecRowJob};
-ghost use Rattle.impose_cli.specs.Endings.{Comes, IsNotCreated, RefusesRowJob, RefusesTaskRun, Runs, shown};
+ghost use Rattle.impose_cli.specs.Endings.{Comes, RefusesRowJob, RefusesTaskRun, Runs, edge, shown};
 ghost use Rattle.impose_cli.specs.Endings.{IsSaidOf, WritesJob, WritesTask};
 ghost use Rattle.impose_cli.specs.Abouts.{reported_by};
 ghost use Rattle.impose_said.specs.declared.fault.ImposeFault.TheVariants as faults;
@@ -52,7 +55,8 @@ pub(crate) fn run_request<R: Threads + Wait + Sync, W: World>(
     input: RoomyText,
     world: W,
 ) -> Left<W, Done>
-    ensures { Runs request.now input.items (W.tells world) result.outcome
+    requires countable { (W.seen world).failures < u64.MAX }
+    ensures { Runs request.now input.items (edge (W.tells world) W.seen) result.outcome
         world result.rest (shown W.Output.contents result.rest) }
 {
     match &request.layout {
@@ -72,8 +76,9 @@ fn run_row<R: Threads + Wait + Sync, W: World>(
     input: RoomyText,
     world: W,
 ) -> Left<W, Done>
+    requires countable { (W.seen world).failures < u64.MAX }
     requires rows { LaysRows request.now.layout }
-    ensures { Runs request.now input.items (W.tells world) result.outcome
+    ensures { Runs request.now input.items (edge (W.tells world) W.seen) result.outcome
         world result.rest (shown W.Output.contents result.rest) }
 {
     let told = told_by(alloc, request, input.as_slice());
@@ -104,9 +109,10 @@ pub(crate) fn impose_job<R: Threads + Wait + Sync, W: World>(
     name: Option<&str>,
     world: W,
 ) -> Left<W, Report>
+    requires countable { (W.seen world).failures < u64.MAX }
     requires asked { MayBeAsked job.now.asked }
     requires border { IsTrue (is_border job.now.border) }
-    ensures { Comes (RefusesRowJob job.now) (Imposes job.now) (option_map (λ n. n.now) name.entry) (W.tells world) result.outcome
+    ensures { Comes (RefusesRowJob job.now) (Imposes job.now) (option_map (λ n. n.now) name.entry) (edge (W.tells world) W.seen) result.outcome
         world result.rest (shown W.Output.contents result.rest) }
 {
     let pages = job.document.pages();
@@ -132,8 +138,9 @@ fn run_spec_row<R: Threads + Wait + Sync, W: World>(
     input: RoomyText,
     world: W,
 ) -> Left<W, Done>
+    requires countable { (W.seen world).failures < u64.MAX }
     requires rows { LaysSpecRow request.now.layout }
-    ensures { Runs request.now input.items (W.tells world) result.outcome
+    ensures { Runs request.now input.items (edge (W.tells world) W.seen) result.outcome
         world result.rest (shown W.Output.contents result.rest) }
 {
     let told = told_by(alloc, request, input.as_slice());
@@ -164,9 +171,10 @@ pub(crate) fn impose_spec_job<R: Threads + Wait + Sync, W: World>(
     name: Option<&str>,
     world: W,
 ) -> Left<W, Report>
+    requires countable { (W.seen world).failures < u64.MAX }
     requires sewn { IfSome job.now.signing MayBeSewn }
     requires border { IsTrue (is_border job.now.border) }
-    ensures { Comes (RefusesSpecRowJob job.now) (ImposesBySpec job.now) (option_map (λ n. n.now) name.entry) (W.tells world) result.outcome
+    ensures { Comes (RefusesSpecRowJob job.now) (ImposesBySpec job.now) (option_map (λ n. n.now) name.entry) (edge (W.tells world) W.seen) result.outcome
         world result.rest (shown W.Output.contents result.rest) }
 {
     let document = job.document;
@@ -193,8 +201,9 @@ fn run_spec<R: Threads + Wait + Sync, W: World>(
     input: RoomyText,
     world: W,
 ) -> Left<W, Done>
+    requires countable { (W.seen world).failures < u64.MAX }
     requires spec { (text : List ℕ) × IsSpec request.now.layout text }
-    ensures { Runs request.now input.items (W.tells world) result.outcome
+    ensures { Runs request.now input.items (edge (W.tells world) W.seen) result.outcome
         world result.rest (shown W.Output.contents result.rest) }
 {
     let told = told_by(alloc, request, input.as_slice());
@@ -226,10 +235,11 @@ fn impose_by_spec<R: Threads + Wait + Sync, W: World>(
     name: Option<&str>,
     world: W,
 ) -> Left<W, Report>
+    requires countable { (W.seen world).failures < u64.MAX }
     requires sides { task.now.options.sides ≡ None }
     requires workers { AreWorkers task.now.options.workers }
     requires parts { Serve parts task.now.text.items }
-    ensures { Comes (RefusesTaskRun task.now) (WritesTask task.now) (option_map (λ n. n.now) name.entry) (W.tells world) result.outcome
+    ensures { Comes (RefusesTaskRun task.now) (WritesTask task.now) (option_map (λ n. n.now) name.entry) (edge (W.tells world) W.seen) result.outcome
         world result.rest (shown W.Output.contents result.rest) }
 {
     let (spec, document) = match read_task(alloc, task, parts) {
@@ -309,7 +319,8 @@ fn write_job<R: Threads + Wait + Sync, W: World>(
     name: Option<&str>,
     world: W,
 ) -> Left<W, Report>
-    ensures { Comes (λ fault. ⊥) (WritesJob job.now) (option_map (λ n. n.now) name.entry) (W.tells world) result.outcome
+    requires countable { (W.seen world).failures < u64.MAX }
+    ensures { Comes (λ fault. ⊥) (WritesJob job.now) (option_map (λ n. n.now) name.entry) (edge (W.tells world) W.seen) result.outcome
         world result.rest (shown W.Output.contents result.rest) }
 {
     let mut sink = match created(alloc, WRITTEN_AT_ONCE, name, world) {
@@ -334,7 +345,9 @@ fn write_job<R: Threads + Wait + Sync, W: World>(
 
 /// No output could be created, or there was no memory for its buffer.
 fn uncreated<W: World>(refused: Refused<W>) -> Left<W, Report>
-    ensures { IsNotCreated result.outcome result.rest }
+    ensures memory { error_kind refused.cause ≡ OutOfMemory → result.outcome ≡ Err without_memory }
+    ensures either { (result.outcome ≡ Err without_memory) ⊎ (result.outcome ≡ Err (faults.Write 0 (Some refused.cause))) }
+    ensures rest { result.rest ≡ rests.World refused.world }
 {
     if refused.cause.kind() == ErrorKind::OutOfMemory {
         return stopped(ImposeFault::no_memory(), refused.world);

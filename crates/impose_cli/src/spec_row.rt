@@ -1,7 +1,7 @@
 //! What is imposed by a specification on a row of pages, and how.
-ghost use Rattle.std.specs.Prelude.{IfErr, IfOk, IfSome, IsTrue, option_map, string_bytes};
+ghost use Rattle.std.specs.Prelude.{◌<◌, IfErr, IfOk, IfSome, IsTrue, option_map, string_bytes};
 ghost use Rattle.sheet_text.specs.Jobs.{is_border};
-ghost use Rattle.impose_cli.specs.Endings.{Comes, shown};
+ghost use Rattle.impose_cli.specs.Endings.{Comes, edge, shown};
 ghost use Rattle.rows.specs.Sewing.{MayBeSewn};
 ghost use Rattle.dsc.specs.Serving.{Serve};
 ghost use Rattle.impose_cli.specs.SpecRows.{ImposesSpecTask, IsSpecRowTask, LaysSpecRow, TakesNamed};
@@ -95,11 +95,12 @@ pub(crate) fn impose_spec_task<R: Threads + Wait + Sync, W: World>(
     parts: Parts,
     world: W,
 ) -> Left<W, Report>
+    requires countable { (W.seen world).failures < u64.MAX }
     requires sewn { IfSome task.now.signing MayBeSewn }
     requires border { IsTrue (is_border request.now.border) }
     requires parts { Serve parts task.now.text.items }
     ensures { Comes (RefusesSpecTaskRun request.now task.now) (ImposesSpecTask request.now task.now)
-        (option_map string_bytes request.now.outfile) (W.tells world) result.outcome
+        (option_map string_bytes request.now.outfile) (edge (W.tells world) W.seen) result.outcome
         world result.rest (shown W.Output.contents result.rest) }
 {
     let document = match Document::from_parts(task.text.as_slice(), parts) {

@@ -14,6 +14,9 @@ use Rattle.pstops_cli.specs.Messages.{fault_status}
 use Rattle.sheet_writer.specs.Sinks.{SinkView}
 use Rattle.pstops_cli.specs.RequestRuns.{Ends, IsSaidOf, asked_by, outcome_status}
 use Rattle.world.specs.declared.rest.Rest.{Rest}
+use Rattle.std.specs.declared.io.ErrorKind.{ErrorKind}
+use Rattle.std.specs.declared.io.ErrorKind.TheVariants.{OutOfMemory}
+use Rattle.world.specs.Worlds.{HasRefused, WorldView, creating}
 use Rattle.pstops_cli.specs.Programs.{CreatesAndRuns, IsCreating, IsSaid, Ran}
 use Rattle.pstops_cli.specs.declared.command.Request.{Request}
 use Rattle.pstops_cli.specs.declared.messages.Fault.{Fault}
@@ -29,9 +32,21 @@ three_is_said : (f : Fault) (status : ℕ) (line : List ℕ) → fault_status f 
 three_is_said f status line three (inl of_run) = of_run.0 ∙ three
 three_is_said f status line three (inr none) = none.0
 
-creating_is_three : (f : Fault) → IsCreating f → fault_status f ≡ 3
-creating_is_three f (inl e) = ap fault_status e
-creating_is_three f (inr e) = ap fault_status e
+creating_is_three : {W : Type 0} (seen : W → WorldView) (name : Option (List ℕ)) (old new : W) (f : Fault) → IsCreating seen name old new f → fault_status f ≡ 3
+creating_is_three seen name old new fault.Create why = refl
+creating_is_three seen name old new (fault.Run e) why = ap (λ e. fault_status (fault.Run e)) why.0
+creating_is_three seen name old new (fault.Command e) why = absurd why
+creating_is_three seen name old new (fault.Read e) why = absurd why
+
+-- an output wasn't created, and the fault is that of its error's kind
+pub not_created : {W : Type 0} (seen : W → WorldView) (name : Option (List ℕ)) (old new : W) (kind : ErrorKind) (f : Fault)
+    → ((new ≡ old) × (kind ≡ OutOfMemory)) ⊎ HasRefused (creating name) (seen old) (seen new)
+    → (kind ≡ OutOfMemory → f ≡ fault.Run (run.NoMemory 0)) → (f ≡ fault.Create) ⊎ (f ≡ fault.Run (run.NoMemory 0))
+    → IsCreating seen name old new f
+not_created seen name old new kind f (inl same) memory either =
+    subst (IsCreating seen name old new) (sym (memory same.1)) (refl, inl same.0)
+not_created seen name old new kind f (inr refused) memory (inl is) = subst (IsCreating seen name old new) (sym is) refused
+not_created seen name old new kind f (inr refused) memory (inr is) = subst (IsCreating seen name old new) (sym is) (refl, inr refused)
 
 -- at status 0 the outcome's own status is 0
 said_zero : (quiet : Bool) (ended : Result Report RunError) (status : ℕ) (line : List ℕ) → status ≡ 0
@@ -91,11 +106,11 @@ ran_carried r input tells written status line zero h (inr cut_off) =
     absurd (not_zero status (three_is_said (fault.Run (run.Write 0)) status line refl cut_off.1) zero)
 
 -- at status 0 the request was carried out
-pub carries_out : {W O : Type 0} (r : Request) (input : List ℕ) (tells : Bool) (rest : Rest W O) (written : Option (List ℕ))
+pub carries_out : {W O : Type 0} (seen : W → WorldView) (r : Request) (input : List ℕ) (tells : Bool) (world : W) (rest : Rest W O) (written : Option (List ℕ))
     (status : ℕ) (line : List ℕ) → status ≡ 0
-    → CreatesAndRuns r input tells rest written status line
+    → CreatesAndRuns seen r input tells world rest written status line
     → Accepted (asked_by r input) (λ spec us. Appends (told_if tells (option_map string_bytes r.outfile) []) written
     (output (frame_of r.options) r.options.sides spec us))
-carries_out r input tells rest written status line zero (inl h) =
-    absurd (not_zero status (three_is_said h.0 status line (creating_is_three h.0 h.1) h.2) zero)
-carries_out r input tells rest written status line zero (inr h) = ran_carried r input tells written status line zero h.1 h.1.said
+carries_out seen r input tells world rest written status line zero (inl h) =
+    absurd (not_zero status (three_is_said h.0 status line (creating_is_three seen (option_map string_bytes r.outfile) world h.1 h.0 h.2) h.3) zero)
+carries_out seen r input tells world rest written status line zero (inr h) = ran_carried r input tells written status line zero h.1 h.1.said

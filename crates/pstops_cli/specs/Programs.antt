@@ -1,5 +1,5 @@
 -- The whole program: what its words ask for, what it reads, what it creates and writes, and what it says.
-use Rattle.std.specs.Prelude.{◌≡◌, ◌⊎◌, ℕ, List, [], Bool, true, false, Option, Result, IsOk, option_map}
+use Rattle.std.specs.Prelude.{◌≡◌, ◌⊎◌, ◌+◌, ℕ, List, [], Bool, true, Option, Result, IsOk, option_map}
 use Rattle.std.specs.Prelude.{string_bytes}
 use Rattle.std.specs.Io.KnownBytes.{Appends, Keeps}
 use Rattle.clap.specs.Words.{Text, matches_of}
@@ -12,11 +12,14 @@ use Rattle.sheet_writer.specs.Sinks.{SinkView, fresh_sink}
 use Rattle.world.specs.Outputs.{IsFrontOf, told_if}
 use Rattle.world.specs.Input.{IsFirst, most_bytes}
 use Rattle.world.specs.Rests.{has_output}
+use Rattle.world.specs.Worlds.{HasGranted, HasRefused, WasAsked, WorldView, creating, opening}
 use Rattle.world.specs.declared.rest.Rest.{Rest}
 use Rattle.world.specs.declared.rest.Rest.TheVariants.{World}
 use Rattle.pstops_cli.specs.Command.{Reads, Refuses, Takes, pstops}
 use Rattle.pstops_cli.specs.Messages.{fault_status, fault_text, said}
 use Rattle.pstops_cli.specs.RequestRuns.{Ends, IsSaidOf, asked_by}
+use Rattle.world.specs.declared.read.ReadFault.{ReadFault}
+use Rattle.world.specs.declared.read.ReadFault.TheVariants as read
 use Rattle.pstops_cli.specs.declared.command.Request.{Request}
 use Rattle.pstops_cli.specs.declared.messages.Fault.{Fault}
 use Rattle.pstops_cli.specs.declared.messages.Fault.TheVariants as fault
@@ -35,12 +38,24 @@ Makes words r = Takes words × Reads (matches_of pstops words) r
 abbrev pub HasRead : (words : List Text) → Gives → Request → (input : List ℕ) → Type 0
 HasRead words gives r input = Makes words r × IsFirst most_bytes (gives (option_map string_bytes r.infile)) input
 
--- The faults before anything is created: the words are refused; or they make a request, whose input can't be read.
-abbrev pub StopsBefore : (words : List Text) → Fault → Type 0
-StopsBefore words (fault.Command f) = Refuses words f
-StopsBefore words (fault.Read f) = (r : Request) × Makes words r
-StopsBefore words fault.Create = ⊥
-StopsBefore words (fault.Run e) = ⊥
+-- how often more a world failed that couldn't read the input: once, but for want of memory perhaps never
+abbrev pub IsUnread : ReadFault → (old new : ℕ) → Type 0
+IsUnread read.Device old new = new ≡ old + 1
+IsUnread read.NoMemory old new = (new ≡ old) ⊎ (new ≡ old + 1)
+
+-- The faults before anything is created: the words are refused, and the world wasn't asked for anything; or they make a
+-- request, whose input alone was asked for and couldn't be opened or read.
+abbrev pub StopsBefore : {W : Type 0} → (seen : W → WorldView) → (words : List Text) → (old new : W) → Fault → Type 0
+StopsBefore seen words old new (fault.Command f) = Refuses words f × (new ≡ old)
+StopsBefore seen words old new (fault.Read f) =
+    (r : Request) × Makes words r × WasAsked (opening (option_map string_bytes r.infile)) (seen old) (seen new)
+    × IsUnread f (seen old).failures (seen new).failures
+StopsBefore seen words old new fault.Create = ⊥
+StopsBefore seen words old new (fault.Run e) = ⊥
+
+-- the world was asked for this request's input, which was read without a failure
+abbrev pub HasGiven : {W : Type 0} → (seen : W → WorldView) → Request → (old new : W) → Type 0
+HasGiven seen r old new = HasGranted (opening (option_map string_bytes r.infile)) (seen old) (seen new)
 
 -- ---- what is said
 
@@ -48,9 +63,13 @@ StopsBefore words (fault.Run e) = ⊥
 abbrev pub IsSaid : Fault → (status : ℕ) → (line : List ℕ) → Type 0
 IsSaid f status line = ((status ≡ fault_status f) × (line ≡ said (fault_text f))) ⊎ ((status ≡ 3) × (line ≡ []))
 
--- an output couldn't be created
-abbrev pub IsCreating : Fault → Type 0
-IsCreating f = (f ≡ fault.Create) ⊎ (f ≡ fault.Run (run.NoMemory 0))
+-- An output of this name couldn't be created: there was no memory for its buffer, and the very world is back; or the world
+-- was asked for it, and refused.
+abbrev pub IsCreating : {W : Type 0} → (seen : W → WorldView) → (name : Option (List ℕ)) → (old new : W) → Fault → Type 0
+IsCreating seen name old new fault.Create = HasRefused (creating name) (seen old) (seen new)
+IsCreating seen name old new (fault.Run e) =
+    (e ≡ run.NoMemory 0) × ((new ≡ old) ⊎ HasRefused (creating name) (seen old) (seen new))
+IsCreating seen name old new other = ⊥
 
 -- ---- the run
 
@@ -68,21 +87,22 @@ pub record Ran (r : Request) (input : List ℕ) (tells : Bool) (written : Option
       ⊎ (IsOk ended × IsSaid (fault.Run (run.Write 0)) status line)
 
 -- no output could be created, with its buffer; or one was, and the request was run into it
-abbrev pub CreatesAndRuns : {W O : Type 0} → Request → (input : List ℕ) → (tells : Bool) → (rest : Rest W O)
+abbrev pub CreatesAndRuns : {W O : Type 0} → (seen : W → WorldView) → Request → (input : List ℕ) → (tells : Bool) → (world : W) → (rest : Rest W O)
     → (written : Option (List ℕ)) → (status : ℕ) → (line : List ℕ) → Type 0
-CreatesAndRuns r input tells rest written status line =
-    ((f : Fault) × IsCreating f × IsSaid f status line × (has_output rest ≡ false))
+CreatesAndRuns {W} seen r input tells world rest written status line =
+    ((f : Fault) × (left : W) × IsCreating seen (option_map string_bytes r.outfile) world left f × IsSaid f status line × (rest ≡ World left))
     ⊎ ((has_output rest ≡ true) × Ran r input tells written status line)
 
 -- ---- all of it
 
--- How the program ends. It stopped before anything was created, and this very world is back; or it read a request and its
+-- How the program ends. It stopped before anything was created, and the world is back; or it read a request and its
 -- input, and either its output couldn't be created, or one was and the request was run.
-abbrev pub EndsProgram : {W O : Type 0} → (words : List Text) → Gives → (tells : Bool) → (world : W) → (rest : Rest W O)
+abbrev pub EndsProgram : {W O : Type 0} → (seen : W → WorldView) → (words : List Text) → Gives → (tells : Bool) → (world : W) → (rest : Rest W O)
     → (written : Option (List ℕ)) → (status : ℕ) → (line : List ℕ) → Type 0
-EndsProgram words gives tells world rest written status line =
-    ((f : Fault) × StopsBefore words f × IsSaid f status line × (rest ≡ World world))
-    ⊎ ((r : Request) × (input : List ℕ) × HasRead words gives r input × CreatesAndRuns r input tells rest written status line)
+EndsProgram {W} seen words gives tells world rest written status line =
+    ((f : Fault) × (left : W) × StopsBefore seen words world left f × IsSaid f status line × (rest ≡ World left))
+    ⊎ ((r : Request) × (input : List ℕ) × HasRead words gives r input × (read : W) × HasGiven seen r world read
+    × CreatesAndRuns seen r input tells read rest written status line)
 
 -- The request that the words make was carried out: the output reports its name and exactly the output defined for the
 -- input.

@@ -1,9 +1,14 @@
 //! The whole program, over the files and standard streams around it.
-ghost use Rattle.std.specs.Prelude.{◌≡◌, IfOk, IfErr, map, option_map, string_bytes};
-ghost use Rattle.pstops_cli.specs.Programs.{CarriesOut, CreatesAndRuns, EndsProgram, HasRead, IsCreating, IsSaid};
-ghost use Rattle.pstops_cli.specs.Programs.{StopsBefore};
+ghost use Rattle.std.specs.Prelude.{◌≡◌, ◌<◌, ◌⊎◌, IfOk, IfErr, map, option_map, string_bytes};
+ghost use Rattle.std.specs.IoError.{error_kind};
+ghost use Rattle.std.specs.declared.io.ErrorKind.TheVariants.{OutOfMemory};
+ghost use Rattle.planned_runs.specs.declared.outcome.RunError.TheVariants as runs;
+ghost use Rattle.pstops_cli.specs.declared.messages.Fault.TheVariants as faults;
+ghost use Rattle.pstops_cli.specs.Programs.{CarriesOut, CreatesAndRuns, EndsProgram, HasGiven, HasRead, IsSaid};
+ghost use Rattle.pstops_cli.specs.Programs.{IsUnread, StopsBefore};
 ghost use Rattle.world.specs.Input.{IsFirst, most_bytes};
 ghost use Rattle.world.specs.Rests.{shown};
+ghost use Rattle.world.specs.Worlds.{HasGranted, WasAsked, opening};
 
 use crate::command::{Request, read_command};
 use crate::messages::{Fault, fault_line};
@@ -36,25 +41,33 @@ pub fn pstops<R: Threads + Wait + Sync, W: World>(
     rt: &R,
     alloc: Global,
     words: &[String],
-    world: W,
+    mut world: W,
 ) -> ExitReport<W>
+    requires countable { (W.seen world).failures < u64.MAX }
     // It stopped before anything was created; or one output was created, and the request that the words make was run.
-    ensures ended { EndsProgram (map string_bytes words.now) (W.gives world) (W.tells world) world result.rest
+    ensures ended { EndsProgram W.seen (map string_bytes words.now) (W.gives world) (W.tells world) world result.rest
         (shown W.Output.contents result.rest) result.status result.line.items }
     // Status 0 comes only if exactly the output was written.
     ensures finished { result.status ≡ 0 → CarriesOut (map string_bytes words.now) (W.gives world) (W.tells world)
         (shown W.Output.contents result.rest) }
 {
-    match read(alloc, words, &world) {
+    match read(alloc, words, &mut world) {
         Ok((request, input)) => run_in(rt, alloc, &request, input.as_slice(), world),
         Err(fault) => stop(alloc, &fault, Rest::World(world)),
     }
 }
 
 /// The request that the words make, and its input.
-fn read<W: World>(alloc: Global, words: &[String], world: &W) -> Result<(Request, Vec<u8>), Fault>
-    ensures read { IfOk result (λ read. HasRead (map string_bytes words.now) (W.gives world.now) read.0 read.1.items) }
-    ensures refused { IfErr result (StopsBefore (map string_bytes words.now)) }
+fn read<W: World>(
+    alloc: Global,
+    words: &[String],
+    world: &mut W,
+) -> Result<(Request, Vec<u8>), Fault>
+    requires countable { (W.seen world.old).failures < u64.MAX }
+    ensures read { IfOk result (λ read. HasRead (map string_bytes words.now) (W.gives world.old) read.0 read.1.items) }
+    ensures given { IfOk result (λ read. HasGiven W.seen read.0 world.old world.new) }
+    ensures refused { IfErr result (StopsBefore W.seen (map string_bytes words.now) world.old world.new) }
+    ensures tells { W.tells world.new ≡ W.tells world.old }
 {
     let request = match read_command(alloc, words) {
         Ok(request) => request,
@@ -67,14 +80,25 @@ fn read<W: World>(alloc: Global, words: &[String], world: &W) -> Result<(Request
 }
 
 /// All that the file of this name, or standard input, gives.
-fn input_of<W: World>(alloc: Global, name: Option<&str>, world: &W) -> Result<Vec<u8>, ReadFault>
-    ensures { IfOk result (λ input.
-        IsFirst most_bytes (W.gives world.now (option_map (λ n. n.now) name.entry)) input.items) }
+fn input_of<W: World>(
+    alloc: Global,
+    name: Option<&str>,
+    world: &mut W,
+) -> Result<Vec<u8>, ReadFault>
+    requires countable { (W.seen world.old).failures < u64.MAX }
+    ensures read { IfOk result (λ input.
+        IsFirst most_bytes (W.gives world.old (option_map (λ n. n.now) name.entry)) input.items) }
+    ensures given { IfOk result (λ _. HasGranted (opening (option_map (λ n. n.now) name.entry)) (W.seen world.old) (W.seen world.new)) }
+    ensures asked { IfErr result (λ _. WasAsked (opening (option_map (λ n. n.now) name.entry)) (W.seen world.old) (W.seen world.new)) }
+    ensures unread { IfErr result (λ fault. IsUnread fault (W.seen world.old).failures (W.seen world.new).failures) }
+    ensures tells { W.tells world.new ≡ W.tells world.old }
 {
     match world.open(name) {
         Ok(input) => {
             let mut source = ReadSource::new(input);
-            read_input(alloc, &mut source)
+            let read = read_input(alloc, &mut source);
+            drop(world.close(source));
+            read
         }
         Err(error) if error.kind() == ErrorKind::OutOfMemory => Err(ReadFault::NoMemory),
         Err(_) => Err(ReadFault::Device),
@@ -105,7 +129,8 @@ fn run_in<R: Threads + Wait + Sync, W: World>(
     input: &[u8],
     world: W,
 ) -> ExitReport<W>
-    ensures { CreatesAndRuns request.now input.now (W.tells world) result.rest (shown W.Output.contents result.rest)
+    requires countable { (W.seen world).failures < u64.MAX }
+    ensures { CreatesAndRuns W.seen request.now input.now (W.tells world) world result.rest (shown W.Output.contents result.rest)
         result.status result.line.items }
 {
     let name = name_of(&request.outfile);
@@ -127,9 +152,10 @@ fn run_in<R: Threads + Wait + Sync, W: World>(
     ExitReport { status, line, rest }
 }
 
-/// Why an output couldn't be created.
+/// Why an output couldn't be created: for want of memory, or because the world refused it.
 fn fault_of_creating(cause: &io::Error) -> Fault
-    ensures { IsCreating result }
+    ensures memory { error_kind cause.now ≡ OutOfMemory → result ≡ faults.Run (runs.NoMemory 0) }
+    ensures either { (result ≡ faults.Create) ⊎ (result ≡ faults.Run (runs.NoMemory 0)) }
 {
     if cause.kind() == ErrorKind::OutOfMemory {
         Fault::Run(RunError::NoMemory { written: 0 })

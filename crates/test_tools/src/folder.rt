@@ -1,5 +1,6 @@
 //! A world of any number of files.
-ghost use Rattle.std.specs.Prelude.{true};
+ghost use Rattle.std.specs.Prelude.{◌≡◌, ◌+◌, ◌≤◌, None, true};
+ghost use Rattle.world.specs.Worlds.{failures_of};
 
 use crate::in_memory::{Given, Takes, Written};
 use std::alloc::Global;
@@ -7,7 +8,7 @@ use std::io;
 use std::io::ErrorKind;
 use std::sync::atomic::AtomicU32;
 use std::sync::atomic::Ordering::SeqCst;
-use world::{Refused, World};
+use world::{ReadSource, Refused, World};
 
 /// A file that can be read.
 #[derive(Clone, Copy)]
@@ -26,6 +27,8 @@ pub struct Folder<'a> {
     /// How many inputs were to be opened.
     pub opened: &'a AtomicU32,
     pub takes: Takes,
+    /// How often it refused something, or an input of it had failed.
+    pub failures: u64,
 }
 
 impl<'a> World for Folder<'a> {
@@ -35,7 +38,9 @@ impl<'a> World for Folder<'a> {
 
     ghost tells = { λ _. true };
 
-    fn open(&self, name: Option<&str>) -> io::Result<Given<'a>> {
+    ghost seen = { λ folder. record { asked = None; failures = folder.failures } };
+
+    fn open(&mut self, name: Option<&str>) -> io::Result<Given<'a>> {
         self.opened.fetch_add(1, SeqCst);
         let wanted = name.unwrap_or("-");
         for file in self.files.iter() {
@@ -45,8 +50,22 @@ impl<'a> World for Folder<'a> {
         }
         match name {
             None => Ok(Given::new(&[])),
-            Some(_) => Err(io::Error::from(ErrorKind::NotFound)),
+            Some(_) => {
+                self.failures += 1;
+                Err(io::Error::from(ErrorKind::NotFound))
+            }
         }
+    }
+
+    fn close(&mut self, source: ReadSource<Given<'a>>) -> Option<io::Error>
+        requires countable { self.old.failures + failures_of source ≤ u64.MAX }
+        ensures asked { (⟦<Folder<'a> as World>⟧.seen self.new).asked ≡ (⟦<Folder<'a> as World>⟧.seen self.old).asked }
+        ensures counted { self.new.failures ≡ self.old.failures + failures_of source.entry }
+        ensures again { ⟦<Folder<'a> as World>⟧.gives self.new ≡ ⟦<Folder<'a> as World>⟧.gives self.old }
+        ensures tells { ⟦<Folder<'a> as World>⟧.tells self.new ≡ ⟦<Folder<'a> as World>⟧.tells self.old }
+    {
+        self.failures += source.failures();
+        source.into_cause()
     }
 
     fn is_file(&self, name: &str) -> bool {
@@ -58,7 +77,11 @@ impl<'a> World for Folder<'a> {
     fn create(self, name: Option<&str>) -> Result<Written, Refused<Folder<'a>>> {
         match Written::new(self.alloc, name, self.takes) {
             Ok(output) => Ok(output),
-            Err(cause) => Err(Refused { world: self, cause }),
+            Err(cause) => {
+                let mut world = self;
+                world.failures += 1;
+                Err(Refused { world, cause })
+            }
         }
     }
 }

@@ -1,4 +1,8 @@
 //! The files and standard streams of the machine.
+ghost use Rattle.std.specs.Prelude.{◌≡◌, ◌+◌, ◌≤◌, None};
+ghost use Rattle.world.specs.Worlds.{failures_of};
+
+use crate::source::ReadSource;
 use crate::world::{Refused, World};
 use std::fs::{File, Files};
 use std::io::{Read, Stdin, Stdout, Write};
@@ -10,6 +14,7 @@ pub struct Host<'a, R: Files> {
     files: &'a R,
     stdin: Stdin,
     stdout: Stdout,
+    failures: u64,
 }
 
 /// A file that is read, or standard input.
@@ -27,11 +32,15 @@ pub enum HostOutput<F> {
 }
 
 impl<'a, R: Files> Host<'a, R> {
-    pub fn new(files: &'a R, stdin: Stdin, stdout: Stdout) -> Host<'a, R> {
+    /// One that hasn't failed.
+    pub fn new(files: &'a R, stdin: Stdin, stdout: Stdout) -> Host<'a, R>
+        ensures { (⟦<Host<'a, R> as World>⟧.seen result).failures ≡ 0 }
+    {
         Host {
             files,
             stdin,
             stdout,
+            failures: 0,
         }
     }
 }
@@ -41,11 +50,31 @@ impl<'a, R: Files> World for Host<'a, R> {
 
     type Output = HostOutput<R::File>;
 
-    fn open(&self, name: Option<&str>) -> io::Result<HostInput<R::File>> {
+    // It has no memory for what was asked.
+    ghost seen = { λ host. record { asked = None; failures = host.failures } };
+
+    fn open(&mut self, name: Option<&str>) -> io::Result<HostInput<R::File>> {
         match name {
-            Some(path) => Ok(HostInput::File(File::open(self.files, path)?)),
+            Some(path) => match File::open(self.files, path) {
+                Ok(file) => Ok(HostInput::File(file)),
+                Err(cause) => {
+                    self.failures += 1;
+                    Err(cause)
+                }
+            },
             None => Ok(HostInput::Standard(self.stdin)),
         }
+    }
+
+    fn close(&mut self, source: ReadSource<HostInput<R::File>>) -> Option<io::Error>
+        requires countable { self.old.failures + failures_of source ≤ u64.MAX }
+        ensures asked { (⟦<Host<'a, R> as World>⟧.seen self.new).asked ≡ (⟦<Host<'a, R> as World>⟧.seen self.old).asked }
+        ensures counted { self.new.failures ≡ self.old.failures + failures_of source }
+        ensures again { ⟦<Host<'a, R> as World>⟧.gives self.new ≡ ⟦<Host<'a, R> as World>⟧.gives self.old }
+        ensures tells { ⟦<Host<'a, R> as World>⟧.tells self.new ≡ ⟦<Host<'a, R> as World>⟧.tells self.old }
+    {
+        self.failures += source.failures();
+        source.into_cause()
     }
 
     fn is_file(&self, name: &str) -> bool {
@@ -59,7 +88,11 @@ impl<'a, R: Files> World for Host<'a, R> {
         match name {
             Some(path) => match File::create(self.files, path) {
                 Ok(file) => Ok(HostOutput::File(file)),
-                Err(cause) => Err(Refused { world: self, cause }),
+                Err(cause) => {
+                    let mut world = self;
+                    world.failures += 1;
+                    Err(Refused { world, cause })
+                }
             },
             None => Ok(HostOutput::Standard(self.stdout)),
         }

@@ -1,7 +1,8 @@
 //! Where a run writes: an output with a buffer before it.
-ghost use Rattle.std.specs.Prelude.{◌≡◌, [], true, option_map, IfOk};
+ghost use Rattle.std.specs.Prelude.{◌≡◌, ◌<◌, [], true, option_map, IfOk, IfErr};
 ghost use Rattle.std.specs.Io.KnownBytes.{Keeps};
 ghost use Rattle.world.specs.Outputs.{IsFrontOf, told_if};
+ghost use Rattle.world.specs.Creating.{IsUncreated};
 
 use crate::output::Created;
 use crate::world::{Refused, World};
@@ -13,16 +14,20 @@ use std::io::{BufWriter, Write};
 pub type Buffered<T> = WriteSink<BufWriter<T>>;
 
 /// The output of this name, which is created, with a buffer of so many bytes before it. If there is no memory for the buffer,
-/// or the output can't be created, the world comes back, and nothing was created in it.
+/// or the output can't be created, the world comes back, and nothing was created in it. For want of memory it is the very
+/// world; else it has refused the output.
 pub fn created<W: World>(
     alloc: Global,
     capacity: usize,
     name: Option<&str>,
     world: W,
 ) -> Result<Buffered<Created<W::Output>>, Refused<W>>
+    requires countable { (W.seen world).failures < u64.MAX }
     ensures told { IfOk result (λ sink. (⟦<WriteSink<BufWriter<Created<W::Output>>> as Sink>⟧.seen sink).bytes
         ≡ told_if (W.tells world) (option_map (λ n. n.now) name.entry) []) }
     ensures fresh { IfOk result (λ sink. (⟦<WriteSink<BufWriter<Created<W::Output>>> as Sink>⟧.seen sink).failures ≡ 0) }
+    ensures refused { IfErr result (λ refused.
+        IsUncreated W.seen (option_map (λ n. n.now) name.entry) world refused.world refused.cause) }
 {
     let mut writer = match BufWriter::with_capacity(alloc, capacity, Created::new()) {
         Ok(writer) => writer,

@@ -2,6 +2,7 @@
 ghost use Rattle.std.specs.Prelude.{◌≡◌, ◌<◌, ◌≤◌, IfOk, length};
 ghost use Rattle.world.specs.Input.{Counts, Fills, SourceView};
 
+use std::io;
 use std::io::Read;
 
 /// A source failed and gave nothing.
@@ -27,6 +28,7 @@ pub trait Source {
 pub struct ReadSource<T> {
     reader: T,
     failures: u64,
+    cause: Option<io::Error>,
 }
 
 impl<T: Read> ReadSource<T> {
@@ -38,7 +40,22 @@ impl<T: Read> ReadSource<T> {
         ReadSource {
             reader,
             failures: 0,
+            cause: None,
         }
+    }
+
+    /// How often it has failed.
+    pub fn failures(&self) -> u64
+        ensures { result ≡ (⟦<ReadSource<T> as Source>⟧.seen self.now).failures }
+    {
+        self.failures
+    }
+}
+
+impl<T: Read + Drop> ReadSource<T> {
+    /// Why it failed last, if it did.
+    pub fn into_cause(self) -> Option<io::Error> {
+        self.cause
     }
 }
 
@@ -48,8 +65,9 @@ impl<T: Read> Source for ReadSource<T> {
     fn fill(&mut self, buffer: &mut [u8]) -> Result<usize, SourceFault> {
         match self.reader.read(buffer) {
             Ok(count) => Ok(count),
-            Err(_) => {
+            Err(cause) => {
                 self.failures += 1;
+                self.cause = Some(cause);
                 Err(SourceFault)
             }
         }

@@ -1,14 +1,18 @@
 //! The files and standard streams around a program.
-ghost use Rattle.std.specs.Prelude.{◌≡◌, Bool, false, List, ℕ, None, Option, [], option_map, IfOk, IfErr};
+ghost use Rattle.std.specs.Prelude.{◌≡◌, ◌+◌, ◌<◌, ◌≤◌, Bool, false, true, List, ℕ, None, Option, [], option_map, is_some};
+ghost use Rattle.std.specs.Prelude.{IfOk, IfErr, MatchResult};
 ghost use Rattle.world.specs.Outputs.{told_if};
+ghost use Rattle.world.specs.Worlds.{HasGranted, HasRefused, WorldView, creating, failures_of, opening};
 
+use crate::source::ReadSource;
 use std::io;
 use std::io::{Read, Write};
 
 /// What a program may do to the files and standard streams around it.
 ///
 /// A name is that of a file, and none is the standard stream. Creating an output takes the world: so whoever
-/// still has it has created none, and nobody creates two.
+/// still has it has created none, and nobody creates two. It counts what it refuses, and the failures of what it opened and
+/// gets back: so who says that the input can't be read has a world that counted it.
 pub trait World: Sized + Drop {
     type Input: Read + Drop;
 
@@ -20,17 +24,38 @@ pub trait World: Sized + Drop {
     // Whether its outputs report their names and what was written to them.
     ghost tells: { Self → Bool } = { λ _. false };
 
+    // What was asked of it so far, and how often it failed.
+    ghost seen: { Self → WorldView };
+
     /// Opens the file of this name, or standard input.
-    fn open(&self, name: Option<&str>) -> io::Result<Self::Input>
-        ensures given { IfOk result (λ input. Self.Input.remaining input ≡ gives self.now (option_map (λ n. n.now) name.entry)) };
+    fn open(&mut self, name: Option<&str>) -> io::Result<Self::Input>
+        requires countable { (seen self.old).failures < u64.MAX }
+        ensures given { IfOk result (λ input. Self.Input.remaining input ≡ gives self.old (option_map (λ n. n.now) name.entry)) }
+        ensures asked { MatchResult result
+            (λ _. HasGranted (opening (option_map (λ n. n.now) name.entry)) (seen self.old) (seen self.new))
+            (λ _. HasRefused (opening (option_map (λ n. n.now) name.entry)) (seen self.old) (seen self.new)) }
+        // Files give again what they gave. Of standard input that isn't known.
+        ensures again { is_some name.entry ≡ true → gives self.new ≡ gives self.old }
+        ensures tells { tells self.new ≡ tells self.old };
+
+    /// Closes an input that was opened, whose failures count, and says why it failed last, if it did.
+    fn close(&mut self, source: ReadSource<Self::Input>) -> Option<io::Error>
+        requires countable { (seen self.old).failures + failures_of source ≤ u64.MAX }
+        ensures asked { (seen self.new).asked ≡ (seen self.old).asked }
+        ensures counted { (seen self.new).failures ≡ (seen self.old).failures + failures_of source }
+        ensures again { gives self.new ≡ gives self.old }
+        ensures tells { tells self.new ≡ tells self.old };
 
     /// Whether there is a regular file of this name. At anything else opening may wait, and reading may never end.
     fn is_file(&self, name: &str) -> bool;
 
     /// Creates, or empties, the file of this name; or takes standard output. Nothing was written to it yet.
     fn create(self, name: Option<&str>) -> Result<Self::Output, Refused<Self>>
+        requires countable { (seen self).failures < u64.MAX }
         ensures created { IfOk result (λ output. Self.Output.contents output ≡ told_if (tells self) (option_map (λ n. n.now) name.entry) []) }
-        ensures kept { IfErr result (λ refused. tells refused.world ≡ tells self) };
+        ensures kept { IfErr result (λ refused. tells refused.world ≡ tells self) }
+        ensures refused { IfErr result (λ refused.
+            HasRefused (creating (option_map (λ n. n.now) name.entry)) (seen self) (seen refused.world)) };
 }
 
 /// An output couldn't be created.

@@ -53,6 +53,7 @@ fn report<R: Threads + Wait + Sync>(
         files,
         opened: &opened,
         takes,
+        failures: 0,
     };
     let ended = impose(rt, alloc, words.as_slice(), paper_size.as_bytes(), world);
     let said = text_said(

@@ -122,6 +122,7 @@ pub fn ran<R: Threads + Wait + Sync>(rt: &R, out: &mut Answer, words: &[String])
         files: &[page],
         opened: &opened,
         takes,
+        failures: 0,
     };
     let ended = pstops(rt, out.alloc, words, world);
     out.labelled("status", ended.status);

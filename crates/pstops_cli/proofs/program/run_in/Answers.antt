@@ -9,7 +9,7 @@ pub returns-then-not-is_whole : goal.returns-then-not-is_whole
 returns-then-not-is_whole g c =
     let h = c.run_request-status.ensures.ended in
     let tells = g.W.World.tells c.args.world in
-    subst (λ o. CreatesAndRuns c.args.request.now c.args.input.now tells o (shown g.W.Output.Write.contents o) c.stop-then-not-is_whole.result.status c.stop-then-not-is_whole.result.line.items)
+    subst (λ o. CreatesAndRuns g.W.World.seen c.args.request.now c.args.input.now tells c.args.world o (shown g.W.Output.Write.contents o) c.stop-then-not-is_whole.result.status c.stop-then-not-is_whole.result.line.items)
     (sym c.stop-then-not-is_whole.ensures.rest)
     (inr (
       refl,
