@@ -14,3 +14,4 @@ pub mod Examples
 pub mod Programs
 pub mod TakenPages
 pub mod ReachingTaken
+mod Guarding

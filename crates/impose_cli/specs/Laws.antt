@@ -1,12 +1,16 @@
 -- What holds of what impose wrote.
 use Rattle.std.proofs.Common.{inl, inr}
-use Rattle.std.specs.Prelude.{◌≡◌, ℕ, ◌<◌, ◌≤◌, List, ◌++◌, length, Option, Some, Ok}
+use Rattle.std.specs.Prelude.{◌≡◌, ℕ, ◌<◌, ◌≤◌, List, ◌∷◌, ◌++◌, length, Option, None, Some, Ok}
+use Rattle.rules.specs.Papers.{Paper}
 use Rattle.rules.specs.Parts.{NestedUnit, page_run, pages, trailer}
 use Rattle.rules.specs.Sheets.{Slot, sheets}
 use Rattle.rules.specs.Output.{Border, Frame}
 use Rattle.rules.specs.Run.{document_of, most_input_bytes}
 use Rattle.dsc.specs.Units.{units_of}
+use Rattle.made_sheets.specs.Choice.{imposed_row}
 use Rattle.made_sheets.specs.Made.{MadeSheet}
+use Rattle.made_sheets.specs.Rows.{Row}
+use Rattle.row_sheets.specs.RowSheets.{selected}
 use Rattle.made_sheets.specs.Dress.{Dress}
 use Rattle.imposed_again.specs.Again.{IsAgain, depth_behind, sheet_texts}
 use Rattle.imposed_again.specs.MadeAgain.{IsMadeAgain, made_texts}
@@ -14,7 +18,11 @@ use Rattle.papers.specs.Told.{telling}
 use Rattle.dressing.specs.Numbered.{drawn_on, nothing_drawn}
 use Rattle.row_runs.specs.Runs.{border_on, drawn_of}
 use Rattle.row_runs.specs.BySpec.{border_by_spec}
+use Rattle.row_runs.specs.declared.asked.Laying.{Laying}
+use Rattle.row_runs.specs.declared.asked.Laying.TheVariants as laying
+use Rattle.impose_cli.specs.RowTasks.{guarded_paper, laying_by}
 use Rattle.impose_cli.specs.Tasks.{FinishesSpec, frame_used}
+use Rattle.impose_words.specs.Choices.{choice_in}
 use Rattle.impose_cli.specs.Endings.{Finishes}
 use Rattle.impose_words.specs.declared.request.ImposeRequest.{ImposeRequest}
 use Rattle.impose_said.specs.declared.finished.Finished.{Finished}
@@ -60,3 +68,15 @@ WroteDocument =
     (r : ImposeRequest) (input old text : List ℕ) (done : Finished)
     → (h : Finishes r input (Some old) (Some (old ++ text)) done) → length text ≤ most_input_bytes
     → IsAgainFor h text
+
+-- the first sheet of a laying has this paper: in cells and on posters they all have one
+abbrev pub IsOfFirst : Laying → List Paper → Row → Paper → Type 0
+IsOfFirst (laying.AsTheyAre blank) papers row paper =
+    (sheet : MadeSheet) (more : List MadeSheet) → selected papers blank row ≡ sheet ∷ more → sheet.paper ≡ paper
+IsOfFirst (laying.InCells t how) papers row paper = t.room.paper ≡ paper
+IsOfFirst (laying.Poster p) papers row paper = p.sheet ≡ paper
+
+-- the guard sets the page size of the first sheet that is made: a law
+abbrev pub GuardIsOfFirst : Type 0
+GuardIsOfFirst = (r : ImposeRequest) (papers : List Paper) (page_paper : Paper) (row : Row) (l : Laying) → laying_by r page_paper ≡ Some l
+    → imposed_row (length papers) (choice_in r.choice) None ≡ Ok row → IsOfFirst l papers row (guarded_paper r papers page_paper)

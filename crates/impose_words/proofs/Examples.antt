@@ -16,6 +16,7 @@ use Rattle.impose_words.specs.Edges.{gaps_named, margins_in, margins_named}
 use Rattle.impose_words.specs.Signatures.{signing_named}
 use Rattle.impose_words.specs.Sizes.{border_with_unit, length_with_unit, number_alone, size_named}
 use Rattle.impose_words.specs.Arranging.{booklet_marks_named, cells_named, cut_marks_named, noted_alone, number_size_named, run_named, turned_named}
+use Rattle.impose_words.specs.Spacings.{nothing_kept, on_fronts}
 use Rattle.impose_words.specs.Words.{asked, file_asked, first_named, is_outfile, order_by, part_by}
 
 -- Sizes of paper.
@@ -177,3 +178,7 @@ no_first_number = refl
 
 outfiles : map is_outfile (None ∷ Some (codes "out.ps") ∷ Some (codes "./-q") ∷ Some (codes "-q") ∷ Some (codes "-") ∷ []) ≡ true ∷ true ∷ true ∷ false ∷ false ∷ []
 outfiles = refl
+
+-- An inner margin alone is the left one of fronts.
+inner_on_fronts : on_fronts (record nothing_kept { inner = Some (pos 9_144_000_000_000) }) ≡ record nothing_free { left = pos 9_144_000_000_000 }
+inner_on_fronts = refl

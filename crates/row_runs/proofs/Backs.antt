@@ -15,14 +15,14 @@ use Rattle.layouts.specs.Cells.{item_in}
 use Rattle.layouts.specs.Fitted.{is_whole, scale_on}
 use Rattle.layouts.specs.Grids.{alone}
 use Rattle.layouts.specs.Placed.{AreApart, ComesFirst, IsInside, Room, across, fine, stands}
-use Rattle.row_sheets.specs.Filled.{Filling, SlotIsInside, SlotsAreApart, grid_entry, slot_in}
+use Rattle.row_sheets.specs.Filled.{Filling, SlotIsInside, SlotsAreApart, filled, grid_entry, slot_in}
 use Rattle.row_sheets.specs.Standing.{StandsIn}
 use Rattle.row_runs.specs.Mirrored.{FittedAreInPoints, IsInPoints, MirroredStands, exchanged, mirror_on, mirrored, mirrored_from, moved_item, moved_sheet, moved_slot, room_on, shift}
 use Rattle.row_runs.specs.Turning.{turned_sheet}
 
 -- ---- nothing is moved
 
-unmoved : (slot : MadeSlot) → moved_slot None slot ≡ slot
+pub unmoved : (slot : MadeSlot) → moved_slot None slot ≡ slot
 unmoved Blank = refl
 unmoved (Placed page item paper) = refl
 
@@ -30,10 +30,10 @@ unmoved_slots : (slots : List MadeSlot) → map (moved_slot None) slots ≡ slot
 unmoved_slots [] = refl
 unmoved_slots (slot ∷ slots) = ap₂ (λ (s : MadeSlot) (all : List MadeSlot). s ∷ all) (unmoved slot) (unmoved_slots slots)
 
-unmoved_sheet : (sheet : MadeSheet) → moved_sheet None sheet ≡ sheet
+pub unmoved_sheet : (sheet : MadeSheet) → moved_sheet None sheet ≡ sheet
 unmoved_sheet sheet = ap (λ (slots : List MadeSlot). record { paper = sheet.paper; slots = slots }) (unmoved_slots sheet.slots)
 
-either_way : (back : Bool) (m : Option Room) → (if back then m else m) ≡ m
+pub either_way : (back : Bool) (m : Option Room) → (if back then m else m) ≡ m
 either_way true m = refl
 either_way false m = refl
 
@@ -76,7 +76,7 @@ sheet_more t m old new i all x y at before step is =
 -- ---- where pages stand
 
 -- a page that is moved by points is that much farther to the right
-across_moved : (room : Room) (paper : Paper) (item : Item) (p : Point) → item.x.unit ≡ Pt
+pub across_moved : (room : Room) (paper : Paper) (item : Item) (p : Point) → item.x.unit ≡ Pt
     → across (stands paper (moved_item (Some room) item) p) ≡ across (stands paper item p) +ℤ (fine room.right -ℤ fine room.left)
 across_moved room paper item p points =
     let n = item.x.number in
@@ -137,13 +137,13 @@ back_stands room sheet points h = record {
   apart = all_apart room sheet.slots points h.apart;
 }
 
-side_stands : (back : Bool) (room : Room) (sheet : MadeSheet) → All IsInPoints sheet.slots → StandsIn room sheet
+pub side_stands : (back : Bool) (room : Room) (sheet : MadeSheet) → All IsInPoints sheet.slots → StandsIn room sheet
     → StandsIn (if back then exchanged room else room) (moved_sheet (if back then Some room else None) sheet)
 side_stands true room sheet points h = back_stands room sheet points h
 side_stands false room sheet points h = subst (StandsIn room) (sym (unmoved_sheet sheet)) h
 
 -- sheet i of those that are mirrored
-at_place : (m : Option Room) (s i : ℕ) (made : List MadeSheet) (d : MadeSheet) → i < length made
+pub at_place : (m : Option Room) (s i : ℕ) (made : List MadeSheet) (d : MadeSheet) → i < length made
     → slice_index_or (mirrored_from m s made) i d ≡ moved_sheet (mirror_on m (s + i)) (slice_index_or made i d)
 at_place m s i [] d less = absurd (omega (arith, less))
 at_place m s zero (x ∷ made) d less =
@@ -171,10 +171,13 @@ slot_in_points f c None = tt
 slot_in_points f c (Some page) = let t = f.setting in let paper = f.paper_of page in
     of_two (is_whole t paper) c (item_in paper t.room t.grid t.order (scale_on t paper) c) refl
 
-pub fitted_in_points : FittedAreInPoints
-fitted_in_points f cells row =
+pub filled_in_points : (f : Filling) (sheets cells : ℕ) (entry : (s c : ℕ) → Option ℕ) → All (λ sheet. All IsInPoints sheet.slots) (filled f sheets cells entry)
+filled_in_points f sheets cells entry =
     All-map (λ sheet. All IsInPoints sheet.slots)
-    (λ s. record { paper = f.setting.room.paper; slots = map (λ c. slot_in f c (grid_entry cells row s c)) (range_with_len 0 cells) })
-    (range_with_len 0 (blocks cells (length row)))
-    (λ k d less. All-map IsInPoints (λ c. slot_in f c (grid_entry cells row (slice_index_or (range_with_len 0 (blocks cells (length row))) k d) c)) (range_with_len 0 cells)
+    (λ s. record { paper = f.setting.room.paper; slots = map (λ c. slot_in f c (entry s c)) (range_with_len 0 cells) })
+    (range_with_len 0 sheets)
+    (λ k d less. All-map IsInPoints (λ c. slot_in f c (entry (slice_index_or (range_with_len 0 sheets) k d) c)) (range_with_len 0 cells)
     (λ i e within. slot_in_points f (slice_index_or (range_with_len 0 cells) i e) _))
+
+pub fitted_in_points : FittedAreInPoints
+fitted_in_points f cells row = filled_in_points f (blocks cells (length row)) cells (grid_entry cells row)

@@ -13,6 +13,8 @@ use Rattle.layouts.specs.Placed.{Room}
 use Rattle.layouts.specs.declared.setting.Setting.{Setting}
 use Rattle.row_sheets.specs.SameScale.{at_one_scale}
 use Rattle.row_sheets.specs.Shapes.{filling}
+use Rattle.sheet_text.specs.PageNumbers.{number_lines}
+use Rattle.sheet_text.specs.declared.numbers.Numbers.{Numbers}
 use Rattle.dressing.specs.Drawn.{stroke_line}
 use Rattle.dressing.specs.declared.strokes.Marks.{Marks}
 use Rattle.preview.specs.declared.guides.Guide.{Guide}
@@ -24,7 +26,8 @@ use Rattle.row_runs.specs.Evened.{evened_if}
 use Rattle.row_runs.specs.Guides.{guides_in}
 use Rattle.row_runs.specs.Marked.{strokes_in}
 use Rattle.row_runs.specs.Mirrored.{mirrored}
-use Rattle.row_runs.specs.Sheets.{leaves_in}
+use Rattle.row_runs.specs.Numbers.{below_middle}
+use Rattle.row_runs.specs.Sheets.{leaves_in, sheets_laid}
 use Rattle.row_runs.specs.ToldPages.{told_pages}
 
 -- a sheet of 100 by 200 points with a margin of 10 points and a gap of 4, in two columns
@@ -98,6 +101,27 @@ across (Placed page item paper) = item.x.number
 backs_are_moved : map (λ (sheet : MadeSheet). map across sheet.slots) (mirrored (Some bound) (side ∷ side ∷ side ∷ []))
     ≡ (pos 20_000_000_000 ∷ pos 0 ∷ []) ∷ (pos 10_000_000_000 ∷ pos 0 ∷ []) ∷ (pos 20_000_000_000 ∷ pos 0 ∷ []) ∷ []
 backs_are_moved = refl
+
+-- the foot of a cell that is 180 points high is 90 points below the middle of its page
+foot_of_cell : below_middle (laying.InCells halves (scheme.Grid 2)) ≡ Some (pos 11_430_000_000_000)
+foot_of_cell = refl
+
+-- pages of 38 by 90 points in the middle of such cells begin 55 points above the foot of the sheet. Their numbers are 27 points
+-- below them: 18 above the foot of the cell, and 28 above that of the sheet
+abbrev below_pages : Numbers
+below_pages = record {
+  size = pos 1_143_000_000_000;
+  first = 1;
+  places = sheets_laid (laying.InCells halves (scheme.Grid 2)) 0 (points 38 90 ∷ points 38 90 ∷ []) (all_pages 2);
+  below = below_middle (laying.InCells halves (scheme.Grid 2));
+}
+
+numbered_below : number_lines below_pages 0
+    ≡ codes "gsave 0 setgray /Times-Roman findfont 9 scalefont setfont 10 55 translate 0 rotate 19 -27 moveto (1) dup stringwidth pop -2 div 0 rmoveto show grestore"
+    ∷ codes "gsave 0 setgray /Times-Roman findfont 9 scalefont setfont 52 55 translate 0 rotate 19 -27 moveto (2) dup stringwidth pop -2 div 0 rmoveto show grestore"
+    ∷ []
+unfolding digits
+numbered_below = refl
 
 -- signatures of eight sides have two leaves each; one of twenty pages has five
 eight_sides : leaves_in (Some (OfSides 8)) (all_pages 20) ≡ 2

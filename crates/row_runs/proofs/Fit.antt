@@ -21,6 +21,7 @@ use Rattle.row_sheets.specs.declared.poster.Poster.{Poster}
 use Rattle.row_sheets.proofs.InCells.{filled_stands_in_cells}
 use Rattle.row_sheets.proofs.OnLeaves.{leaves_fold, leaves_stand}
 use Rattle.row_sheets.proofs.Stacking.{leaves_are_read, stack_is_read}
+use Rattle.row_sheets.proofs.ZineCells.{zine_lies_in_cells}
 use Rattle.row_sheets.proofs.Zines.{zine_is_read}
 use Rattle.row_sheets.proofs.Shown.{can_be, poster_has_tiles, row_is_shown}
 use Rattle.dressing.specs.Between.{IsAlong}
@@ -60,7 +61,7 @@ asked_so pages papers a row printed leaves l made chosen is_printed many evened 
 -- ---- where its pages are
 
 -- one scale for all pages leaves the cells as they are
-evened_may_be : (same_scale : Bool) (l : Laying) (papers : List Paper) (row : Row) → MayBeLaid l → MayBeLaid (evened_if same_scale l papers row)
+pub evened_may_be : (same_scale : Bool) (l : Laying) (papers : List Paper) (row : Row) → MayBeLaid l → MayBeLaid (evened_if same_scale l papers row)
 evened_may_be false l papers row h = h
 evened_may_be true (laying.InCells t (scheme.Booklet turned_backs creep)) papers row h =
     record { grid_is = h.grid_is; order_is = h.order_is; even = h.even }
@@ -113,7 +114,7 @@ in_places (laying.InCells t scheme.Leaves) leaves papers row may fits =
       leaves_are_read (filling t papers) row,
     )
 in_places (laying.InCells t (scheme.Booklet turned_backs creep)) leaves papers row may fits = at_fold (filling t papers) turned_backs creep leaves row may fits
-in_places (laying.InCells t scheme.Zine) leaves papers row may fits = zine_is_read (filling t papers) row
+in_places (laying.InCells t scheme.Zine) leaves papers row may fits = (zine_is_read (filling t papers) row, zine_lies_in_cells (filling t papers) row may fits)
 in_places (laying.Poster p) leaves papers row may fits = shown_on p papers row fits
 
 pub asked_stand_in_places : AskedStandInPlaces

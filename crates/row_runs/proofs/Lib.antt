@@ -12,4 +12,7 @@ mod Turns
 mod Backs
 pub mod Refused
 mod Fit
+mod Written
+mod InCells
+mod Rooms
 mod ReadInOrder

@@ -30,7 +30,7 @@ same_items : (i : Item) (t t' : Turn) (x x' y y' : Measure) → t ≡ t' → x �
     → item_at i.page i.from_end t i.scale x y ≡ item_at i.page i.from_end t' i.scale x' y'
 same_items i t t' x x' y y' e f g = rw e (rw f (rw g refl))
 
-no_farther : (by : ℤ) (m : Measure) → by ≡ pos 0 → farther by m ≡ m
+pub no_farther : (by : ℤ) (m : Measure) → by ≡ pos 0 → farther by m ≡ m
 no_farther by m e =
     let n : m.number +ℤ (pos 10_000 *ℤ by) ≡ m.number = omega (arith, ints, e) in
     ap (λ z. record { number = z; unit = m.unit }) n

@@ -13,7 +13,7 @@ use Rattle.layouts.specs.Cells.{wide}
 use Rattle.row_sheets.specs.Posters.{HasTiles, IsOnTile, poster_paper}
 use Rattle.row_sheets.specs.Stacked.{ArePiled, ArePiledLeaves}
 use Rattle.row_sheets.specs.Standing.{LeavesStand, StandsInCells}
-use Rattle.row_sheets.specs.Zine.{AreReadFolded}
+use Rattle.row_sheets.specs.Zine.{AreReadFolded, LieInZines}
 use Rattle.row_sheets.specs.declared.poster.Poster.{Poster}
 use Rattle.dressing.specs.Between.{IsAlong}
 use Rattle.dressing.specs.declared.strokes.Marks.{Marks}
@@ -50,7 +50,7 @@ StandInPlaces (laying.InCells t (scheme.Cards cells)) papers row made = All (Sta
 StandInPlaces (laying.InCells t (scheme.Stack cells)) papers row made = All (StandsInCells t) made × ArePiled cells row made
 StandInPlaces (laying.InCells t scheme.Leaves) papers row made = All (StandsInCells t) made × ArePiledLeaves t row made
 StandInPlaces (laying.InCells t (scheme.Booklet turned_backs creep)) papers row made = IsMarkedAtFold t turned_backs creep made
-StandInPlaces (laying.InCells t scheme.Zine) papers row made = AreReadFolded row made
+StandInPlaces (laying.InCells t scheme.Zine) papers row made = AreReadFolded row made × LieInZines t made
 StandInPlaces (laying.Poster p) papers row made = (i page : ℕ) → entry_of row i ≡ Some page → IsShownOn p papers i page made
 
 -- it is so on the sheets that are asked for: a law

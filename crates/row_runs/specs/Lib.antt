@@ -15,6 +15,7 @@ pub mod Mirrored
 pub mod Marked
 pub mod Numbers
 pub mod Runs
+pub mod Written
 pub mod BySpec
 pub mod Guides
 pub mod Readings

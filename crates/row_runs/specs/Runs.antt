@@ -10,7 +10,7 @@ use Rattle.row_runs.specs.Turning.{turned_sheet}
 use Rattle.row_runs.specs.Mirrored.{mirror_in, mirrored}
 use Rattle.sheet_plan.specs.MadeRefusals.{RefusesMade}
 use Rattle.row_runs.specs.SheetsRuns.{told_output}
-use Rattle.row_runs.specs.Sheets.{AreAsked, row_chosen}
+use Rattle.row_runs.specs.Sheets.{AreAsked, MayBeAsked, row_chosen}
 use Rattle.row_runs.specs.Sheets as sheets
 use Rattle.row_runs.specs.Marked.{strokes_in}
 use Rattle.row_runs.specs.Numbers.{numbers_asked}
@@ -37,6 +37,7 @@ turned_on j laid = map (turned_sheet (turn_of j.turn)) (mirrored (mirror_for j) 
 -- these sheets are asked for, with pages of the papers that they have once they are turned, which lie as they are to be laid;
 -- and then backs are moved, and they are turned
 pub record AreTurned (j : RowJob) (made : List MadeSheet) : Type 0 where
+  pub may : MayBeAsked j.asked
   pub laid : List MadeSheet
   pub asked : AreAsked (page_count j) j.papers.now j.asked laid
   pub stand : StandAsLaid j.asked.laying laid

@@ -3,6 +3,7 @@ ghost use Rattle.row_runs.specs.InPlaces.{AskedStandInPlaces};
 ghost use Rattle.row_runs.specs.ReadAsBound.{AskedIsRead};
 ghost use Rattle.row_runs.specs.Mirrored.{FittedAreInPoints, MirroredStands};
 ghost use Rattle.row_runs.specs.Turning.{TurnedStands, TurnsAddUp};
+ghost use Rattle.row_runs.specs.Written.{NothingIsMoved, TurnedStaysInCell, UprightIsUnturned, WrittenInCells, WrittenInPlaces, WrittenKeepRoom, WrittenStand};
 
 /// The pages of the sheets that are asked for are fitted into their cells and read in order, stacks and zines are the row once
 /// they are cut and laid, or folded, and each point of a poster's pages is shown: none of them had to be refused.
@@ -30,4 +31,36 @@ pub fn turned_stands()
 pub fn mirrored_stands()
     ensures stands { MirroredStands }
     ensures points { FittedAreInPoints }
+{}
+
+/// Where nothing is exchanged on backs, and no page is turned, sheets are written as they are laid.
+pub fn written_as_laid()
+    ensures moved { NothingIsMoved }
+    ensures turned { UprightIsUnturned }
+{}
+
+/// The sheets that are written lie as they are to be laid, if no page is turned; where left and right margins are exchanged on
+/// backs, each in the room of its side.
+pub fn written_stand()
+    ensures { WrittenStand }
+{}
+
+/// A page that lies in a cell lies there too once it is turned: exactly, if nothing is trimmed.
+pub fn turned_stays_in_cell()
+    ensures { TurnedStaysInCell }
+{}
+
+/// So each page of the sheets that are written lies in its cell, turned or not, and on either side.
+pub fn written_in_cells()
+    ensures { WrittenInCells }
+{}
+
+/// Neither turned nor moved, the sheets that are written have their pages in their places.
+pub fn written_in_places()
+    ensures { WrittenInPlaces }
+{}
+
+/// Turned or not, and on either side, what isn't trimmed lies on what the margins leave, and apart by the gap.
+pub fn written_keep_room()
+    ensures { WrittenKeepRoom }
 {}

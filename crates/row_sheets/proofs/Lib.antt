@@ -14,6 +14,8 @@ mod Creeping
 pub mod Folding
 pub mod Stacking
 pub mod Zines
+pub mod ZineCells
+mod Largest
 mod AtRest
 mod Tiles
 pub mod Shown

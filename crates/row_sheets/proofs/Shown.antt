@@ -1,5 +1,5 @@
 -- Each point of each page of a row of posters is shown on one of its sheets.
-use Rattle.std.proofs.Common.{arith, ◌≡◌, ◌∙◌, ℕ, suc, zero, ◌+◌, ◌-◌, ◌*◌, ◌/◌, ◌%◌, ◌<◌, ◌≤◌, List, [], ◌∷◌, ◌++◌, length, Option, Some, None, refl, ap, subst}
+use Rattle.std.proofs.Common.{arith, ◌≡◌, ◌∙◌, ℕ, suc, zero, ◌+◌, ◌-◌, ◌*◌, ◌/◌, ◌%◌, ◌<◌, ◌≤◌, List, [], ◌∷◌, ◌++◌, length, Option, Some, None, refl, sym, ap, subst}
 use Rattle.std.specs.Prelude.{map, flat_map, slice_get}
 use Rattle.std.specs.List.{range_with_len}
 use Rattle.std.proofs.Math.Nat.{mul-le-mul_right, suc-mul}
@@ -12,7 +12,8 @@ use Rattle.made_sheets.specs.Made.{MadeSheet, Blank, Placed}
 use Rattle.made_sheets.specs.Rows.{Row}
 use Rattle.layouts.proofs.InGrid.{some_each}
 use Rattle.row_sheets.specs.declared.poster.Poster.{Poster}
-use Rattle.row_sheets.specs.Posters.{poster_paper, poster_sheets, entry_tiles, row_tiles, tile_item}
+use Rattle.layouts.specs.Placed.{stands}
+use Rattle.row_sheets.specs.Posters.{IsShown, poster_paper, poster_sheets, entry_tiles, row_tiles, tile_item}
 use Rattle.row_sheets.specs.Posters.{PosterHasTiles, RowIsShown, EntryMayBePoster}
 use Rattle.row_sheets.proofs.Offsets.{possible}
 use Rattle.row_sheets.proofs.Tiles.{poster_covers}
@@ -115,9 +116,6 @@ row_is_shown p papers row i page at fits is of =
     record {
       n = one.n;
       is_one = one.within;
-      item = tile_item paper p shown.0 shown.1;
-      sheet = tile_of p papers row i page one.n is one.within
-          ∙ (nth_sheet paper p page one.n one.within
-          ∙ ap (λ x. Some (sheet p.sheet (Placed page x paper ∷ []))) item);
-      shown = shown.4;
+      sheet = tile_of p papers row i page one.n is one.within ∙ nth_sheet paper p page one.n one.within;
+      shown = subst (λ x. IsShown p (stands paper x at)) (sym item) shown.4;
     }

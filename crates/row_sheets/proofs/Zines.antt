@@ -69,10 +69,10 @@ zine_is_read f row =
 
 -- ---- a page of the first row, and one of the second
 
-eight_cells : (t : Setting) → AreZineCells t → size t.grid ≡ 8
+pub eight_cells : (t : Setting) → AreZineCells t → size t.grid ≡ 8
 eight_cells t cells = ap size cells.grid_is
 
-kept_is : (trim n : ℕ) → trim ≡ 0 → kept trim n ≡ n
+pub kept_is : (trim n : ℕ) → trim ≡ 0 → kept trim n ≡ n
 kept_is trim n e = ap (λ t. if t == 0 then n else n + 1) e
 
 -- in the second row
@@ -174,7 +174,7 @@ still_inside room (Placed page item paper) h =
     λ p of. let at = h p of in record { left = at.left; right = at.right; bottom = at.bottom; top = at.top }
 
 -- where it lies in its half of the sheet
-abbrev half_cell : Bool → ℕ → ℕ
+abbrev pub half_cell : Bool → ℕ → ℕ
 half_cell b c = if b then 7 - c else c
 
 apart_by : (b b' : Bool) (f : Filling) (c d : ℕ) (one other : Option ℕ) → AreZineCells f.setting → c < 8 → d < 8 → c ≢ d → nat_lt c 4 ≡ b → nat_lt d 4 ≡ b' → EntryFits f one → EntryFits f other

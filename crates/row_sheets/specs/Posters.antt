@@ -1,5 +1,5 @@
 -- Posters: one page over several sheets, which are its tiles. All here is this project's own rules.
-use Rattle.std.specs.Prelude.{◌≡◌, ◌⊎◌, ⊤, ℕ, ◌+◌, ◌-◌, ◌*◌, ◌/◌, ◌%◌, ◌<◌, min, pos, ◌+ℤ◌, ◌-ℤ◌, ◌≤ℤ◌, nat_abs, nat_le, nat_lt, ◌&&◌}
+use Rattle.std.specs.Prelude.{◌≡◌, ◌⊎◌, ⊤, ℕ, ◌+◌, ◌-◌, ◌*◌, ◌/◌, ◌%◌, ◌<◌, min, pos, ◌+ℤ◌, ◌-ℤ◌, ◌≤ℤ◌, ◌≤◌, nat_abs, nat_le, nat_lt, ◌&&◌}
 use Rattle.std.specs.Prelude.{false, if◌then◌else◌, List, [], ◌∷◌, length, map, flat_map, slice_get, slice_index_or, Option, Some, None}
 use Rattle.std.specs.List.{range_with_len}
 use Rattle.rules.specs.Papers.{Paper}
@@ -8,7 +8,7 @@ use Rattle.rules.specs.Placement.{Point}
 use Rattle.layouts.specs.Placed.{fine, stands, IsOfPage}
 use Rattle.layouts.specs.Cells.{fitting, slack, in_points, whole}
 use Rattle.layouts.specs.Refusals.{are_reached, is_scale}
-use Rattle.layouts.specs.Laws.{IsPaper}
+use Rattle.layouts.specs.Laws.{Cell, IsInMiddle, IsPaper}
 use Rattle.rules.specs.Signatures.{entry_of}
 use Rattle.made_sheets.specs.Made.{MadeSheet, Blank, Placed}
 use Rattle.made_sheets.specs.Rows.{Row}
@@ -199,17 +199,59 @@ PosterHasTiles = (page : Paper) (p : Poster) → why_no_poster page p ≡ None �
 abbrev pub first_tile : Poster → (i : ℕ) → ℕ
 first_tile p i = i * (p.rows * p.columns)
 
--- these sheets show a point of a page: on one of the entry's sheets the page is placed by its own paper, and what the
--- margins leave of that sheet has the point
+-- these sheets show a point of a page: on one of the entry's sheets, which are its tiles from the upper left one on, the page
+-- is placed by its own paper as on that tile of its poster, and what the margins leave of that sheet has the point
+abbrev pub item_on : Poster → (paper : Paper) → (n : ℕ) → Item
+item_on p paper n = tile_item paper p (n % p.columns) (p.rows - (n / p.columns + 1))
+
 pub record IsOnTile (p : Poster) (made : List MadeSheet) (i page : ℕ) (paper : Paper) (at : Point) : Type 0 where
   pub n : ℕ
   pub is_one : n < p.rows * p.columns
-  pub item : Item
-  pub sheet : slice_get made (first_tile p i + n) ≡ Some (record { paper = p.sheet; slots = Placed page item paper ∷ [] })
-  pub shown : IsShown p (stands paper item at)
+  pub sheet : slice_get made (first_tile p i + n) ≡ Some (record { paper = p.sheet; slots = Placed page (item_on p paper n) paper ∷ [] })
+  pub shown : IsShown p (stands paper (item_on p paper n) at)
 
 -- each point of each page of a row is shown on one of its sheets, if each page can be a poster: a law
 abbrev pub RowIsShown : Type 0
 RowIsShown = (p : Poster) (papers : List Paper) (row : Row) (i page : ℕ) (at : Point) → AllMayBePosters p papers row
     → entry_of row i ≡ Some page → IsOfPage 0 (poster_paper p papers page) at
     → IsOnTile p (row_tiles p papers row) i page (poster_paper p papers page) at
+
+-- ---- as large as its tiles, and in their middle
+
+-- a page of this scale, in 10^-9, fits what the margins leave of the tiles, in whole 10^-5 of a point
+pub record FitsTiles (page : Paper) (p : Poster) (scale : ℕ) : Type 0 where
+  pub wide : scale * nat_abs page.width ≤ 1_270_000_000_000_000 * poster_width p
+  pub high : scale * nat_abs page.height ≤ 1_270_000_000_000_000 * poster_height p
+
+-- how long so many tiles are in exact parts of their sheets, in 10^-9 of a grain
+abbrev pub exact_length : (side edge overlap tiles : ℕ) → ℕ
+exact_length side edge overlap tiles =
+    (tiles - 1) * (1_000_000_000 * side - 1_270_000_000_000_000 * (2 * edge + overlap)) + (1_000_000_000 * side - 1_270_000_000_000_000 * (2 * edge))
+
+-- and in these
+pub record AllowTiles (page : Paper) (p : Poster) (scale : ℕ) : Type 0 where
+  pub wide : scale * nat_abs page.width ≤ exact_length (nat_abs p.sheet.width) p.edge p.overlap p.columns
+  pub high : scale * nat_abs page.height ≤ exact_length (nat_abs p.sheet.height) p.edge p.overlap p.rows
+
+-- its sides are 11 points or more
+pub record IsNoTinyPage (page : Paper) : Type 0 where
+  pub wide : 1_397_000_000_000 ≤ nat_abs page.width
+  pub high : 1_397_000_000_000 ≤ nat_abs page.height
+
+-- the page of a poster fits its tiles, with a larger scale it doesn't, and the tiles allow none that is larger by 10^-6 for each of
+-- them, or more: a law
+pub record IsLarge (page : Paper) (p : Poster) : Type 0 where
+  pub fits : FitsTiles page p (poster_scale page p)
+  pub largest : (scale : ℕ) → FitsTiles page p scale → scale ≤ poster_scale page p
+  pub large : (scale : ℕ) → IsNoTinyPage page → HasTiles p → AllowTiles page p scale → scale < poster_scale page p + 1_000 * (p.columns + p.rows)
+
+abbrev pub PosterIsLarge : Type 0
+PosterIsLarge = (page : Paper) (p : Poster) → IsPaper page → IsLarge page p
+
+-- all tiles as one cell, as the lower left one has it
+abbrev pub poster_cell : Poster → Cell
+poster_cell p = record { left = p.edge; bottom = p.edge; width = poster_width p; height = poster_height p }
+
+-- the middle of the page is the middle of the poster, to 10^-5 of a point: a law
+abbrev pub PosterIsInMiddle : Type 0
+PosterIsInMiddle = (page : Paper) (p : Poster) → IsPaper page → IsInMiddle page (poster_cell p) (tile_item page p 0 0)

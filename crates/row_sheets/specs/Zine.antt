@@ -1,18 +1,23 @@
 -- Zines: the cells of their sheets, and how these are read once they are folded and cut. All here is this project's own rules.
-use Rattle.std.specs.Prelude.{◌≡◌, ℕ, zero, suc, ◌+◌, ◌-◌, ◌*◌, ◌%◌, ◌<◌, Bool, ◌||◌, ◌==◌, if◌then◌else◌, List, [], ◌∷◌, map, flat_map, length}
+use Rattle.std.specs.Prelude.{◌≡◌, ⊤, nat_lt, true, false, All, slice_index_or, ℕ, zero, suc, ◌+◌, ◌-◌, ◌*◌, ◌%◌, ◌<◌, Bool, ◌||◌, ◌==◌, if◌then◌else◌, List, [], ◌∷◌, map, flat_map, length}
 use Rattle.std.specs.List.{range_with_len}
+use Rattle.rules.specs.Papers.{Paper}
 use Rattle.rules.specs.Sheets.{blocks}
 use Rattle.rules.specs.Signatures.{entry_of}
-use Rattle.made_sheets.specs.Made.{MadeSheet}
+use Rattle.rules.specs.Specification.{Item, Turn}
+use Rattle.made_sheets.specs.Made.{MadeSlot, Blank, Placed, MadeSheet}
 use Rattle.made_sheets.specs.Rows.{Row}
 use Rattle.layouts.specs.Placed.{IsEven, Room}
-use Rattle.layouts.specs.Cells.{Grid}
+use Rattle.layouts.specs.Cells.{Grid, column_of, half_turned, row_of, turn_in}
+use Rattle.layouts.specs.Fitted.{IsFitted, fitted}
+use Rattle.layouts.specs.Laws.{IsHalfTurnOf, IsInCell, cell_at}
 use Rattle.layouts.specs.Grids.{leaf_order}
 use Rattle.layouts.specs.declared.setting.Setting.{Setting}
 use Rattle.row_sheets.specs.declared.fill.CellKind.{CellKind}
 use Rattle.row_sheets.specs.declared.fill.CellKind.TheVariants as kind
 use Rattle.row_sheets.specs.Filled.{Filling, zine_sheets}
 use Rattle.row_sheets.specs.Stacked.{shown_at}
+use Rattle.row_sheets.specs.Standing.{AllFit}
 
 -- ---- folded and cut
 
@@ -75,3 +80,33 @@ closer room = record room { gap_across = room.gap_across - 1; gap_up = room.gap_
 abbrev pub kept_by : CellKind → Room → Room
 kept_by kind.Zine room = closer room
 kept_by other room = room
+
+-- ---- where its pages lie
+
+-- how pages of a cell are turned: what is in the first row is upside down
+abbrev pub zine_turn : Setting → (c : ℕ) → Turn
+zine_turn t c = if nat_lt c 4 then half_turned (turn_in t.grid) else turn_in t.grid
+
+-- and how far they reach past it at most: the first row is rounded as the second one, but turned by half
+abbrev pub past_row : (c : ℕ) → ℕ
+past_row c = if nat_lt c 4 then 3 else 0
+
+-- a page of this paper in cell c: turned so, and in its cell. In the second row it is fitted into that, and in the first row it
+-- lies where it would in the opposite cell, were the sheet turned by half
+pub record LiesInZine (t : Setting) (c : ℕ) (page : Paper) (item : Item) : Type 0 where
+  pub turn : item.turn ≡ zine_turn t c
+  pub in_cell : IsInCell t.room page (cell_at t.room t.grid (row_of t.order t.grid c) (column_of t.order t.grid c)) (past_row c) item
+  pub second : nat_lt c 4 ≡ false → IsFitted t page c item
+  pub first : nat_lt c 4 ≡ true → IsHalfTurnOf page t.room.paper (fitted t page (7 - c)) item
+
+abbrev pub SlotLiesInZine : Setting → (c : ℕ) → MadeSlot → Type 0
+SlotLiesInZine t c Blank = ⊤
+SlotLiesInZine t c (Placed page item paper) = LiesInZine t c paper item
+
+-- so lies each page of these sheets
+abbrev pub LieInZines : Setting → List MadeSheet → Type 0
+LieInZines t made = All (λ sheet. (c : ℕ) (d : MadeSlot) → c < length sheet.slots → SlotLiesInZine t c (slice_index_or sheet.slots c d)) made
+
+-- of zines, if nothing had to be refused: a law
+abbrev pub ZineLiesInCells : Type 0
+ZineLiesInCells = (f : Filling) (row : Row) → AreZineCells f.setting → AllFit f row → LieInZines f.setting (zine_sheets f row)

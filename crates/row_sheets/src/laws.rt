@@ -8,10 +8,10 @@ ghost use Rattle.row_sheets.specs.Filled.{FilledIsInside, FilledIsApart, SidesAr
 ghost use Rattle.row_sheets.specs.Creep.{CreepMoves, CreepGrows, CreepKeepsSides, NoCreepIsPlain};
 ghost use Rattle.row_sheets.specs.Bound.{BookletIsRead};
 ghost use Rattle.row_sheets.specs.Stacked.{CellsLieBehind, LeavesAreRead, StackIsRead};
-ghost use Rattle.row_sheets.specs.Posters.{PosterCovers, PosterHasTiles, RowIsShown, TilesOverlap};
+ghost use Rattle.row_sheets.specs.Posters.{PosterCovers, PosterHasTiles, PosterIsInMiddle, PosterIsLarge, RowIsShown, TilesOverlap};
 ghost use Rattle.row_sheets.specs.SameScale.{HaveOneScale, OneScaleStands};
 ghost use Rattle.row_sheets.specs.Standing.{FilledStandsInCells};
-ghost use Rattle.row_sheets.specs.Zine.{ZineIsRead};
+ghost use Rattle.row_sheets.specs.Zine.{ZineIsRead, ZineLiesInCells};
 
 /// Of all pages, in signatures or not, the sheets of a specification on their row are those of the rules.
 pub fn by_spec_on_all()
@@ -36,6 +36,11 @@ pub fn leaves_are_read()
 /// The sheets of a zine, folded, cut and read leaf by leaf, are the row.
 pub fn zine_is_read()
     ensures { ZineIsRead }
+{}
+
+/// Each page of a zine lies in its cell, those of the first row upside down.
+pub fn zine_lies_in_cells()
+    ensures { ZineLiesInCells }
 {}
 
 /// The parts of a leaf lie back to back: the cell behind a cell covers it, to 10^-5 of a point for each column.
@@ -111,6 +116,16 @@ pub fn poster_covers()
 /// Neighbouring tiles of a poster share exactly the overlap.
 pub fn tiles_overlap()
     ensures { TilesOverlap }
+{}
+
+/// A poster's page is as large as its tiles allow.
+pub fn poster_is_large()
+    ensures { PosterIsLarge }
+{}
+
+/// And it is in their middle.
+pub fn poster_is_in_middle()
+    ensures { PosterIsInMiddle }
 {}
 
 /// A poster that isn't refused has tiles, which are longer than they overlap.

@@ -20,6 +20,7 @@ returns-in_err-sheets-clause-refused c =
 
 pub returns-in-Ok-dress_of-clause-turned : goal.returns-in-Ok-dress_of-clause-turned
 returns-in-Ok-dress_of-clause-turned c = record {
+  may = c.requires;
   laid = c.in_ok-sheets.sheets;
   asked = rw c.pages-count.ensures.count at c.in_ok-sheets.ensures.made;
   stand = c.in_ok-sheets.ensures.stands;

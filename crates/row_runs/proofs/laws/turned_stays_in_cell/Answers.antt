@@ -1,0 +1,5 @@
+use Rattle.row_runs.proofs.InCells.{turned_stays_in_cell}
+use Rattle.row_runs.proofs.laws.turned_stays_in_cell.Goals as goal
+
+pub returns : goal.returns
+returns c = turned_stays_in_cell

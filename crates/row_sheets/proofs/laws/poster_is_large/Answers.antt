@@ -1,0 +1,5 @@
+use Rattle.row_sheets.proofs.Largest.{poster_is_large}
+use Rattle.row_sheets.proofs.laws.poster_is_large.Goals as goal
+
+pub returns : goal.returns
+returns c = poster_is_large
