@@ -1,5 +1,5 @@
 //! What is imposed of a row of pages that a layout lays on sheets, and how.
-ghost use Rattle.std.specs.Prelude.{◌≡◌, ◌<◌, ◌≤◌, ◌&&◌, ◌⊎◌, ℕ, length, true, IfErr, IfOk, IfSome, IsTrue, None, Ok};
+ghost use Rattle.std.specs.Prelude.{◌≡◌, ◌<◌, ◌≤◌, ◌&&◌, ◌⊎◌, ℕ, length, true, IfErr, IfOk, IfSome, IsTrue, None, Ok, IsOk, OnErr};
 ghost use Rattle.std.specs.Prelude.{option_map, string_bytes};
 ghost use Rattle.rows.specs.Sewing.{MayBeSewn};
 ghost use Rattle.row_runs.specs.Sheets.{MayBeLaid};
@@ -295,6 +295,7 @@ fn first_paper(
     ensures value { IfOk result (λ paper. paper ≡ first_paper_of
         (row_of (length found.now.papers.items) (choice_in choice.now) None) found.now.papers.items blank.now) }
     ensures refused { IfErr result (λ f. f ≡ without_memory) }
+    ensures there { OnErr result (IsOk (row_of (length found.now.papers.items) (choice_in choice.now) None)) }
 {
     match imposed_row(alloc, found.pages, &choice.as_choice(), None) {
         Ok(row) => Ok(paper_of_first(row.as_slice(), found.papers.as_slice(), blank)),

@@ -1,5 +1,5 @@
 //! What is said of a finished run.
-ghost use Rattle.std.specs.Prelude.{◌≡◌, ◌+◌, ◌/◌, IfOk, if◌then◌else◌, [], map, option_map, string_bytes};
+ghost use Rattle.std.specs.Prelude.{◌≡◌, ◌+◌, ◌/◌, IfOk, IsUtf8, OnErr, if◌then◌else◌, [], map, option_map, string_bytes};
 ghost use Rattle.rules.specs.Numbers.{points_text as text_of_points};
 ghost use Rattle.impose_said.specs.Said.{IsNote, behind_text as text_of_behind};
 ghost use Rattle.impose_said.specs.Said.{blanks_of as blanks_in, blanks_text as text_of_blanks, counts_text as text_of_counts};
@@ -172,7 +172,8 @@ fn points_text(alloc: Global, length: Grains) -> Result<String, AllocError>
 
 /// These bytes as a text. They are ASCII: of others nothing is said, as without memory.
 fn ascii_text(bytes: Vec<u8>) -> Result<String, AllocError>
-    ensures { IfOk result (λ text. string_bytes text ≡ bytes.items) }
+    ensures value { IfOk result (λ text. string_bytes text ≡ bytes.items) }
+    ensures other { OnErr result (¬ (IsUtf8 bytes.items)) }
 {
     match String::from_utf8(bytes) {
         Ok(text) => Ok(text),

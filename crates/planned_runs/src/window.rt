@@ -1,5 +1,5 @@
 //! Which sheets may be imposed now.
-ghost use Rattle.std.specs.Prelude.{◌≡◌, ◌<◌, ◌≤◌, ◌↔◌, IfSome, IfNone, OnOk, OnErr, IsTrue, length, min};
+ghost use Rattle.std.specs.Prelude.{◌≡◌, ◌<◌, ◌≤◌, ◌↔◌, IfSome, IfNone, OnOk, OnErr, IsTrue, false, length, min, ◌⊎◌};
 ghost use Rattle.std.specs.Prelude.{if◌then◌else◌};
 ghost use Rattle.std.specs.FinSet as set;
 ghost use Rattle.std.specs.Duration.{as_nanos};
@@ -237,8 +237,11 @@ impl Held {
     /// Whether some are held and the window has moved since this was last asked. Then it is better to wait for these
     /// than to take more off the queue, which other imposers may want.
     pub(crate) fn come_nearer(&mut self, end: u32) -> bool
+        ensures kept { self.new.looked_to ≡ end }
         ensures same { self.new.sheets ≡ self.old.sheets }
         ensures some { IsTrue result → ¬ (self.old.sheets ≡ set.empty) }
+        ensures moved { IsTrue result → ¬ (self.old.looked_to ≡ end) }
+        ensures stays { result ≡ false → (self.old.sheets ≡ set.empty) ⊎ (self.old.looked_to ≡ end) }
     {
         let moved = self.looked_to != end;
         self.looked_to = end;

@@ -1,5 +1,5 @@
 //! How sheets are numbered and named.
-ghost use Rattle.std.specs.Prelude.{◌≡◌, ◌++◌, OnOk, IfOk, decimal, length};
+ghost use Rattle.std.specs.Prelude.{◌≡◌, ◌<◌, ◌++◌, OnErr, OnOk, IfOk, decimal, length, vec_len, vec_capacity, ◌+◌};
 ghost use Rattle.preview.specs.Naming.{face, side_name, size_text};
 
 use itoa::Buffer;
@@ -24,7 +24,8 @@ pub enum Sides {
 
 /// How many sheets there are. More than a `u32` can count are reported as out of memory, as are their lines.
 pub(crate) fn count_of(sheets: &MadeSheets) -> Result<u32, AllocError>
-    ensures { IfOk result (λ count. count ≡ length sheets.now) }
+    ensures value { IfOk result (λ count. count ≡ length sheets.now) }
+    ensures many { OnErr result (u32.MAX < length sheets.now) }
 {
     match u32::try_from(sheets.len()) {
         Ok(count) => Ok(count),
@@ -58,7 +59,8 @@ fn face_of(sheet: u32) -> &'static [u8]
 }
 
 pub(crate) fn append_number(number: u64, out: &mut Vec<u8>) -> Result<(), AllocError>
-    ensures { OnOk result (out.new.items ≡ out.old.items ++ decimal number) }
+    ensures ok { OnOk result (out.new.items ≡ out.old.items ++ decimal number) }
+    ensures full { OnErr result (vec_capacity out.old < vec_len out.old + length (decimal number)) }
 {
     let mut buffer = Buffer::new();
     out.extend_from_slice(buffer.format(number).as_bytes())?;
@@ -67,7 +69,8 @@ pub(crate) fn append_number(number: u64, out: &mut Vec<u8>) -> Result<(), AllocE
 
 /// The sides of a paper.
 pub(crate) fn append_size(paper: &Paper, out: &mut Vec<u8>) -> Result<(), AllocError>
-    ensures { OnOk result (out.new.items ≡ out.old.items ++ size_text paper.now) }
+    ensures ok { OnOk result (out.new.items ≡ out.old.items ++ size_text paper.now) }
+    ensures full { OnErr result (vec_capacity out.old < vec_len out.old + length (size_text paper.now)) }
 {
     print_points(paper.width(), out)?;
     out.extend_from_slice(b" x ")?;

@@ -1,5 +1,6 @@
 //! Sheets that are printed on both sides, fronts and backs in turn: on backs left and right margins are exchanged.
-ghost use Rattle.std.specs.Prelude.{◌≡◌, ◌^◌, ◌≤◌, IfOk, IfSome, nat_abs};
+ghost use Rattle.std.specs.Prelude.{◌≡◌, ◌^◌, ◌≤◌, IfNone, IfOk, IfSome, nat_abs};
+ghost use Rattle.row_runs.specs.Turning.{FitsItem};
 ghost use Rattle.pagespec.specs.Items.{item_of};
 ghost use Rattle.row_runs.specs.Mirrored as meaning;
 
@@ -40,7 +41,8 @@ pub(crate) fn mirror_on(mirror: &Option<Room>, sheet: u32) -> Option<Room>
 
 /// The item by which a page is placed once it is moved from this room into the exchanged one, if there is one.
 pub(crate) fn moved_item(mirror: &Option<Room>, item: &Item) -> Option<Item>
-    ensures { IfSome result (λ moved. item_of moved ≡ meaning.moved_item mirror.now (item_of item.now)) }
+    ensures value { IfSome result (λ moved. item_of moved ≡ meaning.moved_item mirror.now (item_of item.now)) }
+    ensures out_of_range { IfNone result (¬ (FitsItem (meaning.moved_item mirror.now (item_of item.now)))) }
 {
     match mirror {
         None => Some(*item),

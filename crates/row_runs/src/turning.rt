@@ -1,5 +1,7 @@
 //! Pages that are turned before they are placed.
-ghost use Rattle.std.specs.Prelude.{◌≡◌, ◌^◌, ◌<◌, ◌≤◌, IfOk, IfSome, IsTrue, OnOk, length, map, nat_abs, pos};
+ghost use Rattle.std.specs.Prelude.{◌≡◌, ◌^◌, ◌<◌, ◌≤◌, IfNone, IfOk, IfSome, IsTrue, OnErr, OnOk, length, map, nat_abs, pos};
+ghost use Rattle.std.specs.Prelude.{◌⊎◌};
+ghost use Rattle.lengths.specs.Ranges.{FitsNumber};
 ghost use Rattle.rules.specs.Papers.{is_side};
 ghost use Rattle.rules.specs.Placement.{turned as turned_point};
 ghost use Rattle.pagespec.specs.Items.{item_of, measure_of, turn_of};
@@ -110,8 +112,10 @@ fn turned_slot(
     mirror: &Option<Room>,
     slot: Option<PlacedSlot<'_>>,
 ) -> Result<MadeSlot, AllocError>
-    ensures { IfOk result (λ turned.
+    ensures value { IfOk result (λ turned.
         slot_of turned ≡ meaning.turned_slot (turn_of turn) (moved_slot mirror.now (placed_of slot.entry))) }
+    ensures out_of_range { OnErr result (¬ (meaning.FitsSlot (moved_slot mirror.now (placed_of slot.entry))
+        × meaning.FitsSlot (meaning.turned_slot (turn_of turn) (moved_slot mirror.now (placed_of slot.entry))))) }
 {
     match slot {
         None => Ok(MadeSlot::Blank),
@@ -128,8 +132,10 @@ fn turned_slot(
 
 /// An item whose page is moved first, and then turned.
 fn changed_item(turn: Turn, mirror: &Option<Room>, paper: &Paper, item: &Item) -> Option<Item>
-    ensures { IfSome result (λ changed.
+    ensures value { IfSome result (λ changed.
         item_of changed ≡ meaning.turned_item (turn_of turn) paper.now (moved_of mirror.now (item_of item.now))) }
+    ensures out_of_range { IfNone result (¬ (meaning.FitsItem (moved_of mirror.now (item_of item.now))
+        × meaning.FitsItem (meaning.turned_item (turn_of turn) paper.now (moved_of mirror.now (item_of item.now))))) }
 {
     let moved = moved_item(mirror, item)?;
     turned_item(turn, paper, &moved)
@@ -137,7 +143,8 @@ fn changed_item(turn: Turn, mirror: &Option<Room>, paper: &Paper, item: &Item) -
 
 /// The item by which a page is placed where this one places a page of its turned paper.
 fn turned_item(turn: Turn, paper: &Paper, item: &Item) -> Option<Item>
-    ensures { IfSome result (λ turned. item_of turned ≡ meaning.turned_item (turn_of turn) paper.now (item_of item.now)) }
+    ensures value { IfSome result (λ turned. item_of turned ≡ meaning.turned_item (turn_of turn) paper.now (item_of item.now)) }
+    ensures out_of_range { IfNone result (¬ (meaning.FitsItem (meaning.turned_item (turn_of turn) paper.now (item_of item.now)))) }
 {
     let width = long(item.scale, paper.width());
     let height = long(item.scale, paper.height());
@@ -221,7 +228,8 @@ fn long(scale: Number, side: Grains) -> i64
 /// So many 10^-5 of a point farther, unless that is out of range.
 pub(crate) fn farther(by: i64, measure: Measure) -> Option<Measure>
     requires { nat_abs by ≤ 10 ^ 17 }
-    ensures { IfSome result (λ moved. measure_of moved ≡ meaning.farther by (measure_of measure)) }
+    ensures value { IfSome result (λ moved. measure_of moved ≡ meaning.farther by (measure_of measure)) }
+    ensures out_of_range { IfNone result (¬ (FitsNumber (meaning.farther by (measure_of measure)).number)) }
 {
     let number = i128::from(measure.number.billionths()) + 10_000 * i128::from(by);
     match i64::try_from(number) {

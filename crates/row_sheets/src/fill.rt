@@ -179,6 +179,7 @@ fn sheets_for(kind: CellKind, cells: u32, row: &[Option<u32>]) -> Result<u32, Ar
     requires { 0 < cells }
     ensures value { IfOk result (λ n. n ≡ sheet_count kind cells (length row.now)) }
     ensures refused { IfErr result (λ error. error ≡ ArrangementError.NoMemory) }
+    ensures many { IfErr result (λ error. u32.MAX < sheet_count kind cells (length row.now)) }
 {
     match kind {
         CellKind::Grid | CellKind::Stack | CellKind::Zine => blocks_of(row, u64::from(cells)),
@@ -198,6 +199,7 @@ pub fn blocks_of(row: &[Option<u32>], entries: u64) -> Result<u32, ArrangementEr
     requires { 0 < entries }
     ensures value { IfOk result (λ n. n ≡ blocks entries (length row.now)) }
     ensures refused { IfErr result (λ error. error ≡ ArrangementError.NoMemory) }
+    ensures many { IfErr result (λ error. u32.MAX < blocks entries (length row.now)) }
 {
     let blocks = (row.len() as u128 + u128::from(entries - 1)) / u128::from(entries);
     match u32::try_from(blocks) {

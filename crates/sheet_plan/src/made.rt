@@ -243,7 +243,8 @@ fn placing_at(placings: &[Placing], k: u32) -> &Placing
 
 /// A count in four bytes.
 fn count_of(count: usize) -> Result<u32, AllocError>
-    ensures { IfOk result (λ n. n ≡ count) }
+    ensures value { IfOk result (λ n. n ≡ count) }
+    ensures many { OnErr result (u32.MAX < count) }
 {
     match u32::try_from(count) {
         Ok(count) => Ok(count),

@@ -1,5 +1,5 @@
 -- How the steps of writing produce the output.
-use Rattle.std.proofs.Common.{ℕ, zero, suc, ◌+◌, ◌≤◌, ◌≡◌, ◌∙◌, refl, ap, sym, subst, List, [], ◌∷◌, ◌++◌, length, take, drop, Option, Some, None, slice_get, true, true≢false, ◌⊎◌, inl, inr, ⊎_elim, slice_set, arith, append_assoc, append-nil}
+use Rattle.std.proofs.Common.{ℕ, zero, suc, ◌+◌, ◌<◌, ◌≤◌, ◌≡◌, ◌∙◌, refl, ap, sym, subst, List, [], ◌∷◌, ◌++◌, length, take, drop, Option, Some, None, slice_get, true, true≢false, ◌⊎◌, inl, inr, ⊎_elim, slice_set, arith, append_assoc, append-nil}
 use Rattle.std.specs.Prelude.{flat_map, is_some}
 use Rattle.std.specs.List.{range_with_len}
 use Rattle.std.specs.Io.KnownBytes.{Appends, Keeps}
@@ -63,7 +63,8 @@ by_halt (Some NoMemory) Goes Fails Starves Goes' Fails' Starves' goes fails star
 after_handed : (job : JobView) (start old new : SinkView) (p q : Progress) (text : List ℕ) (Goes : Type 0)
     → ((q.written ≡ p.written + length text) × Took old new text → Goes)
     → ((k : ℕ) × (k ≤ length text) × (q.written ≡ p.written + k) × FailedBehind old new (take k text) → WroteFirst job start new q.written × (new.failures ≡ start.failures + 1))
-    → ((q.written ≡ p.written) × IsUntouched old new → WroteFirst job start new q.written × (new.failures ≡ start.failures))
+    → ((q.written ≡ p.written) × IsUntouched old new × (18_446_744_073_709_551_615 < p.written + length text)
+    → WroteFirst job start new q.written × (new.failures ≡ start.failures))
     → Handed text old new p q → Halts job start new q Goes
 after_handed job start old new p q text Goes goes fails starves handed = by_halt q.halted _ _ _ _ _ _ goes fails starves handed
 
@@ -103,7 +104,7 @@ handed_behind job start old new p q text grown within none handed stands =
       subst (WroteFirst job start new) (sym (more ∙ ap (λ x. x + k) was.1)) (wrote_behind job start old new front text begins.0 k whole few was.2.0 failed.0),
       failed.1 ∙ ap (λ x. x + 1) was.2.1,
     ))
-    (λ (more, same). (subst (WroteFirst job start new) (sym (more ∙ was.1)) (wrote_front job start old new p.next was.2.0 same.0), same.1 ∙ was.2.1))
+    (λ (more, same, many). (subst (WroteFirst job start new) (sym (more ∙ was.1)) (wrote_front job start old new p.next was.2.0 same.0), same.1 ∙ was.2.1))
     handed
 
 -- some more sheets
@@ -137,7 +138,7 @@ header_handed job old new p q text fresh first is handed =
     let all : text ++ begins.0 ≡ output_of job = ap (λ t. t ++ begins.0) whole ∙ begins.1 in
     let part = part_behind [] text begins.0 (output_of job) k all few in
     (subst (WroteFirst job old new) (sym (more ∙ ap (λ x. x + k) fresh)) (part.0, subst (Appends old.bytes new.bytes) (sym part.1) failed.0), failed.1))
-    (λ (more, same).
+    (λ (more, same, many).
     (subst (WroteFirst job old new) (sym (more ∙ fresh)) (omega arith, nothing old.bytes new.bytes same.0), same.1))
     handed
   where
@@ -214,7 +215,7 @@ trailer_handed job start old new p q text all is none handed stands =
       subst (WroteFirst job start new) (sym (more ∙ ap (λ x. x + k) was.1)) (wrote_behind job start old new front text [] k all' few was.2.0 failed.0),
       failed.1 ∙ ap (λ x. x + 1) was.2.1,
     ))
-    (λ (more, same). (subst (WroteFirst job start new) (sym (more ∙ was.1)) (wrote_front job start old new p.next was.2.0 same.0), same.1 ∙ was.2.1))
+    (λ (more, same, many). (subst (WroteFirst job start new) (sym (more ∙ was.1)) (wrote_front job start old new p.next was.2.0 same.0), same.1 ∙ was.2.1))
     handed
 
 -- no sheet came yet

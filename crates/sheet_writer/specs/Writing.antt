@@ -1,5 +1,5 @@
 -- How far the output of a job is written.
-use Rattle.std.specs.Prelude.{◌≡◌, ℕ, ◌+◌, ◌≤◌, List, ◌++◌, length, take, flat_map, All, slice_get, Option, Some, None}
+use Rattle.std.specs.Prelude.{◌≡◌, ℕ, ◌+◌, ◌<◌, ◌≤◌, List, ◌++◌, length, take, flat_map, All, slice_get, Option, Some, None}
 use Rattle.std.specs.List.{range_with_len}
 use Rattle.std.specs.Io.KnownBytes.{Appends}
 use Rattle.made_sheets.specs.MadeOutput.{dressed_preamble}
@@ -30,12 +30,12 @@ AfterHalt None Goes Fails Starves = Goes
 AfterHalt (Some Failed) Goes Fails Starves = Fails
 AfterHalt (Some NoMemory) Goes Fails Starves = Starves
 
--- the result of giving a text to a sink
+-- the result of giving a text to a sink: it is given none of it only if a report couldn't count the bytes
 abbrev pub Handed : List ℕ → (old new : SinkView) → Progress → Progress → Type 0
 Handed text old new p q = AfterHalt q.halted
     ((q.written ≡ p.written + length text) × Took old new text)
     ((k : ℕ) × (k ≤ length text) × (q.written ≡ p.written + k) × FailedBehind old new (take k text))
-    ((q.written ≡ p.written) × IsUntouched old new)
+    ((q.written ≡ p.written) × IsUntouched old new × (18_446_744_073_709_551_615 < p.written + length text))
 
 -- this holds, or some beginning of the output was written and then no more; the sink failed only if the halt says
 -- so

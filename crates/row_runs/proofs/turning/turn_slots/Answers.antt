@@ -10,4 +10,4 @@ use Rattle.row_runs.proofs.turning.turn_slots.Goals as goal
 pub loop-slot-preserved : goal.loop-slot-preserved
 loop-slot-preserved c =
     one_more (λ slot. turned_slot (turn_of c.args.turn) (moved_slot c.args.mirror.now slot)) (map slot_of c.loop-slot.slots.items) _ c.loop-slot.slot (slots_at c.args.sheets.now c.args.sheet) _ _
-    c.placed.ensures c.loop-slot.invariant (ap (map slot_of) c.in_ok-push.ensures.items ∙ map_push slot_of c.loop-slot.slots.items _) c.in_ok-turned_slot.ensures
+    c.placed.ensures c.loop-slot.invariant (ap (map slot_of) c.in_ok-push.ensures.items ∙ map_push slot_of c.loop-slot.slots.items _) c.in_ok-turned_slot.ensures.value

@@ -36,7 +36,7 @@ returns-clause-added c =
           added_slot _ _ _ c.match-made.kept _ c.in_ok-push.ensures.items
           (ap (slot_kept c.match-made.placings.items) w.kept-is
           ∙ ap (λ ps. slot_kept ps (record { page = w.in-Placed.page; placing = w.in_ok-count_of-in-Placed.field-0 })) q
-          ∙ number_kept _ _ _ _ _ w.in_ok-count_of-in-Placed.ensures w.in_ok-place-in-Placed.ensures.there
+          ∙ number_kept _ _ _ _ _ w.in_ok-count_of-in-Placed.ensures.value w.in_ok-place-in-Placed.ensures.there
           ∙ ap slot_of (sym w.in-Placed.is))
     ]
 
