@@ -32,7 +32,7 @@ pub enum HostOutput<F> {
 }
 
 impl<'a, R: Files> Host<'a, R> {
-    /// One that hasn't failed.
+    /// A world that hasn't failed yet.
     pub fn new(files: &'a R, stdin: Stdin, stdout: Stdout) -> Host<'a, R>
         ensures { (⟦<Host<'a, R> as World>⟧.seen result).failures ≡ 0 }
     {
@@ -50,7 +50,7 @@ impl<'a, R: Files> World for Host<'a, R> {
 
     type Output = HostOutput<R::File>;
 
-    // It has no memory for what was asked.
+    // It doesn't remember what it was asked for.
     ghost seen = { λ host. record { asked = None; failures = host.failures } };
 
     fn open(&mut self, name: Option<&str>) -> io::Result<HostInput<R::File>> {

@@ -2,7 +2,6 @@
 #![tactic(auto)]
 
 mod host;
-mod keeping_reader;
 mod output;
 mod read;
 mod rest;
@@ -12,7 +11,6 @@ mod told;
 mod world;
 
 pub use host::{Host, HostInput, HostOutput};
-pub use keeping_reader::KeepingReader;
 pub use output::Created;
 pub use read::{MOST_BYTES, ReadFault, read_input, read_input_behind};
 pub use rest::Rest;

@@ -14,8 +14,7 @@ use std::io::{BufWriter, Write};
 pub type Buffered<T> = WriteSink<BufWriter<T>>;
 
 /// The output of this name, which is created, with a buffer of so many bytes before it. If there is no memory for the buffer,
-/// or the output can't be created, the world comes back, and nothing was created in it. For want of memory it is the very
-/// world; else it has refused the output.
+/// the very world comes back, unasked. If the world refuses the output, it comes back with nothing created in it.
 pub fn created<W: World>(
     alloc: Global,
     capacity: usize,

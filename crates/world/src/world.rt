@@ -11,8 +11,10 @@ use std::io::{Read, Write};
 /// What a program may do to the files and standard streams around it.
 ///
 /// A name is that of a file, and none is the standard stream. Creating an output takes the world: so whoever
-/// still has it has created none, and nobody creates two. It counts what it refuses, and the failures of what it opened and
-/// gets back: so who says that the input can't be read has a world that counted it.
+/// still has it has created none, and nobody creates two.
+///
+/// A world counts its failures: each file that it refuses to open or create, and those of an input that it closes. So a
+/// program that reports a failure can be held to the world's count.
 pub trait World: Sized + Drop {
     type Input: Read + Drop;
 
@@ -24,7 +26,7 @@ pub trait World: Sized + Drop {
     // Whether its outputs report their names and what was written to them.
     ghost tells: { Self → Bool } = { λ _. false };
 
-    // What was asked of it so far, and how often it failed.
+    // What it was asked for so far, and how often it failed.
     ghost seen: { Self → WorldView };
 
     /// Opens the file of this name, or standard input.
@@ -34,11 +36,11 @@ pub trait World: Sized + Drop {
         ensures asked { MatchResult result
             (λ _. HasGranted (opening (option_map (λ n. n.now) name.entry)) (seen self.old) (seen self.new))
             (λ _. HasRefused (opening (option_map (λ n. n.now) name.entry)) (seen self.old) (seen self.new)) }
-        // Files give again what they gave. Of standard input that isn't known.
+        // Files give what they gave before. Standard input may have been read.
         ensures again { is_some name.entry ≡ true → gives self.new ≡ gives self.old }
         ensures tells { tells self.new ≡ tells self.old };
 
-    /// Closes an input that was opened, whose failures count, and says why it failed last, if it did.
+    /// Closes an input, adds its failures to the world's, and answers why it failed last, if it did.
     fn close(&mut self, source: ReadSource<Self::Input>) -> Option<io::Error>
         requires countable { (seen self.old).failures + failures_of source ≤ u64.MAX }
         ensures asked { (seen self.new).asked ≡ (seen self.old).asked }
