@@ -5,7 +5,7 @@ use Rattle.std.specs.Io.KnownBytes.{Appends, Keeps}
 use Rattle.std.proofs.KnownBytes.{Appends-kept}
 use Rattle.std.proofs.Math.Seq.{take-length}
 use Rattle.std.proofs.lemmas.List.{length-map}
-use Rattle.std.specs.declared.io.ErrorKind.{ErrorKind}
+use Rattle.std.specs.IoError.{error_kind}
 use Rattle.std.specs.declared.io.ErrorKind.TheVariants.{OutOfMemory}
 use Rattle.std.below.std_io.specs.declared.io.error.Error.{Error}
 use Rattle.impose_said.specs.Faults.{without_memory}
@@ -125,16 +125,18 @@ abbrev Left : {V O : Type 0} → JobView → (name : Option (List ℕ)) → (tel
 Left j name tells outcome world rest written = Comes (λ f. ⊥) (WritesJob j) name tells outcome world rest written
 
 -- an output wasn't created, and the fault is that of its error's kind
-pub is_not_created : {V O : Type 0} (e : Edge V) (name : Option (List ℕ)) (world left : V) (kind : ErrorKind) (cause : Error) (outcome : Result Report ImposeFault) (rest : Rest V O)
-    → ((left ≡ world) × (kind ≡ OutOfMemory)) ⊎ HasRefused (creating name) (e.seen world) (e.seen left)
-    → (kind ≡ OutOfMemory → outcome ≡ Err without_memory) → (outcome ≡ Err without_memory) ⊎ (outcome ≡ Err (fault.Write 0 (Some cause)))
+pub is_not_created : {V O : Type 0} (e : Edge V) (name : Option (List ℕ)) (world left : V) (cause : Error) (outcome : Result Report ImposeFault) (rest : Rest V O)
+    → ((left ≡ world) × (error_kind cause ≡ OutOfMemory)) ⊎ HasRefused (creating name) (error_kind cause) (e.seen world) (e.seen left)
+    → ((error_kind cause ≡ OutOfMemory) × (outcome ≡ Err without_memory)) ⊎ (¬ (error_kind cause ≡ OutOfMemory) × (outcome ≡ Err (fault.Write 0 (Some cause))))
     → rest ≡ World left → IsNotCreated e name world outcome rest
-is_not_created e name world left kind cause outcome rest (inl same) memory either back =
-    subst (λ o. IsNotCreated e name world o rest) (sym (memory same.1)) (inl (refl, inl (back ∙ ap World same.0)))
-is_not_created e name world left kind cause outcome rest (inr refused) memory (inl is) back =
-    subst (λ o. IsNotCreated e name world o rest) (sym is) (inl (refl, inr (left, back, refused)))
-is_not_created e name world left kind cause outcome rest (inr refused) memory (inr is) back =
-    subst (λ o. IsNotCreated e name world o rest) (sym is) (inr (refl, (left, back, refused)))
+is_not_created e name world left cause outcome rest (inl same) (inl memory) back =
+    subst (λ o. IsNotCreated e name world o rest) (sym memory.1) (inl (refl, inl (back ∙ ap World same.0)))
+is_not_created e name world left cause outcome rest (inl same) (inr other) back = absurd (other.0 same.1)
+is_not_created e name world left cause outcome rest (inr refused) (inl memory) back =
+    subst (λ o. IsNotCreated e name world o rest) (sym memory.1)
+    (inl (refl, inr (left, back, subst (λ k. HasRefused (creating name) k (e.seen world) (e.seen left)) memory.0 refused)))
+is_not_created e name world left cause outcome rest (inr refused) (inr other) back =
+    subst (λ o. IsNotCreated e name world o rest) (sym other.1) (inr (refl, (left, back, refused)))
 
 -- no output could be created for them
 pub job_uncreated : {V O : Type 0} (j : JobView) (name : Option (List ℕ)) (tells : Edge V) (outcome : Result Report ImposeFault) (world : V) (rest : Rest V O) (written : Option (List ℕ))

@@ -1,10 +1,10 @@
 -- What comes of a request.
-use Rattle.std.proofs.Common.{◌≡◌, ap, ℕ, ◌<◌, List, [], length, take, Bool, true, false, Option, None, Result, Ok, Err, inl, inr, refl, subst, sym}
+use Rattle.std.proofs.Common.{◌≡◌, ap, ℕ, ◌<◌, List, [], length, take, Bool, true, false, Option, Some, None, Result, Ok, Err, inl, inr, refl, subst, sym}
 use Rattle.clap.specs.Words.{Row, Text}
 use Rattle.std.specs.Prelude.{⊤, ◌⊎◌, option_map, string_bytes}
 use Rattle.std.specs.Io.KnownBytes.{Appends}
 use Rattle.world.specs.Outputs.{told_if}
-use Rattle.impose_cli.specs.Endings.{Edge, AfterWrite, HasFirst, IsUncreated, Refused, Runs, has_output}
+use Rattle.impose_cli.specs.Endings.{Edge, AfterWrite, HasFirst, IsUncreated, Runs, has_output}
 use Rattle.impose_cli.proofs.Coming.{after_as}
 use Rattle.world.specs.Input.{IsFirst, most_bytes}
 use Rattle.world.specs.Worlds.{WorldView}
@@ -21,6 +21,7 @@ use Rattle.impose_cli.specs.Tasks.{IsTask}
 use Rattle.world.specs.declared.rest.Rest.{Rest}
 use Rattle.world.specs.declared.rest.Rest.TheVariants.{World}
 use Rattle.impose_said.specs.declared.fault.ImposeFault.{ImposeFault}
+use Rattle.impose_said.specs.declared.fault.ImposeFault.TheVariants as fault
 use Rattle.impose_said.specs.declared.finished.Done.{Done}
 use Rattle.impose_said.specs.declared.finished.Done.TheVariants as done
 use Rattle.impose_cli.specs.declared.look.Overview.{Overview}
@@ -127,9 +128,13 @@ may_be_made_at_home words r given home e h = subst (λ (q : ImposeRequest). MayB
 after_any : (f : ImposeFault) (P Q : ℕ → Type 0) → AfterWrite f P Q → AfterWrite f (λ n. ⊤) (λ n. ⊤)
 after_any f P Q h = after_as f P Q (λ n. ⊤) (λ n. ⊤) (λ n e. tt) (λ n e. tt) h
 
+uncreated_after : {V O : Type 0} (e : Edge V) (name : Option (List ℕ)) (world : V) (f : ImposeFault) (rest : Rest V O) → IsUncreated e name world f rest → AfterWrite f (λ n. ⊤) (λ n. ⊤)
+uncreated_after e name world (fault.Write n (Some cause)) rest h = tt
+uncreated_after e name world other rest h = absurd h
+
 text_created : {V O : Type 0} (name : Option (List ℕ)) (text : List ℕ) (tells : Edge V) (f : ImposeFault) (world : V) (rest : Rest V O) (written : Option (List ℕ)) → FailsToWrite name text tells f world rest written → IsCreatedFor (Err f) rest
 text_created name text tells f world rest written h = elim h [
-  | inl absent ↦ inr (after_any f (λ n. (n ≡ 0) × Refused tells name world rest) (λ n. ⊥) absent)
+  | inl absent ↦ inr (uncreated_after tells name world f rest absent)
   | inr broke ↦ inr (after_any f (λ n. (n < length text) × Appends (told_if tells.tells name []) written (take n text)) (λ n. ⊥) broke)
 ]
 
@@ -139,7 +144,7 @@ run_created r input tells f world rest written h = elim h [
   | inr some ↦ elim some.3 [
     | inl absent ↦ elim absent [
       | inl spent ↦ inr (subst (λ e. AfterWrite e (λ n. ⊤) (λ n. ⊤)) (sym spent.0) tt)
-      | inr refused ↦ inr (after_any f (λ n. (n ≡ 0) × Refused tells (option_map string_bytes r.outfile) world rest) (λ n. ⊥) refused)
+      | inr refused ↦ inr (uncreated_after tells (option_map string_bytes r.outfile) world f rest refused)
     ]
     | inr front ↦ let first = HasFirst (told_if tells.tells (option_map string_bytes r.outfile) []) written some.0 in inr (after_any f first first front)
   ]

@@ -2,6 +2,9 @@
 -- written, or its first bytes were, or no output could be created.
 use Rattle.std.specs.Prelude.{◌≡◌, ◌⊎◌, ℕ, ◌≤◌, ◌++◌, List, [], length, take, Bool, Option, Some, Result, Ok, Err, IfSome, option_map, string_bytes}
 use Rattle.std.specs.Io.KnownBytes.{Appends}
+use Rattle.std.specs.IoError.{error_kind}
+use Rattle.std.specs.declared.io.ErrorKind.{ErrorKind}
+use Rattle.std.specs.declared.io.ErrorKind.TheVariants.{OutOfMemory}
 use Rattle.rules.specs.Output.{output}
 use Rattle.sheet_text.specs.Jobs.{JobView, output_of}
 use Rattle.world.specs.Outputs.{told_if}
@@ -50,19 +53,20 @@ pub record Edge (W : Type 0) : Type 0 where
 abbrev pub edge : {W : Type 0} → Bool → (W → WorldView) → Edge W
 edge tells seen = record { tells = tells; seen = seen }
 
--- the world is back, and has refused an output of this name
-abbrev pub Refused : {W O : Type 0} → Edge W → (name : Option (List ℕ)) → (world : W) → Rest W O → Type 0
-Refused {W} e name world rest = (left : W) × (rest ≡ World left) × HasRefused (creating name) (e.seen world) (e.seen left)
+-- the world is back, and has refused an output of this name with an error of this kind
+abbrev pub Refused : {W O : Type 0} → Edge W → (name : Option (List ℕ)) → ErrorKind → (world : W) → Rest W O → Type 0
+Refused {W} e name cause world rest = (left : W) × (rest ≡ World left) × HasRefused (creating name) cause (e.seen world) (e.seen left)
 
--- no output of this name could be created
+-- no output of this name could be created: the fault says so, with the world's cause
 abbrev pub IsUncreated : {W O : Type 0} → Edge W → (name : Option (List ℕ)) → (world : W) → ImposeFault → Rest W O → Type 0
-IsUncreated e name world f rest = AfterWrite f (λ n. (n ≡ 0) × Refused e name world rest) (λ n. ⊥)
+IsUncreated e name world (fault.Write n (Some cause)) rest = (n ≡ 0) × Refused e name (error_kind cause) world rest
+IsUncreated e name world other rest = ⊥
 
 -- nor was there memory for its buffer: then the very world is back, or it has refused for want of memory
 abbrev pub IsNotCreated : {T W O : Type 0} → Edge W → (name : Option (List ℕ)) → (world : W) → Result T ImposeFault → Rest W O → Type 0
 IsNotCreated e name world (Ok x) rest = ⊥
 IsNotCreated e name world (Err f) rest =
-    ((f ≡ without_memory) × ((rest ≡ World world) ⊎ Refused e name world rest)) ⊎ IsUncreated e name world f rest
+    ((f ≡ without_memory) × ((rest ≡ World world) ⊎ Refused e name OutOfMemory world rest)) ⊎ IsUncreated e name world f rest
 
 -- the output has the first bytes of this text, so many, if it reports what it has
 abbrev pub HasFirst : (old new : Option (List ℕ)) → (text : List ℕ) → (n : ℕ) → Type 0

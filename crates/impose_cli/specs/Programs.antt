@@ -2,6 +2,8 @@
 use Rattle.std.specs.Prelude.{⊤, ◌≡◌, ◌⊎◌, ◌+◌, ◌<◌, ℕ, List, [], length, take, false, Option, Some, None, Result, Ok, Err}
 use Rattle.std.specs.Prelude.{codes, option_map, string_bytes}
 use Rattle.std.specs.Io.KnownBytes.{Appends}
+use Rattle.std.specs.IoError.{error_kind}
+use Rattle.std.specs.declared.io.ErrorKind.TheVariants.{OutOfMemory}
 use Rattle.clap.specs.Words.{Text}
 use Rattle.world.specs.Outputs.{told_if}
 use Rattle.world.specs.Input.{IsFirst, most_bytes}
@@ -63,15 +65,18 @@ LooksHome old new =
 
 -- ---- faults
 
--- how often more a world failed whose input couldn't be opened or read: once, but for want of memory perhaps never
-abbrev pub IsUnread : (old new : ℕ) → ImposeFault → Type 0
-IsUnread old new (fault.Read cause) = new ≡ old + 1
-IsUnread old new (fault.Run e) = (fault.Run e ≡ without_memory) × ((new ≡ old) ⊎ (new ≡ old + 1))
+-- a world after an input that couldn't be opened or read: it failed once more, and the fault has its cause; but for want of
+-- memory perhaps outside it
+abbrev pub IsUnread : (old new : WorldView) → ImposeFault → Type 0
+IsUnread old new (fault.Read cause) = (new.failures ≡ old.failures + 1) × (new.cause ≡ option_map error_kind cause)
+IsUnread old new (fault.Run e) =
+    (fault.Run e ≡ without_memory)
+    × ((new.failures ≡ old.failures) ⊎ ((new.failures ≡ old.failures + 1) × (new.cause ≡ Some OutOfMemory)))
 IsUnread old new other = ⊥
 
 -- the input of this name was asked for, and nothing else, and it couldn't be opened or read
 abbrev pub IsReading : (name : Option (List ℕ)) → (old new : WorldView) → ImposeFault → Type 0
-IsReading name old new f = WasAsked (opening name) old new × IsUnread old.failures new.failures f
+IsReading name old new f = WasAsked (opening name) old new × IsUnread old new f
 
 -- the input of this name was asked for, and nothing else, and it was read without a failure
 abbrev pub HasGiven : (name : Option (List ℕ)) → (old new : WorldView) → Type 0

@@ -220,7 +220,7 @@ fn read_from<W: World>(
     ensures read { IfOk result (λ bytes. IsFirst most_bytes (W.Input.remaining input) bytes.items) }
     ensures asked { (W.seen world.new).asked ≡ (W.seen world.old).asked }
     ensures steady { OnOk result ((W.seen world.new).failures ≡ (W.seen world.old).failures) }
-    ensures refused { IfErr result (IsUnread (W.seen world.old).failures (W.seen world.new).failures) }
+    ensures refused { IfErr result (IsUnread (W.seen world.old) (W.seen world.new)) }
     ensures tells { W.tells world.new ≡ W.tells world.old }
 {
     let mut source = ReadSource::new(input);

@@ -345,9 +345,8 @@ fn write_job<R: Threads + Wait + Sync, W: World>(
 
 /// No output could be created, or there was no memory for its buffer.
 fn uncreated<W: World>(refused: Refused<W>) -> Left<W, Report>
-    ensures memory { error_kind refused.cause ≡ OutOfMemory → result.outcome ≡ Err without_memory }
-    ensures cause { ¬ (error_kind refused.cause ≡ OutOfMemory) → result.outcome ≡ Err (faults.Write 0 (Some refused.cause)) }
-    ensures either { (result.outcome ≡ Err without_memory) ⊎ (result.outcome ≡ Err (faults.Write 0 (Some refused.cause))) }
+    ensures fault { ((error_kind refused.cause ≡ OutOfMemory) × (result.outcome ≡ Err without_memory))
+        ⊎ (¬ (error_kind refused.cause ≡ OutOfMemory) × (result.outcome ≡ Err (faults.Write 0 (Some refused.cause)))) }
     ensures rest { result.rest ≡ rests.World refused.world }
 {
     if refused.cause.kind() == ErrorKind::OutOfMemory {

@@ -1,7 +1,9 @@
 -- The whole program: what its words ask for, what it reads, what it creates and writes, and what it says.
-use Rattle.std.specs.Prelude.{◌≡◌, ◌⊎◌, ◌+◌, ℕ, List, [], Bool, true, Option, Result, IsOk, option_map}
+use Rattle.std.specs.Prelude.{◌≡◌, ◌⊎◌, ◌+◌, ℕ, List, [], Bool, true, Option, Some, Result, IsOk, option_map}
 use Rattle.std.specs.Prelude.{string_bytes}
 use Rattle.std.specs.Io.KnownBytes.{Appends, Keeps}
+use Rattle.std.specs.declared.io.ErrorKind.{ErrorKind}
+use Rattle.std.specs.declared.io.ErrorKind.TheVariants.{OutOfMemory}
 use Rattle.clap.specs.Words.{Text, matches_of}
 use Rattle.rules.specs.Output.{output}
 use Rattle.imposer.specs.Runs.{Accepted, frame_of}
@@ -38,10 +40,11 @@ Makes words r = Takes words × Reads (matches_of pstops words) r
 abbrev pub HasRead : (words : List Text) → Gives → Request → (input : List ℕ) → Type 0
 HasRead words gives r input = Makes words r × IsFirst most_bytes (gives (option_map string_bytes r.infile)) input
 
--- how often more a world failed that couldn't read the input: once, but for want of memory perhaps never
-abbrev pub IsUnread : ReadFault → (old new : ℕ) → Type 0
-IsUnread read.Device old new = new ≡ old + 1
-IsUnread read.NoMemory old new = (new ≡ old) ⊎ (new ≡ old + 1)
+-- a world after an input that it couldn't open or read: it failed once more, but for want of memory perhaps outside it
+abbrev pub IsUnread : ReadFault → (old new : WorldView) → Type 0
+IsUnread read.Device old new = new.failures ≡ old.failures + 1
+IsUnread read.NoMemory old new =
+    (new.failures ≡ old.failures) ⊎ ((new.failures ≡ old.failures + 1) × (new.cause ≡ Some OutOfMemory))
 
 -- The faults before anything is created: the words are refused, and the world wasn't asked for anything; or they make a
 -- request, whose input alone was asked for and couldn't be opened or read.
@@ -49,7 +52,7 @@ abbrev pub StopsBefore : {W : Type 0} → (seen : W → WorldView) → (words : 
 StopsBefore seen words old new (fault.Command f) = Refuses words f × (new ≡ old)
 StopsBefore seen words old new (fault.Read f) =
     (r : Request) × Makes words r × WasAsked (opening (option_map string_bytes r.infile)) (seen old) (seen new)
-    × IsUnread f (seen old).failures (seen new).failures
+    × IsUnread f (seen old) (seen new)
 StopsBefore seen words old new fault.Create = ⊥
 StopsBefore seen words old new (fault.Run e) = ⊥
 
@@ -64,11 +67,12 @@ abbrev pub IsSaid : Fault → (status : ℕ) → (line : List ℕ) → Type 0
 IsSaid f status line = ((status ≡ fault_status f) × (line ≡ said (fault_text f))) ⊎ ((status ≡ 3) × (line ≡ []))
 
 -- An output of this name couldn't be created: there was no memory for its buffer, and the very world is back; or the world
--- was asked for it, and refused.
+-- was asked for it, and refused, for want of memory or not.
 abbrev pub IsCreating : {W : Type 0} → (seen : W → WorldView) → (name : Option (List ℕ)) → (old new : W) → Fault → Type 0
-IsCreating seen name old new fault.Create = HasRefused (creating name) (seen old) (seen new)
+IsCreating seen name old new fault.Create =
+    (cause : ErrorKind) × ¬ (cause ≡ OutOfMemory) × HasRefused (creating name) cause (seen old) (seen new)
 IsCreating seen name old new (fault.Run e) =
-    (e ≡ run.NoMemory 0) × ((new ≡ old) ⊎ HasRefused (creating name) (seen old) (seen new))
+    (e ≡ run.NoMemory 0) × ((new ≡ old) ⊎ HasRefused (creating name) OutOfMemory (seen old) (seen new))
 IsCreating seen name old new other = ⊥
 
 -- ---- the run

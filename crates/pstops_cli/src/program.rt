@@ -90,7 +90,7 @@ fn input_of<W: World>(
         IsFirst most_bytes (W.gives world.old (option_map (λ n. n.now) name.entry)) input.items) }
     ensures given { IfOk result (λ _. HasGranted (opening (option_map (λ n. n.now) name.entry)) (W.seen world.old) (W.seen world.new)) }
     ensures asked { IfErr result (λ _. WasAsked (opening (option_map (λ n. n.now) name.entry)) (W.seen world.old) (W.seen world.new)) }
-    ensures unread { IfErr result (λ fault. IsUnread fault (W.seen world.old).failures (W.seen world.new).failures) }
+    ensures unread { IfErr result (λ fault. IsUnread fault (W.seen world.old) (W.seen world.new)) }
     ensures tells { W.tells world.new ≡ W.tells world.old }
 {
     match world.open(name) {
@@ -154,8 +154,8 @@ fn run_in<R: Threads + Wait + Sync, W: World>(
 
 /// Why an output couldn't be created: for want of memory, or because the world refused it.
 fn fault_of_creating(cause: &io::Error) -> Fault
-    ensures memory { error_kind cause.now ≡ OutOfMemory → result ≡ faults.Run (runs.NoMemory 0) }
-    ensures either { (result ≡ faults.Create) ⊎ (result ≡ faults.Run (runs.NoMemory 0)) }
+    ensures { ((error_kind cause.now ≡ OutOfMemory) × (result ≡ faults.Run (runs.NoMemory 0)))
+        ⊎ (¬ (error_kind cause.now ≡ OutOfMemory) × (result ≡ faults.Create)) }
 {
     if cause.kind() == ErrorKind::OutOfMemory {
         Fault::Run(RunError::NoMemory { written: 0 })

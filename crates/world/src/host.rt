@@ -1,7 +1,9 @@
 //! The files and standard streams of the machine.
-ghost use Rattle.std.specs.Prelude.{◌≡◌, ◌+◌, ◌≤◌, None};
-ghost use Rattle.world.specs.Worlds.{failures_of};
+ghost use Rattle.std.specs.Prelude.{◌≡◌, ◌+◌, ◌<◌, ◌≤◌, None, option_map};
+ghost use Rattle.std.specs.IoError.{error_kind};
+ghost use Rattle.world.specs.Worlds.{cause_of, failures_of};
 
+use crate::failures::Failures;
 use crate::source::ReadSource;
 use crate::world::{Refused, World};
 use std::fs::{File, Files};
@@ -14,7 +16,7 @@ pub struct Host<'a, R: Files> {
     files: &'a R,
     stdin: Stdin,
     stdout: Stdout,
-    failures: u64,
+    failures: Failures,
 }
 
 /// A file that is read, or standard input.
@@ -40,7 +42,7 @@ impl<'a, R: Files> Host<'a, R> {
             files,
             stdin,
             stdout,
-            failures: 0,
+            failures: Failures::none(),
         }
     }
 }
@@ -51,14 +53,14 @@ impl<'a, R: Files> World for Host<'a, R> {
     type Output = HostOutput<R::File>;
 
     // It doesn't remember what it was asked for.
-    ghost seen = { λ host. record { asked = None; failures = host.failures } };
+    ghost seen = { λ host. record { asked = None; failures = host.failures.count; cause = host.failures.last } };
 
     fn open(&mut self, name: Option<&str>) -> io::Result<HostInput<R::File>> {
         match name {
             Some(path) => match File::open(self.files, path) {
                 Ok(file) => Ok(HostInput::File(file)),
                 Err(cause) => {
-                    self.failures += 1;
+                    self.failures.count(&cause);
                     Err(cause)
                 }
             },
@@ -67,14 +69,15 @@ impl<'a, R: Files> World for Host<'a, R> {
     }
 
     fn close(&mut self, source: ReadSource<HostInput<R::File>>) -> Option<io::Error>
-        requires countable { self.old.failures + failures_of source ≤ u64.MAX }
+        requires countable { self.old.failures.count + failures_of source ≤ u64.MAX }
+        ensures cause { result ≡ cause_of source }
+        ensures last { 0 < failures_of source → self.new.failures.last ≡ option_map error_kind result }
         ensures asked { (⟦<Host<'a, R> as World>⟧.seen self.new).asked ≡ (⟦<Host<'a, R> as World>⟧.seen self.old).asked }
-        ensures counted { self.new.failures ≡ self.old.failures + failures_of source }
+        ensures counted { self.new.failures.count ≡ self.old.failures.count + failures_of source }
         ensures again { ⟦<Host<'a, R> as World>⟧.gives self.new ≡ ⟦<Host<'a, R> as World>⟧.gives self.old }
         ensures tells { ⟦<Host<'a, R> as World>⟧.tells self.new ≡ ⟦<Host<'a, R> as World>⟧.tells self.old }
     {
-        self.failures += source.failures();
-        source.into_cause()
+        self.failures.close(source)
     }
 
     fn is_file(&self, name: &str) -> bool {
@@ -90,7 +93,7 @@ impl<'a, R: Files> World for Host<'a, R> {
                 Ok(file) => Ok(HostOutput::File(file)),
                 Err(cause) => {
                     let mut world = self;
-                    world.failures += 1;
+                    world.failures.count(&cause);
                     Err(Refused { world, cause })
                 }
             },

@@ -1,6 +1,7 @@
 //! What a program sees of its surroundings: files and streams, and how input is read whole.
 #![tactic(auto)]
 
+mod failures;
 mod host;
 mod output;
 mod read;
@@ -10,6 +11,7 @@ mod source;
 mod told;
 mod world;
 
+pub use failures::Failures;
 pub use host::{Host, HostInput, HostOutput};
 pub use output::Created;
 pub use read::{MOST_BYTES, ReadFault, read_input, read_input_behind};

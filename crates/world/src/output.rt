@@ -1,5 +1,6 @@
 //! An output whose bytes are counted.
-ghost use Rattle.std.specs.Prelude.{◌≡◌, ◌+◌, true, is_some, option_and_then, None, IfOk, OnErr};
+ghost use Rattle.std.specs.Prelude.{◌≡◌, ◌+◌, option_and_then, option_map, None, Some, IfOk, IfErr, OnErr};
+ghost use Rattle.std.specs.IoError.{error_kind};
 ghost use Rattle.std.specs.Io.{WritesAtMost};
 ghost use Rattle.std.specs.Io.KnownBytes.{WriteAppends};
 ghost use Rattle.world.specs.Outputs.{counted};
@@ -42,13 +43,17 @@ impl<O: Write> Write for Created<O> {
         // It counts what was taken, and nothing else.
         ensures counted { IfOk result (λ count. self.new.written ≡ self.old.written + count) }
         ensures uncounted { OnErr result (self.new.written ≡ self.old.written) }
+        // The cause that it keeps is of the kind of the error that it answers.
+        ensures cause { IfErr result (λ error. option_map error_kind self.new.cause ≡ Some (error_kind error)) }
     {
         let Some(output) = &mut self.output else {
-            return Err(io::Error::from(ErrorKind::NotFound));
+            let error = io::Error::from(ErrorKind::NotFound);
+            return Err(kept(&mut self.cause, error));
         };
         // Nobody writes more than can be counted.
         if bytes.len() as u64 > u64::MAX - self.written {
-            return Err(io::Error::from(ErrorKind::FileTooLarge));
+            let error = io::Error::from(ErrorKind::FileTooLarge);
+            return Err(kept(&mut self.cause, error));
         }
         match output.write(bytes) {
             Ok(0) => {
@@ -77,7 +82,8 @@ impl<O: Write> Write for Created<O> {
 
 /// Keeps an error as the cause, and gives another of its kind.
 fn kept(cause: &mut Option<io::Error>, error: io::Error) -> io::Error
-    ensures { is_some cause.new ≡ true }
+    ensures cause { cause.new ≡ Some error }
+    ensures kind { error_kind result ≡ error_kind error }
 {
     let kind = error.kind();
     *cause = Some(error);

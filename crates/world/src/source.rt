@@ -1,6 +1,5 @@
 //! What bytes are read from.
-ghost use Rattle.std.specs.Prelude.{◌≡◌, ◌<◌, ◌≤◌, IfOk, length};
-ghost use Rattle.world.specs.Input.{Counts, Fills, SourceView};
+ghost use Rattle.std.specs.Prelude.{◌≡◌, ◌<◌, ◌≤◌, IfOk, is_some, length, true};
 
 use std::io;
 use std::io::Read;
@@ -11,6 +10,8 @@ pub struct SourceFault;
 
 /// What bytes are read from.
 pub trait Source {
+    ghost use Rattle.world.specs.Input.{Counts, Fills, SourceView};
+
     // Which bytes are still to come, if it reports them, and how often it has failed.
     ghost seen: { Self → SourceView };
 
@@ -29,6 +30,7 @@ pub struct ReadSource<T> {
     reader: T,
     failures: u64,
     cause: Option<io::Error>,
+    ghost caused: { 0 < failures → is_some cause ≡ true },
 }
 
 impl<T: Read> ReadSource<T> {
@@ -46,7 +48,7 @@ impl<T: Read> ReadSource<T> {
 
     /// How often it has failed.
     pub fn failures(&self) -> u64
-        ensures { result ≡ (⟦<ReadSource<T> as Source>⟧.seen self.now).failures }
+        ensures { result ≡ self.now.failures }
     {
         self.failures
     }
@@ -54,7 +56,9 @@ impl<T: Read> ReadSource<T> {
 
 impl<T: Read + Drop> ReadSource<T> {
     /// Why it failed last, if it did.
-    pub fn into_cause(self) -> Option<io::Error> {
+    pub fn into_cause(self) -> Option<io::Error>
+        ensures { result ≡ self.cause }
+    {
         self.cause
     }
 }

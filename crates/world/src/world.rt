@@ -1,8 +1,9 @@
 //! The files and standard streams around a program.
 ghost use Rattle.std.specs.Prelude.{◌≡◌, ◌+◌, ◌<◌, ◌≤◌, Bool, false, true, List, ℕ, None, Option, [], option_map, is_some};
 ghost use Rattle.std.specs.Prelude.{IfOk, IfErr, MatchResult};
+ghost use Rattle.std.specs.IoError.{error_kind};
 ghost use Rattle.world.specs.Outputs.{told_if};
-ghost use Rattle.world.specs.Worlds.{HasGranted, HasRefused, WorldView, creating, failures_of, opening};
+ghost use Rattle.world.specs.Worlds.{HasGranted, HasRefused, WorldView, cause_of, creating, failures_of, opening};
 
 use crate::source::ReadSource;
 use std::io;
@@ -26,7 +27,7 @@ pub trait World: Sized + Drop {
     // Whether its outputs report their names and what was written to them.
     ghost tells: { Self → Bool } = { λ _. false };
 
-    // What it was asked for so far, and how often it failed.
+    // What it was asked for so far, and how often and why it failed.
     ghost seen: { Self → WorldView };
 
     /// Opens the file of this name, or standard input.
@@ -35,7 +36,7 @@ pub trait World: Sized + Drop {
         ensures given { IfOk result (λ input. Self.Input.remaining input ≡ gives self.old (option_map (λ n. n.now) name.entry)) }
         ensures asked { MatchResult result
             (λ _. HasGranted (opening (option_map (λ n. n.now) name.entry)) (seen self.old) (seen self.new))
-            (λ _. HasRefused (opening (option_map (λ n. n.now) name.entry)) (seen self.old) (seen self.new)) }
+            (λ cause. HasRefused (opening (option_map (λ n. n.now) name.entry)) (error_kind cause) (seen self.old) (seen self.new)) }
         // Files give what they gave before. Standard input may have been read.
         ensures again { is_some name.entry ≡ true → gives self.new ≡ gives self.old }
         ensures tells { tells self.new ≡ tells self.old };
@@ -43,6 +44,8 @@ pub trait World: Sized + Drop {
     /// Closes an input, adds its failures to the world's, and answers why it failed last, if it did.
     fn close(&mut self, source: ReadSource<Self::Input>) -> Option<io::Error>
         requires countable { (seen self.old).failures + failures_of source ≤ u64.MAX }
+        ensures cause { result ≡ cause_of source }
+        ensures last { 0 < failures_of source → (seen self.new).cause ≡ option_map error_kind result }
         ensures asked { (seen self.new).asked ≡ (seen self.old).asked }
         ensures counted { (seen self.new).failures ≡ (seen self.old).failures + failures_of source }
         ensures again { gives self.new ≡ gives self.old }
@@ -57,7 +60,7 @@ pub trait World: Sized + Drop {
         ensures created { IfOk result (λ output. Self.Output.contents output ≡ told_if (tells self) (option_map (λ n. n.now) name.entry) []) }
         ensures kept { IfErr result (λ refused. tells refused.world ≡ tells self) }
         ensures refused { IfErr result (λ refused.
-            HasRefused (creating (option_map (λ n. n.now) name.entry)) (seen self) (seen refused.world)) };
+            HasRefused (creating (option_map (λ n. n.now) name.entry)) (error_kind refused.cause) (seen self) (seen refused.world)) };
 }
 
 /// An output couldn't be created.

@@ -9,8 +9,8 @@ pub returns-in-Err : goal.returns-in-Err
 returns-in-Err g c =
     job_uncreated c.args.job.now (option_map (λ n. n.now) c.args.name) (edge (g.W.World.tells c.args.world) g.W.World.seen) c.uncreated.result.outcome c.args.world c.uncreated.result.rest
     (shown g.W.Output.Write.contents c.uncreated.result.rest)
-    (is_not_created (edge (g.W.World.tells c.args.world) g.W.World.seen) (option_map (λ n. n.now) c.args.name) c.args.world c.in-Err.refused.world _ c.in-Err.refused.cause _ _
-    c.in-Err.ensures.refused c.uncreated.ensures.memory c.uncreated.ensures.either c.uncreated.ensures.rest)
+    (is_not_created (edge (g.W.World.tells c.args.world) g.W.World.seen) (option_map (λ n. n.now) c.args.name) c.args.world c.in-Err.refused.world c.in-Err.refused.cause _ _
+    c.in-Err.ensures.refused c.uncreated.ensures.fault c.uncreated.ensures.rest)
 
 pub returns-then-is_whole : goal.returns-then-is_whole
 returns-then-is_whole g c =

@@ -1,0 +1,52 @@
+//! How often a world failed, and why it failed last.
+ghost use Rattle.std.specs.Prelude.{◌≡◌, ◌+◌, ◌<◌, ◌≤◌, None, Some, option_map};
+ghost use Rattle.std.specs.IoError.{error_kind};
+
+use crate::source::ReadSource;
+use std::io;
+use std::io::{ErrorKind, Read};
+
+/// How often a world failed, and why it failed last.
+#[derive(Clone, Copy, Debug, PartialEq, Eq)]
+pub struct Failures {
+    pub count: u64,
+    pub last: Option<ErrorKind>,
+}
+
+impl Failures {
+    ghost use Rattle.world.specs.Worlds.{cause_of, failures_of};
+
+    /// None so far.
+    pub fn none() -> Failures
+        ensures { result ≡ record { count = 0; last = None } }
+    {
+        Failures {
+            count: 0,
+            last: None,
+        }
+    }
+
+    /// One more, for this cause.
+    pub fn count(&mut self, cause: &io::Error)
+        requires { self.old.count < u64.MAX }
+        ensures { self.new ≡ record { count = self.old.count + 1; last = Some (error_kind cause.now) } }
+    {
+        self.count += 1;
+        self.last = Some(cause.kind());
+    }
+
+    /// Those of an input that is closed. Answers why it failed last, if it did.
+    pub fn close<T: Read + Drop>(&mut self, source: ReadSource<T>) -> Option<io::Error>
+        requires { self.old.count + failures_of source ≤ u64.MAX }
+        ensures cause { result ≡ cause_of source }
+        ensures counted { self.new.count ≡ self.old.count + failures_of source }
+        ensures last { 0 < failures_of source → self.new.last ≡ option_map error_kind result }
+    {
+        self.count += source.failures();
+        let cause = source.into_cause();
+        if let Some(error) = &cause {
+            self.last = Some(error.kind());
+        }
+        cause
+    }
+}
