@@ -1,5 +1,5 @@
 -- What comes of a task by a specification.
-use Rattle.std.proofs.Common.{◌≡◌, ◌∙◌, ℕ, ap, arith, sym, subst, refl, inl, inr, Bool, List, Option, None, Result, Ok, Err}
+use Rattle.std.proofs.Common.{◌≡◌, ◌∙◌, ℕ, ap, arith, sym, subst, refl, inl, inr, List, Option, None, Result, Ok, Err}
 use Rattle.std.specs.Prelude.{length, option_map, string_bytes}
 use Rattle.std.specs.Io.KnownBytes.{Appends}
 use Rattle.rules.specs.Papers.{Paper}

@@ -1,5 +1,5 @@
 -- What comes of a task by a specification on a row.
-use Rattle.std.proofs.Common.{◌≡◌, ◌∙◌, ap, sym, subst, refl, inl, inr, Bool, List, ℕ, Option, None, Result, Err}
+use Rattle.std.proofs.Common.{◌≡◌, ◌∙◌, ap, sym, subst, refl, inl, inr, List, ℕ, Option, None, Result, Err}
 use Rattle.std.specs.Prelude.{IfSome, option_map, string_bytes}
 use Rattle.rows.specs.Sewing.{MayBeSewn}
 use Rattle.rules.specs.Run.{document_of}

@@ -1,14 +1,15 @@
 -- The whole program: what its words ask for, what it reads, what it creates and writes, and how it ends.
-use Rattle.std.specs.Prelude.{⊤, ◌≡◌, ◌⊎◌, ◌+◌, ◌<◌, ℕ, List, [], length, take, false, Option, Some, None, Result, Ok, Err}
+use Rattle.std.specs.Prelude.{⊤, ◌≡◌, ◌⊎◌, ◌+◌, ◌<◌, ℕ, Bool, List, [], length, take, false, Option, Some, None, Result, Ok, Err, IfSome}
 use Rattle.std.specs.Prelude.{codes, option_map, string_bytes}
 use Rattle.std.specs.Io.KnownBytes.{Appends}
 use Rattle.std.specs.IoError.{error_kind}
+use Rattle.std.specs.declared.io.ErrorKind.{ErrorKind}
 use Rattle.std.specs.declared.io.ErrorKind.TheVariants.{OutOfMemory}
 use Rattle.clap.specs.Words.{Text}
 use Rattle.world.specs.Outputs.{told_if}
 use Rattle.world.specs.Input.{IsFirst, most_bytes}
 use Rattle.world.specs.Rests.{has_output}
-use Rattle.world.specs.Worlds.{HasGranted, WasAsked, WorldView, opening}
+use Rattle.world.specs.Worlds.{HasGranted, HasRefused, WasAsked, WorldView, opening}
 use Rattle.rules.specs.Papers.{Paper}
 use Rattle.papers.specs.Home.{home_paper}
 use Rattle.impose_cli.specs.Endings.{AfterWrite, Edge, IsUncreated, RefusesRow, Runs}
@@ -53,15 +54,18 @@ home_file = codes "/etc/papersize"
 abbrev pub most_home_bytes : ℕ
 most_home_bytes = 4_096
 
--- the paper at home, by the value of PAPERSIZE and by what that file begins with; one that can't be read counts as empty
-abbrev pub IsHome : (variable : List ℕ) → Gives → Paper → Type 0
-IsHome variable gives home =
-    (file : List ℕ) × ((file ≡ []) ⊎ IsFirst most_home_bytes (gives (Some home_file)) file) × (home ≡ home_paper variable file)
+-- What was read of that file, with the world before and after. Nothing, and it was passed over: it is no regular file, as far as that
+-- is known. Nothing, and the world refused it. Or its first bytes, or nothing if it couldn't be read.
+abbrev pub LooksHome : Gives → (regular : List ℕ → Option Bool) → (old new : WorldView) → (file : List ℕ) → Type 0
+LooksHome gives regular old new file =
+    ((new ≡ old) × IfSome (regular home_file) (λ is. is ≡ false) × (file ≡ []))
+    ⊎ (((cause : ErrorKind) × HasRefused (opening (Some home_file)) cause old new × (file ≡ []))
+    ⊎ (HasGranted (opening (Some home_file)) old new × (IsFirst most_home_bytes (gives (Some home_file)) file ⊎ (file ≡ []))))
 
--- that file was asked for at most, and may have been refused
-abbrev pub LooksHome : (old new : WorldView) → Type 0
-LooksHome old new =
-    (new ≡ old) ⊎ (WasAsked (opening (Some home_file)) old new × ((new.failures ≡ old.failures) ⊎ (new.failures ≡ old.failures + 1)))
+-- the paper at home is by the value of PAPERSIZE and by what was read of that file
+abbrev pub FindsHome : (variable : List ℕ) → Gives → (regular : List ℕ → Option Bool) → (old new : WorldView) → Paper → Type 0
+FindsHome variable gives regular old new home =
+    (file : List ℕ) × LooksHome gives regular old new file × (home ≡ home_paper variable file)
 
 -- ---- faults
 
@@ -161,13 +165,14 @@ IsCreatedFor (Err f) rest = (has_output rest ≡ false) ⊎ AfterWrite f (λ n. 
 
 -- How the program ends: the words are refused, and the world is back; or they make a request, with the paper at home,
 -- and this comes of it.
-abbrev pub EndsProgram : {W O : Type 0} → (seen : W → WorldView) → (words : List Text) → (variable : List ℕ) → Gives → (tells : Edge W) → Option ImposeRequest
-    → Result Done ImposeFault → (world : W) → (rest : Rest W O) → (written : Option (List ℕ)) → Type 0
-EndsProgram seen words variable gives tells None (Ok what) world rest written = ⊥
-EndsProgram seen words variable gives tells None (Err (fault.Command f)) world rest written =
+abbrev pub EndsProgram : {W O : Type 0} → (seen : W → WorldView) → (words : List Text) → (variable : List ℕ) → Gives
+    → (regular : List ℕ → Option Bool) → (tells : Edge W) → Option ImposeRequest → Result Done ImposeFault → (world : W)
+    → (rest : Rest W O) → (written : Option (List ℕ)) → Type 0
+EndsProgram seen words variable gives regular tells None (Ok what) world rest written = ⊥
+EndsProgram seen words variable gives regular tells None (Err (fault.Command f)) world rest written =
     Refuses words f × (rest ≡ World world)
-EndsProgram seen words variable gives tells None (Err other) world rest written = ⊥
-EndsProgram {W} seen words variable gives tells (Some r) outcome world rest written =
-    Entered words (λ name found. Reads name found r) × IsHome variable gives r.home_paper
-    × (looked : W) × LooksHome (seen world) (seen looked)
+EndsProgram seen words variable gives regular tells None (Err other) world rest written = ⊥
+EndsProgram {W} seen words variable gives regular tells (Some r) outcome world rest written =
+    Entered words (λ name found. Reads name found r) × (looked : W)
+    × FindsHome variable gives regular (seen world) (seen looked) r.home_paper
     × CarriesOut seen r gives tells outcome looked rest written

@@ -5,7 +5,7 @@ ghost use Rattle.std.specs.Io.KnownBytes.{Appends};
 ghost use Rattle.world.specs.Input.{IsFirst, most_bytes};
 ghost use Rattle.impose_cli.specs.Endings.{edge, shown};
 ghost use Rattle.impose_cli.specs.Looks.{MayBeMade};
-ghost use Rattle.impose_cli.specs.Programs.{BreaksAt, CarriesOut, EndsProgram, IsCreatedFor, HasGiven, IsHome, IsReading, IsUnread, LooksHome, Makes};
+ghost use Rattle.impose_cli.specs.Programs.{BreaksAt, CarriesOut, EndsProgram, FindsHome, HasGiven, IsCreatedFor, IsReading, IsUnread, Makes};
 ghost use Rattle.impose_cli.specs.Programs.{Prints, Shows, Writes, most_home_bytes, status_of};
 ghost use Rattle.impose_cli.specs.RowTasks.{LaysRows};
 ghost use Rattle.impose_said.specs.declared.fault.ImposeFault.TheVariants as faults;
@@ -66,8 +66,8 @@ pub fn impose<R: Threads + Wait + Sync, W: World>(
     mut world: W,
 ) -> Ended<W>
     requires countable { (W.seen world).failures + 1 < u64.MAX }
-    ensures ended { EndsProgram W.seen (map string_bytes words.now) paper_size.now (W.gives world) (edge (W.tells world) W.seen)
-        result.request result.outcome world result.rest (shown W.Output.contents result.rest) }
+    ensures ended { EndsProgram W.seen (map string_bytes words.now) paper_size.now (W.gives world) (W.regular world)
+        (edge (W.tells world) W.seen) result.request result.outcome world result.rest (shown W.Output.contents result.rest) }
     // What is refused has created no output, and has the world back. An output that exists has all that was to be
     // written, or a write failed or memory ran out.
     ensures created { IsCreatedFor result.outcome result.rest }
@@ -110,8 +110,7 @@ const HOME_BYTES: u64 = 4_096;
 /// file, counts as empty.
 fn home_of<W: World>(alloc: Global, paper_size: &[u8], world: &mut W) -> Paper
     requires countable { (W.seen world.old).failures < u64.MAX }
-    ensures home { IsHome paper_size.now (W.gives world.old) result }
-    ensures looked { LooksHome (W.seen world.old) (W.seen world.new) }
+    ensures home { FindsHome paper_size.now (W.gives world.old) (W.regular world.old) (W.seen world.old) (W.seen world.new) result }
     ensures again { W.gives world.new ≡ W.gives world.old }
     ensures tells { W.tells world.new ≡ W.tells world.old }
 {

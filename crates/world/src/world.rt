@@ -1,6 +1,6 @@
 //! The files and standard streams around a program.
 ghost use Rattle.std.specs.Prelude.{◌≡◌, ◌+◌, ◌<◌, ◌≤◌, Bool, false, true, List, ℕ, None, Option, [], option_map, is_some};
-ghost use Rattle.std.specs.Prelude.{IfOk, IfErr, MatchResult};
+ghost use Rattle.std.specs.Prelude.{IfOk, IfErr, IfSome, MatchResult};
 ghost use Rattle.std.specs.IoError.{error_kind};
 ghost use Rattle.world.specs.Outputs.{told_if};
 ghost use Rattle.world.specs.Worlds.{HasGranted, HasRefused, WorldView, cause_of, creating, failures_of, opening};
@@ -23,6 +23,9 @@ pub trait World: Sized + Drop {
 
     // The bytes that an input of this name gives, where they are known.
     ghost gives: { Self → Option (List ℕ) → Option (List ℕ) } = { λ _ _. None };
+
+    // Whether this is the name of a regular file, where that is known.
+    ghost regular: { Self → List ℕ → Option Bool } = { λ _ _. None };
 
     // Whether its outputs report their names and what was written to them.
     ghost tells: { Self → Bool } = { λ _. false };
@@ -52,7 +55,8 @@ pub trait World: Sized + Drop {
         ensures tells { tells self.new ≡ tells self.old };
 
     /// Whether there is a regular file of this name. At anything else opening may wait, and reading may never end.
-    fn is_file(&self, name: &str) -> bool;
+    fn is_file(&self, name: &str) -> bool
+        ensures { IfSome (regular self.now name.now) (λ is. result ≡ is) };
 
     /// Creates, or empties, the file of this name; or takes standard output. Nothing was written to it yet.
     fn create(self, name: Option<&str>) -> Result<Self::Output, Refused<Self>>

@@ -1,7 +1,7 @@
 use Rattle.std.proofs.Common.{map, ap, subst, sym}
 use Rattle.std.specs.Prelude.{string_bytes}
 use Rattle.impose_cli.specs.Endings.{edge, shown}
-use Rattle.impose_cli.specs.Programs.{IsHome}
+use Rattle.impose_cli.specs.Programs.{FindsHome}
 use Rattle.impose_words.proofs.Found.{entered_at_home}
 use Rattle.impose_cli.proofs.Programs.{at_home, created_for, may_be_made_at_home}
 use Rattle.impose_cli.proofs.program.impose.Goals as goal
@@ -13,9 +13,9 @@ returns-in-Ok g c =
     (shown g.W.Output.Write.contents left.rest) c.home_of.ensures.again (ap (λ t. edge t g.W.World.seen) c.home_of.ensures.tells) c.carry_out-left.ensures in record {
       ended = (
         entered_at_home (map string_bytes c.args.words.now) c.in-Ok.read c.at_home-request.result c.home_of.result c.at_home-request.ensures c.in-Ok.ensures.read,
-        subst (λ p. IsHome c.args.paper_size.now (g.W.World.gives c.args.world) p) (sym (ap (λ r. r.home_paper) c.at_home-request.ensures)) c.home_of.ensures.home,
         c.home_of.new.world,
-        c.home_of.ensures.looked,
+        subst (λ p. FindsHome c.args.paper_size.now (g.W.World.gives c.args.world) (g.W.World.regular c.args.world) (g.W.World.seen c.args.world) (g.W.World.seen c.home_of.new.world) p)
+            (sym (ap (λ r. r.home_paper) c.at_home-request.ensures)) c.home_of.ensures.home,
         carried,
       );
       created = created_for g.W.World.seen c.at_home-request.result (g.W.World.gives c.args.world) (edge (g.W.World.tells c.args.world) g.W.World.seen) left.outcome c.home_of.new.world left.rest
