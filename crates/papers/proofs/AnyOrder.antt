@@ -127,13 +127,13 @@ neither_larger a b e f = let wide : a.width ≡ b.width = tie a.width b.width (n
 
 -- ---- the largest
 
-largest_in : (p : Paper) (ps : List Paper) → In (fold larger_of p ps) (p ∷ ps)
+pub largest_in : (p : Paper) (ps : List Paper) → In (fold larger_of p ps) (p ∷ ps)
 largest_in p [] = inl refl
 largest_in p (x ∷ xs) = by_test (is_larger x p)
     (λ is. subst (λ b. In (fold larger_of (if b then x else p) xs) (p ∷ x ∷ xs)) (sym is) (inr (largest_in x xs)))
     (λ isnt. subst (λ b. In (fold larger_of (if b then x else p) xs) (p ∷ x ∷ xs)) (sym isnt) (elim (largest_in p xs) [ inl same ↦ inl same | inr has ↦ inr (inr has) ]))
 
-none_larger : (p : Paper) (ps : List Paper) (q : Paper) → In q (p ∷ ps) → is_larger q (fold larger_of p ps) ≡ false
+pub none_larger : (p : Paper) (ps : List Paper) (q : Paper) → In q (p ∷ ps) → is_larger q (fold larger_of p ps) ≡ false
 none_larger p [] q (inl same) = ap (λ r. is_larger r p) same ∙ not_larger_itself p
 none_larger p [] q (inr has) = absurd has
 none_larger p (x ∷ xs) q has = by_test (is_larger x p)
@@ -203,7 +203,7 @@ same_kind f ps qs same = ap (kind_at f) (covers_tie (fold (with_near f) f ps) (f
     (least f f (fold (with_near f) f ps) qs (stays_covered f f ps) (λ p has near. near_covered f f ps p (same.1 p has) near))
     (least f f (fold (with_near f) f qs) ps (stays_covered f f qs) (λ p has near. near_covered f f qs p (same.0 p has) near)))
 
-was_left : (f : Paper) (ps : List Paper) (p : Paper) → In p (apart_from f ps) → In p ps × (is_near p f ≡ false)
+pub was_left : (f : Paper) (ps : List Paper) (p : Paper) → In p (apart_from f ps) → In p ps × (is_near p f ≡ false)
 was_left f [] p has = absurd has
 was_left f (q ∷ qs) p has = by_test (is_near q f)
     (λ is. let w = was_left f qs p (subst (λ b. In p (cond (not b) (q ∷ apart_from f qs) (apart_from f qs))) is has) in (inr w.0, w.1))
@@ -229,7 +229,7 @@ same_kinds (suc room) (p ∷ ps) (q ∷ qs) same =
     (same_kinds room (apart_from f (p ∷ ps)) (apart_from f (q ∷ qs)) (same_left f (p ∷ ps) (q ∷ qs) same))
     ∙ ap (λ g. kind_of g (q ∷ qs) ∷ kinds room (apart_from g (q ∷ qs))) (same_largest p q ps qs same)
 
-found : (ps : List Paper) (p : Paper) → In p ps → Contains ps p
+pub found : (ps : List Paper) (p : Paper) → In p ps → Contains ps p
 found [] p has = absurd has
 found (q ∷ qs) p (inl same) = (0, omega arith, sym same)
 found (q ∷ qs) p (inr has) = let w = found qs p has in (suc w.0, (let l = w.1 in omega (arith, l)), w.2)

@@ -6,7 +6,7 @@ use Rattle.std.proofs.lemmas.List.{get_or-map}
 use Rattle.rules.specs.Papers.{Paper}
 use Rattle.papers.specs.Own.{covering, covers, is_near}
 use Rattle.papers.specs.declared.kinds.PaperKind.{PaperKind}
-use Rattle.papers.specs.AsOne.{NearAreOne, NothingIsCut, apart_from, as_one, kind_of, kinds, larger_of, most_kinds, paper_among, with_near}
+use Rattle.papers.specs.AsOne.{IsOfKind, NearAreOne, NothingIsCut, apart_from, kind_of, kinds, larger_of, most_kinds, paper_among, with_near}
 use Rattle.papers.proofs.Covered.{by_test, covers_first, covers_second, covers_self, covers_through}
 
 -- ---- as the code finds them
@@ -77,16 +77,21 @@ nothing_is_cut taken own k d less has =
     ap (λ q. covers q (get_or own k d)) (get_or-map (paper_among (kinds most_kinds taken)) own k d d less)
     ∙ covered most_kinds taken (get_or own k d) (contained taken (get_or own k d) has)
 
--- ---- papers near to the largest
+-- ---- papers of one kind
 
-of_largest : (room : ℕ) (p : Paper) (ps : List Paper) (q : Paper) → is_near q (fold larger_of p ps) ≡ true
-    → paper_among (kinds (suc room) (p ∷ ps)) q ≡ (kind_of (fold larger_of p ps) (p ∷ ps)).paper
-of_largest room p ps q near =
-    ap (λ b. if b then (kind_of (fold larger_of p ps) (p ∷ ps)).paper else paper_among (kinds room (apart_from (fold larger_of p ps) (p ∷ ps))) q) near
+of_kind : (ks : List PaperKind) (i : ℕ) (d : PaperKind) (q : Paper) → IsOfKind ks i d q → paper_among ks q ≡ (get_or ks i d).paper
+of_kind [] i d q h = absurd (let there = h.is_there in omega (arith, there))
+of_kind (k ∷ ks) zero d q h = ap (λ b. if b then k.paper else paper_among ks q) h.near
+of_kind (k ∷ ks) (suc i) d q h =
+    ap (λ b. if b then k.paper else paper_among ks q) (h.of_no_earlier 0 (omega arith))
+    ∙ of_kind ks i d q (record {
+      is_there = let there = h.is_there in omega (arith, there);
+      near = h.near;
+      of_no_earlier = λ g less. h.of_no_earlier (suc g) (omega (arith, less));
+    })
 
 pub near_are_one : NearAreOne
-near_are_one p ps own j k d less_j less_k near_j near_k =
-    let of : (i : ℕ) → i < length own → is_near (get_or own i d) (fold larger_of p ps) ≡ true
-    → get_or (as_one (p ∷ ps) own) i d ≡ (kind_of (fold larger_of p ps) (p ∷ ps)).paper =
-    λ i less near. get_or-map (paper_among (kinds most_kinds (p ∷ ps))) own i d d less ∙ of_largest 63 p ps (get_or own i d) near in
-    of j less_j near_j ∙ sym (of k less_k near_k)
+near_are_one taken own i j k d e less_j less_k of_j of_k =
+    let ks = kinds most_kinds taken in
+    get_or-map (paper_among ks) own j e e less_j ∙ of_kind ks i d (get_or own j e) of_j
+    ∙ sym (get_or-map (paper_among ks) own k e e less_k ∙ of_kind ks i d (get_or own k e) of_k)

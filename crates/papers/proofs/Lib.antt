@@ -20,4 +20,5 @@ pub mod ReachingPages
 pub mod Covered
 pub mod CountedAsOne
 pub mod AnyOrder
+mod OfLargest
 pub mod OwnExamples

@@ -1,5 +1,5 @@
 -- Papers that count as one, and the paper of all pages. All here is this project's own rules.
-use Rattle.std.specs.Prelude.{◌≡◌, ◌↔◌, ℕ, zero, suc, ◌<◌, Bool, true, not, ◌&&◌, ◌||◌, if◌then◌else◌, List, [], ◌∷◌, length, map, fold, filter}
+use Rattle.std.specs.Prelude.{◌≡◌, ◌↔◌, ℕ, zero, suc, ◌<◌, Bool, true, false, not, ◌&&◌, ◌||◌, if◌then◌else◌, List, [], ◌∷◌, length, map, fold, filter}
 use Rattle.std.specs.Prelude.{Option, Some, None, slice_index_or, int_lt}
 use Rattle.std.specs.List.{Contains, list_any, reduce}
 use Rattle.std.specs.Ordering.{int_eq}
@@ -57,11 +57,29 @@ abbrev pub NothingIsCut : Type 0
 NothingIsCut = (taken own : List Paper) (k : ℕ) (d : Paper) → k < length own → Contains taken (slice_index_or own k d)
     → covers (slice_index_or (as_one taken own) k d) (slice_index_or own k d) ≡ true
 
--- papers near to the largest are one: a law
+-- a paper is of kind i of these: near to its largest paper, and to that of no earlier kind
+pub record IsOfKind (ks : List PaperKind) (i : ℕ) (d : PaperKind) (p : Paper) : Type 0 where
+  pub is_there : i < length ks
+  pub near : is_near p (slice_index_or ks i d).first ≡ true
+  pub of_no_earlier : (h : ℕ) → h < i → is_near p (slice_index_or ks h d).first ≡ false
+
+-- papers of one kind count as one: a law
 abbrev pub NearAreOne : Type 0
-NearAreOne = (p : Paper) (ps own : List Paper) (j k : ℕ) (d : Paper) → j < length own → k < length own
-    → is_near (slice_index_or own j d) (fold larger_of p ps) ≡ true → is_near (slice_index_or own k d) (fold larger_of p ps) ≡ true
-    → slice_index_or (as_one (p ∷ ps) own) j d ≡ slice_index_or (as_one (p ∷ ps) own) k d
+NearAreOne = (taken own : List Paper) (i j k : ℕ) (d : PaperKind) (e : Paper) → j < length own → k < length own
+    → IsOfKind (kinds most_kinds taken) i d (slice_index_or own j e) → IsOfKind (kinds most_kinds taken) i d (slice_index_or own k e)
+    → slice_index_or (as_one taken own) j e ≡ slice_index_or (as_one taken own) k e
+
+-- the first paper of kind i is one of these, near to the first of no earlier kind, and none that is left so is larger
+pub record IsLargestLeft (taken : List Paper) (ks : List PaperKind) (i : ℕ) (d : PaperKind) : Type 0 where
+  pub is_taken : Contains taken (slice_index_or ks i d).first
+  pub is_left : (h : ℕ) → h < i → is_near (slice_index_or ks i d).first (slice_index_or ks h d).first ≡ false
+  pub none_larger : (p : Paper) → Contains taken p → ((h : ℕ) → h < i → is_near p (slice_index_or ks h d).first ≡ false)
+      → is_larger p (slice_index_or ks i d).first ≡ false
+
+-- so it is of each kind: a law
+abbrev pub KindsAreOfLargest : Type 0
+KindsAreOfLargest = (taken : List Paper) (i : ℕ) (d : PaperKind) → i < length (kinds most_kinds taken)
+    → IsLargestLeft taken (kinds most_kinds taken) i d
 
 -- the same papers, in another order or more often, count as the same: a law
 abbrev pub OrderIsNothing : Type 0

@@ -2,7 +2,7 @@
 ghost use Rattle.papers.specs.Told.{TellingIsTame};
 ghost use Rattle.papers.specs.SetSizes.{SizeIsSet};
 ghost use Rattle.papers.specs.Found.{PapersAreFound};
-ghost use Rattle.papers.specs.AsOne.{NearAreOne, NothingIsCut, OrderIsNothing};
+ghost use Rattle.papers.specs.AsOne.{KindsAreOfLargest, NearAreOne, NothingIsCut, OrderIsNothing};
 
 /// The lines by which sheets report their paper begin nothing.
 pub fn telling_is_tame()
@@ -24,9 +24,14 @@ pub fn nothing_is_cut()
     ensures { NothingIsCut }
 {}
 
-/// Papers near to the largest that is taken all count as one.
+/// Papers of one kind all count as one.
 pub fn near_are_one()
     ensures { NearAreOne }
+{}
+
+/// Each kind is that of the largest paper that is near to no earlier one.
+pub fn kinds_are_of_largest()
+    ensures { KindsAreOfLargest }
 {}
 
 /// As which papers count doesn't depend on the order of pages, nor on how often they are taken.
