@@ -12,3 +12,4 @@ pub mod Examples
 pub mod Turns
 pub mod Given
 pub mod Quiet
+mod AtFoot

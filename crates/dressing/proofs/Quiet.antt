@@ -1,45 +1,77 @@
--- The lines that draw marks belong to no page's head.
-use Rattle.std.specs.Prelude.{codes, map, false, None}
-use Rattle.std.proofs.Common.{◌≡◌, ◌≤◌, List, [], ◌∷◌, ◌++◌, length, refl, sym, subst}
+-- The lines that draw marks and numbers belong to no page's head.
+use Rattle.std.specs.Prelude.{codes, flat_map, map, false, None, Option, Some}
+use Rattle.std.proofs.Common.{◌≡◌, ◌∙◌, ◌≤◌, ℕ, List, [], ◌∷◌, ◌++◌, length, refl, sym, ap, subst, append_assoc}
 use Rattle.rules.specs.Bytes.{line}
 use Rattle.rules.specs.Papers.{Paper}
 use Rattle.rules.specs.Run.{most_input_bytes}
 use Rattle.rules.specs.Units.{content_of}
 use Rattle.dsc.specs.Units.{units_of}
 use Rattle.made_sheets.specs.Dress.{lines_text, undressed}
+use Rattle.made_sheets.specs.Made.{Blank, MadeSlot, Placed}
 use Rattle.made_sheets.specs.MadeOutput.{made_output}
+use Rattle.sheet_plan.specs.OfSheets.{slots_at}
+use Rattle.sheet_text.specs.PageNumbers.{number_line, slot_lines}
+use Rattle.sheet_text.specs.declared.numbers.Numbers.{Numbers}
+use Rattle.imposed_again.specs.MadeAgain.{AreTame, IsTameDress}
 use Rattle.papers.specs.Comments.{is_in_head}
 use Rattle.papers.specs.Found.{AreQuiet, as_printed}
 use Rattle.papers.specs.Own.{own_papers}
 use Rattle.papers.specs.Told.{papers_told, telling_of}
 use Rattle.papers.proofs.Found.{papers_are_found}
-use Rattle.dressing.specs.Drawn.{mark_lines, marked}
-use Rattle.dressing.specs.Quiet.{MarkedAreFound, MarksAreQuiet}
+use Rattle.papers.proofs.OutputHeads.{content_is}
+use Rattle.dressing.specs.Numbered.{Drawn, drawn_on}
+use Rattle.dressing.specs.Quiet.{DrawnAreFound, DrawnIsQuiet, drawing_lines}
 use Rattle.dressing.specs.declared.strokes.Stroke.{Stroke}
-use Rattle.dressing.proofs.Tame.{marked_tamely}
+use Rattle.dressing.proofs.Tame.{drawn_is_tame, number}
 
-same_dress : (strokes : List Stroke) (told : List Paper)
-    → marked strokes (telling_of told) ≡ record { header = (telling_of told).header; start = (telling_of told).start; finish = λ s paper. mark_lines strokes }
-same_dress strokes [] = refl
-same_dress strokes (p ∷ []) = refl
-same_dress strokes (p ∷ q ∷ told) = refl
+abbrev drawn_by : List Stroke → Option Numbers → Drawn
+drawn_by strokes numbers = record { strokes = strokes; numbers = numbers }
 
-no_head : (strokes : List Stroke) → is_in_head (content_of (lines_text (mark_lines strokes) ++ line (codes "showpage"))) ≡ false
-no_head [] = refl
-no_head (s ∷ strokes) = refl
+same_dress : (strokes : List Stroke) (numbers : Option Numbers) (told : List Paper)
+    → drawn_on (drawn_by strokes numbers) (telling_of told)
+    ≡ record { header = (telling_of told).header; start = (telling_of told).start; finish = drawing_lines (drawn_by strokes numbers) }
+same_dress strokes None [] = refl
+same_dress strokes None (p ∷ []) = refl
+same_dress strokes None (p ∷ q ∷ told) = refl
+same_dress strokes (Some n) [] = refl
+same_dress strokes (Some n) (p ∷ []) = refl
+same_dress strokes (Some n) (p ∷ q ∷ told) = refl
 
-quiet : (strokes : List Stroke) → AreQuiet (λ s paper. mark_lines strokes)
-quiet strokes = record {
-  tame = (marked_tamely strokes undressed (record { header = tt; start = λ s paper. tt; finish = λ s paper. tt })).finish;
-  no_head = λ s paper. no_head strokes;
-}
+-- what follows the lines of a sheet
+abbrev closed : List (List ℕ) → List ℕ
+closed lines = lines_text lines ++ line (codes "showpage")
 
-pub marks_are_quiet : MarksAreQuiet
-marks_are_quiet strokes all = (same_dress strokes (papers_told (map (λ sheet. sheet.paper) all)), quiet strokes)
+no_number_in_head : (n : Numbers) (slots : List MadeSlot) → is_in_head (content_of (closed (flat_map (slot_lines n) slots))) ≡ false
+no_number_in_head n [] = refl
+no_number_in_head n (Blank ∷ slots) = no_number_in_head n slots
+no_number_in_head n (Placed place item paper ∷ slots) =
+    let text = number_line n place item paper in
+    let more = flat_map (slot_lines n) slots in
+    ap (λ t. is_in_head (content_of t)) (append_assoc (line text) (lines_text more) (line (codes "showpage")))
+    ∙ ap is_in_head (content_is text (closed more) (number n place item paper).whole)
 
-pub marked_are_found : MarkedAreFound
-marked_are_found named home border strokes all text us tellable d shut some few =
-    let q = marks_are_quiet strokes all in
+no_head : (strokes : List Stroke) (numbers : Option Numbers) (s : ℕ) (paper : Paper) → is_in_head (content_of (closed (drawing_lines (drawn_by strokes numbers) s paper))) ≡ false
+no_head [] None s paper = refl
+no_head (x ∷ strokes) None s paper = refl
+no_head [] (Some n) s paper = no_number_in_head n (slots_at n.places s)
+no_head (x ∷ strokes) (Some n) s paper = refl
+
+plain : IsTameDress undressed
+plain = record { header = tt; start = λ s paper. tt; finish = λ s paper. tt }
+
+tame_lines : (strokes : List Stroke) (numbers : Option Numbers) (s : ℕ) (paper : Paper) → AreTame (drawing_lines (drawn_by strokes numbers) s paper)
+tame_lines strokes None s paper = (drawn_is_tame (drawn_by strokes None) undressed plain).finish s paper
+tame_lines strokes (Some n) s paper = (drawn_is_tame (drawn_by strokes (Some n)) undressed plain).finish s paper
+
+quiet : (drawn : Drawn) → AreQuiet (drawing_lines drawn)
+quiet drawn = record { tame = tame_lines drawn.strokes drawn.numbers; no_head = no_head drawn.strokes drawn.numbers }
+
+pub drawn_is_quiet : DrawnIsQuiet
+drawn_is_quiet drawn all = (same_dress drawn.strokes drawn.numbers (papers_told (map (λ sheet. sheet.paper) all)), quiet drawn)
+
+pub drawn_are_found : DrawnAreFound
+drawn_are_found named home border drawn all text us tellable d shut some few =
+    let q = drawn_is_quiet drawn all in
     subst (λ dress. length (made_output border dress all us) ≤ most_input_bytes
     → own_papers None named home (made_output border dress all us) (units_of (made_output border dress all us)) ≡ map (λ sheet. as_printed sheet.paper) all)
-    (sym q.0) (papers_are_found named home border (λ s paper. mark_lines strokes) all text us tellable q.1 d shut some few)
+    (sym q.0) (papers_are_found named home border (drawing_lines drawn) all text us tellable q.1 d shut some few)

@@ -6,6 +6,7 @@ pub mod Strokes
 pub mod Ruled
 pub mod Drawn
 pub mod Numbered
+pub mod AtFoot
 pub mod Laws
 pub mod Between
 pub mod Sizes

@@ -1,5 +1,5 @@
--- Sheets with strokes at their ends report their papers as they do without.
-use Rattle.std.specs.Prelude.{◌≡◌, ℕ, ◌<◌, ◌≤◌, List, length, map, Option, None, Ok}
+-- Sheets with strokes and numbers at their ends report their papers as they do without.
+use Rattle.std.specs.Prelude.{◌≡◌, ℕ, ◌<◌, ◌≤◌, List, ◌++◌, length, map, Option, None, Some, Ok}
 use Rattle.std.specs.List.{AllByRecursion}
 use Rattle.rules.specs.Output.{Border}
 use Rattle.rules.specs.Papers.{Paper}
@@ -9,26 +9,37 @@ use Rattle.dsc.specs.Units.{units_of}
 use Rattle.made_sheets.specs.Made.{MadeSheet}
 use Rattle.made_sheets.specs.MadeOutput.{made_output}
 use Rattle.imposed_again.specs.Again.{depth_behind}
-use Rattle.papers.specs.Found.{AreQuiet, IsTellablePaper, as_printed, telling_and}
+use Rattle.papers.specs.Found.{AreQuiet, Finish, IsTellablePaper, as_printed, telling_and}
 use Rattle.papers.specs.Own.{own_papers}
 use Rattle.papers.specs.Told.{telling}
-use Rattle.dressing.specs.Drawn.{mark_lines, marked}
-use Rattle.dressing.specs.declared.strokes.Stroke.{Stroke}
+use Rattle.sheet_text.specs.PageNumbers.{number_lines}
+use Rattle.sheet_text.specs.declared.numbers.Numbers.{Numbers}
+use Rattle.dressing.specs.Drawn.{mark_lines}
+use Rattle.dressing.specs.Numbered.{Drawn, drawn_on}
 
--- strokes are quiet lines at the ends of sheets, so papers are found in what has them too
-abbrev pub MarksAreQuiet : Type 0
-MarksAreQuiet = (strokes : List Stroke) (all : List MadeSheet)
-    → (marked strokes (telling all) ≡ telling_and (λ s paper. mark_lines strokes) all) × AreQuiet (λ s paper. mark_lines strokes)
+-- these lines at the end of sheet s, and after them those of its numbers, if there are some
+abbrev pub with_numbers : Option Numbers → (lines : List (List ℕ)) → (s : ℕ) → List (List ℕ)
+with_numbers None lines s = lines
+with_numbers (Some n) lines s = lines ++ number_lines n s
 
--- so in what is written of sheets, which report their papers and have such strokes, each one's own paper is found, as it is
--- printed, if the document's last page leaves no embedded document open
-abbrev pub MarkedAreFound : Type 0
-MarkedAreFound =
-    (named : List ℕ → Option Paper) (home : Paper) (border : Option Border) (strokes : List Stroke) (all : List MadeSheet)
+-- the lines that draw strokes and numbers
+abbrev pub drawing_lines : Drawn → Finish
+drawing_lines drawn s paper = with_numbers drawn.numbers (mark_lines drawn.strokes) s
+
+-- they are quiet lines at the ends of sheets, so papers are found in what has them too: a law
+abbrev pub DrawnIsQuiet : Type 0
+DrawnIsQuiet = (drawn : Drawn) (all : List MadeSheet)
+    → (drawn_on drawn (telling all) ≡ telling_and (drawing_lines drawn) all) × AreQuiet (drawing_lines drawn)
+
+-- so in what is written of sheets, which report their papers, and on which this is drawn, each one's own paper is found, as it
+-- is printed, if the document's last page leaves no embedded document open: a law
+abbrev pub DrawnAreFound : Type 0
+DrawnAreFound =
+    (named : List ℕ → Option Paper) (home : Paper) (border : Option Border) (drawn : Drawn) (all : List MadeSheet)
     (text : List ℕ) (us : List NestedUnit)
     → AllByRecursion (λ sheet. IsTellablePaper sheet.paper) all
     → document_of text ≡ Ok us → depth_behind (page_run us) ≡ 0 → 0 < length all → length all ≤ most_pages
-    → length (made_output border (marked strokes (telling all)) all us) ≤ most_input_bytes
-    → own_papers None named home (made_output border (marked strokes (telling all)) all us)
-    (units_of (made_output border (marked strokes (telling all)) all us))
+    → length (made_output border (drawn_on drawn (telling all)) all us) ≤ most_input_bytes
+    → own_papers None named home (made_output border (drawn_on drawn (telling all)) all us)
+    (units_of (made_output border (drawn_on drawn (telling all)) all us))
     ≡ map (λ sheet. as_printed sheet.paper) all

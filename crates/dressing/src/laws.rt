@@ -2,8 +2,9 @@
 ghost use Rattle.dressing.specs.Places.{PiecesAreLike};
 ghost use Rattle.dressing.specs.Between.{FoldMarksAreOnFold, MarksAreBetween};
 ghost use Rattle.dressing.specs.Laws.{DrawnIsTame, LinesAreBeside, LinesAreInCell, MarksAreInMargin, MarksAreOutside, MarksMissPages};
+ghost use Rattle.dressing.specs.AtFoot.{NumbersAreAtFoot};
 ghost use Rattle.dressing.specs.Numbered.{NoMarksAreTelling};
-ghost use Rattle.dressing.specs.Quiet.{MarkedAreFound, MarksAreQuiet};
+ghost use Rattle.dressing.specs.Quiet.{DrawnAreFound, DrawnIsQuiet};
 
 /// Cut along all marks of a side, all pieces are as wide.
 pub fn pieces_are_like()
@@ -45,19 +46,24 @@ pub fn lines_are_beside()
     ensures { LinesAreBeside }
 {}
 
+/// The number of a page that is in the middle of its cell stands at the foot of the cell, in its middle.
+pub fn numbers_are_at_foot()
+    ensures { NumbersAreAtFoot }
+{}
+
 /// Sheets with marks and numbers can be imposed again.
 pub fn drawn_is_tame()
     ensures { DrawnIsTame }
 {}
 
-/// The papers that sheets with marks report are found, as those of sheets without.
-pub fn marks_are_quiet()
-    ensures { MarksAreQuiet }
+/// The papers that sheets with marks and numbers report are found, as those of sheets without.
+pub fn drawn_is_quiet()
+    ensures { DrawnIsQuiet }
 {}
 
-/// In what was written of sheets, with marks or without, each one's own paper is found, as it is printed.
-pub fn marked_are_found()
-    ensures { MarkedAreFound }
+/// In what was written of sheets, whatever is drawn on them, each one's own paper is found, as it is printed.
+pub fn drawn_are_found()
+    ensures { DrawnAreFound }
 {}
 
 /// If nothing is drawn sheets have the lines that report their papers, and no others.
