@@ -2,3 +2,4 @@ pub mod Commands
 pub mod Cutting
 pub mod Found
 pub mod Examples
+pub mod CommandLines
