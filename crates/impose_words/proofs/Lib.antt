@@ -3,3 +3,4 @@ pub mod Cutting
 pub mod Found
 pub mod Examples
 pub mod CommandLines
+pub mod SpacingExamples
