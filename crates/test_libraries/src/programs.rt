@@ -1,5 +1,6 @@
 //! Commands that call the libraries of the programs.
 mod faults;
+mod in_folder;
 mod in_memory;
 mod made_faults;
 mod pstops_calls;
@@ -32,6 +33,8 @@ pub fn run<R: Threads + Wait + Sync>(
             in_memory::at_home(rt, out, paper_size, home, word(more, 2).is_none());
         }
         "unflushed" => in_memory::unflushed(rt, out),
+        "uncreated" => in_memory::uncreated(rt, out),
+        "unread" => in_memory::unread(rt, out),
         _ => return None,
     }
     Some(())

@@ -1,71 +1,99 @@
 //! A world of any number of files.
-ghost use Rattle.std.specs.Prelude.{◌≡◌, ◌+◌, ◌≤◌, None, true};
-ghost use Rattle.world.specs.Worlds.{failures_of};
+ghost use Rattle.std.specs.Prelude.{◌≡◌, ◌+◌, ◌<◌, ◌≤◌, [], Some, true, option_map};
+ghost use Rattle.std.specs.IoError.{error_kind};
+ghost use Rattle.world.specs.Worlds.{cause_of, failures_of};
+ghost use Rattle.test_tools.specs.Files.{is_regular, read_by};
+ghost use Rattle.test_tools.specs.Traces.{accesses_in};
 
-use crate::in_memory::{Given, Takes, Written};
+use crate::files::{GivenFile, bytes_named};
+use crate::in_memory::{Takes, Written};
+use crate::trace::Trace;
 use std::alloc::Global;
 use std::io;
 use std::io::ErrorKind;
-use std::sync::atomic::AtomicU32;
-use std::sync::atomic::Ordering::SeqCst;
-use world::{ReadSource, Refused, World};
-
-/// A file that can be read.
-#[derive(Clone, Copy)]
-pub struct GivenFile<'a> {
-    pub name: &'a str,
-    pub bytes: &'a [u8],
-    /// Whether it is a regular file, and not a device or a pipe.
-    pub is_regular: bool,
-}
+use world::{Failures, ReadSource, Refused, World};
 
 /// A world of files that can be read. Standard input is the one named `-`, and empty if there is none.
 #[derive(Drop)]
 pub struct Folder<'a> {
-    pub alloc: Global,
-    pub files: &'a [GivenFile<'a>],
-    /// How many inputs were to be opened.
-    pub opened: &'a AtomicU32,
-    pub takes: Takes,
-    /// How often it refused something, or an input of it had failed.
-    pub failures: u64,
+    alloc: Global,
+    files: &'a [GivenFile<'a>],
+    takes: Takes,
+    trace: Trace,
+    failures: Failures,
 }
 
-impl<'a> World for Folder<'a> {
-    type Input = Given<'a>;
-
-    type Output = Written;
-
-    ghost tells = { λ _. true };
-
-    ghost seen = { λ folder. record { asked = None; failures = folder.failures } };
-
-    fn open(&mut self, name: Option<&str>) -> io::Result<Given<'a>> {
-        self.opened.fetch_add(1, SeqCst);
-        let wanted = name.unwrap_or("-");
-        for file in self.files.iter() {
-            if file.name == wanted {
-                return Ok(Given::new(file.bytes));
-            }
-        }
-        match name {
-            None => Ok(Given::new(&[])),
-            Some(_) => {
-                self.failures += 1;
-                Err(io::Error::from(ErrorKind::NotFound))
-            }
+impl<'a> Folder<'a> {
+    /// One of these files, whose output takes so much. It was asked for nothing yet.
+    pub fn new(alloc: Global, files: &'a [GivenFile<'a>], takes: Takes) -> Folder<'a>
+        ensures gives { ⟦<Folder<'a> as World>⟧.gives result ≡ (λ name. Some (read_by files.now name)) }
+        ensures asked { (⟦<Folder<'a> as World>⟧.seen result).asked ≡ Some [] }
+        ensures failures { (⟦<Folder<'a> as World>⟧.seen result).failures ≡ 0 }
+    {
+        Folder {
+            alloc,
+            files,
+            takes,
+            trace: Trace::new(alloc),
+            failures: Failures::none(),
         }
     }
 
-    fn close(&mut self, source: ReadSource<Given<'a>>) -> Option<io::Error>
-        requires countable { self.old.failures + failures_of source ≤ u64.MAX }
+    /// What it was asked for, if it remembers all of it.
+    pub fn trace(&self) -> &Trace {
+        &self.trace
+    }
+
+    /// How often it refused something, or an input of it had failed.
+    pub fn failures(&self) -> u64
+        ensures { result ≡ (⟦<Folder<'a> as World>⟧.seen self.now).failures }
+    {
+        self.failures.count
+    }
+}
+
+impl<'a> World for Folder<'a> {
+    type Input = &'a [u8];
+
+    type Output = Written;
+
+    ghost gives = { λ folder name. Some (read_by folder.files.now name) };
+
+    ghost regular = { λ folder name. Some (is_regular folder.files.now name) };
+
+    ghost tells = { λ _. true };
+
+    ghost seen = { λ folder. record {
+      asked = accesses_in folder.trace;
+      failures = folder.failures.count;
+      cause = folder.failures.last;
+    } };
+
+    fn open(&mut self, name: Option<&str>) -> io::Result<&'a [u8]> {
+        self.trace.add(self.alloc, false, name);
+        match name {
+            None => Ok(bytes_named(self.files, "-").unwrap_or(&[])),
+            Some(name) => match bytes_named(self.files, name) {
+                Some(bytes) => Ok(bytes),
+                None => {
+                    let cause = io::Error::from(ErrorKind::NotFound);
+                    self.failures.count(&cause);
+                    Err(cause)
+                }
+            },
+        }
+    }
+
+    fn close(&mut self, source: ReadSource<&'a [u8]>) -> Option<io::Error>
+        requires countable { self.old.failures.count + failures_of source ≤ u64.MAX }
+        ensures cause { result ≡ cause_of source.entry }
+        ensures last { 0 < failures_of source.entry → self.new.failures.last ≡ option_map error_kind result }
         ensures asked { (⟦<Folder<'a> as World>⟧.seen self.new).asked ≡ (⟦<Folder<'a> as World>⟧.seen self.old).asked }
-        ensures counted { self.new.failures ≡ self.old.failures + failures_of source.entry }
+        ensures counted { self.new.failures.count ≡ self.old.failures.count + failures_of source.entry }
         ensures again { ⟦<Folder<'a> as World>⟧.gives self.new ≡ ⟦<Folder<'a> as World>⟧.gives self.old }
         ensures tells { ⟦<Folder<'a> as World>⟧.tells self.new ≡ ⟦<Folder<'a> as World>⟧.tells self.old }
     {
-        self.failures += source.failures();
-        source.into_cause()
+        self.failures.close(source)
     }
 
     fn is_file(&self, name: &str) -> bool {
@@ -75,11 +103,13 @@ impl<'a> World for Folder<'a> {
     }
 
     fn create(self, name: Option<&str>) -> Result<Written, Refused<Folder<'a>>> {
-        match Written::new(self.alloc, name, self.takes) {
+        let alloc = self.alloc;
+        match Written::new(alloc, name, self.takes) {
             Ok(output) => Ok(output),
             Err(cause) => {
                 let mut world = self;
-                world.failures += 1;
+                world.trace.add(alloc, true, name);
+                world.failures.count(&cause);
                 Err(Refused { world, cause })
             }
         }

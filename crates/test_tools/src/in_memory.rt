@@ -1,10 +1,11 @@
-//! Inputs and outputs that lie in memory.
+//! Outputs that lie in memory.
 ghost use Rattle.std.specs.Prelude.{◌≡◌, IfOk, [], option_map, string_bytes, true};
 ghost use Rattle.world.specs.Outputs.{told_if};
 
+use crate::trace::owned;
 use std::alloc::Global;
 use std::io;
-use std::io::{ErrorKind, Read, Write};
+use std::io::{ErrorKind, Write};
 
 /// What an output takes.
 #[derive(Clone, Copy)]
@@ -15,16 +16,12 @@ pub enum Takes {
     Pieces(usize),
     /// Each byte, but flushing fails.
     NoFlush,
+    /// Nothing: it can't be created.
+    Nothing,
 }
 
 /// The bytes for which an output has room from the start, so that writing these needs no memory.
 const ROOM: usize = 4_096;
-
-/// A file that is read.
-#[derive(Drop)]
-pub struct Given<'a> {
-    rest: &'a [u8],
-}
 
 /// An output: the name that it was created under, and what was written to it.
 #[derive(Drop)]
@@ -34,13 +31,6 @@ pub struct Written {
     takes: Takes,
 }
 
-impl<'a> Given<'a> {
-    /// A file with these bytes.
-    pub fn new(bytes: &'a [u8]) -> Given<'a> {
-        Given { rest: bytes }
-    }
-}
-
 impl Written {
     /// An output of that name, with nothing in it; or why none can be created.
     pub fn new(alloc: Global, name: Option<&str>, takes: Takes) -> io::Result<Written>
@@ -48,23 +38,16 @@ impl Written {
         ensures named { IfOk result (λ output.
             option_map string_bytes output.name ≡ option_map (λ n. n.now) name.entry) }
     {
-        let name = match name {
-            None => None,
-            Some(name) => match String::from_str(alloc, name) {
-                Ok(name) => Some(name),
-                Err(_) => return Err(io::Error::from(ErrorKind::OutOfMemory)),
-            },
+        if let Takes::Nothing = takes {
+            return Err(io::Error::from(ErrorKind::PermissionDenied));
+        }
+        let Ok(name) = owned(alloc, name) else {
+            return Err(io::Error::from(ErrorKind::OutOfMemory));
         };
         match Vec::with_capacity(alloc, ROOM) {
             Ok(bytes) => Ok(Written { name, bytes, takes }),
             Err(_) => Err(io::Error::from(ErrorKind::OutOfMemory)),
         }
-    }
-}
-
-impl<'a> Read for Given<'a> {
-    fn read(&mut self, buffer: &mut [u8]) -> io::Result<usize> {
-        self.rest.read(buffer)
     }
 }
 

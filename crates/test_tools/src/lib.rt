@@ -3,15 +3,19 @@
 #![tactic(auto)]
 
 mod documents;
+mod files;
 mod folder;
 mod growth;
 mod in_memory;
 mod sheets;
 mod specifications;
+mod trace;
 
 pub use documents::{ONE_PAGE, TWO_PAGES, document_of};
-pub use folder::{Folder, GivenFile};
+pub use files::GivenFile;
+pub use folder::Folder;
 pub use growth::{MOST_GROWTHS, Refused, has_refused, refuse, refuse_each};
-pub use in_memory::{Given, Takes, Written};
+pub use in_memory::{Takes, Written};
 pub use sheets::{one_up_output, two_up_output, two_up_sheets};
 pub use specifications::{BOOKLET, TWO_UP, same_items};
+pub use trace::{Asked, Trace};

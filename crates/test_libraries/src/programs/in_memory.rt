@@ -1,9 +1,9 @@
 //! Runs of impose over files in memory.
 use crate::answer::Answer;
-use impose_cli::{impose, text_said};
+use crate::programs::in_folder::asked_for;
+use impose_cli::{Rest, impose, text_said};
 use std::alloc::{AllocError, Global};
 use std::sync::Wait;
-use std::sync::atomic::AtomicU32;
 use std::thread::Threads;
 use test_tools::{Folder, GivenFile, Takes};
 
@@ -35,7 +35,17 @@ pub fn unflushed<R: Threads + Wait + Sync>(rt: &R, out: &mut Answer) {
     report(rt, out, "", &[PAGE], Takes::NoFlush);
 }
 
-/// What is reported of the page on a sheet of its own.
+/// What is reported of an output that can't be created.
+pub fn uncreated<R: Threads + Wait + Sync>(rt: &R, out: &mut Answer) {
+    report(rt, out, "", &[PAGE], Takes::Nothing);
+}
+
+/// What is reported if there is no input.
+pub fn unread<R: Threads + Wait + Sync>(rt: &R, out: &mut Answer) {
+    report(rt, out, "", &[], Takes::Bytes(10_000));
+}
+
+/// What is reported of the page on a sheet of its own, and if no output was created, what the folder was asked for.
 fn report<R: Threads + Wait + Sync>(
     rt: &R,
     out: &mut Answer,
@@ -47,14 +57,7 @@ fn report<R: Threads + Wait + Sync>(
     let Ok(words) = command(alloc) else {
         return out.note(false);
     };
-    let opened = AtomicU32::new(0);
-    let world = Folder {
-        alloc,
-        files,
-        opened: &opened,
-        takes,
-        failures: 0,
-    };
+    let world = Folder::new(alloc, files, takes);
     let ended = impose(rt, alloc, words.as_slice(), paper_size.as_bytes(), world);
     let said = text_said(
         alloc,
@@ -65,6 +68,9 @@ fn report<R: Threads + Wait + Sync>(
     // The report is left out where memory runs out for it.
     out.note(!said.is_empty());
     out.text(said.as_str());
+    if let Rest::World(folder) = &ended.rest {
+        asked_for(out, folder);
+    }
 }
 
 fn command(alloc: Global) -> Result<Vec<String>, AllocError> {

@@ -1,19 +1,16 @@
 //! Calls of the command of pstops: faults, inputs that fail, and runs over files in memory.
 use crate::answer::Answer;
+use crate::programs::in_folder::{asked_for, pstops_in_folder};
 use crate::programs::made_faults::fault_named;
 use crate::words::{count_in, word};
 use impose_cli::ImposeFault;
 use imposer::RunError;
-use pstops_cli::{
-    CommandFault, Fault, ReadFault, ReadSource, Rest, fault_line, pstops, read_input,
-};
+use pstops_cli::{CommandFault, Fault, ReadFault, ReadSource, Rest, fault_line, read_input};
 use std::io;
 use std::io::{ErrorKind, Read};
 use std::sync::Wait;
-use std::sync::atomic::AtomicU32;
-use std::sync::atomic::Ordering::SeqCst;
 use std::thread::Threads;
-use test_tools::{Folder, GivenFile, ONE_PAGE, Takes};
+use test_tools::{GivenFile, ONE_PAGE, Takes};
 
 /// The status after the fault that the first word names, and its line.
 pub fn reported(out: &mut Answer, words: &[String]) -> Option<()> {
@@ -102,36 +99,30 @@ pub fn failing_input(out: &mut Answer, fails_at: u32, is_interrupted: bool) {
     out.labelled("calls", reader.calls);
 }
 
-/// The run of these words over one page in the file `in.ps`: status, line, how many inputs were to be opened, and the output. The
-/// first word says what the output takes: `all`, `unflushed`, or so many bytes in a call.
+/// The run of these words over one page in the file `in.ps`: status, line, and the output, or what the folder was asked for. The
+/// first word says what the output takes: `all`, `unflushed`, `nothing`, or so many bytes in a call.
 pub fn ran<R: Threads + Wait + Sync>(rt: &R, out: &mut Answer, words: &[String]) -> Option<()> {
     let (takes, words) = words.split_first()?;
     let takes = match takes.as_str() {
         "all" => Takes::Bytes(100_000),
         "unflushed" => Takes::NoFlush,
+        "nothing" => Takes::Nothing,
         most => Takes::Pieces(count_in(most)? as usize),
     };
-    let opened = AtomicU32::new(0);
-    let page = GivenFile {
+    let files = [GivenFile {
         name: "in.ps",
         bytes: ONE_PAGE.as_bytes(),
         is_regular: true,
-    };
-    let world = Folder {
-        alloc: out.alloc,
-        files: &[page],
-        opened: &opened,
-        takes,
-        failures: 0,
-    };
-    let ended = pstops(rt, out.alloc, words, world);
+    }];
+    let ended = pstops_in_folder(rt, out.alloc, words, &files, takes);
     out.labelled("status", ended.status);
     // The line is left out where memory runs out for it.
     out.note(ended.status == 0 || !ended.line.is_empty());
     out.lossy(ended.line.as_slice());
-    out.labelled("inputs", opened.load(SeqCst));
-    if let Rest::Output(Some(output)) = &ended.rest {
-        out.lossy(output.bytes.as_slice());
+    match &ended.rest {
+        Rest::World(folder) => asked_for(out, folder),
+        Rest::Output(Some(output)) => out.lossy(output.bytes.as_slice()),
+        Rest::Output(None) => {}
     }
     Some(())
 }

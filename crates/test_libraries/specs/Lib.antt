@@ -1,0 +1,2 @@
+-- What a run of pstops over files in memory leaves.
+pub mod InMemory

@@ -1,0 +1,39 @@
+//! Runs over files in memory, of which clauses know the bytes.
+ghost use Rattle.std.specs.Prelude.{◌≡◌, ◌<◌, map, string_bytes};
+ghost use Rattle.test_libraries.specs.InMemory.{HasWritten};
+
+use crate::answer::Answer;
+use pstops_cli::{ExitReport, pstops};
+use std::alloc::Global;
+use std::sync::Wait;
+use std::thread::Threads;
+use test_tools::{Folder, GivenFile, Takes};
+
+/// Status 0 comes only if one file was written, of the name that the words give, with exactly the bytes that are defined for those
+/// of the file that they name.
+pub fn pstops_in_folder<'a, R: Threads + Wait + Sync>(
+    rt: &R,
+    alloc: Global,
+    words: &[String],
+    files: &'a [GivenFile<'a>],
+    takes: Takes,
+) -> ExitReport<Folder<'a>>
+    ensures { result.status ≡ 0 → HasWritten (map string_bytes words.now) files.now result.rest }
+{
+    pstops(rt, alloc, words, Folder::new(alloc, files, takes))
+}
+
+/// What a folder was asked for, in order, and how often it failed.
+pub fn asked_for(out: &mut Answer, folder: &Folder<'_>) {
+    let Some(all) = &folder.trace().all else {
+        return out.note(false);
+    };
+    for asked in all.iter() {
+        let label = if asked.creates { "creates" } else { "opens" };
+        match &asked.name {
+            Some(name) => out.labelled(label, name),
+            None => out.labelled(label, "-"),
+        }
+    }
+    out.labelled("failures", folder.failures());
+}

@@ -1,0 +1,66 @@
+//! What a world was asked for.
+ghost use Rattle.std.specs.Prelude.{◌≡◌, ◌++◌, ◌∷◌, [], List, Some, IfOk, IfSome, map, option_map, string_bytes};
+ghost use Rattle.world.specs.Worlds.{Access};
+ghost use Rattle.test_tools.specs.Traces.{access_of, accesses_in};
+
+use std::alloc::{AllocError, Global};
+
+/// An input was to be opened by this name, or an output to be created.
+#[derive(Drop)]
+pub struct Asked {
+    pub creates: bool,
+    pub name: Option<String>,
+}
+
+/// What a world was asked for, in order. It has no memory of it once there was no room for it.
+#[derive(Drop)]
+pub struct Trace {
+    pub all: Option<Vec<Asked>>,
+}
+
+impl Trace {
+    /// Nothing yet.
+    pub fn new(alloc: Global) -> Trace
+        ensures { accesses_in result ≡ Some [] }
+    {
+        Trace {
+            all: Some(Vec::new(alloc)),
+        }
+    }
+
+    /// This too.
+    pub fn add(&mut self, alloc: Global, creates: bool, name: Option<&str>)
+        ensures { IfSome (accesses_in self.new) (λ all. (before : List Access) × (accesses_in self.old ≡ Some before)
+            × (all ≡ before ++ record { creates = creates; name = option_map (λ n. n.now) name.entry } ∷ [])) }
+    {
+        self.all = match self.all.take() {
+            Some(all) => with(alloc, all, creates, name).ok(),
+            None => None,
+        };
+    }
+}
+
+/// These and one more.
+fn with(
+    alloc: Global,
+    mut all: Vec<Asked>,
+    creates: bool,
+    name: Option<&str>,
+) -> Result<Vec<Asked>, AllocError>
+    ensures { IfOk result (λ new. map access_of new.items
+        ≡ map access_of all.items ++ record { creates = creates; name = option_map (λ n. n.now) name.entry } ∷ []) }
+{
+    let name = owned(alloc, name)?;
+    all.push(Asked { creates, name })?;
+    Ok(all)
+}
+
+/// A name of its own.
+pub(crate) fn owned(alloc: Global, name: Option<&str>) -> Result<Option<String>, AllocError>
+    ensures { IfOk result (λ own. option_map string_bytes own ≡ option_map (λ n. n.now) name.entry) }
+{
+    match name {
+        None => Ok(None),
+        Some(name) => Ok(Some(String::from_str(alloc, name)?)),
+    }
+}
