@@ -19,7 +19,7 @@ use Rattle.layouts.specs.declared.arrangement.Arrangement.{Arrangement}
 use Rattle.layouts.specs.declared.error.ArrangementError.TheVariants as why
 use Rattle.papers.specs.Names.{paper_named}
 use Rattle.papers.specs.Own.{own_papers}
-use Rattle.papers.specs.AsOne.{as_one, first_instead_of}
+use Rattle.papers.specs.AsOne.{as_one, first_instead_of, kinds, most_kinds, paper_among}
 use Rattle.papers.specs.Cuts.{cut_of}
 use Rattle.papers.specs.declared.cuts.Cut.{Cut}
 use Rattle.impose_cli.specs.RowRuns.{Imposes}
@@ -201,11 +201,19 @@ or_first found (Some first) = (first, FirstPage)
 abbrev pub paper_for : Paper × PaperOrigin → (taken : List Paper) → Paper × PaperOrigin
 paper_for found taken = or_first found (first_instead_of found.0 taken)
 
+-- a selection's counts among those of the row's pages as theirs do, since its blanks lie between these (RULES, 12.5)
+abbrev pub counted_among : Layout → (taken : List Paper) → Paper → Paper
+counted_among layout.Selection taken paper = paper_among (kinds most_kinds taken) paper
+counted_among other taken paper = paper
+
+abbrev pub counted_for : Layout → (taken : List Paper) → Paper × PaperOrigin → Paper × PaperOrigin
+counted_for l taken found = (counted_among l taken found.0, found.1)
+
 -- the paper for which sheets and cells are made, and where it was found: the document's, if a page of the row has it or one
 -- near to it, and else that of the row's first page (RULES, 12.5)
 abbrev pub row_paper : ImposeRequest → (input : List ℕ) → List NestedUnit → Paper × PaperOrigin
-row_paper r input us =
-    paper_for (page_paper_found r.page_paper r.home_paper input) (row_papers (row_in r us) (own_in r input us))
+row_paper r input us = let taken = row_papers (row_in r us) (own_in r input us) in
+    counted_for r.layout taken (paper_for (page_paper_found r.page_paper r.home_paper input) taken)
 
 abbrev pub IsRowPaper : ImposeRequest → (input : List ℕ) → Paper × PaperOrigin → Type 0
 IsRowPaper r input found = (us : List NestedUnit) × (document_of input ≡ Ok us) × (found ≡ row_paper r input us)

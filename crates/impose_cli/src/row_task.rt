@@ -16,7 +16,7 @@ ghost use Rattle.impose_cli.specs.RowTasks.{ArePapersOf, HasReach, ImposesTask, 
 ghost use Rattle.std.specs.List.{list_all};
 ghost use Rattle.impose_cli.specs.RowTasks.{TellsOnePaper};
 ghost use Rattle.impose_said.specs.Said.{is_same as are_same};
-ghost use Rattle.impose_cli.specs.RowTasks.{cut_by_named, cut_in, paper_for, papers_in as papers_found, placed_in, row_paper};
+ghost use Rattle.impose_cli.specs.RowTasks.{counted_among, cut_by_named, cut_in, paper_for, papers_in as papers_found, placed_in, row_paper};
 ghost use Rattle.impose_cli.specs.Reaches.{reach_in};
 ghost use Rattle.impose_cli.specs.Refusals.{RefusesDocument, RefusesRowTask};
 ghost use Rattle.impose_cli.specs.Tasks.{HasBehind, HasPages, page_paper_found};
@@ -199,7 +199,8 @@ fn papers_in(
     let own = own_papers(alloc, document, request.page_paper, &request.home_paper)?;
     let row = row_of_choice(alloc, document.pages(), &request.choice)?;
     let taken = papers_on_row(alloc, row.as_slice(), own.as_slice())?;
-    let (page_paper, origin) = paper_of_row(request, document.text(), taken.as_slice());
+    let (found, origin) = paper_of_row(request, document.text(), taken.as_slice());
+    let page_paper = counted_paper(alloc, &request.layout, taken.as_slice(), &found)?;
     let counted = papers_placed(alloc, &request.layout, taken.as_slice(), own.as_slice())?;
     let cut = cut_pages(alloc, request, document, row.as_slice())?;
     let reach = reach_of_row(alloc, request, document, counted.as_slice(), own.as_slice())?;
@@ -224,6 +225,28 @@ fn paper_of_row(request: &ImposeRequest, input: &[u8], taken: &[Paper]) -> (Pape
     match first_instead_of(&page_paper, taken) {
         Some(first) => (first, PaperOrigin::FirstPage),
         None => (page_paper, origin),
+    }
+}
+
+/// As which paper this one counts among those that are taken: a selection's as the pages' do, so that blanks have sheets like
+/// theirs. Others are left as they are.
+fn counted_paper(
+    alloc: Global,
+    layout: &Layout,
+    taken: &[Paper],
+    paper: &Paper,
+) -> Result<Paper, AllocError>
+    ensures { IfOk result (λ counted. counted ≡ counted_among layout.now taken.now paper.now) }
+{
+    match layout {
+        Layout::Selection => {
+            let counted = as_one(alloc, taken, &[*paper])?;
+            match counted.first() {
+                Some(counted) => Ok(*counted),
+                None => Ok(*paper),
+            }
+        }
+        _ => Ok(*paper),
     }
 }
 

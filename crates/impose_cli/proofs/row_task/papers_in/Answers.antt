@@ -12,9 +12,9 @@ returns-clause-papers c =
     c.in_ok-papers.papers.items c.in_ok-own.ensures
     (c.in_ok-row.ensures ∙ ap (λ n. row_or_none (imposed_row n (choice_in c.args.request.now.choice) None)) c.pages.ensures.count)
     (rw c.as_slice.ensures.value at (rw c.as_slice-2.ensures.value at c.in_ok-taken.ensures))
-    (rw c.as_slice-4.ensures.value at (rw c.as_slice-5.ensures.value at c.in_ok-counted.ensures)) c.in_ok-papers.ensures
+    (rw c.as_slice-5.ensures.value at (rw c.as_slice-6.ensures.value at c.in_ok-counted.ensures)) c.in_ok-papers.ensures
 
 pub returns-clause-count : goal.returns-clause-count
 returns-clause-count c =
     as_many c.args.request.now c.args.document.now _ c.in_ok-own.own.items c.in_ok-counted.counted.items c.in_ok-papers.papers.items _
-    c.pages-2.ensures.count c.in_ok-own.ensures (rw c.as_slice-5.ensures.value at c.in_ok-counted.ensures) c.in_ok-papers.ensures
+    c.pages-2.ensures.count c.in_ok-own.ensures (rw c.as_slice-6.ensures.value at c.in_ok-counted.ensures) c.in_ok-papers.ensures
