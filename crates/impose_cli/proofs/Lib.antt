@@ -11,6 +11,7 @@ pub mod SpecRows
 pub mod Looking
 pub mod Again
 pub mod Examples
+pub mod SheetExamples
 pub mod Programs
 pub mod TakenPages
 pub mod ReachingTaken
