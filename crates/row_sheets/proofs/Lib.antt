@@ -4,10 +4,12 @@ mod Runs
 mod Behind
 mod BackToBack
 mod Inside
-mod OnSheets
+pub mod OnSheets
 pub mod InCells
 mod Places
 pub mod OnLeaves
+pub mod Halves
+pub mod LeftGap
 pub mod Refused
 mod Leaves
 mod Creeping
@@ -21,7 +23,7 @@ mod Tiles
 pub mod Shown
 mod OneScale
 mod Examples
-mod Filling
+pub mod Filling
 mod Before
 mod Offsets
 mod Specified

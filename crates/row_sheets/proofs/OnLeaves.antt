@@ -38,7 +38,7 @@ use Rattle.row_sheets.proofs.OnSheets.{numbered, sides_stand}
 -- ---- one page, whatever its paper, on a side that isn't turned
 
 -- a page that has room to creep so far, and lies well where it doesn't
-record Creeps (page : Paper) (room : Room) (b : Bool) (s creep : ℕ) : Type 0 where
+pub record Creeps (page : Paper) (room : Room) (b : Bool) (s creep : ℕ) : Type 0 where
   pub even : IsEven room
   pub page_is : IsPaper page
   pub sheet_is : IsPaper room.paper
@@ -49,22 +49,22 @@ record Creeps (page : Paper) (room : Room) (b : Bool) (s creep : ℕ) : Type 0 w
   pub turned : (k : ℕ) → k < 2 → IsHalfTurnOf page room.paper (item_in page room (beside true) (leaf_order b) s k) (back_in page room (beside true) (leaf_order b) s 0 k)
 
 -- before a line across the sheet, or beyond it; and which of the two slots of a front is there
-abbrev Stays : (before : Bool) → Room → (twice : ℕ) → (page : Paper) → Item → Type 0
+abbrev pub Stays : (before : Bool) → Room → (twice : ℕ) → (page : Paper) → Item → Type 0
 Stays true room T page item = StaysBefore room T page item
 Stays false room T page item = StaysBehind room T page item
 
-abbrev slot_there : (b before : Bool) → ℕ
+abbrev pub slot_there : (b before : Bool) → ℕ
 slot_there b true = if b then 1 else 0
 slot_there b false = if b then 0 else 1
 
-front_stays : (before : Bool) (page : Paper) (room : Room) (b : Bool) (s creep : ℕ) → Creeps page room b s creep
+pub front_stays : (before : Bool) (page : Paper) (room : Room) (b : Bool) (s creep : ℕ) → Creeps page room b s creep
     → Stays before room (fold (along_height room) (nat_abs room.paper.height)) page (leaf_item page room b s creep (slot_there b before))
 front_stays true page room b s creep c = stays_before page room b s creep c.page_is c.place c.may
 front_stays false page room b s creep c = stays_behind page room b s creep c.page_is c.place c.may
 
 -- ---- the fold
 
-some_cell : (page : Paper) (room : Room) (s : ℕ) → HasPlace page room (beside true) s → 0 < cell (along_height room) (nat_abs room.paper.height) 2
+pub some_cell : (page : Paper) (room : Room) (s : ℕ) → HasPlace page room (beside true) s → 0 < cell (along_height room) (nat_abs room.paper.height) 2
 some_cell page room s place = (fits page room (beside true) s place).some_wide
 
 -- it lies within the margins
@@ -112,7 +112,7 @@ abbrev IsTowards : (before : Bool) → ℤ → Type 0
 IsTowards true by = pos 0 ≤ℤ by
 IsTowards false by = by ≤ℤ pos 0
 
-abbrev IsMoved : (page : Paper) → (item item' : Item) → (by : ℤ) → Type 0
+abbrev pub IsMoved : (page : Paper) → (item item' : Item) → (by : ℤ) → Type 0
 IsMoved page item item' by = (p : Point) → ((stands page item' p).x ≡ (stands page item p).x) × ((stands page item' p).y ≡ (stands page item p).y +ℤ (pos 1_270_000_000_000_000 *ℤ by))
 
 up_by : (y z by : ℤ) → pos 0 ≤ℤ by → z ≡ y +ℤ (pos 1_270_000_000_000_000 *ℤ by) → y ≤ℤ z
@@ -145,7 +145,7 @@ moved_inside false page room item item' by T is on inside way moved stays p of =
 -- ---- sides that are turned by half
 
 -- a page on the back of a leaf that creeps
-abbrev back_item : (page : Paper) → Room → (right_to_left : Bool) → (scale creep k : ℕ) → Item
+abbrev pub back_item : (page : Paper) → Room → (right_to_left : Bool) → (scale creep k : ℕ) → Item
 back_item page room b s creep k = moved_up (neg_ℤ (to_fold b k creep)) (back_in page room (beside true) (leaf_order b) s 0 k)
 
 back_moved_at : (page : Paper) (k s : ℕ) (x y by : ℤ) (p : Point)
@@ -153,7 +153,7 @@ back_moved_at : (page : Paper) (k s : ℕ) (x y by : ℤ) (p : Point)
     × ((stands page (moved_up by (placed Right k s x y)) p).y ≡ (stands page (placed Right k s x y) p).y +ℤ (pos 1_270_000_000_000_000 *ℤ by))
 back_moved_at page k s x y by p = (refl, omega (arith, ints))
 
-back_moves : (page : Paper) (room : Room) (b : Bool) (s creep k : ℕ)
+pub back_moves : (page : Paper) (room : Room) (b : Bool) (s creep k : ℕ)
     → IsMoved page (back_in page room (beside true) (leaf_order b) s 0 k) (back_item page room b s creep k) (neg_ℤ (to_fold b k creep))
 back_moves page room b s creep k p =
     let row = row_of (leaf_order b) (beside true) k in
@@ -195,7 +195,7 @@ back_way : (front : Bool) (z : ℤ) → IsTowards front z → IsTowards (not fro
 back_way true z h = let up : pos 0 ≤ℤ z = h in let down : neg_ℤ z ≤ℤ pos 0 = omega (arith, ints, up) in down
 back_way false z h = let down : z ≤ℤ pos 0 = h in let up : pos 0 ≤ℤ neg_ℤ z = omega (arith, ints, down) in up
 
-one_of_two : (b before : Bool) → slot_there b before < 2
+pub one_of_two : (b before : Bool) → slot_there b before < 2
 one_of_two true true = let less : 1 < 2 = omega arith in less
 one_of_two true false = let less : 0 < 2 = omega arith in less
 one_of_two false true = let less : 0 < 2 = omega arith in less
@@ -214,10 +214,10 @@ front_lies before page room b s creep c =
       stays = stays;
     }
 
-no_higher : (page : Paper) (room : Room) (b : Bool) (s creep : ℕ) → Creeps page room b s creep → fold (along_height room) (nat_abs room.paper.height) ≤ 2 * whole (nat_abs room.paper.height)
+pub no_higher : (page : Paper) (room : Room) (b : Bool) (s creep : ℕ) → Creeps page room b s creep → fold (along_height room) (nat_abs room.paper.height) ≤ 2 * whole (nat_abs room.paper.height)
 no_higher page room b s creep c = fold_on_sheet (along_height room) (nat_abs room.paper.height) c.even.up (some_cell page room s c.place)
 
-back_stays : (front : Bool) (page : Paper) (room : Room) (b : Bool) (s creep : ℕ) → Creeps page room b s creep
+pub back_stays : (front : Bool) (page : Paper) (room : Room) (b : Bool) (s creep : ℕ) → Creeps page room b s creep
     → Stays (not front) room (2 * whole (nat_abs room.paper.height) - fold (along_height room) (nat_abs room.paper.height)) page (back_item page room b s creep (slot_there b front))
 back_stays true page room b s creep c = λ p of.
     let k = slot_there b true in
@@ -251,7 +251,7 @@ fits_in t page creep has =
     let free = none_both (why_not_fitted t page) (first_of (may_creep page t.room (scale_on t page) creep) why.CreepOverFold None) has.fits in
     record { sheet_is = has.sheet_is; page_is = has.page_is; fits = free.0 }
 
-creeps_on : (page : Paper) (room : Room) (b : Bool) (asked : Option ℤ) (creep : ℕ) → (let t = halves room b asked in
+pub creeps_on : (page : Paper) (room : Room) (b : Bool) (asked : Option ℤ) (creep : ℕ) → (let t = halves room b asked in
     IsEven room → FitsOnLeaf t page creep → (why_not_fitted t page ≡ None) × Creeps page room b (scale_on t page) creep)
 creeps_on page room b asked creep even has =
     let t = halves room b asked in
@@ -274,10 +274,10 @@ creeps_on page room b asked creep even has =
     )
 
 -- a line that is there also if no page is
-abbrev line : Room → ℕ
+abbrev pub line : Room → ℕ
 line room = let h = nat_abs room.paper.height in if nat_lt 0 (cell (along_height room) h 2) then fold (along_height room) h else whole h
 
-line_is : (page : Paper) (room : Room) (b : Bool) (s creep : ℕ) → Creeps page room b s creep → fold (along_height room) (nat_abs room.paper.height) ≡ line room
+pub line_is : (page : Paper) (room : Room) (b : Bool) (s creep : ℕ) → Creeps page room b s creep → fold (along_height room) (nat_abs room.paper.height) ≡ line room
 line_is page room b s creep c =
     let h = nat_abs room.paper.height in
     sym (cond-true (nat_lt 0 (cell (along_height room) h 2)) (fold (along_height room) h) (whole h) (lt-ltb 0 (cell (along_height room) h 2) (some_cell page room s c.place)))
@@ -291,17 +291,17 @@ line_in_middle room even =
     cond_both (nat_lt 0 (cell (along_height room) h 2)) (fold (along_height room) h) (whole h) (λ T. InMiddle T (whole h))
     (λ e. in_middle (along_height room) h even.up (ltb-true 0 (cell (along_height room) h 2) e)) (λ e. (omega arith, omega arith))
 
-abbrev on_halves : (room : Room) (b : Bool) (asked : Option ℤ) → (ℕ → Paper) → Filling
+abbrev pub on_halves : (room : Room) (b : Bool) (asked : Option ℤ) → (ℕ → Paper) → Filling
 on_halves room b asked paper_of = record { setting = halves room b asked; paper_of = paper_of }
 
 -- the item of a page on a side that isn't turned
-front_is : (page : Paper) (room : Room) (b : Bool) (asked : Option ℤ) (k creep : ℕ) → (let t = halves room b asked in
+pub front_is : (page : Paper) (room : Room) (b : Bool) (asked : Option ℤ) (k creep : ℕ) → (let t = halves room b asked in
     why_not_fitted t page ≡ None → leaf_item page room b (scale_on t page) creep k ≡ creeping t false page k creep)
 front_is page room b asked k creep free =
     let t = halves room b asked in
     ap (moved_up (to_fold b k creep)) (sym (in_cell t page k k (one_of_many t page (omega arith)) free).0)
 
-abbrev SlotStays : (before : Bool) → Room → (T : ℕ) → MadeSlot → Type 0
+abbrev pub SlotStays : (before : Bool) → Room → (T : ℕ) → MadeSlot → Type 0
 SlotStays true room T slot = SlotStaysBefore room T slot
 SlotStays false room T slot = SlotStaysBehind room T slot
 
@@ -313,7 +313,7 @@ page_stays : (before : Bool) (room : Room) (T page : ℕ) (item : Item) (paper :
 page_stays true room T page item paper h = h
 page_stays false room T page item paper h = h
 
-front_slot : (before : Bool) (room : Room) (b : Bool) (asked : Option ℤ) (paper_of : ℕ → Paper) (creep : ℕ) (entry : Option ℕ) → (let f = on_halves room b asked paper_of in
+pub front_slot : (before : Bool) (room : Room) (b : Bool) (asked : Option ℤ) (paper_of : ℕ → Paper) (creep : ℕ) (entry : Option ℕ) → (let f = on_halves room b asked paper_of in
     let slot = creeping_slot f false (slot_there b before) creep entry in
     IsEven room → EntryCreeps f creep entry → SlotIsInside room slot × SlotStays before room (line room) slot)
 front_slot before room b asked paper_of creep None even has = (tt, blank_stays before room (line room))
@@ -328,7 +328,7 @@ front_slot before room b asked paper_of creep (Some page) even has =
           (subst (λ T. Stays before room T paper (leaf_item paper room b (scale_on t paper) creep (slot_there b before))) (line_is paper room b (scale_on t paper) creep c.1) at.stays)),
     )
 
-back_slot : (front : Bool) (room : Room) (b : Bool) (asked : Option ℤ) (paper_of : ℕ → Paper) (creep : ℕ) (entry : Option ℕ) → (let f = on_halves room b asked paper_of in
+pub back_slot : (front : Bool) (room : Room) (b : Bool) (asked : Option ℤ) (paper_of : ℕ → Paper) (creep : ℕ) (entry : Option ℕ) → (let f = on_halves room b asked paper_of in
     let slot = creeping_slot f true (slot_there b front) creep entry in
     IsEven room → EntryCreeps f creep entry → SlotIsInside room slot × SlotStays (not front) room (2 * whole (nat_abs room.paper.height) - line room) slot)
 back_slot front room b asked paper_of creep None even has = (tt, blank_stays (not front) room (2 * whole (nat_abs room.paper.height) - line room))
@@ -344,7 +344,7 @@ back_slot front room b asked paper_of creep (Some page) even has =
 
 -- ---- a side
 
-abbrev side : Filling → (by_half : Bool) → (creep : ℕ) → (one other : Option ℕ) → MadeSheet
+abbrev pub side : Filling → (by_half : Bool) → (creep : ℕ) → (one other : Option ℕ) → MadeSheet
 side f by_half creep one other =
     sheet f.setting.room.paper (creeping_slot f by_half 0 creep one ∷ creeping_slot f by_half 1 creep other ∷ [])
 
@@ -372,7 +372,7 @@ SideStands by_half creep one other paper_of t = let f : Filling = record { setti
     EntryCreeps f creep one → EntryCreeps f creep other
     → StandsOnLeaf t.room (fold_on t.room by_half (line t.room)) (is_first_before t.order.right_to_left by_half) (side f by_half creep one other)
 
-side_stands : (f : Filling) (by_half : Bool) (creep : ℕ) (one other : Option ℕ) → AreHalves f.setting → EntryCreeps f creep one → EntryCreeps f creep other
+pub side_stands : (f : Filling) (by_half : Bool) (creep : ℕ) (one other : Option ℕ) → AreHalves f.setting → EntryCreeps f creep one → EntryCreeps f creep other
     → StandsOnLeaf f.setting.room (fold_on f.setting.room by_half (line f.setting.room)) (is_first_before f.setting.order.right_to_left by_half) (side f by_half creep one other)
 side_stands f by_half creep one other halved =
     of_halves (SideStands by_half creep one other f.paper_of) f.setting halved
@@ -384,7 +384,7 @@ entry_fits : (f : Filling) (creep : ℕ) (entry : Option ℕ) → EntryCreeps f 
 entry_fits f creep None has = tt
 entry_fits f creep (Some page) has = fits_in f.setting (f.paper_of page) creep has
 
-abbrev AllCreep : Filling → (creep leaves sheets : ℕ) → Row → Type 0
+abbrev pub AllCreep : Filling → (creep leaves sheets : ℕ) → Row → Type 0
 AllCreep f creep leaves sheets row = (s k : ℕ) → s < sheets → k < 2 → EntryCreeps f (creep_on creep leaves s) (grid_entry 2 row s k)
 
 plain_stand : (f : Filling) (turned_backs : Bool) (creep leaves sheets : ℕ) (row : Row) → AreHalves f.setting → AllCreep f creep leaves sheets row → creep ≡ 0

@@ -48,20 +48,17 @@ of_two p D E F w some even fit least =
       record { least = omega (arith, some, even, fit); most = omega (arith, some, even, least, cut) },
     )
 
-record OfFour (p D E w : ℕ) : Type 0 where
-  pub first : Opposite (whole w) (E + 0 * p) (p - D) (E + 3 * p)
-  pub second : Opposite (whole w) (E + 1 * p) (p - D) (E + 2 * p)
-  pub third : Opposite (whole w) (E + 2 * p) (p - D) (E + 1 * p)
-  pub fourth : Opposite (whole w) (E + 3 * p) (p - D) (E + 0 * p)
-
-of_four : (p D E F w : ℕ) → 0 < p - D → E ≡ F → 4 * p + (E + F) ≤ whole w + D → w - 1_270_000 * (E + F) + 1_270_000 * D < p * (1_270_000 * 4) + 1_270_000 * 4 → OfFour p D E w
-of_four p D E F w some even fit least =
-    let cut = div-mul-le_self w 1_270_000 in record {
-      first = record { least = omega (arith, some, even, fit); most = omega (arith, some, even, least, cut) };
-      second = record { least = omega (arith, some, even, fit); most = omega (arith, some, even, least, cut) };
-      third = record { least = omega (arith, some, even, fit); most = omega (arith, some, even, least, cut) };
-      fourth = record { least = omega (arith, some, even, fit); most = omega (arith, some, even, least, cut) };
-    }
+of_four : (p D E F w k : ℕ) → k < 4 → 0 < p - D → E ≡ F → 4 * p + (E + F) ≤ whole w + D → w - 1_270_000 * (E + F) + 1_270_000 * D < p * (1_270_000 * 4) + 1_270_000 * 4
+    → Opposite (whole w) (E + k * p) (p - D) (E + (3 - k) * p)
+of_four p D E F w zero less some even fit least =
+    let cut = div-mul-le_self w 1_270_000 in record { least = omega (arith, some, even, fit); most = omega (arith, some, even, least, cut) }
+of_four p D E F w (suc zero) less some even fit least =
+    let cut = div-mul-le_self w 1_270_000 in record { least = omega (arith, some, even, fit); most = omega (arith, some, even, least, cut) }
+of_four p D E F w (suc (suc zero)) less some even fit least =
+    let cut = div-mul-le_self w 1_270_000 in record { least = omega (arith, some, even, fit); most = omega (arith, some, even, least, cut) }
+of_four p D E F w (suc (suc (suc zero))) less some even fit least =
+    let cut = div-mul-le_self w 1_270_000 in record { least = omega (arith, some, even, fit); most = omega (arith, some, even, least, cut) }
+of_four p D E F w (suc (suc (suc (suc k)))) less some even fit least = absurd (omega (arith, less))
 
 -- a cell of the first row, and the opposite one
 abbrev cell_of : Room → (b r : Bool) → (c : ℕ) → Cell
@@ -74,78 +71,39 @@ two_along a w even some =
     let D = kept a.trim a.gap in
     of_two (step a w 2) D (kept a.trim a.before) (kept a.trim a.after) w some even (cells_fit a w 2 1 some (omega arith)) (lt-div-mul-add {a = left_free a w + 1_270_000 * D} {b = 1_270_000 * 2} (omega arith))
 
-four_along : (a : Along) (w : ℕ) → kept a.trim a.before ≡ kept a.trim a.after → 0 < step a w 4 - kept a.trim a.gap → OfFour (step a w 4) (kept a.trim a.gap) (kept a.trim a.before) w
-four_along a w even some =
+four_along : (a : Along) (w k : ℕ) → k < 4 → kept a.trim a.before ≡ kept a.trim a.after → 0 < step a w 4 - kept a.trim a.gap
+    → Opposite (whole w) (kept a.trim a.before + k * step a w 4) (step a w 4 - kept a.trim a.gap) (kept a.trim a.before + (3 - k) * step a w 4)
+four_along a w k less even some =
     let D = kept a.trim a.gap in
-    of_four (step a w 4) D (kept a.trim a.before) (kept a.trim a.after) w some even (cells_fit a w 4 3 some (omega arith)) (lt-div-mul-add {a = left_free a w + 1_270_000 * D} {b = 1_270_000 * 4} (omega arith))
+    of_four (step a w 4) D (kept a.trim a.before) (kept a.trim a.after) w k less some even (cells_fit a w 4 3 some (omega arith)) (lt-div-mul-add {a = left_free a w + 1_270_000 * D} {b = 1_270_000 * 4} (omega arith))
+
+-- the cell in column k of the first row, and the opposite one
+opposite_at : (room : Room) (b : Bool) (k : ℕ) → k < 4 → IsEven room → 0 < wide room (zine_grid b) → 0 < high room (zine_grid b)
+    → AreOpposite room.paper (cell_at room (zine_grid b) 0 k) (cell_at room (zine_grid b) 1 (3 - k))
+opposite_at room false k less even across up = record {
+  across = four_along (along_width room) (nat_abs room.paper.width) k less (ap (kept room.trim) even.across) across;
+  up = (two_along (along_height room) (nat_abs room.paper.height) (ap (kept room.trim) even.up) up).1;
+  as_wide = refl;
+  as_high = refl;
+}
+opposite_at room true k less even across up = record {
+  across = (two_along (along_width room) (nat_abs room.paper.width) (ap (kept room.trim) even.across) up).0;
+  up = four_along (along_height room) (nat_abs room.paper.height) k less (ap (kept room.trim) even.up) across;
+  as_wide = refl;
+  as_high = refl;
+}
 
 opposite : (room : Room) (b r : Bool) (c : ℕ) → c < 4 → IsEven room → 0 < wide room (zine_grid b) → 0 < high room (zine_grid b)
     → AreOpposite room.paper (cell_of room b r c) (cell_of room b r (7 - c))
-opposite room false false zero less even across up =
-    let w = four_along (along_width room) (nat_abs room.paper.width) (ap (kept room.trim) even.across) across in
-    let h = two_along (along_height room) (nat_abs room.paper.height) (ap (kept room.trim) even.up) up in
-    record { across = w.first; up = h.1; as_wide = refl; as_high = refl }
-opposite room false false (suc zero) less even across up =
-    let w = four_along (along_width room) (nat_abs room.paper.width) (ap (kept room.trim) even.across) across in
-    let h = two_along (along_height room) (nat_abs room.paper.height) (ap (kept room.trim) even.up) up in
-    record { across = w.second; up = h.1; as_wide = refl; as_high = refl }
-opposite room false false (suc (suc zero)) less even across up =
-    let w = four_along (along_width room) (nat_abs room.paper.width) (ap (kept room.trim) even.across) across in
-    let h = two_along (along_height room) (nat_abs room.paper.height) (ap (kept room.trim) even.up) up in
-    record { across = w.third; up = h.1; as_wide = refl; as_high = refl }
-opposite room false false (suc (suc (suc zero))) less even across up =
-    let w = four_along (along_width room) (nat_abs room.paper.width) (ap (kept room.trim) even.across) across in
-    let h = two_along (along_height room) (nat_abs room.paper.height) (ap (kept room.trim) even.up) up in
-    record { across = w.fourth; up = h.1; as_wide = refl; as_high = refl }
-opposite room false true zero less even across up =
-    let w = four_along (along_width room) (nat_abs room.paper.width) (ap (kept room.trim) even.across) across in
-    let h = two_along (along_height room) (nat_abs room.paper.height) (ap (kept room.trim) even.up) up in
-    record { across = w.fourth; up = h.1; as_wide = refl; as_high = refl }
-opposite room false true (suc zero) less even across up =
-    let w = four_along (along_width room) (nat_abs room.paper.width) (ap (kept room.trim) even.across) across in
-    let h = two_along (along_height room) (nat_abs room.paper.height) (ap (kept room.trim) even.up) up in
-    record { across = w.third; up = h.1; as_wide = refl; as_high = refl }
-opposite room false true (suc (suc zero)) less even across up =
-    let w = four_along (along_width room) (nat_abs room.paper.width) (ap (kept room.trim) even.across) across in
-    let h = two_along (along_height room) (nat_abs room.paper.height) (ap (kept room.trim) even.up) up in
-    record { across = w.second; up = h.1; as_wide = refl; as_high = refl }
-opposite room false true (suc (suc (suc zero))) less even across up =
-    let w = four_along (along_width room) (nat_abs room.paper.width) (ap (kept room.trim) even.across) across in
-    let h = two_along (along_height room) (nat_abs room.paper.height) (ap (kept room.trim) even.up) up in
-    record { across = w.first; up = h.1; as_wide = refl; as_high = refl }
-opposite room true false zero less even across up =
-    let w = two_along (along_width room) (nat_abs room.paper.width) (ap (kept room.trim) even.across) up in
-    let h = four_along (along_height room) (nat_abs room.paper.height) (ap (kept room.trim) even.up) across in
-    record { across = w.0; up = h.first; as_wide = refl; as_high = refl }
-opposite room true false (suc zero) less even across up =
-    let w = two_along (along_width room) (nat_abs room.paper.width) (ap (kept room.trim) even.across) up in
-    let h = four_along (along_height room) (nat_abs room.paper.height) (ap (kept room.trim) even.up) across in
-    record { across = w.0; up = h.second; as_wide = refl; as_high = refl }
-opposite room true false (suc (suc zero)) less even across up =
-    let w = two_along (along_width room) (nat_abs room.paper.width) (ap (kept room.trim) even.across) up in
-    let h = four_along (along_height room) (nat_abs room.paper.height) (ap (kept room.trim) even.up) across in
-    record { across = w.0; up = h.third; as_wide = refl; as_high = refl }
-opposite room true false (suc (suc (suc zero))) less even across up =
-    let w = two_along (along_width room) (nat_abs room.paper.width) (ap (kept room.trim) even.across) up in
-    let h = four_along (along_height room) (nat_abs room.paper.height) (ap (kept room.trim) even.up) across in
-    record { across = w.0; up = h.fourth; as_wide = refl; as_high = refl }
-opposite room true true zero less even across up =
-    let w = two_along (along_width room) (nat_abs room.paper.width) (ap (kept room.trim) even.across) up in
-    let h = four_along (along_height room) (nat_abs room.paper.height) (ap (kept room.trim) even.up) across in
-    record { across = w.0; up = h.fourth; as_wide = refl; as_high = refl }
-opposite room true true (suc zero) less even across up =
-    let w = two_along (along_width room) (nat_abs room.paper.width) (ap (kept room.trim) even.across) up in
-    let h = four_along (along_height room) (nat_abs room.paper.height) (ap (kept room.trim) even.up) across in
-    record { across = w.0; up = h.third; as_wide = refl; as_high = refl }
-opposite room true true (suc (suc zero)) less even across up =
-    let w = two_along (along_width room) (nat_abs room.paper.width) (ap (kept room.trim) even.across) up in
-    let h = four_along (along_height room) (nat_abs room.paper.height) (ap (kept room.trim) even.up) across in
-    record { across = w.0; up = h.second; as_wide = refl; as_high = refl }
-opposite room true true (suc (suc (suc zero))) less even across up =
-    let w = two_along (along_width room) (nat_abs room.paper.width) (ap (kept room.trim) even.across) up in
-    let h = four_along (along_height room) (nat_abs room.paper.height) (ap (kept room.trim) even.up) across in
-    record { across = w.0; up = h.first; as_wide = refl; as_high = refl }
-opposite room b r (suc (suc (suc (suc c)))) less even across up = absurd (omega (arith, less))
+opposite room b false zero less = opposite_at room b 0 (omega arith)
+opposite room b false (suc zero) less = opposite_at room b 1 (omega arith)
+opposite room b false (suc (suc zero)) less = opposite_at room b 2 (omega arith)
+opposite room b false (suc (suc (suc zero))) less = opposite_at room b 3 (omega arith)
+opposite room b true zero less = opposite_at room b 3 (omega arith)
+opposite room b true (suc zero) less = opposite_at room b 2 (omega arith)
+opposite room b true (suc (suc zero)) less = opposite_at room b 1 (omega arith)
+opposite room b true (suc (suc (suc zero))) less = opposite_at room b 0 (omega arith)
+opposite room b r (suc (suc (suc (suc c)))) less = absurd (omega (arith, less))
 
 -- ---- turned by half
 

@@ -199,11 +199,12 @@ PosterHasTiles = (page : Paper) (p : Poster) → why_no_poster page p ≡ None �
 abbrev pub first_tile : Poster → (i : ℕ) → ℕ
 first_tile p i = i * (p.rows * p.columns)
 
--- these sheets show a point of a page: on one of the entry's sheets, which are its tiles from the upper left one on, the page
--- is placed by its own paper as on that tile of its poster, and what the margins leave of that sheet has the point
+-- the page on tile n of its poster, counted row by row from the upper left one
 abbrev pub item_on : Poster → (paper : Paper) → (n : ℕ) → Item
 item_on p paper n = tile_item paper p (n % p.columns) (p.rows - (n / p.columns + 1))
 
+-- these sheets show a point of a page: one of the entry's sheets has the page as that tile of its poster has it, by the page's own
+-- paper, and shows the point between its margins
 pub record IsOnTile (p : Poster) (made : List MadeSheet) (i page : ℕ) (paper : Paper) (at : Point) : Type 0 where
   pub n : ℕ
   pub is_one : n < p.rows * p.columns
@@ -218,37 +219,38 @@ RowIsShown = (p : Poster) (papers : List Paper) (row : Row) (i page : ℕ) (at :
 
 -- ---- as large as its tiles, and in their middle
 
--- a page of this scale, in 10^-9, fits what the margins leave of the tiles, in whole 10^-5 of a point
+-- a page of this scale, in 10^-9, fits the tiles, which have whole 10^-5 of a point
 pub record FitsTiles (page : Paper) (p : Poster) (scale : ℕ) : Type 0 where
   pub wide : scale * nat_abs page.width ≤ 1_270_000_000_000_000 * poster_width p
   pub high : scale * nat_abs page.height ≤ 1_270_000_000_000_000 * poster_height p
 
--- how long so many tiles are in exact parts of their sheets, in 10^-9 of a grain
+-- how long so many tiles are if nothing is rounded, in 10^-9 of a grain
 abbrev pub exact_length : (side edge overlap tiles : ℕ) → ℕ
 exact_length side edge overlap tiles =
     (tiles - 1) * (1_000_000_000 * side - 1_270_000_000_000_000 * (2 * edge + overlap)) + (1_000_000_000 * side - 1_270_000_000_000_000 * (2 * edge))
 
--- and in these
+-- or if nothing is rounded
 pub record AllowTiles (page : Paper) (p : Poster) (scale : ℕ) : Type 0 where
   pub wide : scale * nat_abs page.width ≤ exact_length (nat_abs p.sheet.width) p.edge p.overlap p.columns
   pub high : scale * nat_abs page.height ≤ exact_length (nat_abs p.sheet.height) p.edge p.overlap p.rows
 
--- its sides are 11 points or more
+-- the sides of a page are 11 points or more
 pub record IsNoTinyPage (page : Paper) : Type 0 where
   pub wide : 1_397_000_000_000 ≤ nat_abs page.width
   pub high : 1_397_000_000_000 ≤ nat_abs page.height
 
--- the page of a poster fits its tiles, with a larger scale it doesn't, and the tiles allow none that is larger by 10^-6 for each of
--- them, or more: a law
+-- the page of a poster fits its tiles, and at no larger scale. If nothing is rounded they allow no scale that is larger by 10^-6
+-- for each column and row
 pub record IsLarge (page : Paper) (p : Poster) : Type 0 where
   pub fits : FitsTiles page p (poster_scale page p)
   pub largest : (scale : ℕ) → FitsTiles page p scale → scale ≤ poster_scale page p
   pub large : (scale : ℕ) → IsNoTinyPage page → HasTiles p → AllowTiles page p scale → scale < poster_scale page p + 1_000 * (p.columns + p.rows)
 
+-- so it is of each page that has sides: a law
 abbrev pub PosterIsLarge : Type 0
 PosterIsLarge = (page : Paper) (p : Poster) → IsPaper page → IsLarge page p
 
--- all tiles as one cell, as the lower left one has it
+-- all tiles together as one cell, measured from the corner of the lower left sheet
 abbrev pub poster_cell : Poster → Cell
 poster_cell p = record { left = p.edge; bottom = p.edge; width = poster_width p; height = poster_height p }
 

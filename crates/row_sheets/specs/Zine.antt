@@ -83,16 +83,16 @@ kept_by other room = room
 
 -- ---- where its pages lie
 
--- how pages of a cell are turned: what is in the first row is upside down
+-- how the page of a cell is turned: in the first row it is upside down
 abbrev pub zine_turn : Setting → (c : ℕ) → Turn
 zine_turn t c = if nat_lt c 4 then half_turned (turn_in t.grid) else turn_in t.grid
 
--- and how far they reach past it at most: the first row is rounded as the second one, but turned by half
+-- and how far it reaches past the cell at most: the first row is rounded as the second one is, and then turned by half
 abbrev pub past_row : (c : ℕ) → ℕ
 past_row c = if nat_lt c 4 then 3 else 0
 
--- a page of this paper in cell c: turned so, and in its cell. In the second row it is fitted into that, and in the first row it
--- lies where it would in the opposite cell, were the sheet turned by half
+-- a page of this paper in cell c: it is turned so, and lies in its cell. In the second row it is fitted into that. In the first row it
+-- lies as it would in the opposite cell, were the sheet turned by half
 pub record LiesInZine (t : Setting) (c : ℕ) (page : Paper) (item : Item) : Type 0 where
   pub turn : item.turn ≡ zine_turn t c
   pub in_cell : IsInCell t.room page (cell_at t.room t.grid (row_of t.order t.grid c) (column_of t.order t.grid c)) (past_row c) item
@@ -107,6 +107,6 @@ SlotLiesInZine t c (Placed page item paper) = LiesInZine t c paper item
 abbrev pub LieInZines : Setting → List MadeSheet → Type 0
 LieInZines t made = All (λ sheet. (c : ℕ) (d : MadeSlot) → c < length sheet.slots → SlotLiesInZine t c (slice_index_or sheet.slots c d)) made
 
--- of zines, if nothing had to be refused: a law
+-- so it is of a zine, if nothing had to be refused: a law
 abbrev pub ZineLiesInCells : Type 0
 ZineLiesInCells = (f : Filling) (row : Row) → AreZineCells f.setting → AllFit f row → LieInZines f.setting (zine_sheets f row)

@@ -6,6 +6,7 @@ ghost use Rattle.row_sheets.specs.Specified.{GridIsSpecified, BookletIsSpecified
 ghost use Rattle.row_sheets.specs.Filled.{GridRunsOn, BehindIsMirror};
 ghost use Rattle.row_sheets.specs.Filled.{FilledIsInside, FilledIsApart, SidesAreInside, SidesAreApart, BookletIsGrid, BookletKeepsFold};
 ghost use Rattle.row_sheets.specs.Creep.{CreepMoves, CreepGrows, CreepKeepsSides, NoCreepIsPlain};
+ghost use Rattle.row_sheets.specs.Halves.{BookletKeepsGap, BookletLiesInHalves};
 ghost use Rattle.row_sheets.specs.Bound.{BookletIsRead};
 ghost use Rattle.row_sheets.specs.Stacked.{CellsLieBehind, LeavesAreRead, StackIsRead};
 ghost use Rattle.row_sheets.specs.Posters.{PosterCovers, PosterHasTiles, PosterIsInMiddle, PosterIsLarge, RowIsShown, TilesOverlap};
@@ -103,6 +104,16 @@ pub fn no_creep_is_plain()
     ensures { NoCreepIsPlain }
 {}
 
+/// Each page of a booklet lies in its half of a leaf, in the middle of it but for its creep.
+pub fn booklet_lies_in_halves()
+    ensures { BookletLiesInHalves }
+{}
+
+/// The two pages of a side are apart by the gap, less twice what the leaf creeps.
+pub fn booklet_keeps_gap()
+    ensures { BookletKeepsGap }
+{}
+
 /// A booklet whose leaves are folded, put into one another and bound at either side is read in the order of its row.
 pub fn booklet_is_read()
     ensures { BookletIsRead }
@@ -123,7 +134,7 @@ pub fn poster_is_large()
     ensures { PosterIsLarge }
 {}
 
-/// And it is in their middle.
+/// A poster's page is in the middle of its tiles.
 pub fn poster_is_in_middle()
     ensures { PosterIsInMiddle }
 {}
