@@ -13,7 +13,6 @@ use Rattle.rules.specs.Papers.{Paper, Pt}
 use Rattle.rules.specs.Sheets.{blocks}
 use Rattle.rules.specs.Placement.{Point, moved, turned}
 use Rattle.rules.specs.Specification.{Item, Measure, Turn, Upright, Left, Half, Right}
-use Rattle.made_sheets.specs.Choice.{signed}
 use Rattle.made_sheets.specs.Made.{MadeSlot, Blank, Placed, MadeSheet}
 use Rattle.made_sheets.specs.Rows.{Row}
 use Rattle.layouts.specs.declared.setting.Setting.{Setting}
@@ -24,23 +23,16 @@ use Rattle.layouts.specs.Grids.{alone}
 use Rattle.layouts.specs.Laws.{Cell, IsInCell, IsPaper, LiesInCell, cell_at}
 use Rattle.layouts.proofs.Fitting.{fitted_stands, one_of_many}
 use Rattle.layouts.proofs.InGrid.{sides_are}
-use Rattle.row_sheets.specs.Filled.{Filling, behind_in, card_entry, duplex_entry, filled, grid_entry, slot_in, slot_on, stack_entry, zine_entry, zine_place, zine_sheets, zine_slot}
-use Rattle.row_sheets.specs.Shapes.{filling}
+use Rattle.row_sheets.specs.Filled.{Filling, filled, slot_in, slot_on, zine_entry, zine_place, zine_sheets, zine_slot}
 use Rattle.row_sheets.specs.Standing.{AllFit, EntryFits}
 use Rattle.row_sheets.specs.Zine.{AreZineCells, past_row, zine_turn}
 use Rattle.row_sheets.specs.Zine as zine
+use Rattle.row_sheets.proofs.OnSheets.{numbered as numbered_in_turn}
 use Rattle.row_sheets.proofs.ZineCells.{zine_lies_in_cells}
-use Rattle.pagespec.specs.Items.{turn_of}
-use Rattle.row_runs.specs.declared.asked.Laying.{Laying}
-use Rattle.row_runs.specs.declared.asked.Laying.TheVariants as laying
-use Rattle.row_runs.specs.declared.asked.Scheme.TheVariants as scheme
-use Rattle.row_runs.specs.Evened.{evened_if}
-use Rattle.row_runs.specs.Mirrored.{exchanged, mirror_in, mirror_on, mirrored, moved_item, moved_sheet, moved_slot, shift}
-use Rattle.row_runs.specs.Sheets.{FitAsLaid, MayBeLaid, laying_for, leaves_in, sewn, sheets_laid}
+use Rattle.row_runs.specs.Mirrored.{exchanged, mirror_on, mirrored, moved_item, moved_sheet, moved_slot, shift}
 use Rattle.row_runs.specs.Turning.{both, corner, excess, long, on_turned, turned_item, turned_paper, turned_sheet, turned_slot, farther}
-use Rattle.row_runs.specs.Written.{LieAsWritten, LieInCells, LieInZines, SlotLiesIn, SlotLiesInZine, TurnedStaysInCell, WrittenInCells, side_room}
+use Rattle.row_runs.specs.Written.{AreInCells, AreInZines, SlotIsInCell, SlotIsInZine, TurnedStaysInCell, side_room}
 use Rattle.row_runs.proofs.Backs.{across_moved, at_place, either_way, fused, unmirrored, unmoved}
-use Rattle.row_runs.proofs.Fit.{evened_may_be}
 use Rattle.row_runs.proofs.Turns.{turned_stands}
 use Rattle.row_runs.proofs.Written.{count_is, even_sheets}
 
@@ -301,7 +293,7 @@ moved_by false t page c s = (
 )
 
 -- on a front
-on_front : (turn : Turn) (f : Filling) (c : ℕ) (entry : Option ℕ) → c < size f.setting.grid → EntryFits f entry → SlotLiesIn turn f.setting f.setting.room c (turned_slot turn (slot_in f c entry))
+on_front : (turn : Turn) (f : Filling) (c : ℕ) (entry : Option ℕ) → c < size f.setting.grid → EntryFits f entry → SlotIsInCell turn f.setting f.setting.room c (turned_slot turn (slot_in f c entry))
 on_front turn f c None within has = tt
 on_front turn f c (Some page) within has =
     let t = f.setting in
@@ -374,7 +366,7 @@ moved_too x by m is =
     ap (farther by) is ∙ ap (λ z. record { number = z; unit = Pt }) n
 
 on_back : (turn : Turn) (f : Filling) (c : ℕ) (entry : Option ℕ) → c < size f.setting.grid → EntryFits f entry
-    → SlotLiesIn turn f.setting (exchanged f.setting.room) c (turned_slot turn (moved_slot (Some f.setting.room) (slot_in f c entry)))
+    → SlotIsInCell turn f.setting (exchanged f.setting.room) c (turned_slot turn (moved_slot (Some f.setting.room) (slot_in f c entry)))
 on_back turn f c None within has = tt
 on_back turn f c (Some page) within has =
     let t = f.setting in
@@ -393,34 +385,28 @@ on_back turn f c (Some page) within has =
     (ap (λ (p : Paper). p.width) sides) (ap (λ (p : Paper). p.height) sides) is.scale_is (moved_too by.0 (shift t.room) item.x by.2) by.3 inside)
 
 on_either : (back : Bool) (turn : Turn) (f : Filling) (c : ℕ) (entry : Option ℕ) → c < size f.setting.grid → EntryFits f entry
-    → SlotLiesIn turn f.setting (if back then exchanged f.setting.room else f.setting.room) c (turned_slot turn (moved_slot (if back then Some f.setting.room else None) (slot_in f c entry)))
+    → SlotIsInCell turn f.setting (if back then exchanged f.setting.room else f.setting.room) c (turned_slot turn (moved_slot (if back then Some f.setting.room else None) (slot_in f c entry)))
 on_either true turn f c entry within has = on_back turn f c entry within has
 on_either false turn f c entry within has =
-    subst (λ x. SlotLiesIn turn f.setting f.setting.room c (turned_slot turn x)) (sym (unmoved (slot_in f c entry))) (on_front turn f c entry within has)
+    subst (λ x. SlotIsInCell turn f.setting f.setting.room c (turned_slot turn x)) (sym (unmoved (slot_in f c entry))) (on_front turn f c entry within has)
 
 abbrev pub mirror_of : Bool → Room → Option Room
 mirror_of m room = if m then Some room else None
 
 pub on_side : (m : Bool) (turn : Turn) (f : Filling) (s c : ℕ) (entry : Option ℕ) → c < size f.setting.grid → EntryFits f entry
-    → SlotLiesIn turn f.setting (side_room m f.setting.room s) c (turned_slot turn (moved_slot (mirror_on (mirror_of m f.setting.room) s) (slot_in f c entry)))
+    → SlotIsInCell turn f.setting (side_room m f.setting.room s) c (turned_slot turn (moved_slot (mirror_on (mirror_of m f.setting.room) s) (slot_in f c entry)))
 on_side true turn f s c entry within has = on_either (s % 2 == 1) turn f c entry within has
 on_side false turn f s c entry within has =
-    subst (λ m. SlotLiesIn turn f.setting f.setting.room c (turned_slot turn (moved_slot m (slot_in f c entry)))) (sym (either_way (s % 2 == 1) None))
+    subst (λ m. SlotIsInCell turn f.setting f.setting.room c (turned_slot turn (moved_slot m (slot_in f c entry)))) (sym (either_way (s % 2 == 1) None))
     (on_either false turn f c entry within has)
 
 -- ---- all sheets
 
-abbrev Each : (ℕ → MadeSlot → Type 0) → List MadeSlot → Type 0
+abbrev pub Each : (ℕ → MadeSlot → Type 0) → List MadeSlot → Type 0
 Each P xs = (k : ℕ) (d : MadeSlot) → k < length xs → P k (slice_index_or xs k d)
 
 pub numbered : (P : ℕ → MadeSlot → Type 0) (g : MadeSlot → MadeSlot) (f : ℕ → MadeSlot) (n : ℕ) → ((k : ℕ) → k < n → P k (g (f k))) → Each P (map g (map f (range_with_len 0 n)))
-numbered P g f n h k d less =
-    let xs = map f (range_with_len 0 n) in
-    let many = length-map-range_with_len f 0 n in
-    let same = length-map xs g in
-    let first : k < length xs = omega (arith, less, same) in
-    let below : k < n = omega (arith, first, many) in
-    subst (P k) (sym (get_or-map g xs k Blank d first ∙ ap g (get_or-map-range_with_len f 0 n k k Blank below (omega arith)))) (h k below)
+numbered P g f n h = subst (Each P) (fused g f (range_with_len 0 n)) (numbered_in_turn P (λ k. g (f k)) n h)
 
 -- sheet s of those that are moved and turned
 pub sheet_is : (turn : Turn) (m : Option Room) (made : ℕ → MadeSheet) (sheets s : ℕ) (d : MadeSheet) → s < sheets
@@ -434,8 +420,8 @@ sheet_is turn m made sheets s d less =
     get_or-map (turned_sheet turn) (mirrored m laid) s d d (omega (arith, within, count))
     ∙ ap (turned_sheet turn) (at_place m 0 s laid d within ∙ ap₂ (λ k x. moved_sheet (mirror_on m k) x) here (get_or-map-range_with_len made 0 sheets s s d less (omega arith)))
 
-filled_lie : (m : Bool) (turn : Turn) (f : Filling) (sheets cells : ℕ) (entry : (s c : ℕ) → Option ℕ) → cells ≤ size f.setting.grid → ((s c : ℕ) → EntryFits f (entry s c))
-    → LieInCells turn m f.setting (map (turned_sheet turn) (mirrored (mirror_of m f.setting.room) (filled f sheets cells entry)))
+pub filled_lie : (m : Bool) (turn : Turn) (f : Filling) (sheets cells : ℕ) (entry : (s c : ℕ) → Option ℕ) → cells ≤ size f.setting.grid → ((s c : ℕ) → EntryFits f (entry s c))
+    → AreInCells turn m f.setting (map (turned_sheet turn) (mirrored (mirror_of m f.setting.room) (filled f sheets cells entry)))
 filled_lie m turn f sheets cells entry enough fits s c sheet d less within =
     let mir = mirror_of m f.setting.room in
     let slot : ℕ → ℕ → MadeSlot = λ s c. slot_in f c (entry s c) in
@@ -447,7 +433,7 @@ filled_lie m turn f sheets cells entry enough fits s c sheet d less within =
     let same = length-map (mirrored mir laid) (turned_sheet turn) in
     let below : s < sheets = omega (arith, less, same, count, many) in
     let is = sheet_is turn mir made sheets s sheet below in
-    let P = SlotLiesIn turn f.setting (side_room m f.setting.room s) in
+    let P = SlotIsInCell turn f.setting (side_room m f.setting.room s) in
     let mv = moved_slot (mirror_on mir s) in
     let lie : Each P (map (turned_slot turn) (map mv (map (slot s) (range_with_len 0 cells)))) =
     subst (Each P) (fused (turned_slot turn) mv (map (slot s) (range_with_len 0 cells)))
@@ -457,7 +443,7 @@ filled_lie m turn f sheets cells entry enough fits s c sheet d less within =
 -- ---- zines
 
 -- what is in a zine's cell is moved by whole 10^-5 of a point too, and its paper has sides
-record IsWhole (page : Paper) (item : Item) : Type 0 where
+pub record IsWhole (page : Paper) (item : Item) : Type 0 where
   pub sides : IsPaper page
   pub scale : ℕ
   pub scale_is : item.scale ≡ pos scale
@@ -466,11 +452,11 @@ record IsWhole (page : Paper) (item : Item) : Type 0 where
   pub x_is : item.x ≡ in_points x
   pub y_is : item.y ≡ in_points y
 
-SlotIsWhole : MadeSlot → Type 0
+unfoldable pub SlotIsWhole : MadeSlot → Type 0
 SlotIsWhole Blank = ⊤
 SlotIsWhole (Placed page item paper) = IsWhole paper item
 
-zine_is_whole : (b : Bool) (f : Filling) (c : ℕ) (entry : Option ℕ) → 1 < size f.setting.grid → EntryFits f entry → SlotIsWhole (slot_on f b c entry)
+pub zine_is_whole : (b : Bool) (f : Filling) (c : ℕ) (entry : Option ℕ) → 1 < size f.setting.grid → EntryFits f entry → SlotIsWhole (slot_on f b c entry)
 unfolding SlotIsWhole
 zine_is_whole true f c None many has = tt
 zine_is_whole false f c None many has = tt
@@ -496,7 +482,7 @@ zine_is_whole false f c (Some page) many has =
     let is = cond-false (is_whole t paper) (alone c) (item_in paper t.room t.grid t.order (scale_on t paper) c) (one_of_many t paper many) in
     record { sides = has.page_is; scale = scale_on t paper; scale_is = ap (λ (i : Item). i.scale) is; x = by.0; y = by.1; x_is = by.2; y_is = by.3 }
 
-zine_turned : (turn : Turn) (t : Setting) (c : ℕ) (slot : MadeSlot) → t.room.trim ≡ 0 → SlotIsWhole slot → zine.SlotLiesInZine t c slot → SlotLiesInZine turn t c (turned_slot turn slot)
+zine_turned : (turn : Turn) (t : Setting) (c : ℕ) (slot : MadeSlot) → t.room.trim ≡ 0 → SlotIsWhole slot → zine.SlotLiesInZine t c slot → SlotIsInZine turn t c (turned_slot turn slot)
 unfolding SlotIsWhole
 zine_turned turn t c Blank trim is lies = tt
 zine_turned turn t c (Placed page item paper) trim is lies =
@@ -510,76 +496,30 @@ zine_turned turn t c (Placed page item paper) trim is lies =
 
 zine_sheet_lies : (turn : Turn) (f : Filling) (row : Row) (s : ℕ) → AreZineCells f.setting → AllFit f row
     → ((c : ℕ) (d : MadeSlot) → c < length (map (λ c. zine_slot f c (zine_entry row s c)) (range_with_len 0 8)) → zine.SlotLiesInZine f.setting c (slice_index_or (map (λ c. zine_slot f c (zine_entry row s c)) (range_with_len 0 8)) c d))
-    → Each (SlotLiesInZine turn f.setting) (map (turned_slot turn) (map (λ c. zine_slot f c (zine_entry row s c)) (range_with_len 0 8)))
+    → Each (SlotIsInZine turn f.setting) (map (turned_slot turn) (map (λ c. zine_slot f c (zine_entry row s c)) (range_with_len 0 8)))
 zine_sheet_lies turn f row s cells fits lie =
     let slot : ℕ → MadeSlot = λ c. zine_slot f c (zine_entry row s c) in
     let many = length-map-range_with_len slot 0 8 in
     let eight : size f.setting.grid ≡ 8 = ap size cells.grid_is in
-    numbered (SlotLiesInZine turn f.setting) (turned_slot turn) slot 8
+    numbered (SlotIsInZine turn f.setting) (turned_slot turn) slot 8
     (λ c within. zine_turned turn f.setting c (slot c) cells.untrimmed
     (zine_is_whole (nat_lt c 4) f (if nat_lt c 4 then 7 - c else c) (zine_entry row s c) (omega (arith, eight)) (fits (s * 8 + zine_place c)))
     (subst (zine.SlotLiesInZine f.setting c) (get_or-map-range_with_len slot 0 8 c c Blank within (omega arith)) (lie c Blank (omega (arith, within, many)))))
 
-zines_lie : (m : Bool) (turn : Turn) (f : Filling) (row : Row) → AreZineCells f.setting → AllFit f row
-    → LieInZines turn f.setting (map (turned_sheet turn) (mirrored (mirror_of m f.setting.room) (zine_sheets f row)))
+-- margins that are even are exchanged without a change
+pub even_either : (m : Bool) (room : Room) → room.left ≡ room.right → (xs : List MadeSheet) → mirrored (mirror_of m room) xs ≡ xs
+even_either true room even xs = even_sheets room even 0 xs
+even_either false room even xs = unmirrored 0 xs
+
+pub zines_lie : (m : Bool) (turn : Turn) (f : Filling) (row : Row) → AreZineCells f.setting → AllFit f row
+    → AreInZines turn f.setting (map (turned_sheet turn) (mirrored (mirror_of m f.setting.room) (zine_sheets f row)))
 zines_lie m turn f row cells fits =
     let made : ℕ → MadeSheet = λ s. record { paper = f.setting.room.paper; slots = map (λ c. zine_slot f c (zine_entry row s c)) (range_with_len 0 8) } in
     let sheets = blocks 8 (length row) in
     let lie = zine_lies_in_cells f row cells fits in
-    let P : MadeSheet → Type 0 = λ sheet. (c : ℕ) (d : MadeSlot) → c < length sheet.slots → SlotLiesInZine turn f.setting c (slice_index_or sheet.slots c d) in
+    let P : MadeSheet → Type 0 = λ sheet. (c : ℕ) (d : MadeSlot) → c < length sheet.slots → SlotIsInZine turn f.setting c (slice_index_or sheet.slots c d) in
     subst (λ xs. All P (map (turned_sheet turn) xs)) (sym (even_either m f.setting.room cells.even.across (zine_sheets f row)))
     (All-map P (turned_sheet turn) (map made (range_with_len 0 sheets))
-    (numbered_sheets (λ s sheet. P (turned_sheet turn sheet)) made sheets (λ s less.
+    (numbered_in_turn (λ s sheet. P (turned_sheet turn sheet)) made sheets (λ s less.
     zine_sheet_lies turn f row s cells fits (subst (λ (x : MadeSheet). (c : ℕ) (d : MadeSlot) → c < length x.slots → zine.SlotLiesInZine f.setting c (slice_index_or x.slots c d))
     (get_or-map-range_with_len made 0 sheets s s (made s) less (omega arith)) (lie s (made s) (let many = length-map-range_with_len made 0 sheets in omega (arith, less, many)))))))
-  where
-    numbered_sheets : (P : ℕ → MadeSheet → Type 0) (made : ℕ → MadeSheet) (n : ℕ) → ((s : ℕ) → s < n → P s (made s))
-        → (s : ℕ) (d : MadeSheet) → s < length (map made (range_with_len 0 n)) → P s (slice_index_or (map made (range_with_len 0 n)) s d)
-    numbered_sheets P made n h s d less =
-        let many = length-map-range_with_len made 0 n in
-        let below : s < n = omega (arith, less, many) in
-        subst (P s) (sym (get_or-map-range_with_len made 0 n s s d below (omega arith))) (h s below)
-
-    even_either : (m : Bool) (room : Room) → room.left ≡ room.right → (xs : List MadeSheet) → mirrored (mirror_of m room) xs ≡ xs
-    even_either true room even xs = even_sheets room even 0 xs
-    even_either false room even xs = unmirrored 0 xs
-
-lie_as : (m : Bool) (turn : Turn) (l : Laying) (leaves : ℕ) (papers : List Paper) (row : Row) → MayBeLaid l → FitAsLaid l leaves papers row
-    → LieAsWritten turn m l (map (turned_sheet turn) (mirrored (mirror_in m l) (sheets_laid l leaves papers row)))
-lie_as m turn (laying.AsTheyAre blank) leaves papers row may fits = tt
-lie_as m turn (laying.Poster p) leaves papers row may fits = tt
-lie_as m turn (laying.InCells t (scheme.Booklet turned_backs creep)) leaves papers row may fits = tt
-lie_as m turn (laying.InCells t scheme.Zine) leaves papers row may fits = zines_lie m turn (filling t papers) row may fits
-lie_as m turn (laying.InCells t (scheme.Grid cells)) leaves papers row may fits =
-    filled_lie m turn (filling t papers) (blocks cells (length row)) cells (grid_entry cells row) may.1 (λ s c. fits (s * cells + c))
-lie_as m turn (laying.InCells t (scheme.Cards cells)) leaves papers row may fits =
-    filled_lie m turn (filling t papers) (length row) cells (card_entry row) may.1 (λ s c. fits s)
-lie_as m turn (laying.InCells t (scheme.Stack cells)) leaves papers row may fits =
-    let sheets = blocks cells (length row) in
-    filled_lie m turn (filling t papers) sheets cells (stack_entry sheets row) may.1 (λ s c. fits (c * sheets + s))
-lie_as m turn (laying.InCells t scheme.Leaves) leaves papers row may fits =
-    let many = blocks (2 * size t.grid) (length row) in
-    filled_lie m turn (filling t papers) (2 * many) (size t.grid) (duplex_entry many (behind_in t) row) (omega arith)
-    (λ s c. fits ((if s % 2 == 0 then c else behind_in t c) * (2 * many) + s))
-
--- one scale for all pages leaves the room as it is
-pub same_mirror : (m same_scale : Bool) (l : Laying) (papers : List Paper) (row : Row) → mirror_in m l ≡ mirror_in m (evened_if same_scale l papers row)
-same_mirror m false l papers row = refl
-same_mirror m true (laying.AsTheyAre blank) papers row = refl
-same_mirror m true (laying.InCells t how) papers row = refl
-same_mirror m true (laying.Poster p) papers row = refl
-
-pub written_in_cells : WrittenInCells
-written_in_cells j made are =
-    let a = j.asked in
-    let papers = j.papers.now in
-    let laid = are.laid in
-    let row = are.asked.row in
-    let l = laying_for a papers row in
-    let turn = turn_of j.turn in
-    let printed = signed (sewn a) row in
-    let leaves = leaves_in (sewn a) row in
-    let same : made ≡ map (turned_sheet turn) (mirrored (mirror_in j.mirrored l) (sheets_laid l leaves papers printed)) = are.turned
-    ∙ ap₂ (λ (m : Option Room) (xs : List MadeSheet). map (turned_sheet turn) (mirrored m xs)) (same_mirror j.mirrored a.same_scale a.laying papers printed) are.asked.are_laid in
-    subst (LieAsWritten turn j.mirrored l) (sym same)
-    (lie_as j.mirrored turn l leaves papers printed (evened_may_be a.same_scale a.laying papers printed are.may.laid) are.asked.fits)

@@ -1,5 +1,6 @@
 pub mod BySpec
 pub mod Examples
+pub mod SideExamples
 pub mod Lines
 pub mod Places
 mod TrailerLines
@@ -15,4 +16,6 @@ mod Fit
 mod Written
 mod InCells
 mod Rooms
+mod InHalves
+mod Kept
 mod ReadInOrder

@@ -10,10 +10,7 @@ use Rattle.std.proofs.lemmas.List.FromFn.{get_or-map-range_with_len, length-map-
 use Rattle.rules.specs.Papers.{Paper}
 use Rattle.rules.specs.Placement.{Point}
 use Rattle.rules.specs.Specification.{Item, Measure, Turn, Upright, Left, Half, Right}
-use Rattle.rules.specs.Sheets.{blocks}
-use Rattle.made_sheets.specs.Choice.{signed}
 use Rattle.made_sheets.specs.Made.{MadeSlot, Blank, Placed, MadeSheet}
-use Rattle.made_sheets.specs.Rows.{Row}
 use Rattle.layouts.specs.declared.setting.Setting.{Setting}
 use Rattle.layouts.specs.Placed.{AreApart, ComesFirst, IsOfPage, Room, across, fine, stands, up}
 use Rattle.layouts.specs.Cells.{Along, along_height, along_width, cell, column_of, high, in_points, item_in, kept, row_of, size, step, turn_in, whole, wide}
@@ -25,31 +22,17 @@ use Rattle.layouts.proofs.Fitting.{in_cell}
 use Rattle.layouts.proofs.InGrid.{fits, on_sheet, sides_are}
 use Rattle.layouts.proofs.InOrder.{place_fits}
 use Rattle.layouts.proofs.Sides.{LiesIn}
-use Rattle.row_sheets.specs.Filled.{Filling, SlotIsInside, SlotsAreApart, behind_in, card_entry, duplex_entry, filled, grid_entry, slot_in, stack_entry}
-use Rattle.row_sheets.specs.Shapes.{filling}
+use Rattle.row_sheets.specs.Filled.{Filling, SlotIsInside, SlotsAreApart, filled, slot_in}
+use Rattle.row_sheets.specs.Halves.{CellIsOn}
 use Rattle.row_sheets.specs.Standing.{AllStand, EntryFits, StandsIn}
-use Rattle.pagespec.specs.Items.{turn_of}
-use Rattle.row_runs.specs.declared.asked.Laying.{Laying}
-use Rattle.row_runs.specs.declared.asked.Laying.TheVariants as laying
-use Rattle.row_runs.specs.declared.asked.Scheme.TheVariants as scheme
-use Rattle.row_runs.specs.Evened.{evened_if}
-use Rattle.row_runs.specs.Mirrored.{IsInPoints, exchanged, mirror_in, mirror_on, mirrored, moved_sheet, moved_slot, shift}
-use Rattle.row_runs.specs.Sheets.{FitAsLaid, MayBeLaid, laying_for, leaves_in, sewn, sheets_laid}
-use Rattle.row_runs.specs.Standing.{StandAsLaid}
+use Rattle.row_runs.specs.Mirrored.{IsInPoints, exchanged, mirror_on, mirrored, moved_sheet, moved_slot, shift}
 use Rattle.row_runs.specs.Turning.{turned_item, turned_paper, turned_sheet, turned_slot}
-use Rattle.row_runs.specs.Written.{KeepAsWritten, KeepRoom, SlotLiesIn, WrittenKeepRoom, side_room}
+use Rattle.row_runs.specs.Written.{KeepRoom, SlotIsInCell, side_room}
 use Rattle.row_runs.proofs.Backs.{filled_in_points, fused, side_stands}
-use Rattle.row_runs.proofs.Fit.{evened_may_be}
-use Rattle.row_runs.proofs.InCells.{Box, IsMoved, box_at, from_start, mirror_of, moved_by, moved_cell, moved_too, numbered, on_side, paper_of, point, same_mirror, sheet_is}
+use Rattle.row_runs.proofs.InCells.{Box, IsMoved, box_at, from_start, mirror_of, moved_by, moved_cell, moved_too, numbered, on_side, paper_of, point, sheet_is}
 use Rattle.row_runs.proofs.Written.{count_is}
 
 -- ---- a cell is on what the margins leave
-
-record CellIsIn (room : Room) (c : Cell) : Type 0 where
-  pub left : room.left ≤ c.left
-  pub right : c.left + c.width + room.right ≤ whole (nat_abs room.paper.width)
-  pub bottom : room.bottom ≤ c.bottom
-  pub top : c.bottom + c.height + room.top ≤ whole (nat_abs room.paper.height)
 
 kept_least : (b : Bool) (n : ℕ) → n ≤ (if b then n else n + 1)
 kept_least true n = omega arith
@@ -66,7 +49,7 @@ along_in a w c j some less =
     (omega (arith, before), omega (arith, all, one, is, after, some))
 
 cell_in : (room : Room) (rows columns : ℕ) (b : Bool) (row column : ℕ) → 0 < wide room (record { rows = rows; columns = columns; turned = b }) → 0 < high room (record { rows = rows; columns = columns; turned = b })
-    → row < rows → column < columns → CellIsIn room (cell_at room (record { rows = rows; columns = columns; turned = b }) row column)
+    → row < rows → column < columns → CellIsOn room (cell_at room (record { rows = rows; columns = columns; turned = b }) row column)
 cell_in room rows columns false row column some_wide some_high in_rows in_columns =
     let x = along_in (along_width room) (nat_abs room.paper.width) columns column some_wide in_columns in
     let y = along_in (along_height room) (nat_abs room.paper.height) rows (rows - (row + 1)) some_high (omega (arith, in_rows)) in
@@ -76,23 +59,23 @@ cell_in room rows columns true row column some_wide some_high in_rows in_columns
     let y = along_in (along_height room) (nat_abs room.paper.height) columns column some_wide in_columns in
     record { left = x.0; right = x.1; bottom = y.0; top = y.1 }
 
-moved_in : (room : Room) (c c' : Cell) → IsMoved room c c' → CellIsIn room c → CellIsIn (exchanged room) c'
+moved_in : (room : Room) (c c' : Cell) → IsMoved room c c' → CellIsOn room c → CellIsOn (exchanged room) c'
 moved_in room c c' is h =
     let l = is.left in let b = is.bottom in let w = is.width in let t = is.height in
     let left = h.left in let right = h.right in let bottom = h.bottom in let top = h.top in
     record { left = omega (arith, l, left); right = omega (arith, l, w, right); bottom = omega (arith, b, bottom); top = omega (arith, b, t, top) }
 
-either_in : (back : Bool) (t : Setting) (c : ℕ) → CellIsIn t.room (cell_at t.room t.grid (row_of t.order t.grid c) (column_of t.order t.grid c))
-    → CellIsIn (if back then exchanged t.room else t.room) (cell_at (if back then exchanged t.room else t.room) t.grid (row_of t.order t.grid c) (column_of t.order t.grid c))
+either_in : (back : Bool) (t : Setting) (c : ℕ) → CellIsOn t.room (cell_at t.room t.grid (row_of t.order t.grid c) (column_of t.order t.grid c))
+    → CellIsOn (if back then exchanged t.room else t.room) (cell_at (if back then exchanged t.room else t.room) t.grid (row_of t.order t.grid c) (column_of t.order t.grid c))
 either_in true t c h = moved_in t.room _ _ (moved_cell t.room t.grid.rows t.grid.columns t.grid.turned (row_of t.order t.grid c) (column_of t.order t.grid c)) h
 either_in false t c h = h
 
-side_in : (m : Bool) (t : Setting) (s c : ℕ) → CellIsIn t.room (cell_at t.room t.grid (row_of t.order t.grid c) (column_of t.order t.grid c))
-    → CellIsIn (side_room m t.room s) (cell_at (side_room m t.room s) t.grid (row_of t.order t.grid c) (column_of t.order t.grid c))
+side_in : (m : Bool) (t : Setting) (s c : ℕ) → CellIsOn t.room (cell_at t.room t.grid (row_of t.order t.grid c) (column_of t.order t.grid c))
+    → CellIsOn (side_room m t.room s) (cell_at (side_room m t.room s) t.grid (row_of t.order t.grid c) (column_of t.order t.grid c))
 side_in true t s c h = either_in (s % 2 == 1) t c h
 side_in false t s c h = h
 
-inside : (room : Room) (c : Cell) (p : Point) → IsPaper room.paper → CellIsIn room c → LiesInCell c 0 p → LiesIn room p
+pub inside : (room : Room) (c : Cell) (p : Point) → IsPaper room.paper → CellIsOn room c → LiesInCell c 0 p → LiesIn room p
 inside room c p on is at =
     let l = is.left in let r = is.right in let b = is.bottom in let t = is.top in
     let left = at.left in let right = at.right in let bottom = at.bottom in let top = at.top in
@@ -108,7 +91,7 @@ same_paper false room s = refl
 
 -- a slot that lies in its cell is inside
 slot_inside : (turn : Turn) (t : Setting) (room : Room) (c : ℕ) (slot : MadeSlot) → IsPaper room.paper → t.room.trim ≡ 0 → ((page : Paper) → is_whole t page ≡ false)
-    → CellIsIn room (cell_at room t.grid (row_of t.order t.grid c) (column_of t.order t.grid c)) → SlotLiesIn turn t room c slot → SlotIsInside room slot
+    → CellIsOn room (cell_at room t.grid (row_of t.order t.grid c) (column_of t.order t.grid c)) → SlotIsInCell turn t room c slot → SlotIsInside room slot
 slot_inside turn t room c Blank on none not is lies = tt
 slot_inside turn t room c (Placed page item paper) on none not is lies = λ p of.
     on_sheet room (stands paper item p) on
@@ -137,7 +120,7 @@ side_inside m turn f s c (Some page) within none not has =
 -- ---- pages that are apart
 
 -- by whole 10^-5 of a point, and with sides
-record IsMovedByWhole (turn : Turn) (page : Paper) (item : Item) : Type 0 where
+pub record IsMovedByWhole (turn : Turn) (page : Paper) (item : Item) : Type 0 where
   pub sides : IsPaper page
   pub turned_so : item.turn ≡ turn
   pub scale : ℕ
@@ -215,7 +198,7 @@ still_apart turn t room page page' one other none b b' (inl (inr h)) = inl (inr 
 still_apart turn t room page page' one other none b b' (inr (inl h)) = inr (inl (stays_up turn t room page page' one other none b b' h))
 still_apart turn t room page page' one other none b b' (inr (inr h)) = inr (inr (stays_up turn t room page' page other one none b' b h))
 
-SlotIsWhole : Turn → MadeSlot → Type 0
+unfoldable pub SlotIsWhole : Turn → MadeSlot → Type 0
 SlotIsWhole t Blank = ⊤
 SlotIsWhole t (Placed page item paper) = IsMovedByWhole t paper item
 
@@ -270,7 +253,7 @@ front_or_back false room s sheet points h = unmoved_stands (s % 2 == 1)
     unmoved_stands true = side_stands false room sheet points h
     unmoved_stands false = side_stands false room sheet points h
 
-all_apart : (turn t : Turn) (room : Room) (slots : List MadeSlot) → room.trim ≡ 0 → All (SlotIsWhole t) slots → AllPairs (SlotsAreApart room) slots → AllPairs (SlotsAreApart room) (map (turned_slot turn) slots)
+pub all_apart : (turn t : Turn) (room : Room) (slots : List MadeSlot) → room.trim ≡ 0 → All (SlotIsWhole t) slots → AllPairs (SlotsAreApart room) slots → AllPairs (SlotsAreApart room) (map (turned_slot turn) slots)
 all_apart turn t room slots none are apart i j d before less =
     let f = turned_slot turn in
     let second : j < length slots = subst (λ n. j < n) (length-map slots f) less in
@@ -281,7 +264,7 @@ all_apart turn t room slots none are apart i j d before less =
     (subst (SlotsAreApart room (f a)) (sym (get_or-map f slots j Blank d second))
     (slots_apart turn t room a b none (are i Blank first) (are j Blank second) (apart i j Blank before second)))
 
-filled_keep : (m : Bool) (turn : Turn) (f : Filling) (sheets cells : ℕ) (entry : (s c : ℕ) → Option ℕ) → cells ≤ size f.setting.grid → ((s c : ℕ) → EntryFits f (entry s c)) → AllStand f.setting.room (filled f sheets cells entry)
+pub filled_keep : (m : Bool) (turn : Turn) (f : Filling) (sheets cells : ℕ) (entry : (s c : ℕ) → Option ℕ) → cells ≤ size f.setting.grid → ((s c : ℕ) → EntryFits f (entry s c)) → AllStand f.setting.room (filled f sheets cells entry)
     → KeepRoom m f.setting (map (turned_sheet turn) (mirrored (mirror_of m f.setting.room) (filled f sheets cells entry)))
 filled_keep m turn f sheets cells entry enough fits stand none not s d less =
     let room = f.setting.room in
@@ -309,63 +292,3 @@ filled_keep m turn f sheets cells entry enough fits stand none not s d less =
       inside = in_room;
       apart = all_apart turn (turn_in f.setting.grid) (side_room m room s) (map mv (map (slot s) (range_with_len 0 cells))) (trim_is m room s none) are side.apart;
     })
-
--- all sheets of a laying in cells lie in its room
-abbrev StandInRoom : Laying → List MadeSheet → Type 0
-StandInRoom (laying.InCells t (scheme.Grid cells)) made = AllStand t.room made
-StandInRoom (laying.InCells t (scheme.Cards cells)) made = AllStand t.room made
-StandInRoom (laying.InCells t (scheme.Stack cells)) made = AllStand t.room made
-StandInRoom (laying.InCells t scheme.Leaves) made = AllStand t.room made
-StandInRoom other made = ⊤
-
-in_room_too : (same_scale : Bool) (l : Laying) (papers : List Paper) (row : Row) (made : List MadeSheet) → StandAsLaid l made → StandInRoom (evened_if same_scale l papers row) made
-in_room_too false (laying.AsTheyAre blank) papers row made h = tt
-in_room_too false (laying.Poster p) papers row made h = tt
-in_room_too false (laying.InCells t (scheme.Booklet turned_backs creep)) papers row made h = tt
-in_room_too false (laying.InCells t scheme.Zine) papers row made h = tt
-in_room_too false (laying.InCells t (scheme.Grid cells)) papers row made h = h
-in_room_too false (laying.InCells t (scheme.Cards cells)) papers row made h = h
-in_room_too false (laying.InCells t (scheme.Stack cells)) papers row made h = h
-in_room_too false (laying.InCells t scheme.Leaves) papers row made h = h
-in_room_too true (laying.AsTheyAre blank) papers row made h = tt
-in_room_too true (laying.Poster p) papers row made h = tt
-in_room_too true (laying.InCells t (scheme.Booklet turned_backs creep)) papers row made h = tt
-in_room_too true (laying.InCells t scheme.Zine) papers row made h = tt
-in_room_too true (laying.InCells t (scheme.Grid cells)) papers row made h = h
-in_room_too true (laying.InCells t (scheme.Cards cells)) papers row made h = h
-in_room_too true (laying.InCells t (scheme.Stack cells)) papers row made h = h
-in_room_too true (laying.InCells t scheme.Leaves) papers row made h = h
-
-keep_as : (m : Bool) (turn : Turn) (l : Laying) (leaves : ℕ) (papers : List Paper) (row : Row) → MayBeLaid l → FitAsLaid l leaves papers row → StandInRoom l (sheets_laid l leaves papers row)
-    → KeepAsWritten m l (map (turned_sheet turn) (mirrored (mirror_in m l) (sheets_laid l leaves papers row)))
-keep_as m turn (laying.AsTheyAre blank) leaves papers row may fits stand = tt
-keep_as m turn (laying.Poster p) leaves papers row may fits stand = tt
-keep_as m turn (laying.InCells t (scheme.Booklet turned_backs creep)) leaves papers row may fits stand = tt
-keep_as m turn (laying.InCells t scheme.Zine) leaves papers row may fits stand = tt
-keep_as m turn (laying.InCells t (scheme.Grid cells)) leaves papers row may fits stand =
-    filled_keep m turn (filling t papers) (blocks cells (length row)) cells (grid_entry cells row) may.1 (λ s c. fits (s * cells + c)) stand
-keep_as m turn (laying.InCells t (scheme.Cards cells)) leaves papers row may fits stand =
-    filled_keep m turn (filling t papers) (length row) cells (card_entry row) may.1 (λ s c. fits s) stand
-keep_as m turn (laying.InCells t (scheme.Stack cells)) leaves papers row may fits stand =
-    let sheets = blocks cells (length row) in
-    filled_keep m turn (filling t papers) sheets cells (stack_entry sheets row) may.1 (λ s c. fits (c * sheets + s)) stand
-keep_as m turn (laying.InCells t scheme.Leaves) leaves papers row may fits stand =
-    let many = blocks (2 * size t.grid) (length row) in
-    filled_keep m turn (filling t papers) (2 * many) (size t.grid) (duplex_entry many (behind_in t) row) (omega arith)
-    (λ s c. fits ((if s % 2 == 0 then c else behind_in t c) * (2 * many) + s)) stand
-
-pub written_keep_room : WrittenKeepRoom
-written_keep_room j made are =
-    let a = j.asked in
-    let papers = j.papers.now in
-    let laid = are.laid in
-    let row = are.asked.row in
-    let l = laying_for a papers row in
-    let turn = turn_of j.turn in
-    let printed = signed (sewn a) row in
-    let leaves = leaves_in (sewn a) row in
-    let same : made ≡ map (turned_sheet turn) (mirrored (mirror_in j.mirrored l) (sheets_laid l leaves papers printed)) = are.turned
-    ∙ ap₂ (λ (m : Option Room) (xs : List MadeSheet). map (turned_sheet turn) (mirrored m xs)) (same_mirror j.mirrored a.same_scale a.laying papers printed) are.asked.are_laid in
-    let stand : StandInRoom l (sheets_laid l leaves papers printed) = subst (StandInRoom l) are.asked.are_laid (in_room_too a.same_scale a.laying papers printed laid are.stand) in
-    subst (KeepAsWritten j.mirrored l) (sym same)
-    (keep_as j.mirrored turn l leaves papers printed (evened_may_be a.same_scale a.laying papers printed are.may.laid) are.asked.fits stand)

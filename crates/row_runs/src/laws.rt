@@ -39,28 +39,17 @@ pub fn written_as_laid()
     ensures turned { UprightIsUnturned }
 {}
 
-/// The sheets that are written lie as they are to be laid, if no page is turned; where left and right margins are exchanged on
-/// backs, each in the room of its side.
-pub fn written_stand()
-    ensures { WrittenStand }
-{}
-
 /// A page that lies in a cell lies there too once it is turned: exactly, if nothing is trimmed.
 pub fn turned_stays_in_cell()
     ensures { TurnedStaysInCell }
 {}
 
-/// So each page of the sheets that are written lies in its cell, turned or not, and on either side.
-pub fn written_in_cells()
-    ensures { WrittenInCells }
-{}
-
-/// Neither turned nor moved, the sheets that are written have their pages in their places.
-pub fn written_in_places()
-    ensures { WrittenInPlaces }
-{}
-
-/// Turned or not, and on either side, what isn't trimmed lies on what the margins leave, and apart by the gap.
-pub fn written_keep_room()
-    ensures { WrittenKeepRoom }
+/// What is written keeps its place. If no page is turned, the sheets stand as they are laid, each back between the margins of its
+/// side (`stand`), and are in order (`places`). Turned or not, each page lies in its cell (`cells`), and untrimmed ones between
+/// the margins and apart (`room`).
+pub fn written_keeps_place()
+    ensures stand { WrittenStand }
+    ensures places { WrittenInPlaces }
+    ensures cells { WrittenInCells }
+    ensures room { WrittenKeepRoom }
 {}

@@ -1,0 +1,132 @@
+-- Each page of a booklet lies in its half, also if it is turned, and sides keep what is left of the gap.
+use Rattle.std.proofs.Common.{arith, ◌≡◌, ◌∙◌, ℕ, ◌<◌, Bool, true, false, List, Option, Some, None, ap, refl, subst, sym, length, map}
+use Rattle.std.specs.Prelude.{ℤ, pos, ◌+ℤ◌, ◌*ℤ◌, nat_abs, slice_index_or}
+use Rattle.std.specs.List.{range_with_len}
+use Rattle.std.proofs.lemmas.Int.{ints}
+use Rattle.rules.specs.Papers.{Paper, Pt}
+use Rattle.rules.specs.Sheets.{blocks}
+use Rattle.rules.specs.Specification.{Item, Measure, Turn}
+use Rattle.made_sheets.specs.Made.{MadeSheet, MadeSlot}
+use Rattle.made_sheets.specs.Rows.{Row}
+use Rattle.layouts.specs.declared.setting.Setting.{Setting}
+use Rattle.layouts.specs.Cells.{kept, size}
+use Rattle.layouts.specs.Laws.{LiesInCell}
+use Rattle.layouts.specs.Placed.{stands}
+use Rattle.layouts.proofs.InGrid.{on_sheet, sides_are}
+use Rattle.row_sheets.specs.Creep.{AreHalves, creep_on, creeping, creeping_sheets, creeping_slot, in_half, moved_up, up_to_fold}
+use Rattle.row_sheets.specs.Filled.{Filling, SlotIsInside, grid_entry, is_turned}
+use Rattle.row_sheets.specs.Halves.{creeping_half, crept_room, side_turn}
+use Rattle.row_sheets.specs.Standing.{AllFitOnLeaves, EntryCreeps, EntryFits, StandsIn}
+use Rattle.row_sheets.proofs.Halves.{slot_lies}
+use Rattle.row_sheets.proofs.LeftGap.{side_of, side_stands}
+use Rattle.row_sheets.proofs.OnLeaves.{fits_in}
+use Rattle.row_sheets.proofs.OnSheets.{numbered as numbered_in_turn}
+use Rattle.row_runs.specs.Mirrored.{mirrored}
+use Rattle.row_runs.specs.Turning.{both, turned_item, turned_paper, turned_sheet, turned_slot}
+use Rattle.row_runs.specs.Written.{AreInHalves, KeepLeaves, SlotIsInHalf}
+use Rattle.row_runs.proofs.Backs.{fused}
+use Rattle.row_runs.proofs.InCells.{IsWhole, SlotIsWhole, even_either, mirror_of, numbered, turned_stays_in_cell, zine_is_whole}
+use Rattle.row_runs.proofs.Rooms.{SlotIsWhole as SlotIsWholeSo, all_apart, inside}
+
+-- ---- a page
+
+two_halves : (t : Setting) → AreHalves t → 1 < size t.grid
+two_halves t halved = let two : size t.grid ≡ 2 = ap size halved.grid_is in omega (arith, two)
+
+-- it is moved by whole 10^-5 of a point, also where its leaf creeps
+half_is_whole : (f : Filling) (by_half : Bool) (k page : ℕ) → 1 < size f.setting.grid → EntryFits f (Some page) → IsWhole (f.paper_of page) (in_half f.setting by_half (f.paper_of page) k)
+unfolding SlotIsWhole
+half_is_whole f true k page many has = zine_is_whole true f k (Some page) many has
+half_is_whole f false k page many has = zine_is_whole false f k (Some page) many has
+
+moved_is_whole : (page : Paper) (by : ℤ) (item : Item) → IsWhole page item → IsWhole page (moved_up by item)
+moved_is_whole page by item is =
+    let y = is.y in
+    let sum : (pos 10_000 *ℤ y) +ℤ (pos 10_000 *ℤ by) ≡ pos 10_000 *ℤ (y +ℤ by) = omega (arith, ints) in
+    record {
+      sides = is.sides;
+      scale = is.scale;
+      scale_is = is.scale_is;
+      x = is.x;
+      y = is.y +ℤ by;
+      x_is = is.x_is;
+      y_is = ap (λ (m : Measure). record { number = m.number +ℤ (pos 10_000 *ℤ by); unit = Pt }) is.y_is ∙ ap (λ n. record { number = n; unit = Pt }) sum;
+    }
+
+page_is_whole : (f : Filling) (by_half : Bool) (k creep page : ℕ) → AreHalves f.setting → EntryCreeps f creep (Some page) → IsWhole (f.paper_of page) (creeping f.setting by_half (f.paper_of page) k creep)
+page_is_whole f by_half k creep page halved has =
+    let paper = f.paper_of page in
+    moved_is_whole paper (up_to_fold f.setting.order.right_to_left by_half k creep) (in_half f.setting by_half paper k)
+    (half_is_whole f by_half k page (two_halves f.setting halved) (fits_in f.setting paper creep has))
+
+slot_in_half : (turn : Turn) (f : Filling) (by_half : Bool) (k creep : ℕ) (entry : Option ℕ) → k < 2 → AreHalves f.setting → EntryCreeps f creep entry
+    → SlotIsInHalf turn f.setting by_half k creep (turned_slot turn (creeping_slot f by_half k creep entry))
+slot_in_half turn f by_half k creep None less halved has = tt
+slot_in_half turn f by_half k creep (Some page) less halved has =
+    let t = f.setting in
+    let paper = f.paper_of page in
+    let lies = slot_lies f by_half k creep (Some page) less halved has in
+    let is = page_is_whole f by_half k creep page halved has in
+    let sides = sides_are paper is.sides in (
+      ap (both turn) lies.turn,
+      turned_stays_in_cell turn t.room paper (creeping_half t by_half k creep) (kept t.room.trim 0) (creeping t by_half paper k creep) (nat_abs paper.width) (nat_abs paper.height) is.scale is.x is.y
+          (ap (λ (p : Paper). p.width) sides) (ap (λ (p : Paper). p.height) sides) is.scale_is is.x_is is.y_is lies.in_cell,
+    )
+
+-- if nothing is trimmed it lies between the margins
+slot_keeps : (turn : Turn) (f : Filling) (by_half : Bool) (k creep : ℕ) (entry : Option ℕ) → k < 2 → f.setting.room.trim ≡ 0 → AreHalves f.setting → EntryCreeps f creep entry
+    → SlotIsInside (crept_room f.setting.room creep) (turned_slot turn (creeping_slot f by_half k creep entry))
+slot_keeps turn f by_half k creep None less none halved has = tt
+slot_keeps turn f by_half k creep (Some page) less none halved has = λ p of.
+    let t = f.setting in
+    let paper = f.paper_of page in
+    let room = crept_room t.room creep in
+    let item = turned_item turn paper (creeping t by_half paper k creep) in
+    let cell = creeping_half t by_half k creep in
+    let on = (slot_lies f by_half k creep (Some page) less halved has).is_on in
+    let at = (slot_in_half turn f by_half k creep (Some page) less halved has).1 p of in
+    on_sheet room (stands (turned_paper turn paper) item p) has.sheet_is
+    (inside room cell (stands (turned_paper turn paper) item p) has.sheet_is (record { left = on.left; right = on.right; bottom = on.bottom; top = on.top })
+    (subst (λ n. LiesInCell cell n (stands (turned_paper turn paper) item p)) (ap (λ l. kept l (kept l 0)) none) at))
+
+slot_is_whole : (f : Filling) (by_half : Bool) (k creep : ℕ) (entry : Option ℕ) → k < 2 → AreHalves f.setting → EntryCreeps f creep entry → SlotIsWholeSo (side_turn by_half) (creeping_slot f by_half k creep entry)
+unfolding SlotIsWholeSo
+slot_is_whole f by_half k creep None less halved has = tt
+slot_is_whole f by_half k creep (Some page) less halved has =
+    let is = page_is_whole f by_half k creep page halved has in
+    record { sides = is.sides; turned_so = (slot_lies f by_half k creep (Some page) less halved has).turn; scale = is.scale; scale_is = is.scale_is; x = is.x; y = is.y; x_is = is.x_is; y_is = is.y_is }
+
+-- ---- all sides
+
+-- what holds of each side of a booklet, with its pages turned
+on_sides : (P : ℕ → MadeSheet → Type 0) (m : Bool) (turn : Turn) (f : Filling) (turned_backs : Bool) (creep leaves : ℕ) (row : Row) → AreHalves f.setting
+    → ((s : ℕ) → P s (turned_sheet turn (side_of f (is_turned turned_backs s) (creep_on creep leaves s) (grid_entry 2 row s 0) (grid_entry 2 row s 1))))
+    → (s : ℕ) (d : MadeSheet) → s < length (map (turned_sheet turn) (mirrored (mirror_of m f.setting.room) (creeping_sheets f turned_backs creep leaves row)))
+    → P s (slice_index_or (map (turned_sheet turn) (mirrored (mirror_of m f.setting.room) (creeping_sheets f turned_backs creep leaves row))) s d)
+on_sides P m turn f turned_backs creep leaves row halved each =
+    let side : ℕ → MadeSheet = λ s. side_of f (is_turned turned_backs s) (creep_on creep leaves s) (grid_entry 2 row s 0) (grid_entry 2 row s 1) in
+    let sheets = blocks 2 (length row) in
+    let All : List MadeSheet → Type 0 = λ xs. (s : ℕ) (d : MadeSheet) → s < length xs → P s (slice_index_or xs s d) in
+    subst (λ xs. All (map (turned_sheet turn) xs)) (sym (even_either m f.setting.room halved.even.across (creeping_sheets f turned_backs creep leaves row)))
+    (subst All (fused (turned_sheet turn) side (range_with_len 0 sheets)) (numbered_in_turn P (λ s. turned_sheet turn (side s)) sheets (λ s less. each s)))
+
+pub halves_lie : (m : Bool) (turn : Turn) (f : Filling) (turned_backs : Bool) (creep leaves : ℕ) (row : Row) → AreHalves f.setting → AllFitOnLeaves f creep leaves row
+    → AreInHalves turn f.setting turned_backs creep leaves (map (turned_sheet turn) (mirrored (mirror_of m f.setting.room) (creeping_sheets f turned_backs creep leaves row)))
+halves_lie m turn f turned_backs creep leaves row halved fit s k sheet d less within =
+    on_sides (λ s x. (k : ℕ) (d : MadeSlot) → k < length x.slots → SlotIsInHalf turn f.setting (is_turned turned_backs s) k (creep_on creep leaves s) (slice_index_or x.slots k d)) m turn f turned_backs creep leaves row halved
+    (λ s. let half = is_turned turned_backs s in let by = creep_on creep leaves s in
+    numbered (λ k. SlotIsInHalf turn f.setting half k by) (turned_slot turn) (λ k. creeping_slot f half k by (grid_entry 2 row s k)) 2
+    (λ k in_k. slot_in_half turn f half k by (grid_entry 2 row s k) in_k halved (fit s k in_k))) s sheet less k d within
+
+pub leaves_keep : (m : Bool) (turn : Turn) (f : Filling) (turned_backs : Bool) (creep leaves : ℕ) (row : Row) → AreHalves f.setting → AllFitOnLeaves f creep leaves row
+    → KeepLeaves f.setting creep leaves (map (turned_sheet turn) (mirrored (mirror_of m f.setting.room) (creeping_sheets f turned_backs creep leaves row)))
+leaves_keep m turn f turned_backs creep leaves row halved fit none =
+    on_sides (λ s. StandsIn (crept_room f.setting.room (creep_on creep leaves s))) m turn f turned_backs creep leaves row halved
+    (λ s. let half = is_turned turned_backs s in let by = creep_on creep leaves s in let slot : ℕ → MadeSlot = λ k. creeping_slot f half k by (grid_entry 2 row s k) in record {
+      paper = refl;
+      inside = numbered (λ k. SlotIsInside (crept_room f.setting.room by)) (turned_slot turn) slot 2
+          (λ k in_k. slot_keeps turn f half k by (grid_entry 2 row s k) in_k none halved (fit s k in_k));
+      apart = all_apart turn (side_turn half) (crept_room f.setting.room by) (map slot (range_with_len 0 2)) none
+          (numbered_in_turn (λ k. SlotIsWholeSo (side_turn half)) slot 2 (λ k in_k. slot_is_whole f half k by (grid_entry 2 row s k) in_k halved (fit s k in_k)))
+          (side_stands f half by (grid_entry 2 row s 0) (grid_entry 2 row s 1) halved (fit s 0 (omega arith)) (fit s 1 (omega arith))).apart;
+    })

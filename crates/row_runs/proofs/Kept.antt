@@ -1,0 +1,132 @@
+-- What is written keeps its cells and its room.
+use Rattle.std.proofs.Common.{arith, ◌≡◌, ◌∙◌, ℕ, ◌+◌, ◌*◌, Bool, true, false, List, Option, ap₂, refl, subst, sym, length, map}
+use Rattle.std.specs.Prelude.{⊤, ◌==◌, ◌%◌, if◌then◌else◌}
+use Rattle.rules.specs.Papers.{Paper}
+use Rattle.rules.specs.Sheets.{blocks}
+use Rattle.rules.specs.Specification.{Turn}
+use Rattle.made_sheets.specs.Choice.{signed}
+use Rattle.made_sheets.specs.Made.{MadeSheet}
+use Rattle.made_sheets.specs.Rows.{Row}
+use Rattle.layouts.specs.Cells.{size}
+use Rattle.layouts.specs.Placed.{Room}
+use Rattle.row_sheets.specs.Filled.{behind_in, card_entry, duplex_entry, grid_entry, stack_entry}
+use Rattle.row_sheets.specs.Shapes.{filling}
+use Rattle.row_sheets.specs.Standing.{AllStand}
+use Rattle.pagespec.specs.Items.{turn_of}
+use Rattle.row_runs.specs.declared.asked.Laying.{Laying}
+use Rattle.row_runs.specs.declared.asked.Laying.TheVariants as laying
+use Rattle.row_runs.specs.declared.asked.Scheme.TheVariants as scheme
+use Rattle.row_runs.specs.Evened.{evened_if}
+use Rattle.row_runs.specs.Mirrored.{mirror_in, mirrored}
+use Rattle.row_runs.specs.Sheets.{FitAsLaid, MayBeLaid, laying_for, leaves_in, sewn, sheets_laid}
+use Rattle.row_runs.specs.Standing.{StandAsLaid}
+use Rattle.row_runs.specs.Turning.{turned_sheet}
+use Rattle.row_runs.specs.Written.{AreInTheirCells, KeepTheirRoom, WrittenInCells, WrittenKeepRoom}
+use Rattle.row_runs.proofs.Fit.{evened_may_be}
+use Rattle.row_runs.proofs.InCells.{filled_lie, zines_lie}
+use Rattle.row_runs.proofs.InHalves.{halves_lie, leaves_keep}
+use Rattle.row_runs.proofs.Rooms.{filled_keep}
+
+-- ---- in their cells
+
+lie_as : (m : Bool) (turn : Turn) (l : Laying) (leaves : ℕ) (papers : List Paper) (row : Row) → MayBeLaid l → FitAsLaid l leaves papers row
+    → AreInTheirCells turn m l leaves (map (turned_sheet turn) (mirrored (mirror_in m l) (sheets_laid l leaves papers row)))
+lie_as m turn (laying.AsTheyAre blank) leaves papers row may fits = tt
+lie_as m turn (laying.Poster p) leaves papers row may fits = tt
+lie_as m turn (laying.InCells t (scheme.Booklet turned_backs creep)) leaves papers row may fits = halves_lie m turn (filling t papers) turned_backs creep leaves row may fits
+lie_as m turn (laying.InCells t scheme.Zine) leaves papers row may fits = zines_lie m turn (filling t papers) row may fits
+lie_as m turn (laying.InCells t (scheme.Grid cells)) leaves papers row may fits =
+    filled_lie m turn (filling t papers) (blocks cells (length row)) cells (grid_entry cells row) may.1 (λ s c. fits (s * cells + c))
+lie_as m turn (laying.InCells t (scheme.Cards cells)) leaves papers row may fits =
+    filled_lie m turn (filling t papers) (length row) cells (card_entry row) may.1 (λ s c. fits s)
+lie_as m turn (laying.InCells t (scheme.Stack cells)) leaves papers row may fits =
+    let sheets = blocks cells (length row) in
+    filled_lie m turn (filling t papers) sheets cells (stack_entry sheets row) may.1 (λ s c. fits (c * sheets + s))
+lie_as m turn (laying.InCells t scheme.Leaves) leaves papers row may fits =
+    let many = blocks (2 * size t.grid) (length row) in
+    filled_lie m turn (filling t papers) (2 * many) (size t.grid) (duplex_entry many (behind_in t) row) (omega arith)
+    (λ s c. fits ((if s % 2 == 0 then c else behind_in t c) * (2 * many) + s))
+
+-- one scale for all pages leaves the room as it is
+pub same_mirror : (m same_scale : Bool) (l : Laying) (papers : List Paper) (row : Row) → mirror_in m l ≡ mirror_in m (evened_if same_scale l papers row)
+same_mirror m false l papers row = refl
+same_mirror m true (laying.AsTheyAre blank) papers row = refl
+same_mirror m true (laying.InCells t how) papers row = refl
+same_mirror m true (laying.Poster p) papers row = refl
+
+pub written_in_cells : WrittenInCells
+written_in_cells j made are =
+    let a = j.asked in
+    let papers = j.papers.now in
+    let laid = are.laid in
+    let row = are.asked.row in
+    let l = laying_for a papers row in
+    let turn = turn_of j.turn in
+    let printed = signed (sewn a) row in
+    let leaves = leaves_in (sewn a) row in
+    let same : made ≡ map (turned_sheet turn) (mirrored (mirror_in j.mirrored l) (sheets_laid l leaves papers printed)) = are.turned
+    ∙ ap₂ (λ (m : Option Room) (xs : List MadeSheet). map (turned_sheet turn) (mirrored m xs)) (same_mirror j.mirrored a.same_scale a.laying papers printed) are.asked.are_laid in
+    subst (AreInTheirCells turn j.mirrored l leaves) (sym same)
+    (lie_as j.mirrored turn l leaves papers printed (evened_may_be a.same_scale a.laying papers printed are.may.laid) are.asked.fits)
+
+-- ---- between the margins
+
+-- all sheets of a laying in cells lie in its room
+abbrev StandInRoom : Laying → List MadeSheet → Type 0
+StandInRoom (laying.InCells t (scheme.Grid cells)) made = AllStand t.room made
+StandInRoom (laying.InCells t (scheme.Cards cells)) made = AllStand t.room made
+StandInRoom (laying.InCells t (scheme.Stack cells)) made = AllStand t.room made
+StandInRoom (laying.InCells t scheme.Leaves) made = AllStand t.room made
+StandInRoom other made = ⊤
+
+in_room_too : (same_scale : Bool) (l : Laying) (papers : List Paper) (row : Row) (made : List MadeSheet) → StandAsLaid l made → StandInRoom (evened_if same_scale l papers row) made
+in_room_too false (laying.AsTheyAre blank) papers row made h = tt
+in_room_too false (laying.Poster p) papers row made h = tt
+in_room_too false (laying.InCells t (scheme.Booklet turned_backs creep)) papers row made h = tt
+in_room_too false (laying.InCells t scheme.Zine) papers row made h = tt
+in_room_too false (laying.InCells t (scheme.Grid cells)) papers row made h = h
+in_room_too false (laying.InCells t (scheme.Cards cells)) papers row made h = h
+in_room_too false (laying.InCells t (scheme.Stack cells)) papers row made h = h
+in_room_too false (laying.InCells t scheme.Leaves) papers row made h = h
+in_room_too true (laying.AsTheyAre blank) papers row made h = tt
+in_room_too true (laying.Poster p) papers row made h = tt
+in_room_too true (laying.InCells t (scheme.Booklet turned_backs creep)) papers row made h = tt
+in_room_too true (laying.InCells t scheme.Zine) papers row made h = tt
+in_room_too true (laying.InCells t (scheme.Grid cells)) papers row made h = h
+in_room_too true (laying.InCells t (scheme.Cards cells)) papers row made h = h
+in_room_too true (laying.InCells t (scheme.Stack cells)) papers row made h = h
+in_room_too true (laying.InCells t scheme.Leaves) papers row made h = h
+
+keep_as : (m : Bool) (turn : Turn) (l : Laying) (leaves : ℕ) (papers : List Paper) (row : Row) → MayBeLaid l → FitAsLaid l leaves papers row → StandInRoom l (sheets_laid l leaves papers row)
+    → KeepTheirRoom m l leaves (map (turned_sheet turn) (mirrored (mirror_in m l) (sheets_laid l leaves papers row)))
+keep_as m turn (laying.AsTheyAre blank) leaves papers row may fits stand = tt
+keep_as m turn (laying.Poster p) leaves papers row may fits stand = tt
+keep_as m turn (laying.InCells t (scheme.Booklet turned_backs creep)) leaves papers row may fits stand = leaves_keep m turn (filling t papers) turned_backs creep leaves row may fits
+keep_as m turn (laying.InCells t scheme.Zine) leaves papers row may fits stand = tt
+keep_as m turn (laying.InCells t (scheme.Grid cells)) leaves papers row may fits stand =
+    filled_keep m turn (filling t papers) (blocks cells (length row)) cells (grid_entry cells row) may.1 (λ s c. fits (s * cells + c)) stand
+keep_as m turn (laying.InCells t (scheme.Cards cells)) leaves papers row may fits stand =
+    filled_keep m turn (filling t papers) (length row) cells (card_entry row) may.1 (λ s c. fits s) stand
+keep_as m turn (laying.InCells t (scheme.Stack cells)) leaves papers row may fits stand =
+    let sheets = blocks cells (length row) in
+    filled_keep m turn (filling t papers) sheets cells (stack_entry sheets row) may.1 (λ s c. fits (c * sheets + s)) stand
+keep_as m turn (laying.InCells t scheme.Leaves) leaves papers row may fits stand =
+    let many = blocks (2 * size t.grid) (length row) in
+    filled_keep m turn (filling t papers) (2 * many) (size t.grid) (duplex_entry many (behind_in t) row) (omega arith)
+    (λ s c. fits ((if s % 2 == 0 then c else behind_in t c) * (2 * many) + s)) stand
+
+pub written_keep_room : WrittenKeepRoom
+written_keep_room j made are =
+    let a = j.asked in
+    let papers = j.papers.now in
+    let laid = are.laid in
+    let row = are.asked.row in
+    let l = laying_for a papers row in
+    let turn = turn_of j.turn in
+    let printed = signed (sewn a) row in
+    let leaves = leaves_in (sewn a) row in
+    let same : made ≡ map (turned_sheet turn) (mirrored (mirror_in j.mirrored l) (sheets_laid l leaves papers printed)) = are.turned
+    ∙ ap₂ (λ (m : Option Room) (xs : List MadeSheet). map (turned_sheet turn) (mirrored m xs)) (same_mirror j.mirrored a.same_scale a.laying papers printed) are.asked.are_laid in
+    let stand : StandInRoom l (sheets_laid l leaves papers printed) = subst (StandInRoom l) are.asked.are_laid (in_room_too a.same_scale a.laying papers printed laid are.stand) in
+    subst (KeepTheirRoom j.mirrored l leaves) (sym same)
+    (keep_as j.mirrored turn l leaves papers printed (evened_may_be a.same_scale a.laying papers printed are.may.laid) are.asked.fits stand)
