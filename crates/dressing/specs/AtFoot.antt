@@ -40,7 +40,7 @@ pub record IsAtFoot (turn : Turn) (cell : Cell) (p : Point) : Type 0 where
   pub in_cell : (high : ℕ) → high ≤ above_foot → 3_600_000 ≤ high_as_held turn cell
       → LiesInCell cell 2 (finer (moved p (turned turn (record { x = pos 0; y = pos high }))))
 
--- so does the number of each page that is in the middle of its cell: a law
+-- so does the number of each page that is in the middle of its cell, as by `impose nup 4 --numbers 9pt`: a law
 abbrev pub NumbersAreAtFoot : Type 0
 NumbersAreAtFoot = (turn : Turn) (page : Paper) (cell : Cell) (item : Item) (scale : ℕ) → IsPaper page → item.turn ≡ turn
     → item.scale ≡ pos scale → IsInMiddle page cell item

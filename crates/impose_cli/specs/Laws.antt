@@ -76,7 +76,7 @@ IsOfFirst (laying.AsTheyAre blank) papers row paper =
 IsOfFirst (laying.InCells t how) papers row paper = t.room.paper ≡ paper
 IsOfFirst (laying.Poster p) papers row paper = p.sheet ≡ paper
 
--- the guard sets the page size of the first sheet that is made: a law
+-- the guard sets the page size of the first sheet that is made, as by `impose select 1-`: a law
 abbrev pub GuardIsOfFirst : Type 0
 GuardIsOfFirst = (r : ImposeRequest) (papers : List Paper) (page_paper : Paper) (row : Row) (l : Laying) → laying_by r page_paper ≡ Some l
     → imposed_row (length papers) (choice_in r.choice) None ≡ Ok row → IsOfFirst l papers row (guarded_paper r papers page_paper)

@@ -63,7 +63,7 @@ pub record IsOfKind (ks : List PaperKind) (i : ℕ) (d : PaperKind) (p : Paper) 
   pub near : is_near p (slice_index_or ks i d).first ≡ true
   pub of_no_earlier : (h : ℕ) → h < i → is_near p (slice_index_or ks h d).first ≡ false
 
--- papers of one kind count as one: a law
+-- papers of one kind count as one, as those of the pages of `impose select 1-`: a law
 abbrev pub NearAreOne : Type 0
 NearAreOne = (taken own : List Paper) (i j k : ℕ) (d : PaperKind) (e : Paper) → j < length own → k < length own
     → IsOfKind (kinds most_kinds taken) i d (slice_index_or own j e) → IsOfKind (kinds most_kinds taken) i d (slice_index_or own k e)

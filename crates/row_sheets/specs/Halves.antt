@@ -67,7 +67,7 @@ abbrev pub LieInHalves : Setting → (turned_backs : Bool) → (creep leaves : �
 LieInHalves t turned_backs creep leaves made = (s k : ℕ) (sheet : MadeSheet) (d : MadeSlot) → s < length made → k < length (slice_index_or made s sheet).slots
     → SlotLiesInHalf t (is_turned turned_backs s) k (creep_on creep leaves s) (slice_index_or (slice_index_or made s sheet).slots k d)
 
--- so it is of a booklet, if nothing had to be refused: a law
+-- so it is of a booklet, if nothing had to be refused, as by `impose booklet --creep 2mm --gap 1cm`: a law
 abbrev pub BookletLiesInHalves : Type 0
 BookletLiesInHalves = (f : Filling) (turned_backs : Bool) (creep leaves : ℕ) (row : Row) → AreHalves f.setting → AllFitOnLeaves f creep leaves row
     → LieInHalves f.setting turned_backs creep leaves (creeping_sheets f turned_backs creep leaves row)

@@ -246,7 +246,7 @@ pub record IsLarge (page : Paper) (p : Poster) : Type 0 where
   pub largest : (scale : ℕ) → FitsTiles page p scale → scale ≤ poster_scale page p
   pub large : (scale : ℕ) → IsNoTinyPage page → HasTiles p → AllowTiles page p scale → scale < poster_scale page p + 1_000 * (p.columns + p.rows)
 
--- so it is of each page that has sides: a law
+-- so it is of each page that has sides, as by `impose poster 2x2 --overlap 1cm`: a law
 abbrev pub PosterIsLarge : Type 0
 PosterIsLarge = (page : Paper) (p : Poster) → IsPaper page → IsLarge page p
 

@@ -107,6 +107,6 @@ SlotLiesInZine t c (Placed page item paper) = LiesInZine t c paper item
 abbrev pub LieInZines : Setting → List MadeSheet → Type 0
 LieInZines t made = All (λ sheet. (c : ℕ) (d : MadeSlot) → c < length sheet.slots → SlotLiesInZine t c (slice_index_or sheet.slots c d)) made
 
--- so it is of a zine, if nothing had to be refused: a law
+-- so it is of a zine, if nothing had to be refused, as by `impose zine`: a law
 abbrev pub ZineLiesInCells : Type 0
 ZineLiesInCells = (f : Filling) (row : Row) → AreZineCells f.setting → AllFit f row → LieInZines f.setting (zine_sheets f row)
