@@ -1,0 +1,168 @@
+"""Pages of a PDF: their boxes and sizes, and the forms that they become. Nothing of their contents is decoded."""
+
+from collections.abc import Iterator
+from dataclasses import dataclass
+from typing import Any
+
+from pikepdf import Array, Dictionary, Name, Object, Page, Pdf, Stream
+
+from impose_pdf.plan import Matrix, Size
+
+Box = tuple[float, float, float, float]
+INHERITED = ("/Resources", "/MediaBox", "/CropBox", "/Rotate")
+LETTER: Box = (0, 0, 612, 792)
+UPRIGHT: Matrix = (1, 0, 0, 1, 0, 0)
+
+
+def then(m: Matrix, n: Matrix) -> Matrix:
+    """The matrix of one place after another."""
+    a, b, c, d, e, f = m
+    p, q, r, s, t, u = n
+    return a * p + b * r, a * q + b * s, c * p + d * r, c * q + d * s, e * p + f * r + t, e * q + f * s + u
+
+
+def moved(x: float, y: float, m: Matrix) -> tuple[float, float]:
+    """A point, moved by a matrix."""
+    return m[0] * x + m[2] * y + m[4], m[1] * x + m[3] * y + m[5]
+
+
+def bounds(box: Box, m: Matrix) -> Box:
+    """The box round a box that is moved by a matrix."""
+    xs, ys = zip(*(moved(x, y, m) for x in box[::2] for y in box[1::2]))
+    return min(xs), min(ys), max(xs), max(ys)
+
+
+def numerals(*values: float) -> str:
+    """Numbers as PDF has them."""
+    return " ".join(f"{value:.9f}".rstrip("0").rstrip(".") if value % 1 else str(int(value)) for value in values)
+
+
+def array(*values: float) -> Object:
+    """Numbers as an array; parsing them is ten times as fast as giving them one by one."""
+    return Object.parse(f"[{numerals(*(round(value, 6) for value in values))}]".encode())
+
+
+def numbers(values: Any) -> list[float]:
+    """The numbers of an array, or none if it has other things."""
+    try:
+        return [float(value) for value in values.unparse(True)[1:-1].split()]
+    except ValueError:  # perhaps indirect ones
+        try:
+            return [float(value) for value in values]
+        except (TypeError, ValueError):
+            return []
+    except AttributeError:
+        return []
+
+
+def box_of(values: Any) -> Box | None:
+    """A rectangle as left, bottom, right, top."""
+    found = numbers(values) if isinstance(values, Array) else []
+    if len(found) != 4:
+        return None
+    a, b, c, d = found
+    return min(a, c), min(b, d), max(a, c), max(b, d)
+
+
+def number_of(value: Any, default: float) -> float:
+    """A number of a dictionary's, or a default for what isn't one."""
+    try:
+        return float(value)
+    except (TypeError, ValueError):
+        return default
+
+
+def leaves(root: Any) -> Iterator[tuple[Any, dict[str, Any]]]:
+    """The pages below a node of the page tree, in order, each with what it inherits. Loops are passed over."""
+    seen, left = set(), [(root, dict[str, Any]())]
+    while left:
+        node, above = left.pop()
+        if not isinstance(node, Dictionary):
+            continue
+        entries = {**above, **{key: node[key] for key in INHERITED if key in node}}
+        kids = node.get("/Kids")
+        if isinstance(kids, Array) and node.get("/Type") != Name.Page:
+            if node.objgen == (0, 0) or node.objgen not in seen:
+                seen.add(node.objgen)
+                left += [(kid, entries) for kid in reversed(list(kids))]
+        elif kids is None:
+            yield node, entries
+
+
+@dataclass
+class Shape:
+    """What a page shows: its box, the matrix that makes it upright at 0 0, and its size then."""
+
+    box: Box
+    matrix: Matrix
+    size: Size
+
+
+def shape_of(page: Any, entries: dict[str, Any]) -> Shape:
+    """The shape of a page: its CropBox within its MediaBox, turned by /Rotate, times UserUnit."""
+    media = box_of(entries.get("/MediaBox")) or LETTER
+    media = media if media[0] < media[2] and media[1] < media[3] else LETTER
+    crop = box_of(entries.get("/CropBox")) or media
+    box = max(media[0], crop[0]), max(media[1], crop[1]), min(media[2], crop[2]), min(media[3], crop[3])
+    left, bottom, right, top = box = box if box[0] < box[2] and box[1] < box[3] else media
+    turn, unit = number_of(entries.get("/Rotate"), 0) % 360, number_of(page.get("/UserUnit"), 1)
+    turned: dict[float, Matrix] = {
+        90: (0, -1, 1, 0, -bottom, right),
+        180: (-1, 0, 0, -1, right, top),
+        270: (0, 1, -1, 0, top, -left),
+    }
+    unit = unit if unit > 0 else 1
+    matrix = then(turned.get(turn, (1, 0, 0, 1, -left, -bottom)), (unit, 0, 0, unit, 0, 0))
+    width, height = round(unit * (right - left), 5), round(unit * (top - bottom), 5)
+    return Shape(box, matrix, (height, width) if turn in (90, 270) else (width, height))
+
+
+class Forms:
+    """The forms that pages of a PDF become."""
+
+    def __init__(self, pdf: Pdf):
+        self.pdf, self.used = pdf, set[tuple[int, int]]()
+
+    def contents(self, page: Any) -> Any:
+        """A page's contents as a stream of its own: itself, if nothing else has it."""
+        contents = page.get("/Contents")
+        streams = [contents] if isinstance(contents, Stream) else list(contents) if isinstance(contents, Array) else []
+        streams = [stream for stream in streams if isinstance(stream, Stream)]
+        if len(streams) > 1:
+            return self.pdf.make_indirect(Page(page).as_form_xobject(handle_transformations=False))
+        if not streams:
+            return self.pdf.make_stream(b"")
+        (stream,) = streams
+        if stream.objgen in self.used or "/Subtype" in stream or "/Type" in stream:
+            copy = self.pdf.make_stream(stream.read_raw_bytes())
+            for key in ("/Filter", "/DecodeParms"):
+                if key in stream:
+                    copy[key] = stream[key]
+            return copy
+        self.used.add(stream.objgen)
+        return stream
+
+    def form(self, page: Any, entries: dict[str, Any], shape: Shape, notes: list[tuple[Any, Matrix]]) -> Any:
+        """The form of a page, and of the notes that are drawn over it."""
+        made = self.contents(page)
+        resources = entries.get("/Resources")
+        made.Type, made.Subtype = Name.XObject, Name.Form
+        made.Resources = resources if isinstance(resources, Dictionary) else Dictionary()
+        made.BBox, made.Matrix = array(*shape.box), array(*UPRIGHT)
+        if notes:
+            made = self.noted(made, notes)
+            made.BBox = array(*shape.box)
+        made.Matrix = array(*shape.matrix)
+        if isinstance(group := page.get("/Group"), Dictionary):
+            made.Group = Dictionary({**dict(group.items()), "/I": True})  # as a page's is
+        elif "/Group" in made:
+            del made["/Group"]
+        return made
+
+    def noted(self, page: Any, notes: list[tuple[Any, Matrix]]) -> Any:
+        """The form of a page with its notes over it."""
+        forms = {"/P": page, **{f"/A{k}": appearance for k, (appearance, _) in enumerate(notes)}}
+        drawn = "".join(f"q {numerals(*matrix)} cm /A{k} Do Q\n" for k, (_, matrix) in enumerate(notes))
+        made = self.pdf.make_stream(f"/P Do\n{drawn}".encode())
+        made.Type, made.Subtype, made.Resources = Name.XObject, Name.Form, Dictionary(XObject=Dictionary(forms))
+        return made

@@ -1,0 +1,91 @@
+"""The program: reads pages, has impose lay them out, makes the sheets, and writes OUTFILE."""
+
+import os
+import re
+import shutil
+import signal
+import sys
+
+from impose_pdf import words as said
+from impose_pdf.words import Refusal, Request, refusal, shown
+
+
+def imposer(here: str) -> str:
+    """The program impose: what IMPOSE names, or the one beside this program, or the one on the PATH."""
+    beside = os.path.join(here, "impose")
+    named = os.environ.get("IMPOSE") or (beside if os.access(beside, os.X_OK) else shutil.which("impose"))
+    if not named:
+        raise refusal(3, "impose is missing: ./install in its sources installs it")
+    return named
+
+
+def main(words: list[str], here: str) -> int:
+    """Runs the program, and gives its exit status."""
+    signal.signal(signal.SIGINT, signal.SIG_DFL)
+    try:
+        run(words, here)
+    except Refusal as refused:
+        sys.stderr.write(str(refused))
+        return refused.status
+    except BrokenPipeError:
+        return 3
+    except MemoryError:
+        sys.stderr.write("impose-pdf: out of memory\n")
+        return 3
+    return 0
+
+
+def run(words: list[str], here: str) -> None:
+    """Does what the words ask for."""
+    if not words:
+        raise Refusal(2, said.USAGE)
+    if words[0] in ("-h", "--help") or words == ["help"]:
+        sys.stdout.write(said.USAGE)
+        return
+    if words[0] in ("help", "-V", "--version"):
+        os.execv(imposer(here), [imposer(here), *words])
+    request = said.read(words)
+    if "--help" in request.options:
+        os.execv(imposer(here), [imposer(here), *words])
+    from impose_pdf.plan import Imposer
+
+    if not request.infiles or not (request.outfile or request.looks):
+        Imposer(imposer(here), request, [(595, 842)]).run()
+        raise refusal(2, said.WANTED)
+    try:
+        import pikepdf
+    except ImportError:
+        raise refusal(3, "pikepdf is missing: install python3-pikepdf") from None
+    try:
+        impose(request, imposer(here))
+    except (pikepdf.PdfError, RuntimeError) as error:
+        raise refusal(1, f"{', '.join(shown(name) for name, _ in request.infiles)}: {error}") from None
+
+
+def impose(request: Request, program: str) -> None:
+    """Puts the pages of INFILEs on sheets."""
+    from impose_pdf.document import Source, warned
+    from impose_pdf.files import Outfile
+    from impose_pdf.plan import Imposer
+    from impose_pdf.sheets import Making, turn_to_read
+
+    outfile = None if request.looks else Outfile(request.outfile)
+    sources = [Source(name, ranges) for name, ranges in request.infiles]
+    rows = [(source, k) for source in sources for k in source.taken]
+    imposed = Imposer(program, request, [source.shapes[k].size for source, k in rows])
+    if outfile is None:
+        text, report = imposed.run()
+        sys.stdout.write(text)
+        sys.stdout.flush()
+    else:
+        sheets, report = imposed.sheets()
+        making = Making(sources, rows)
+        making.sheets(sheets, turn_to_read(request, sheets), imposed.flip())
+        outfile.write(making.pdf)
+    sys.stderr.write("".join(line for source in sources for line in warned(source)))
+    sys.stderr.write(reported(report))
+
+
+def reported(report: str) -> str:
+    """impose's report, without what is of the stub alone."""
+    return re.sub(r", bytes \d+|, by its %%DocumentMedia", "", report)

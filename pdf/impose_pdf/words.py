@@ -1,0 +1,164 @@
+"""The command line: which words are impose's, which name files, and what is said of a mistake."""
+
+import re
+import shlex
+from dataclasses import dataclass, field
+
+USAGE = """\
+Puts the pages of PDFs on sheets of paper, and writes a PDF of the sheets
+
+Usage: impose-pdf COMMAND [OPTIONS] INFILE [RANGES].. OUTFILE
+
+COMMAND and its OPTIONS are those of impose (impose --help, impose booklet --help).
+Files come after them, OUTFILE last; - is standard input, and standard output.
+The pages of several INFILEs follow one another, as those of one document. RANGES after an
+INFILE are the pages that are taken of it, as 7, 3-9, 9-3, 5- or _1 (the last), with commas
+between them. A JPEG or a PNG is a page too.
+
+Pages are placed as they are: text, fonts, links and outlines, layers, attachments stay.
+With --print-spec, --plan or --preview no sheets are made: OUTFILE stays as it was, and may be
+left out. Every failure leaves it as it was, too.
+
+Exit status:
+  0  the PDF was written, or a text printed
+  1  the PDF, the layout or the specification is refused
+  2  a bad command line
+  3  a program is missing or failed, or reading or writing failed, or out of memory
+
+Examples:
+  impose-pdf booklet in.pdf out.pdf           print on both sides, fold, staple
+  impose-pdf nup 4 --sheet a3 in.pdf out.pdf  four pages on each sheet of A3
+  impose-pdf select 3-9,12 in.pdf out.pdf     some pages
+  impose-pdf booklet a.pdf b.pdf out.pdf      a booklet of two PDFs
+  impose-pdf booklet a.pdf 1-3 b.pdf 5- out.pdf
+"""
+WANTED = "COMMAND, INFILE and OUTFILE are wanted; write: impose-pdf booklet in.pdf out.pdf"
+
+# Commands of impose that have a word of their own before the files, and its options that have a value.
+WITH_WORD = {"nup", "cards", "stack", "notes", "poster", "select", "spec"}
+WITH_VALUE = {
+    *("--border", "--creep", "--gap", "--margin", "--marks", "--numbers", "--numbers-from", "--order", "--overlap"),
+    *("--pages", "--paper", "--preview", "--scale", "--sheet", "--signature", "--trim", "--turn", "--turned"),
+}
+LOOKS = ("--plan", "--preview", "--print-spec")
+LETTERS = {"p": "--paper", "q": "--quiet", "h": "--help", "V": "--version"}
+
+RANGES = re.compile(r"_?\d+(-(_?\d+)?)?(,_?\d+(-(_?\d+)?)?)*")
+
+
+class Refusal(Exception):
+    """What ends the program: an exit status, and what is said on standard error."""
+
+    def __init__(self, status: int, text: str):
+        super().__init__(text)
+        self.status = status
+
+
+def refusal(status: int, line: str) -> Refusal:
+    """A refusal in a line of our own."""
+    return Refusal(status, f"impose-pdf: {line}\n")
+
+
+@dataclass
+class Request:
+    """A command line, read: impose's words without files, its options with their values, and the files."""
+
+    command: str
+    words: list[str] = field(default_factory=list)
+    options: dict[str, str] = field(default_factory=dict)
+    infiles: list[tuple[str, str]] = field(default_factory=list)  # a name, and its RANGES or ''
+    outfile: str = ""
+
+    @property
+    def looks(self) -> bool:
+        """Whether a text or a drawing is asked for in place of sheets."""
+        return any(option in self.options for option in LOOKS)
+
+
+def shown(name: str) -> str:
+    """A name as a shell takes it, without control characters."""
+    if name == "-":
+        return "standard input"
+    if name.isprintable():
+        return shlex.quote(name)
+    letters = "".join(
+        c if c.isprintable() and c not in "\\'" else "".join(f"\\x{b:02x}" for b in code(c)) for c in name
+    )
+    return f"$'{letters}'"
+
+
+def code(letter: str) -> bytes:
+    """The bytes of a letter of a file's name."""
+    return letter.encode(errors="surrogateescape")
+
+
+def read(words: list[str]) -> Request:
+    """The request that a command line makes. Words that are wrong for impose are left to it."""
+    request, rest = Request(words[0]), iter(words[1:])
+    operands: list[str] = []
+    for word in rest:
+        if word == "--":
+            operands += rest
+        elif word == "-" or not word.startswith("-"):
+            operands.append(word)
+        else:
+            name, value, is_open = option_of(word)
+            request.words.append(word)
+            if is_open and (following := next(rest, None)) is not None:
+                request.words.append(following)
+                value = following
+            request.options[name] = value
+    if request.command in WITH_WORD and operands:
+        # Behind the options, since it may begin with a dash.
+        request.words += ["--", operands.pop(0)] if operands[0].startswith("-") else [operands.pop(0)]
+    name_files(request, operands)
+    return request
+
+
+def option_of(word: str) -> tuple[str, str, bool]:
+    """An option's name, its value as far as it is in the word, and whether the next word is its value."""
+    if word.startswith("--"):
+        name, sign, value = word.partition("=")
+        return name, value, name in WITH_VALUE and not sign
+    letter, rest = word[1], word[2:]
+    while letter == "q" and rest:
+        letter, rest = rest[0], rest[1:]
+    return LETTERS.get(letter, word), rest, letter == "p" and not rest
+
+
+def name_files(request: Request, names: list[str]) -> None:
+    """Takes the words that name files, each with the RANGES after it; the last is OUTFILE, which a look needs not."""
+    files: list[tuple[str, str]] = []
+    for name in names:
+        if files and not files[-1][1] and RANGES.fullmatch(name):
+            files[-1] = files[-1][0], name
+        else:
+            files.append((name, ""))
+    if len(files) > 1 and not files[-1][1]:
+        request.outfile = files.pop()[0]
+    elif files and not request.looks and files[-1][1] and len(files) > 0:
+        raise refusal(2, f"OUTFILE is missing after {files[-1][0]} {files[-1][1]}; ./{files[-1][1]} names a file")
+    request.infiles = files
+    for name in [*(name for name, _ in files), *([request.outfile] if len(names) > 1 else [])]:
+        if not name and not (request.looks and name == request.outfile):
+            raise refusal(2, "INFILE and OUTFILE have names, or are -")
+
+
+def pages_of(ranges: str, count: int, name: str) -> list[int]:
+    """The pages, from 0, that RANGES choose among so many of a file."""
+    chosen: list[int] = []
+    for item in ranges.split(",") if ranges else ["1-"]:
+        first, dash, last = item.partition("-")
+        ends = place(first, count), place(last, count) if last else count if dash else place(first, count)
+        if not ranges and not count:
+            break
+        if not all(1 <= end <= count for end in ends):
+            raise refusal(1, f"{shown(name)} has pages 1 to {count} only, and {item} is asked for")
+        step = 1 if ends[0] <= ends[1] else -1
+        chosen += range(ends[0] - 1, ends[1] - 1 + step, step)
+    return chosen
+
+
+def place(word: str, count: int) -> int:
+    """The page that a number means, or a number from the last page on."""
+    return count + 1 - int(word[1:]) if word.startswith("_") else int(word)
