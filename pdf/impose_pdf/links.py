@@ -1,38 +1,40 @@
-"""What leads somewhere: links, outlines, names and actions of a PDF, made anew so that they lead to sheets.
-
-Nothing of the old document is changed here, so that no way is led twice.
-"""
+"""What leads somewhere: destinations, names, actions and links of a PDF, made anew so that they lead to sheets."""
 
 from collections.abc import Iterator
 from copy import copy
+from dataclasses import dataclass
 from typing import Any
 
 from pikepdf import Array, Dictionary, Name, Object, Pdf, String
 
-from impose_pdf.pages import Shape, array, bounds, box_of, moved, numbers, numerals
+from impose_pdf.pages import Box, Shape, array, bounds, moved, name_of, numbers, numerals
 from impose_pdf.plan import Matrix
+from impose_pdf.trees import free, named
 
 # Actions that are kept as they are. Others are scripts, or lead to notes and threads, which aren't there any more.
 KEPT_ACTIONS = {"/URI", "/GoToR", "/GoToE", "/Launch", "/Named", "/SetOCGState"}
-LOST_OF_LINKS = ("/P", "/Parent", "/Popup", "/StructParent", "/AA", "/AP", "/AS", "/Dest", "/A", "/QuadPoints")
-LOST_OF_OUTLINES = ("/Parent", "/Prev", "/Next", "/First", "/Last", "/Count", "/SE", "/Dest", "/A")
-DEEPEST = 100  # of outlines and of actions in actions
+LOST = {"/P", "/Parent", "/Popup", "/StructParent", "/AA", "/AP", "/AS", "/Dest", "/A", "/QuadPoints"}
+DEEPEST = 100  # of actions after actions
+POINTS = {b"/XYZ": (0, 1), b"/FitV": (0, None), b"/FitBV": (0, None), b"/FitH": (None, 0), b"/FitBH": (None, 0)}
 
 
-def named(node: Any) -> Iterator[tuple[Any, Any]]:
-    """The names and values of a name tree. Loops are passed over."""
-    seen, left = set(), [node]
-    while left:
-        node = left.pop()
-        if not isinstance(node, Dictionary) or node.objgen in seen:
-            continue
-        if node.objgen != (0, 0):
-            seen.add(node.objgen)
-        if isinstance(pairs := node.get("/Names"), Array):
-            values = list(pairs)
-            yield from ((name, value) for name, value in zip(values[::2], values[1::2]) if isinstance(name, String))
-        if isinstance(kids := node.get("/Kids"), Array):
-            left += reversed(list(kids))
+@dataclass
+class Link:
+    """A link of a page, and where it leads by which entry."""
+
+    old: Any
+    box: Box
+    corners: list[float]
+    entry: str
+    way: Any
+
+
+def number(word: bytes) -> float | None:
+    """A number of a destination; null for one stays as it is on the screen."""
+    try:
+        return float(word)
+    except ValueError:
+        return None
 
 
 class Ways:
@@ -42,54 +44,44 @@ class Ways:
         self.source, self.made, self.shapes = source, made, shapes
         self.numbers = {page.objgen: k for k, page in reversed(list(enumerate(pages)))}
         self.first: dict[int, tuple[Any, Matrix]] = {}  # the first sheet of a page, and the matrix to it
-        self.renamed: dict[bytes, bytes] = {}  # names that lead to a sheet, by the old ones
-        self.dests: list[tuple[bytes, Any]] = []  # their new names, and where they lead
-        self.old_style: dict[str, Any] = {}  # names that are no strings
+        self.renamed: dict[bytes, bytes] = {}  # names that lead to a sheet, and what they are called there
+        self.dests: dict[bytes, Any] = {}  # where they lead, by their new names
+        self.old_style: dict[str, Any] = {}  # the same for names that are no strings
 
     def brought(self, thing: Any) -> Any:
-        """A thing of the PDF in the one that is made."""
-        if (
-            self.source is self.made
-            or not isinstance(thing, Object)
-            or not (thing.is_owned_by(self.source) or isinstance(thing, Array | Dictionary))
-        ):
+        """A dictionary, stream or array of the PDF in the one that is made."""
+        if self.source is self.made:
             return thing
         return self.made.copy_foreign(thing if thing.is_indirect else self.source.make_indirect(thing))
 
     def lead(self, dest: Any) -> Any:
         """Where a destination leads now, or None if its page isn't on a sheet."""
-        if isinstance(dest, Dictionary):
-            dest = dest.get("/D")
+        if isinstance(dest, Array):
+            words = dest.unparse(True)[1:-1].split()
+            if words[2:3] == [b"R"]:
+                page = self.numbers.get((int(words[0]), int(words[1])), -1)
+                return self.led(page, words[3:]) if page in self.first else None
+            page = int(words[0]) if words and words[0].isdigit() else -1
+            return self.led(page, words[1:]) if page in self.first else None
         if isinstance(dest, String):
             new = self.renamed.get(bytes(dest))
             return None if new is None else String(new)
-        if isinstance(dest, Name):
-            return self.old_style.get(str(dest))
-        if not isinstance(dest, Array):
-            return None
-        words = dest.unparse(True)[1:-1].split()
-        if words[2:3] == [b"R"]:
-            page, words = self.numbers.get((int(words[0]), int(words[1])), -1), words[3:]
-        else:
-            page, words = int(words[0]) if words and words[0].isdigit() else -1, words[1:]
-        return self.led(page, words) if page in self.first else None
+        return self.old_style.get(name_of(dest))
 
     def led(self, page: int, words: list[bytes]) -> Any:
         """The destination on the first sheet of a page, by the words after the page in an old one."""
         sheet, matrix = self.first[page]
-        box = self.shapes[page].box
-        kind, values = words[0] if words else b"/Fit", [number(word) for word in words[1:]] + [None] * 4
-        if kind == b"/FitR" and None not in values[:4]:
-            a, b, c, d = (value or 0.0 for value in values[:4])
+        left, bottom, right, top = self.shapes[page].box
+        kind, values = words[0] if words else b"/Fit", [number(word) for word in words[1:]]
+        if kind == b"/FitR" and len(values) == 4 and None not in values:
+            a, b, c, d = (value or 0.0 for value in values)
             text = f"/FitR {numerals(*bounds((a, b, c, d), matrix))}"
-        elif kind in (b"/Fit", b"/FitB"):
-            text = "/Fit"
+        elif kind in POINTS:
+            x, y = (values[k] if k is not None and k < len(values) else None for k in POINTS[kind])
+            point = moved(left if x is None else x, top if y is None else y, matrix)
+            text = f"/XYZ {numerals(*(round(value, 3) for value in point))} null"
         else:
-            x, y = {b"/XYZ": values[:2], b"/FitV": [values[0], None], b"/FitBV": [values[0], None]}.get(
-                kind, [None, values[0]]
-            )
-            point = box[0] if x is None else x, box[3] if y is None else y
-            text = f"/XYZ {numerals(*(round(value, 3) for value in moved(*point, matrix)))} null"
+            text = "/Fit"
         made = Object.parse(f"[null {text}]".encode())
         made[0] = sheet
         return made
@@ -98,24 +90,22 @@ class Ways:
         """Leads all names, which get other ones where they are taken."""
         if isinstance(names := root.get("/Names"), Dictionary):
             for name, dest in named(names.get("/Dests")):
-                if bytes(name) not in self.renamed and (new := self.lead_once(dest)) is not None:
+                new = self.lead_value(dest)
+                if new is not None and bytes(name) not in self.renamed:
                     self.renamed[bytes(name)] = chosen = free(bytes(name), taken)
-                    self.dests.append((chosen, new))
+                    self.dests[chosen] = new
         if isinstance(dests := root.get("/Dests"), Dictionary):
-            for key, dest in dests.items():
-                if (new := self.lead_once(dest)) is not None:
-                    self.old_style[key] = new
+            led = {key: self.lead_value(dest) for key, dest in dests.items()}
+            self.old_style = {key: new for key, new in led.items() if new is not None}
 
-    def lead_once(self, dest: Any) -> Any:
-        """Where the destination of a name leads; it is no name itself."""
+    def lead_value(self, dest: Any) -> Any:
+        """Where the value of a name leads: a destination, or a dictionary that has one."""
         dest = dest.get("/D") if isinstance(dest, Dictionary) else dest
         return self.lead(dest) if isinstance(dest, Array) else None
 
     def lead_action(self, action: Any, depth: int = 0) -> Any:
-        """An action that leads to sheets, or None for one that isn't kept."""
-        if not isinstance(action, Dictionary) or depth > DEEPEST:
-            return None
-        kind = str(action.get("/S"))
+        """An action that leads to sheets or out of the PDF, or None for one that isn't kept."""
+        kind = name_of(action.get("/S")) if isinstance(action, Dictionary) and depth < DEEPEST else ""
         if kind == "/GoTo":
             dest = self.lead(action.get("/D"))
             if dest is None:
@@ -128,78 +118,40 @@ class Ways:
             made = self.brought(made)
         else:
             return None
-        following = action.get("/Next")
-        all_following = list(following) if isinstance(following, Array) else [following]
-        if kept := [led for each in all_following if (led := self.lead_action(each, depth + 1)) is not None]:
-            made.Next = Array(kept)
+        if "/Next" in action:
+            following = action.get("/Next")
+            all_following = list(following) if isinstance(following, Array) else [following]
+            led = [self.lead_action(each, depth + 1) for each in all_following]
+            made.Next = Array([each for each in led if each is not None])
         return made
 
     def lead_holder(self, holder: Any) -> tuple[str, Any] | None:
-        """The key and the value by which a link or an outline item leads to a sheet, or None."""
-        key = "/Dest" if "/Dest" in holder else "/A"
-        led = self.lead(holder.get(key)) if key == "/Dest" else self.lead_action(holder.get(key))
-        return None if led is None else (key, led)
+        """The entry by which a link or an outline item leads to a sheet, and where; or None."""
+        if (dest := holder.get("/Dest")) is not None:
+            entry, way = "/Dest", self.lead(dest)
+        else:
+            entry, way = "/A", self.lead_action(holder.get("/A"))
+        return None if way is None else (entry, way)
 
-    def bare(self, thing: Any, lost: tuple[str, ...]) -> Any:
+    def bare(self, thing: Any, lost: set[str]) -> Any:
         """A copy of a dictionary without some entries, in the PDF that is made."""
         made = copy(thing)
-        for key in lost:
-            if key in made:
-                del made[key]
-        return self.brought(made) if self.source is not self.made else self.made.make_indirect(made)
+        for key in made.keys() & lost:
+            del made[key]
+        return self.made.make_indirect(made) if self.source is self.made else self.brought(made)
 
-    def link(self, link: Any, led: tuple[str, Any], matrix: Matrix) -> Any:
+    def link(self, annotation: Any, box: Box) -> Iterator[Link]:
+        """An annotation as a link, if it leads anywhere."""
+        if found := self.lead_holder(annotation):
+            corners = numbers(annotation.get("/QuadPoints"))
+            yield Link(annotation, box, corners if len(corners) % 8 == 0 else [], *found)
+
+    def placed(self, link: Link, matrix: Matrix) -> Any:
         """A link at a place of its page."""
-        made = self.bare(link, LOST_OF_LINKS)
-        made.Rect = array(*bounds(box_of(link.get("/Rect")) or (0, 0, 0, 0), matrix))
-        if len(points := numbers(link.get("/QuadPoints"))) % 8 == 0 and points:
-            pairs = zip(points[::2], points[1::2])
-            made.QuadPoints = array(*(value for x, y in pairs for value in moved(x, y, matrix)))
-        made[led[0]] = led[1]
+        made = self.bare(link.old, LOST)
+        made.Rect = array(*bounds(link.box, matrix))
+        if link.corners:
+            points = zip(link.corners[::2], link.corners[1::2])
+            made.QuadPoints = array(*(value for point in points for value in moved(*point, matrix)))
+        made[link.entry] = link.way
         return made
-
-    def outlines(self, node: Any, depth: int = 0, seen: set[tuple[int, int]] | None = None) -> list[Any]:
-        """The outline items below one, with those below them, not yet joined."""
-        seen = set() if seen is None else seen
-        made = []
-        item = node.get("/First") if isinstance(node, Dictionary) and depth < DEEPEST else None
-        while isinstance(item, Dictionary) and item.objgen not in seen:
-            seen.add(item.objgen)
-            new = self.bare(item, LOST_OF_OUTLINES)
-            if led := self.lead_holder(item):
-                new[led[0]] = led[1]
-            kids = self.outlines(item, depth + 1, seen)
-            count = item.get("/Count")
-            join(new, kids, not isinstance(count, int) or count > 0)
-            made.append(new)
-            item = item.get("/Next")
-        return made
-
-
-def join(parent: Any, items: list[Any], is_open: bool = True) -> None:
-    """Puts items below one, or below the outlines themselves."""
-    for before, after in zip(items, items[1:]):
-        before.Next, after.Prev = after, before
-    for item in items:
-        item.Parent = parent
-    if items:
-        parent.First, parent.Last = items[0], items[-1]
-        count = len(items) + sum(max(0, int(item.get("/Count", 0))) for item in items)
-        parent.Count = count if is_open else -count
-
-
-def number(word: bytes) -> float | None:
-    """A number of a destination."""
-    try:
-        return float(word)
-    except ValueError:
-        return None
-
-
-def free(name: bytes, taken: set[bytes]) -> bytes:
-    """A name that isn't taken, which it is then."""
-    chosen, k = name, 2
-    while chosen in taken:
-        chosen, k = name + b"-%d" % k, k + 1
-    taken.add(chosen)
-    return chosen

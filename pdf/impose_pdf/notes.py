@@ -1,36 +1,33 @@
-"""Notes and form fields of a page, as they print."""
+"""Annotations of a page: its links, and notes and form fields as they print."""
 
 from typing import Any
 
-from pikepdf import Array, Dictionary, Name, Pdf, Stream
+from pikepdf import Array, Dictionary, Name, Stream
 
-from impose_pdf.pages import UPRIGHT, bounds, box_of, number_of, numbers
-from impose_pdf.plan import Matrix
+from impose_pdf.forms import Note
+from impose_pdf.pages import UPRIGHT, bounds, box_of, name_of, number_of, numbers
 
 HIDDEN, PRINTED = 2, 4  # flags
 
 
-def annotations(page: Any) -> list[Any]:
-    """The annotations of a page, links among them."""
+def split(page: Any) -> tuple[list[Any], list[Any]]:
+    """The links among the annotations of a page, and the others."""
     found = page.get("/Annots")
-    return [note for note in found if isinstance(note, Dictionary)] if isinstance(found, Array) else []
+    notes = [note for note in found if isinstance(note, Dictionary)] if isinstance(found, Array) else []
+    kinds = [name_of(note.get("/Subtype")) for note in notes]
+    links = [note for note, kind in zip(notes, kinds) if kind == "/Link"]
+    return links, [note for note, kind in zip(notes, kinds) if kind not in ("/Link", "/Popup")]
 
 
-def is_link(note: Any) -> bool:
-    """Whether an annotation is a link."""
-    return bool(note.get("/Subtype") == Name.Link)
-
-
-def drawn(pdf: Pdf, notes: list[Any]) -> list[tuple[Any, Matrix]]:
+def drawn(notes: list[Any]) -> list[Note]:
     """What is printed of annotations: the form of each, and the matrix that puts it into its rectangle."""
     made = []
     for note in notes:
         form, rectangle = appearance(note), box_of(note.get("/Rect"))
-        if form is None or rectangle is None or note.get("/Subtype") == Name.Popup:
+        box = box_of(form.get("/BBox")) if form is not None else None
+        if form is None or rectangle is None or box is None:
             continue
-        box, matrix = box_of(form.get("/BBox")), numbers(form.get("/Matrix"))
-        if box is None:
-            continue
+        matrix = numbers(form.get("/Matrix"))
         a, b, c, d, e, f = matrix if len(matrix) == 6 else UPRIGHT
         left, bottom, right, top = bounds(box, (a, b, c, d, e, f))
         if left == right or bottom == top:
@@ -44,13 +41,12 @@ def drawn(pdf: Pdf, notes: list[Any]) -> list[tuple[Any, Matrix]]:
 
 
 def appearance(note: Any) -> Any:
-    """The form of an annotation that is printed, in the state in which it is."""
-    flags = int(number_of(note.get("/F"), 0))
+    """The form of an annotation that is printed, in the state in which it is; None if there is none."""
     looks = note.get("/AP")
-    if flags & HIDDEN or not flags & PRINTED or not isinstance(looks, Dictionary):
+    if not isinstance(looks, Dictionary):
         return None
+    flags = int(number_of(note.get("/F"), 0))
     normal = looks.get("/N")
-    if isinstance(normal, Dictionary) and not isinstance(normal, Stream):
-        state = note.get("/AS")
-        normal = normal.get(str(state)) if isinstance(state, Name) else None
-    return normal if isinstance(normal, Stream) else None
+    if isinstance(normal, Dictionary):
+        normal = normal.get(name_of(note.get("/AS")) or "/Off")
+    return normal if isinstance(normal, Stream) and flags & PRINTED and not flags & HIDDEN else None

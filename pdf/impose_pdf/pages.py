@@ -4,7 +4,7 @@ from collections.abc import Iterator
 from dataclasses import dataclass
 from typing import Any
 
-from pikepdf import Array, Dictionary, Name, Object, Page, Pdf, Stream
+from pikepdf import Array, Dictionary, Name, Object
 
 from impose_pdf.plan import Matrix, Size
 
@@ -30,6 +30,11 @@ def bounds(box: Box, m: Matrix) -> Box:
     """The box round a box that is moved by a matrix."""
     xs, ys = zip(*(moved(x, y, m) for x in box[::2] for y in box[1::2]))
     return min(xs), min(ys), max(xs), max(ys)
+
+
+def meet(a: Box, b: Box) -> bool:
+    """Whether two boxes have a point in common."""
+    return a[0] <= b[2] and b[0] <= a[2] and a[1] <= b[3] and b[1] <= a[3]
 
 
 def numerals(*values: float) -> str:
@@ -62,6 +67,11 @@ def box_of(values: Any) -> Box | None:
         return None
     a, b, c, d = found
     return min(a, c), min(b, d), max(a, c), max(b, d)
+
+
+def name_of(value: Any) -> str:
+    """A name of a dictionary's, or nothing for what isn't one."""
+    return str(value) if isinstance(value, Name) else ""
 
 
 def number_of(value: Any, default: float) -> float:
@@ -115,54 +125,3 @@ def shape_of(page: Any, entries: dict[str, Any]) -> Shape:
     matrix = then(turned.get(turn, (1, 0, 0, 1, -left, -bottom)), (unit, 0, 0, unit, 0, 0))
     width, height = round(unit * (right - left), 5), round(unit * (top - bottom), 5)
     return Shape(box, matrix, (height, width) if turn in (90, 270) else (width, height))
-
-
-class Forms:
-    """The forms that pages of a PDF become."""
-
-    def __init__(self, pdf: Pdf):
-        self.pdf, self.used = pdf, set[tuple[int, int]]()
-
-    def contents(self, page: Any) -> Any:
-        """A page's contents as a stream of its own: itself, if nothing else has it."""
-        contents = page.get("/Contents")
-        streams = [contents] if isinstance(contents, Stream) else list(contents) if isinstance(contents, Array) else []
-        streams = [stream for stream in streams if isinstance(stream, Stream)]
-        if len(streams) > 1:
-            return self.pdf.make_indirect(Page(page).as_form_xobject(handle_transformations=False))
-        if not streams:
-            return self.pdf.make_stream(b"")
-        (stream,) = streams
-        if stream.objgen in self.used or "/Subtype" in stream or "/Type" in stream:
-            copy = self.pdf.make_stream(stream.read_raw_bytes())
-            for key in ("/Filter", "/DecodeParms"):
-                if key in stream:
-                    copy[key] = stream[key]
-            return copy
-        self.used.add(stream.objgen)
-        return stream
-
-    def form(self, page: Any, entries: dict[str, Any], shape: Shape, notes: list[tuple[Any, Matrix]]) -> Any:
-        """The form of a page, and of the notes that are drawn over it."""
-        made = self.contents(page)
-        resources = entries.get("/Resources")
-        made.Type, made.Subtype = Name.XObject, Name.Form
-        made.Resources = resources if isinstance(resources, Dictionary) else Dictionary()
-        made.BBox, made.Matrix = array(*shape.box), array(*UPRIGHT)
-        if notes:
-            made = self.noted(made, notes)
-            made.BBox = array(*shape.box)
-        made.Matrix = array(*shape.matrix)
-        if isinstance(group := page.get("/Group"), Dictionary):
-            made.Group = Dictionary({**dict(group.items()), "/I": True})  # as a page's is
-        elif "/Group" in made:
-            del made["/Group"]
-        return made
-
-    def noted(self, page: Any, notes: list[tuple[Any, Matrix]]) -> Any:
-        """The form of a page with its notes over it."""
-        forms = {"/P": page, **{f"/A{k}": appearance for k, (appearance, _) in enumerate(notes)}}
-        drawn = "".join(f"q {numerals(*matrix)} cm /A{k} Do Q\n" for k, (_, matrix) in enumerate(notes))
-        made = self.pdf.make_stream(f"/P Do\n{drawn}".encode())
-        made.Type, made.Subtype, made.Resources = Name.XObject, Name.Form, Dictionary(XObject=Dictionary(forms))
-        return made

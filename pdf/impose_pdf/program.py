@@ -7,6 +7,7 @@ import signal
 import sys
 
 from impose_pdf import words as said
+from impose_pdf.plan import Imposer
 from impose_pdf.words import Refusal, Request, refusal, shown
 
 
@@ -24,6 +25,7 @@ def main(words: list[str], here: str) -> int:
     signal.signal(signal.SIGINT, signal.SIG_DFL)
     try:
         run(words, here)
+        sys.stdout.flush()
     except Refusal as refused:
         sys.stderr.write(str(refused))
         return refused.status
@@ -31,6 +33,9 @@ def main(words: list[str], here: str) -> int:
         return 3
     except MemoryError:
         sys.stderr.write("impose-pdf: out of memory\n")
+        return 3
+    except OSError as error:
+        sys.stderr.write(f"impose-pdf: cannot write to standard output: {(error.strerror or '').lower()}\n")
         return 3
     return 0
 
@@ -42,15 +47,12 @@ def run(words: list[str], here: str) -> None:
     if words[0] in ("-h", "--help") or words == ["help"]:
         sys.stdout.write(said.USAGE)
         return
-    if words[0] in ("help", "-V", "--version"):
-        os.execv(imposer(here), [imposer(here), *words])
     request = said.read(words)
-    if "--help" in request.options:
+    if words[0] in ("help", "-V", "--version") or "--help" in request.options:
         os.execv(imposer(here), [imposer(here), *words])
-    from impose_pdf.plan import Imposer
-
     if not request.infiles or not (request.outfile or request.looks):
-        Imposer(imposer(here), request, [(595, 842)]).run()
+        if len(words) > 2:  # perhaps a word of the command's is what is missing
+            Imposer(imposer(here), request, [(595, 842)]).run()
         raise refusal(2, said.WANTED)
     try:
         import pikepdf
@@ -58,31 +60,31 @@ def run(words: list[str], here: str) -> None:
         raise refusal(3, "pikepdf is missing: install python3-pikepdf") from None
     try:
         impose(request, imposer(here))
-    except (pikepdf.PdfError, RuntimeError) as error:
-        raise refusal(1, f"{', '.join(shown(name) for name, _ in request.infiles)}: {error}") from None
+    except (pikepdf.PdfError, pikepdf.ForeignObjectError, RuntimeError) as error:
+        names = ", ".join(shown(name) for name, _ in request.infiles)
+        raise refusal(1, f"{names}: {error}") from None
 
 
 def impose(request: Request, program: str) -> None:
     """Puts the pages of INFILEs on sheets."""
-    from impose_pdf.document import Source, warned
+    from impose_pdf.document import Source
     from impose_pdf.files import Outfile
-    from impose_pdf.plan import Imposer
-    from impose_pdf.sheets import Making, turn_to_read
+    from impose_pdf.making import Making
+    from impose_pdf.sheets import turn_to_read
 
     outfile = None if request.looks else Outfile(request.outfile)
-    sources = [Source(name, ranges) for name, ranges in request.infiles]
-    rows = [(source, k) for source in sources for k in source.taken]
-    imposed = Imposer(program, request, [source.shapes[k].size for source, k in rows])
+    opened = {name: Source(name) for name in dict.fromkeys(name for name, _ in request.infiles)}
+    row = [(opened[name], k) for name, ranges in request.infiles for k in opened[name].taken(ranges)]
+    imposer = Imposer(program, request, [source.size(k) for source, k in row])
     if outfile is None:
-        text, report = imposed.run()
+        text, report = imposer.run()
         sys.stdout.write(text)
-        sys.stdout.flush()
     else:
-        sheets, report = imposed.sheets()
-        making = Making(sources, rows)
-        making.sheets(sheets, turn_to_read(request, sheets), imposed.flip())
+        sheets, report = imposer.sheets()
+        making = Making(row)
+        making.make(sheets, turn_to_read(request, sheets), imposer.flip())
         outfile.write(making.pdf)
-    sys.stderr.write("".join(line for source in sources for line in warned(source)))
+    sys.stderr.write("".join(source.warning() for source in opened.values()))
     sys.stderr.write(reported(report))
 
 

@@ -1,19 +1,13 @@
-"""Sheets made of pages, and the document round them."""
+"""What is on a sheet, what it is called, how it is shown, and what print dialogues are told."""
 
 from typing import Any
 
-from pikepdf import Array, Dictionary, Name, String
+from pikepdf import Dictionary, Name
 
-from impose_pdf.document import Source
-from impose_pdf.links import join
-from impose_pdf.pages import array, numerals, then
-from impose_pdf.plan import Matrix, Number, Sheet
+from impose_pdf.pages import numerals, then
+from impose_pdf.plan import Number, Sheet
 from impose_pdf.words import Request
 
-KEPT = (
-    *("/Type", "/Version", "/Extensions", "/PageMode", "/Metadata", "/Lang", "/OCProperties", "/OutputIntents", "/AF"),
-    *("/URI", "/Collection"),
-)
 KEPT_PREFERENCES = (
     *("/HideToolbar", "/HideMenubar", "/HideWindowUI", "/FitWindow", "/CenterWindow", "/DisplayDocTitle"),
     "/NonFullScreenPageMode",
@@ -76,95 +70,3 @@ def preferences(old: Any, flip: str) -> Dictionary:
     if flip:
         made.Duplex = Name(f"/DuplexFlip{flip.capitalize()}Edge")
     return made
-
-
-class Making:
-    """The PDF of sheets, which is that of the first INFILE with sheets in place of its pages."""
-
-    def __init__(self, sources: list[Source], rows: list[tuple[Source, int]]):
-        self.sources, self.rows, self.pdf = sources, rows, sources[0].pdf
-        for source in sources:
-            source.into(self.pdf)
-        self.font = Dictionary(Numbers=Dictionary(Type=Name.Font, Subtype=Name.Type1, BaseFont=Name("/Times-Roman")))
-
-    def page(self, sheet: Sheet, turned: int) -> Any:
-        """A sheet as a page of the PDF, as yet without links."""
-        forms = {f"/P{placed.page}": self.form(placed.page) for placed in sheet.placed}
-        resources = Dictionary(XObject=Dictionary(forms))
-        if sheet.numbers:
-            resources.Font = self.font
-        made = Dictionary(Type=Name.Page, MediaBox=array(0, 0, *sheet.paper), Resources=resources)
-        made.Contents = self.pdf.make_stream(drawing(sheet))
-        if turned:
-            made.Rotate = turned
-        made = self.pdf.make_indirect(made)
-        for placed in sheet.placed:
-            source, k = self.rows[placed.page]
-            source.ways.first.setdefault(k, (made, self.matrix(placed.page, placed.matrix)))
-        return made
-
-    def form(self, row: int) -> Any:
-        """The form of a page of the row."""
-        source, k = self.rows[row]
-        return source.form(k)
-
-    def matrix(self, row: int, matrix: Matrix) -> Matrix:
-        """The matrix from a page's own space to the sheet."""
-        source, k = self.rows[row]
-        return then(source.shapes[k].matrix, matrix)
-
-    def link(self, sheet: Sheet, page: Any, links: dict[int, list[Any]]) -> None:
-        """Puts links on a sheet, at each place of their page."""
-        made = []
-        for placed in sheet.placed:
-            source, k = self.rows[placed.page]
-            if placed.page not in links:
-                links[placed.page] = source.links(k)
-            matrix = self.matrix(placed.page, placed.matrix)
-            made += [source.ways.link(link, led, matrix) for link, led in links[placed.page]]
-        if made:
-            page.Annots = Array(made)
-
-    def sheets(self, sheets: list[Sheet], turned: int, flip: str) -> None:
-        """Puts sheets in place of the pages, and leads all ways to them."""
-        made = [self.page(sheet, turned) for sheet in sheets]
-        root, taken = self.pdf.Root, set[bytes]()
-        for source in self.sources:
-            source.ways.lead_names(source.root, taken)
-        links: dict[int, list[Any]] = {}
-        for sheet, page in zip(sheets, made):
-            self.link(sheet, page, links)
-        entries = self.entries()
-        pages = self.pdf.make_indirect(Dictionary(Type=Name.Pages, Kids=Array(made), Count=len(made)))
-        for page in made:
-            page.Parent = pages
-        labels = [value for k, sheet in enumerate(sheets) for value in (k, Dictionary(P=String(label(sheet))))]
-        entries |= {"/Pages": pages, "/PageLabels": Dictionary(Nums=Array(labels))}
-        entries["/ViewerPreferences"] = preferences(root.get("/ViewerPreferences"), flip)
-        for key in set(root.keys()) - set(KEPT):
-            del root[key]
-        for key, value in entries.items():
-            root[key] = value
-
-    def entries(self) -> dict[str, Any]:
-        """Entries of the catalog by which something leads to sheets."""
-        first, made = self.sources[0], dict[str, Any]()
-        items = [item for source in self.sources for item in source.ways.outlines(source.root.get("/Outlines"))]
-        if items:
-            made["/Outlines"] = self.pdf.make_indirect(Dictionary(Type=Name.Outlines))
-            join(made["/Outlines"], items)
-        dests = sorted(pair for source in self.sources for pair in source.ways.dests)
-        files = [pair for source in self.sources for pair in source.attachments()]
-        trees = {
-            "/Dests": [thing for name, dest in dests for thing in (String(name), dest)],
-            "/EmbeddedFiles": [thing for name, file in files for thing in (String(name), file)],
-        }
-        if names := {key: Dictionary(Names=Array(things)) for key, things in trees.items() if things}:
-            made["/Names"] = Dictionary(names)
-        if first.ways.old_style:
-            made["/Dests"] = Dictionary(first.ways.old_style)
-        opening = first.root.get("/OpenAction")
-        led = first.ways.lead(opening) if isinstance(opening, Array) else first.ways.lead_action(opening)
-        if led is not None:
-            made["/OpenAction"] = led
-        return made

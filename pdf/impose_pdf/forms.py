@@ -1,0 +1,80 @@
+"""The forms that pages become: a single stream of contents is the form itself, neither decoded nor copied."""
+
+import zlib
+from typing import Any
+
+from pikepdf import Array, Dictionary, Name, Pdf, PdfError, Stream
+
+from impose_pdf.pages import UPRIGHT, Shape, array, numerals
+from impose_pdf.plan import Matrix
+from impose_pdf.words import refusal
+
+Note = tuple[Any, Matrix]  # a form, and its place on the page
+
+
+def streams_of(page: Any) -> list[Any]:
+    """The streams of a page's contents."""
+    contents = page.get("/Contents")
+    parts = list(contents) if isinstance(contents, Array) else [contents]
+    return [part for part in parts if isinstance(part, Stream)]
+
+
+def isolated(group: Any) -> Any:
+    """A group by itself, as a page's is and a form's need not be."""
+    return Dictionary({**dict(group.items()), "/I": True})
+
+
+class Forms:
+    """The forms that pages of a PDF become."""
+
+    def __init__(self, pdf: Pdf, name: str):
+        self.pdf, self.name = pdf, name
+        self.used: set[tuple[int, int]] = set()  # streams that are forms now
+        self.made: dict[tuple[object, ...], Any] = {}
+
+    def of(self, number: int, page: Any, resources: Any, shape: Shape, notes: list[Note]) -> Any:
+        """The form of a page, by its number, with its notes over it. Pages that show the same share one."""
+        streams, group = streams_of(page), page.get("/Group")
+        resources = resources if isinstance(resources, Dictionary) else Dictionary()
+        group = isolated(group) if isinstance(group, Dictionary) else None
+        parts = *(stream.objgen for stream in streams), *((form.objgen, matrix) for form, matrix in notes)
+        key = (*parts, resources.unparse(), group and group.unparse(), shape.box, shape.matrix)
+        if key not in self.made:
+            form = self.form(self.contents(streams, number), resources, shape)
+            if notes:
+                form.Matrix = array(*UPRIGHT)
+                form = self.noted(form, notes, shape)
+            if group is not None:
+                form.Group = group
+            self.made[key] = form
+        return self.made[key]
+
+    def form(self, stream: Any, resources: Any, shape: Shape) -> Any:
+        """A stream made a form of a page's shape."""
+        stream.Type, stream.Subtype, stream.Resources = Name.XObject, Name.Form, resources
+        stream.BBox, stream.Matrix = array(*shape.box), array(*shape.matrix)
+        return stream
+
+    def contents(self, streams: list[Any], number: int) -> Any:
+        """The contents of a page as one stream: the very one, unless there are several or it has another use."""
+        if len(streams) == 1:
+            (stream,) = streams
+            if stream.objgen not in self.used and not {"/Type", "/Subtype"} & stream.keys():
+                self.used.add(stream.objgen)
+                return stream
+            copy = self.pdf.make_stream(stream.read_raw_bytes())
+            for key in {"/Filter", "/DecodeParms"} & stream.keys():
+                copy[key] = stream[key]
+            return copy
+        try:
+            data = b"\n".join(stream.read_bytes() for stream in streams)
+        except (PdfError, RuntimeError):
+            raise refusal(1, f"{self.name}: the contents of page {number + 1} can't be decoded") from None
+        return self.pdf.make_stream(zlib.compress(data), Filter=Name.FlateDecode)
+
+    def noted(self, page: Any, notes: list[Note], shape: Shape) -> Any:
+        """A form of a page with notes over it."""
+        forms = {"/Page": page, **{f"/Note{k}": form for k, (form, _) in enumerate(notes)}}
+        drawn = "".join(f"q {numerals(*matrix)} cm /Note{k} Do Q\n" for k, (_, matrix) in enumerate(notes))
+        content = self.pdf.make_stream(f"/Page Do\n{drawn}".encode())
+        return self.form(content, Dictionary(XObject=Dictionary(forms)), shape)

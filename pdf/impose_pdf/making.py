@@ -1,0 +1,127 @@
+"""The PDF of sheets: that of the first INFILE, with sheets in place of its pages, and with what others have."""
+
+from typing import Any
+
+from pikepdf import Array, Dictionary, Name, String
+
+from impose_pdf import outlines
+from impose_pdf.document import Source
+from impose_pdf.pages import array, then
+from impose_pdf.plan import Matrix, Sheet
+from impose_pdf.sheets import drawing, label, preferences
+from impose_pdf.trees import add_layers, free, tree_of
+
+# What the catalog keeps. Tags, threads, scripts, fields and signatures go, and all by which an old page could stay.
+KEPT = {
+    *("/Type", "/Version", "/Extensions", "/PageMode", "/Metadata", "/Lang", "/OCProperties", "/OutputIntents", "/AF"),
+    *("/URI", "/Collection"),
+}
+KEPT_OF_TRAILER = {"/Root", "/Info", "/ID", "/Size", "/Encrypt"}
+
+
+class Making:
+    """Sheets being made of the pages of INFILEs, which follow one another in a row."""
+
+    def __init__(self, row: list[tuple[Source, int]]):
+        self.row, self.sources, self.pdf = row, list(dict.fromkeys(source for source, _ in row)), row[0][0].pdf
+        for source in self.sources:
+            source.prepare(self.pdf)
+        self.font = Dictionary(Numbers=Dictionary(Type=Name.Font, Subtype=Name.Type1, BaseFont=Name("/Times-Roman")))
+
+    def make(self, sheets: list[Sheet], turned: int, flip: str) -> None:
+        """Puts sheets in place of the pages, and leads everything to them."""
+        pages = [self.page(sheet, turned) for sheet in sheets]
+        taken: set[bytes] = set()
+        for source in self.sources:
+            source.ways.lead_names(source.root, taken)
+        for sheet, page in zip(sheets, pages):
+            if links := self.links(sheet):
+                page.Annots = Array(links)
+        self.layers()
+        tree = self.pdf.make_indirect(Dictionary(Type=Name.Pages, Kids=Array(pages), Count=len(pages)))
+        for page in pages:
+            page.Parent = tree
+        labels = [part for k, sheet in enumerate(sheets) for part in (k, Dictionary(P=String(label(sheet))))]
+        self.enter(
+            {
+                "/Pages": tree,
+                "/PageLabels": Dictionary(Nums=Array(labels)),
+                "/ViewerPreferences": preferences(self.pdf.Root.get("/ViewerPreferences"), flip),
+                "/Outlines": self.outlines(),
+                "/Names": self.names(),
+                "/Dests": Dictionary(self.sources[0].ways.old_style) if self.sources[0].ways.old_style else None,
+                "/OpenAction": self.opening(),
+            }
+        )
+
+    def page(self, sheet: Sheet, turned: int) -> Any:
+        """A sheet as a page, without links, which need to know where all pages are."""
+        forms = {f"/P{placed.page}": self.form(placed.page) for placed in sheet.placed}
+        resources = Dictionary(XObject=Dictionary(forms))
+        if sheet.numbers:
+            resources.Font = self.font
+        made = Dictionary(Type=Name.Page, MediaBox=array(0, 0, *sheet.paper), Resources=resources)
+        made.Contents = self.pdf.make_stream(drawing(sheet))
+        if turned:
+            made.Rotate = turned
+        made = self.pdf.make_indirect(made)
+        for placed in sheet.placed:
+            source, k = self.row[placed.page]
+            source.ways.first.setdefault(k, (made, self.matrix(placed.page, placed.matrix)))
+        return made
+
+    def form(self, number: int) -> Any:
+        """The form of a page of the row."""
+        source, k = self.row[number]
+        return source.form(k)
+
+    def matrix(self, number: int, matrix: Matrix) -> Matrix:
+        """The matrix of a page of the row from its own space to a sheet."""
+        source, k = self.row[number]
+        return then(source.shapes[k].matrix, matrix)
+
+    def links(self, sheet: Sheet) -> list[Any]:
+        """The links on a sheet."""
+        made: list[Any] = []
+        for placed in sheet.placed:
+            source, k = self.row[placed.page]
+            made += source.links_at(k, self.matrix(placed.page, placed.matrix), sheet.paper)
+        return made
+
+    def outlines(self) -> Any:
+        """The outlines of all INFILEs, one after the other."""
+        made = self.pdf.make_indirect(Dictionary(Type=Name.Outlines))
+        roots = [(source.ways, source.root.get("/Outlines")) for source in self.sources]
+        outlines.hang(made, [item for ways, root in roots for item in outlines.items(ways, root, 0, set())], True)
+        return made if "/First" in made else None
+
+    def names(self) -> Any:
+        """The names and attachments of all INFILEs. An attachment whose name is taken gets another one."""
+        taken: set[bytes] = set()
+        dests = {name: dest for source in self.sources for name, dest in source.ways.dests.items()}
+        files = {free(name, taken): file for source in self.sources for name, file in source.attachments()}
+        trees = {"/Dests": dests, "/EmbeddedFiles": files}
+        made = Dictionary({key: tree_of(things) for key, things in trees.items() if things})
+        return made if len(made.keys()) else None
+
+    def opening(self) -> Any:
+        """What is done when the PDF is opened."""
+        ways, old = self.sources[0].ways, self.pdf.Root.get("/OpenAction")
+        return ways.lead(old) if isinstance(old, Array) else ways.lead_action(old)
+
+    def layers(self) -> None:
+        """Adds the layers of the other INFILEs to those of the first."""
+        for source in self.sources[1:]:
+            if isinstance(layers := source.root.get("/OCProperties"), Dictionary):
+                add_layers(self.pdf.Root, source.ways.brought(layers))
+
+    def enter(self, entries: dict[str, Any]) -> None:
+        """Gives the catalog its new entries, and takes away what isn't kept."""
+        for key in self.pdf.Root.keys() - KEPT:
+            del self.pdf.Root[key]
+        for key, value in entries.items():
+            if value is not None:
+                self.pdf.Root[key] = value
+        self.pdf.trailer.Size = 0  # without one, qpdf writes none
+        for key in self.pdf.trailer.keys() - KEPT_OF_TRAILER:
+            del self.pdf.trailer[key]
