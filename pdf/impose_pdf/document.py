@@ -121,17 +121,16 @@ class Source:
             self.put[k] = self.ways.brought(form)
         return self.put[k]
 
-    def links_of(self, k: int) -> list[Link]:
-        """The links of a page that lead anywhere. Its form is made by then."""
-        if k not in self.links:
-            boxed = ((link, box_of(link.get("/Rect"))) for link in self.annotations.pop(k))
-            self.links[k] = [link for old, box in boxed if box for link in self.ways.link(old, box)]
-        return self.links[k]
+    def find_links(self, k: int) -> None:
+        """Finds the links of a page that lead anywhere, if the page is on a sheet."""
+        boxed = ((link, box_of(link.get("/Rect"))) for link in self.annotations.pop(k, ()))
+        if found := [link for old, box in boxed if box for link in self.ways.link(old, box)]:
+            self.links[k] = found
 
     def links_at(self, k: int, matrix: Matrix, paper: Size) -> Iterator[Any]:
         """The links of a page on a sheet of this paper, without those that aren't seen there."""
         sheet: Box = (0, 0, *paper)
-        for link in self.links_of(k):
+        for link in self.links.get(k, ()):
             if meet(link.box, self.shapes[k].box) and meet(bounds(link.box, matrix), sheet):
                 yield self.ways.placed(link, matrix)
 

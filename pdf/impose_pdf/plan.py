@@ -185,7 +185,10 @@ class Imposer:
         except OSError as error:
             raise refusal(3, f"cannot run {self.program}: {error.strerror}") from None
         if done.returncode:
-            raise Refusal(done.returncode if 0 < done.returncode <= 3 else 3, done.stderr.decode(errors="replace"))
+            told = re.sub(
+                r"\bimpose (.*)in\.ps out\.ps", r"impose-pdf \1in.pdf out.pdf", done.stderr.decode(errors="replace")
+            )
+            raise Refusal(done.returncode if 0 < done.returncode <= 3 else 3, told)
         return done.stdout.decode(errors="replace"), done.stderr.decode(errors="replace")
 
     def sheets(self) -> tuple[list[Sheet], str]:

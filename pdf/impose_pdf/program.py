@@ -11,6 +11,9 @@ from impose_pdf.plan import Imposer
 from impose_pdf.words import Refusal, Request, refusal, shown
 
 
+OPENED: dict[str, object] = {}  # PDFs, which stay open to the end
+
+
 def imposer(here: str) -> str:
     """The program impose: what IMPOSE names, or the one beside this program, or the one on the PATH."""
     beside = os.path.join(here, "impose")
@@ -51,8 +54,7 @@ def run(words: list[str], here: str) -> None:
     if words[0] in ("help", "-V", "--version") or "--help" in request.options:
         os.execv(imposer(here), [imposer(here), *words])
     if not request.infiles or not (request.outfile or request.looks):
-        if len(words) > 2:  # perhaps a word of the command's is what is missing
-            Imposer(imposer(here), request, [(595, 842)]).run()
+        look_at_words(request, imposer(here))
         raise refusal(2, said.WANTED)
     try:
         import pikepdf
@@ -65,6 +67,15 @@ def run(words: list[str], here: str) -> None:
         raise refusal(1, f"{names}: {error}") from None
 
 
+def look_at_words(request: Request, program: str) -> None:
+    """Refuses mistakes among impose's words, which may be why other words were taken for files."""
+    try:
+        Imposer(program, request, [(595, 842)]).run()
+    except Refusal as refused:
+        if refused.status == 2 or len(request.infiles) + bool(request.outfile) < 2:
+            raise
+
+
 def impose(request: Request, program: str) -> None:
     """Puts the pages of INFILEs on sheets."""
     from impose_pdf.document import Source
@@ -73,8 +84,13 @@ def impose(request: Request, program: str) -> None:
     from impose_pdf.sheets import turn_to_read
 
     outfile = None if request.looks else Outfile(request.outfile)
-    opened = {name: Source(name) for name in dict.fromkeys(name for name, _ in request.infiles)}
-    row = [(opened[name], k) for name, ranges in request.infiles for k in opened[name].taken(ranges)]
+    try:
+        opened = {name: Source(name) for name in dict.fromkeys(name for name, _ in request.infiles)}
+        row = [(opened[name], k) for name, ranges in request.infiles for k in opened[name].taken(ranges)]
+    except Refusal:
+        look_at_words(request, program)
+        raise
+    OPENED.update(opened)
     imposer = Imposer(program, request, [source.size(k) for source, k in row])
     if outfile is None:
         text, report = imposer.run()
