@@ -9,7 +9,7 @@ from typing import Any
 
 from pikepdf import Dictionary, PasswordError, Pdf, PdfError
 
-from impose_pdf import notes
+from impose_pdf import images, notes
 from impose_pdf.forms import Forms
 from impose_pdf.links import Link, Ways
 from impose_pdf.pages import Box, bounds, box_of, leaves, meet, shape_of
@@ -51,10 +51,23 @@ def opened(name: str) -> Pdf:
         raise refusal(3, f"cannot read {shown(name)}: {(error.strerror or '').lower()}") from None
     if not first:
         raise refusal(1, f"{shown(name)} is empty")
+    if first.startswith((images.JPEG, images.PNG)):
+        return image(name, held)
     if b"%PDF-" not in first:
         is_postscript = first.lstrip(b"\0").startswith(b"%!")
         raise refusal(1, f"{shown(name)} is {'PostScript, not a PDF; use impose' if is_postscript else 'not a PDF'}")
     return unlocked(name, held)
+
+
+def image(name: str, held: bytes | None) -> Pdf:
+    """An INFILE that is an image as a PDF."""
+    try:
+        if held is None:
+            with open(name, "rb") as stream:
+                held = stream.read()
+        return images.pdf_of(held)
+    except (ValueError, LookupError, OSError, SyntaxError) as error:
+        raise refusal(1, f"the image {shown(name)} can't be read: {error}") from None
 
 
 def unlocked(name: str, held: bytes | None) -> Pdf:

@@ -10,7 +10,6 @@ from impose_pdf import words as said
 from impose_pdf.plan import Imposer
 from impose_pdf.words import Refusal, Request, refusal, shown
 
-
 OPENED: dict[str, object] = {}  # PDFs, which stay open to the end
 
 
@@ -101,9 +100,10 @@ def impose(request: Request, program: str) -> None:
         making.make(sheets, turn_to_read(request, sheets), imposer.flip())
         outfile.write(making.pdf)
     sys.stderr.write("".join(source.warning() for source in opened.values()))
-    sys.stderr.write(reported(report))
+    sys.stderr.write(reported(report, len({source.shapes[k].size for source, k in row}) == 1))
 
 
-def reported(report: str) -> str:
+def reported(report: str, is_one_size: bool) -> str:
     """impose's report, without what is of the stub alone."""
-    return re.sub(r", bytes \d+|, by its %%DocumentMedia", "", report)
+    report = re.sub(r", bytes \d+", "", report)
+    return report.replace(", by its %%DocumentMedia", "" if is_one_size else ", as most are")

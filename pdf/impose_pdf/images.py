@@ -1,0 +1,67 @@
+"""JPEG and PNG files as PDFs of one page, in their own resolution. Data that a PDF can have stays as it is."""
+
+import io
+import zlib
+from typing import Any
+
+from pikepdf import Array, Dictionary, Name, Page, Pdf
+from PIL import Image
+
+from impose_pdf.pages import array, numerals
+
+JPEG, PNG = b"\xff\xd8\xff", b"\x89PNG\r\n\x1a\n"
+USUAL = 96, 96  # dots per inch, where an image names none
+SPACES = {"1": Name.DeviceGray, "L": Name.DeviceGray, "RGB": Name.DeviceRGB, "CMYK": Name.DeviceCMYK}
+TURNS = {3: 180, 6: 90, 8: 270}  # by the orientation of a photograph
+
+
+def pdf_of(data: bytes) -> Pdf:
+    """A PDF whose page is an image."""
+    image, pdf = Image.open(io.BytesIO(data), formats=("JPEG", "PNG")), Pdf.new()
+    form = jpeg(pdf, image, data) if image.format == "JPEG" else png(pdf, image, data)
+    dots = image.info.get("dpi", USUAL)
+    width, height = (pixels * 72 / (per_inch or 96) for pixels, per_inch in zip(image.size, dots))
+    contents = pdf.make_stream(f"{numerals(width)} 0 0 {numerals(height)} 0 0 cm /I Do".encode())
+    resources = Dictionary(XObject=Dictionary(I=form))
+    page = Dictionary(Type=Name.Page, MediaBox=array(0, 0, width, height), Resources=resources, Contents=contents)
+    page.Rotate = TURNS.get(image.getexif().get(0x112) or 0, 0)
+    pdf.pages.append(Page(pdf.make_indirect(page)))
+    return pdf
+
+
+def stream(pdf: Pdf, size: tuple[int, int], data: bytes, space: Any, bits: int = 8, **entries: Any) -> Any:
+    """An image of a PDF."""
+    head = {"Type": Name.XObject, "Subtype": Name.Image, "Width": size[0], "Height": size[1], "ColorSpace": space}
+    return pdf.make_stream(data, BitsPerComponent=bits, **head, **{"Filter": Name.FlateDecode, **entries})
+
+
+def jpeg(pdf: Pdf, image: Any, data: bytes) -> Any:
+    """The image of a JPEG. Inks are upside down where Adobe's mark is."""
+    upside_down = {"Decode": Array([1, 0] * 4)} if image.mode == "CMYK" and "adobe" in image.info else {}
+    return stream(pdf, image.size, data, SPACES[image.mode], Filter=Name.DCTDecode, **upside_down)
+
+
+def png(pdf: Pdf, image: Any, data: bytes) -> Any:
+    """The image of a PNG. One that is seen through, or isn't in rows, is compressed anew."""
+    bits, colours, is_laced = data[24], data[25], data[28]
+    if colours in (4, 6) or is_laced or "transparency" in image.info:
+        pixels = image.convert("RGBA")
+        mask = stream(pdf, image.size, zlib.compress(pixels.getchannel("A").tobytes()), Name.DeviceGray)
+        colour = zlib.compress(pixels.convert("RGB").tobytes())
+        return stream(pdf, image.size, colour, Name.DeviceRGB, SMask=mask)
+    rows = Dictionary(Predictor=15, Colors=3 if colours == 2 else 1, BitsPerComponent=bits, Columns=image.width)
+    space: Any = Name.DeviceRGB if colours == 2 else Name.DeviceGray
+    if colours == 3:
+        palette = bytes(image.getpalette())
+        space = Array([Name.Indexed, Name.DeviceRGB, len(palette) // 3 - 1, pdf.make_stream(palette)])
+    return stream(pdf, image.size, pixel_rows(data), space, bits, DecodeParms=rows)
+
+
+def pixel_rows(data: bytes) -> bytes:
+    """The compressed rows of a PNG, which lie in one chunk or several."""
+    at, rows = len(PNG), b""
+    while at < len(data):
+        end = at + 8 + int.from_bytes(data[at : at + 4], "big")
+        rows += data[at + 8 : end] if data[at + 4 : at + 8] == b"IDAT" else b""
+        at = end + 4
+    return rows
