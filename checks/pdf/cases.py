@@ -1,0 +1,248 @@
+"""Case files of cases/pdfs: documents, and cases with what is wanted of each (cases/pdfs/README.md)."""
+
+from __future__ import annotations
+
+import os
+import resource
+import shlex
+import shutil
+import signal
+import subprocess
+import tempfile
+import time
+from collections.abc import Iterator
+from dataclasses import dataclass, field
+from functools import cached_property
+from pathlib import Path
+from typing import IO
+
+from . import making
+from .making import Made
+
+ROOT = Path(__file__).resolve().parent.parent.parent
+PDFS = ROOT / "cases/pdfs"
+SETTINGS = ("stdin", "limit", "stdout", "signal", "user", "rights", "link", "file", "text", "papersize", "room")
+
+
+@dataclass
+class Programs:
+    """The program that is checked, and impose."""
+
+    impose_pdf: Path
+    impose: Path
+
+
+@dataclass
+class Case:
+    """A command, its setting, and what is wanted of its run: a word, the rest of its line, and the lines below it."""
+
+    file: str
+    line: int
+    name: str
+    command: str
+    documents: dict[str, Document]
+    settings: list[list[str]] = field(default_factory=list)
+    wanted: list[tuple[str, str, list[str]]] = field(default_factory=list)
+
+    @property
+    def words(self) -> list[str]:
+        return shlex.split(self.command)[1:]
+
+    def setting(self, name: str) -> list[str] | None:
+        return next((line[1:] for line in self.settings if line[0] == name), None)
+
+    @property
+    def inputs(self) -> list[tuple[str, str]]:
+        """The documents that the command names, each with the ranges after it; OUTFILE, the last word, isn't read."""
+        looks = {"--plan", "--preview", "--print-spec"} & set(self.words)
+        words, stdin, found = self.words, self.setting("stdin"), list[tuple[str, str]]()
+        if not looks or sum(word.endswith(".pdf") for word in words) > 1:
+            words = words[:-1]
+        for word in words:
+            name = stdin[0] if word == "-" and stdin else word
+            if name in self.documents:
+                found.append((name, ""))
+            elif found:
+                found[-1] = found[-1][0], word
+        return found
+
+
+@dataclass
+class Document:
+    """A PDF by its name: made of lines, or one of cases/pdfs."""
+
+    lines: list[str]
+    seed: int
+    path: Path | None = None
+
+    @cached_property
+    def made(self) -> Made:
+        return making.made(self.lines, self.seed)
+
+    @cached_property
+    def data(self) -> bytes:
+        return self.path.read_bytes() if self.path else self.made.data
+
+
+@dataclass
+class Run:
+    """How a run ended, and the folder in which it was."""
+
+    case: Case
+    programs: Programs
+    folder: Path
+    status: int
+    output: bytes
+    error: str
+    seconds: float
+    before: dict[str, bytes]
+
+    @property
+    def out(self) -> Path:
+        return self.folder / self.case.words[-1]
+
+
+def blocks(text: str) -> Iterator[tuple[int, str, list[str]]]:
+    """Lines at column 0, with their number, and the indented lines below each."""
+    head: tuple[int, str, list[str]] | None = None
+    for number, line in enumerate(text.split("\n"), 1):
+        if line.startswith("  ") and head:
+            head[2].append(line[2:])
+        elif line.strip() and not line.startswith("#"):
+            if head:
+                yield head
+            head = number, line, []
+    if head:
+        yield head
+
+
+def read(path: Path) -> list[Case]:
+    """The cases of a file."""
+    real = {one.name: Document([], 0, one) for one in sorted(PDFS.glob("*.pdf"))}
+    documents, cases, name = dict(real), list[Case](), ""
+    for number, head, below in blocks(path.read_text()):
+        word, _, rest = head.partition(" ")
+        if word == "pdf":
+            documents[rest] = Document(below, 1 + (len(documents) - len(real)) % 13)
+        elif word == "case":
+            name = rest
+        elif word == "$":
+            cases.append(Case(path.name, number, name, rest, dict(documents)))
+        elif word == "with" and shlex.split(rest)[0] in SETTINGS:
+            cases[-1].settings.append(shlex.split(rest))
+        else:
+            cases[-1].wanted.append((word, rest, below))
+    return cases
+
+
+def prepared(case: Case, folder: Path) -> None:
+    """Puts the files of a case into its folder."""
+    for word, _ in case.inputs:
+        (folder / word).write_bytes(case.documents[word].data)
+    for kind, *rest in case.settings:
+        if kind == "file":
+            (folder / rest[0]).write_bytes(case.documents[rest[1]].data)
+        elif kind == "text":
+            (folder / rest[0]).write_bytes(rest[1].encode().decode("unicode_escape").encode("latin-1"))
+        elif kind == "link":
+            (folder / rest[0]).symlink_to(rest[1])
+    for kind, *rest in case.settings:
+        if kind == "rights":
+            (folder / rest[0]).chmod(int(rest[1], 8))
+
+
+def contents(folder: Path) -> dict[str, bytes]:
+    return {str(path.relative_to(folder)): path.read_bytes() for path in sorted(folder.rglob("*")) if path.is_file()}
+
+
+def runner(case: Case, folder: Path) -> list[str]:
+    """What runs the program: another user, or a folder of a full device."""
+    words = []
+    if case.setting("user") and os.getuid() == 0:
+        words = ["setpriv", "--reuid", "65534", "--regid", "65534", "--clear-groups"]
+    if room := case.setting("room"):
+        script = (
+            f'mount -t tmpfs -o size={room[0]} none "$0"; cp -a kept.pdf "$0"/; "$@"; s=$?; cp -a "$0"/* .; exit $s'
+        )
+        words = ["unshare", "-rm", "sh", "-c", script, str(folder / "small")]
+        (folder / "small").mkdir()
+    return words
+
+
+def ran(case: Case, programs: Programs, folder: Path) -> Run:
+    """Runs the command of a case in a folder."""
+    inside, spare = folder / "in", folder / "tmp"
+    inside.mkdir()
+    spare.mkdir()
+    folder.chmod(0o755)
+    spare.chmod(0o777)
+    inside.chmod(0o777)
+    prepared(case, inside)
+    before = contents(inside)
+    limit = case.setting("limit")
+
+    def limited() -> None:
+        signal.signal(signal.SIGXFSZ, signal.SIG_IGN)
+        if limit:
+            resource.setrlimit(resource.RLIMIT_FSIZE, (int(limit[0]), int(limit[0])))
+
+    impose, papersize, stdin = programs.impose, case.setting("papersize") or ["a4"], case.setting("stdin")
+    if case.setting("signal"):
+        impose = folder / "sleeper"
+        impose.write_text(f"#!/bin/sh\necho $$ >{folder}/asleep\nexec sleep 30\n")
+        impose.chmod(0o755)
+    env = {
+        "PATH": os.environ["PATH"],
+        "LANG": "C.UTF-8",
+        "IMPOSE": str(impose),
+        "PAPERSIZE": papersize[0],
+        "TMPDIR": str(spare),
+        "HOME": str(folder),
+    }
+    words = [*runner(case, inside), str(programs.impose_pdf), *case.words]
+    began = time.monotonic()
+    with tempfile.TemporaryFile() as source, open("/dev/full", "wb") as full:
+        source.write(case.documents[stdin[0]].data if stdin else b"")
+        source.seek(0)
+        how = case.setting("stdout") or [""]
+        to: IO[bytes] | int = full if how == ["full"] else closed() if how == ["closed"] else subprocess.PIPE
+        process = subprocess.Popen(
+            words, stdin=source, stdout=to, stderr=subprocess.PIPE, cwd=inside, env=env, preexec_fn=limited
+        )
+        if sent := case.setting("signal"):
+            told(process, getattr(signal, "SIG" + sent[0]), folder / "asleep")
+        output, error = process.communicate(timeout=120)
+    return Run(
+        case,
+        programs,
+        inside,
+        process.returncode,
+        output or b"",
+        error.decode(errors="replace"),
+        time.monotonic() - began,
+        before,
+    )
+
+
+def closed() -> int:
+    """A pipe that nobody reads."""
+    reader, writer = os.pipe()
+    os.close(reader)
+    return writer
+
+
+def told(process: subprocess.Popen[bytes], sent: signal.Signals, asleep: Path) -> None:
+    """Sends a signal when impose, for which a sleeper stands, is waited for."""
+    for _ in range(200):
+        if asleep.exists() or process.poll() is not None:
+            break
+        time.sleep(0.05)
+    process.send_signal(sent)
+
+
+def tidied(folder: Path) -> None:
+    """Lets a folder be removed, whatever its rights are."""
+    for path in [folder, *folder.rglob("*")]:
+        if path.is_dir():
+            path.chmod(0o755)
+    shutil.rmtree(folder, ignore_errors=True)

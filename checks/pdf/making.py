@@ -1,0 +1,411 @@
+"""PDFs as the cases describe them, line by line; cases/pdfs/README.md has the words.
+
+A page shows its number as `p3`, and in each corner of what is seen of it a square of a colour of its own. Squares of
+four other colours lie outside, where a clip has to hide them.
+"""
+
+from __future__ import annotations
+
+import io
+import shlex
+from collections.abc import Callable
+from dataclasses import dataclass, field
+from typing import Any
+
+import pikepdf
+from pikepdf import Array, Dictionary, Name, Pdf, String
+
+Box = tuple[float, float, float, float]
+Colour = tuple[int, int, int]
+PAGES_OF_A_ROUND = 60
+
+
+def numbers(text: str) -> list[float]:
+    return [float(number) for number in text.split(",")]
+
+
+def colour(seed: int, page: int, corner: int) -> Colour:
+    """The colour of a corner of a page: 0 to 3 inside, 4 to 7 outside what is seen."""
+    rounds, place = divmod(page, PAGES_OF_A_ROUND)
+    return 4 * place, 30 * corner + 5, 16 * seed + 4 * rounds
+
+
+@dataclass
+class Shape:
+    """The boxes of a page, its turn and its unit."""
+
+    media: Box
+    crop: Box | None = None
+    turn: int = 0
+    unit: float = 1
+
+    @property
+    def seen(self) -> Box:
+        """CropBox within MediaBox."""
+        left, bottom, right, top = self.crop or self.media
+        low, high = self.media[:2], self.media[2:]
+        return max(left, low[0]), max(bottom, low[1]), min(right, high[0]), min(top, high[1])
+
+    @property
+    def size(self) -> tuple[float, float]:
+        """Width and height as it is shown."""
+        left, bottom, right, top = self.seen
+        sides = (right - left) * self.unit, (top - bottom) * self.unit
+        return sides if self.turn % 180 == 0 else sides[::-1]
+
+    def shown(self, x: float, y: float) -> tuple[float, float]:
+        """Where a point is, from the lower left corner of the page as it is shown: /Rotate turns it to the right."""
+        left, bottom, right, top = self.seen
+        places = {
+            0: (x - left, y - bottom),
+            90: (y - bottom, right - x),
+            180: (right - x, top - y),
+            270: (top - y, x - left),
+        }
+        across, up = places[self.turn % 360]
+        return across * self.unit, up * self.unit
+
+    def squares(self) -> list[Box]:
+        """The squares inside, at the lower left, lower right, upper left and upper right corner, and those outside."""
+        left, bottom, right, top = self.seen
+        side = min(right - left, top - bottom) / 8
+        near, far = side / 4, side * 5 / 4
+        corners = [(left, bottom, 1, 1), (right, bottom, -1, 1), (left, top, 1, -1), (right, top, -1, -1)]
+        found = []
+        for sign in (1, -1):
+            for x, y, across, up in corners:
+                ends = [
+                    (x + sign * across * far_x, y + sign * up * far_y) for far_x, far_y in ((near, near), (far, far))
+                ]
+                (a, b), (c, d) = ends
+                found.append((min(a, c), min(b, d), max(a, c), max(b, d)))
+        return found
+
+
+@dataclass
+class Made:
+    """A PDF, and the shapes of its pages."""
+
+    data: bytes
+    seed: int
+    shapes: list[Shape] = field(default_factory=list)
+
+
+def drawing(shape: Shape, seed: int, page: int, words: str) -> bytes:
+    """The content of a page."""
+    lines = []
+    for corner, (left, bottom, right, top) in enumerate(shape.squares()):
+        red, green, blue = (f"{part / 255:.5f}" for part in colour(seed, page, corner))
+        lines.append(f"{red} {green} {blue} rg {left:.4f} {bottom:.4f} {right - left:.4f} {top - bottom:.4f} re f")
+    left, bottom, right, top = shape.seen
+    size = min(right - left, top - bottom) / 10
+    lines += [f"0 g BT /F {size:.3f} Tf {left + (right - left) / 4:.3f} {(bottom + top) / 2:.3f} Td ({words}) Tj ET"]
+    return "\n".join(lines).encode() + b"\n"
+
+
+def in_parts(content: bytes, count: int) -> list[bytes]:
+    """A content in parts, each from the end of a line on."""
+    lines = content.splitlines(keepends=True)
+    return [*lines[: count - 1], b"".join(lines[count - 1 :])]
+
+
+class Maker:
+    """A PDF while it is described."""
+
+    def __init__(self, seed: int) -> None:
+        self.pdf, self.seed, self.shapes = Pdf.new(), seed, list[Shape]()
+        self.font = self.pdf.make_indirect(Dictionary(Type=Name.Font, Subtype=Name.Type1, BaseFont=Name.Helvetica))
+        self.is_inherited, self.items = False, list[tuple[int, Any]]()
+        self.saving: list[list[str]] = []
+
+    def line(self, text: str) -> None:
+        word, *rest = shlex.split(text)
+        handler: Callable[..., None] = getattr(self, "do_" + word.replace("-", "_"))
+        handler(*rest)
+
+    # Pages.
+
+    def do_page(self, size: str, *words: str) -> None:
+        """`page WxH` with pairs: at, crop, trim, rotate, unit, times, streams, text; or unbalanced, shared, blended."""
+        pairs, flags = {}, set()
+        rest = list(words)
+        while rest:
+            word = rest.pop(0)
+            if word in ("unbalanced", "shared", "blended", "uncropped"):
+                flags.add(word)
+            else:
+                pairs[word] = rest.pop(0)
+        width, height = (float(side) for side in size.split("x"))
+        left, bottom = numbers(pairs.get("at", "0,0"))
+        crop = tuple(numbers(pairs["crop"])) if "crop" in pairs else None
+        shape = Shape(
+            (left, bottom, left + width, bottom + height),
+            crop,  # type: ignore[arg-type]
+            int(pairs.get("rotate", 0)),
+            float(pairs.get("unit", 1)),
+        )
+        for _ in range(int(pairs.get("times", 1))):
+            self.add(shape, pairs, flags)
+
+    def add(self, shape: Shape, pairs: dict[str, str], flags: set[str]) -> None:
+        number = len(self.shapes)
+        self.shapes.append(shape)
+        content = drawing(shape, self.seed, number, pairs.get("text", f"p{number + 1}"))
+        resources = Dictionary(Font=Dictionary(F=self.font))
+        page = Dictionary(Type=Name.Page, MediaBox=Array(shape.media), Resources=resources)
+        if "blended" in flags:
+            # A page is an isolated group: Difference has nothing below to differ from, so the square is (0, 153, 255).
+            resources.ExtGState = Dictionary(D=Dictionary(BM=Name.Difference))
+            page.Group = Dictionary(S=Name.Transparency, CS=Name.DeviceRGB)
+            content += b"q /D gs 0 .6 1 rg 250 250 100 100 re f Q\n"
+        if "unbalanced" in flags:
+            content = b"q q " + content + b"Q Q Q q\n"
+        parts = [content]
+        if "streams" in pairs:
+            parts = in_parts(content, int(pairs["streams"]))
+        if shape.crop:
+            page.CropBox = Array(shape.crop)
+        if "trim" in pairs:
+            page.TrimBox = Array(numbers(pairs["trim"]))
+        if shape.turn:
+            page.Rotate = shape.turn
+        if shape.unit != 1:
+            page.UserUnit = shape.unit
+        if "shared" in flags:
+            page.Contents = self.pdf.pages[-1].obj.Contents
+            self.shapes[-1] = shape
+        else:
+            streams = [self.pdf.make_stream(part) for part in parts]
+            page.Contents = Array(streams) if len(streams) > 1 else streams[0]
+        self.pdf.pages.append(pikepdf.Page(self.pdf.make_indirect(page)))
+
+    def do_inherited(self) -> None:
+        """Boxes, turn and resources of the first page stand in the node above all pages."""
+        self.is_inherited = True
+
+    def page(self, number: str) -> Any:
+        return self.pdf.pages[int(number) - 1].obj
+
+    def annotate(self, number: str, annotation: Dictionary) -> Any:
+        page, made = self.page(number), self.pdf.make_indirect(annotation)
+        page.Annots = Array([*page.get("/Annots", []), made])
+        return made
+
+    # What leads somewhere.
+
+    def target(self, number: str, kind: str, values: str = "") -> Array:
+        parts = [None if part == "-" else float(part) for part in values.split(",")] if values else []
+        return Array([self.page(number), Name("/" + kind), *parts])
+
+    def do_link(self, number: str, box: str, *target: str) -> None:
+        """`link PAGE L,B,R,T to PAGE KIND [VALUES]`, `goto ..`, `name NAME`, `old-name NAME` or `uri ADDRESS`."""
+        link = Dictionary(Type=Name.Annot, Subtype=Name.Link, Rect=Array(numbers(box)), Border=Array([0, 0, 0]))
+        how, *rest = target
+        if how == "to":
+            link.Dest = self.target(*rest)
+        elif how == "goto":
+            link.A = Dictionary(S=Name.GoTo, D=self.target(*rest))
+        elif how == "goto-name":
+            link.A = Dictionary(S=Name.GoTo, D=String(rest[0]))
+        elif how == "name":
+            link.Dest = String(rest[0])
+        elif how == "old-name":
+            link.Dest = Name("/" + rest[0])
+        else:
+            link.A = Dictionary(S=Name.URI, URI=String(rest[0]))
+        self.annotate(number, link)
+
+    def do_name(self, name: str, *target: str) -> None:
+        """`name NAME PAGE KIND [VALUES]`: a destination in the tree of names."""
+        names = self.pdf.Root.setdefault("/Names", Dictionary()) if "/Names" in self.pdf.Root else Dictionary()
+        tree = names.get("/Dests", Dictionary(Names=Array()))
+        known = dict(zip([str(key) for key in list(tree.Names)[::2]], list(tree.Names)[1::2]))
+        known[name] = Dictionary(D=self.target(*target))
+        tree.Names = Array([part for key in sorted(known) for part in (String(key), known[key])])
+        names.Dests = tree
+        self.pdf.Root.Names = names
+
+    def do_old_name(self, name: str, *target: str) -> None:
+        """The same in the catalog's dictionary of destinations."""
+        known = self.pdf.Root.get("/Dests", Dictionary())
+        known["/" + name] = self.target(*target)
+        self.pdf.Root.Dests = known
+
+    def do_outline(self, level: str, title: str, *target: str) -> None:
+        """`outline LEVEL TITLE PAGE KIND [VALUES]`; a title alone leads nowhere."""
+        item = Dictionary(Title=String(title))
+        if target[:1] == ("goto",):
+            item.A = Dictionary(S=Name.GoTo, D=self.target(*target[1:]))
+        elif target:
+            item.Dest = self.target(*target)
+        self.items.append((int(level), self.pdf.make_indirect(item)))
+
+    def do_opens(self, *target: str) -> None:
+        """Where the document opens: `opens PAGE KIND [VALUES]`, or `opens goto ..`."""
+        is_action = target[0] == "goto"
+        place = self.target(*target[is_action:])
+        self.pdf.Root.OpenAction = Dictionary(S=Name.GoTo, D=place) if is_action else place
+
+    # What else a document holds.
+
+    def do_note(self, number: str, box: str, text: str) -> None:
+        """A note that prints, with a look of its own: a square of (255, 102, 0)."""
+        left, bottom, right, top = numbers(box)
+        look = self.look(f"1 .4 0 rg 0 0 {right - left} {top - bottom} re f", right - left, top - bottom)
+        self.annotate(
+            number,
+            Dictionary(
+                Type=Name.Annot,
+                Subtype=Name.Stamp,
+                F=4,
+                Rect=Array(numbers(box)),
+                Contents=String(text),
+                AP=Dictionary(N=look),
+            ),
+        )
+
+    def do_field(self, number: str, box: str, name: str, value: str) -> None:
+        """A field of a form, with its value as its look."""
+        left, bottom, right, top = numbers(box)
+        look = self.look(f"/Tx BMC q BT /F 12 Tf 2 4 Td ({value}) Tj ET Q EMC", right - left, top - bottom)
+        look.Resources = Dictionary(Font=Dictionary(F=self.font))
+        made = self.annotate(
+            number,
+            Dictionary(
+                Type=Name.Annot,
+                Subtype=Name.Widget,
+                FT=Name.Tx,
+                T=String(name),
+                V=String(value),
+                DA=String("/F 12 Tf 0 g"),
+                F=4,
+                Rect=Array(numbers(box)),
+                AP=Dictionary(N=look),
+            ),
+        )
+        form = self.pdf.Root.get(
+            "/AcroForm",
+            Dictionary(Fields=Array(), DR=Dictionary(Font=Dictionary(F=self.font)), DA=String("/F 12 Tf 0 g")),
+        )
+        form.Fields.append(made)
+        self.pdf.Root.AcroForm = form
+
+    def look(self, content: str, width: float, height: float) -> Any:
+        look = self.pdf.make_stream(content.encode())
+        look.Type, look.Subtype, look.BBox = Name.XObject, Name.Form, Array([0, 0, width, height])
+        look.Resources = Dictionary()
+        return look
+
+    def do_layer(self, number: str, name: str, state: str = "on") -> None:
+        """A layer, on or off, with a word in it: its name."""
+        group = self.pdf.make_indirect(Dictionary(Type=Name.OCG, Name=String(name)))
+        known = self.pdf.Root.get("/OCProperties", Dictionary(OCGs=Array(), D=Dictionary(Order=Array(), OFF=Array())))
+        known.OCGs.append(group)
+        known.D.Order.append(group)
+        if state == "off":
+            known.D.OFF.append(group)
+        self.pdf.Root.OCProperties = known
+        page = self.page(number)
+        properties = page.Resources.get("/Properties", Dictionary())
+        key = f"/L{len(known.OCGs)}"
+        properties[key] = group
+        page.Resources.Properties = properties
+        content = (
+            page.Contents.read_bytes()
+            + f"/OC {key} BDC 0 0 1 rg 300 300 50 50 re f BT /F 20 Tf 300 400 Td ({name}) Tj ET EMC\n".encode()
+        )
+        page.Contents.write(content)
+
+    def do_attachment(self, name: str, text: str) -> None:
+        self.pdf.attachments[name] = pikepdf.AttachedFileSpec(self.pdf, text.encode(), filename=name)
+
+    def do_title(self, text: str) -> None:
+        with self.pdf.open_metadata() as meta:
+            meta["dc:title"] = text
+        self.pdf.docinfo["/Title"] = text
+
+    def do_labels(self, *spans: str) -> None:
+        """`labels 0:r 2:D:A-`: from which page on (from 0) which style, and with which text before."""
+        found: list[Any] = []
+        for span in spans:
+            start, style, *before = span.split(":")
+            found += [int(start), Dictionary(S=Name("/" + style), **({"P": String(before[0])} if before else {}))]
+        self.pdf.Root.PageLabels = Dictionary(Nums=Array(found))
+
+    def do_catalog(self, key: str, value: str = "<< >>") -> None:
+        """An entry of the catalog, as PDF has it; an @ is the first page."""
+        if "@" in value:
+            self.pdf.Root[key] = Dictionary(K=self.page("1"))
+        else:
+            self.pdf.Root[key] = pikepdf.Object.parse(value.encode())
+
+    def do_saved(self, *words: str) -> None:
+        """How it is saved: linearized, objects, plain, owner, user, no-print, broken-xref, before TEXT, cut BYTES."""
+        self.saving.append(list(words))
+
+    # The end.
+
+    def outlines(self) -> None:
+        if not self.items:
+            return
+        root = self.pdf.make_indirect(Dictionary(Type=Name.Outlines))
+        above: list[tuple[int, Any]] = [(0, root)]
+        for level, item in self.items:
+            while above[-1][0] >= level:
+                above.pop()
+            parent = above[-1][1]
+            item.Parent = parent
+            if "/Last" in parent:
+                parent.Last.Next, item.Prev = item, parent.Last
+            else:
+                parent.First = item
+            parent.Last = item
+            parent.Count = int(parent.get("/Count", 0)) + 1
+            above.append((level, item))
+        self.pdf.Root.Outlines = root
+
+    def inherit(self) -> None:
+        tree, first = self.pdf.Root.Pages, self.pdf.pages[0].obj
+        for key in ("/MediaBox", "/CropBox", "/Rotate", "/Resources"):
+            if key in first:
+                tree[key] = first[key]
+        for page in self.pdf.pages:
+            for key in ("/MediaBox", "/CropBox", "/Rotate", "/Resources"):
+                if key in page.obj:
+                    del page.obj[key]
+
+    def made(self) -> Made:
+        self.outlines()
+        if self.is_inherited:
+            self.inherit()
+        return Made(self.saved(), self.seed, self.shapes)
+
+    def saved(self) -> bytes:
+        words = {line[0]: line[1:] for line in self.saving}
+        how: dict[str, Any] = {"static_id": True, "deterministic_id": False}
+        if {"owner", "user", "no-print"} & words.keys():
+            allowed = pikepdf.Permissions(print_lowres="no-print" not in words, print_highres="no-print" not in words)
+            user = words["user"][0] if "user" in words else ""
+            how |= {"encryption": pikepdf.Encryption(owner="owner", user=user, allow=allowed), "static_id": False}
+        if "objects" in words:
+            how["object_stream_mode"] = pikepdf.ObjectStreamMode.generate
+        if "linearized" in words:
+            how["linearize"] = True
+        out = io.BytesIO()
+        self.pdf.save(out, **{key: value for key, value in how.items() if value})
+        data = out.getvalue()
+        if "broken-xref" in words:
+            data = data.replace(b"startxref\n", b"startxref\n9", 1)
+        if "before" in words:
+            data = words["before"][0].encode().decode("unicode_escape").encode() + data
+        if "cut" in words:
+            data = data[: int(words["cut"][0])]
+        return data
+
+
+def made(lines: list[str], seed: int) -> Made:
+    """The PDF that these lines describe."""
+    maker = Maker(seed)
+    for line in lines:
+        maker.line(line)
+    return maker.made()

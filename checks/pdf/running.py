@@ -1,0 +1,67 @@
+"""Runs cases side by side, and prints what differs."""
+
+from __future__ import annotations
+
+import concurrent.futures
+import os
+import subprocess
+import tempfile
+from collections.abc import Callable, Iterable
+from pathlib import Path
+
+from . import checks, recipes
+from .cases import PDFS, Case, Programs, ran, read, tidied
+
+Result = tuple[Case, list[str]]
+
+
+def all_cases(only: str) -> list[Case]:
+    cases = [case for path in sorted(PDFS.glob("*.cases")) for case in read(path)] + recipes.cases()
+    return [case for case in cases if only in f"{case.file}: {case.name}"]
+
+
+def can_be_run(case: Case) -> bool:
+    """Whether this machine lets a case make its full device."""
+    return not case.setting("room") or subprocess.run(["unshare", "-rm", "true"], capture_output=True).returncode == 0
+
+
+def tried(case: Case, programs: Programs) -> list[str]:
+    """The faults of a case."""
+    if case.file == "recipes":
+        return recipes.tried(case, programs)
+    folder = Path(tempfile.mkdtemp())
+    try:
+        return checks.faults(ran(case, programs, folder))
+    except Exception as fault:  # noqa: BLE001: any fault of a case is told with its name
+        return [f"{type(fault).__name__}: {fault}"]
+    finally:
+        tidied(folder)
+
+
+def results(
+    cases: Iterable[Case], programs: Programs, is_enough: Callable[[Result], bool] = lambda _: False
+) -> list[Result]:
+    """The faults of each case, in order of completion, up to the first result that is enough."""
+    found: list[Result] = []
+    with concurrent.futures.ThreadPoolExecutor(os.cpu_count()) as pool:
+        waiting = {pool.submit(tried, case, programs): case for case in cases}
+        for done in concurrent.futures.as_completed(waiting):
+            found.append((waiting[done], done.result()))
+            if is_enough(found[-1]):
+                pool.shutdown(cancel_futures=True)
+                break
+    return found
+
+
+def run_all(programs: Programs, only: str) -> int:
+    """Runs all cases whose file or name has a text, and says how many passed."""
+    cases = all_cases(only)
+    able = [case for case in cases if can_be_run(case)]
+    found = results(able, programs)
+    for case, faults in sorted(found, key=lambda result: (result[0].file, result[0].line)):
+        if faults:
+            print(f"{case.file}:{case.line}: {case.name}: $ {case.command}")
+            print("".join(f"  {fault}\n" for fault in faults), end="")
+    failed = sum(bool(faults) for _, faults in found)
+    print(f"{len(found) - failed} passed, {failed} failed, {len(cases) - len(able)} skipped")
+    return 1 if failed or not found else 0
