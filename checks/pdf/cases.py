@@ -46,7 +46,7 @@ class Case:
 
     @property
     def words(self) -> list[str]:
-        return shlex.split(self.command)[1:]
+        return [word.replace("\\n", "\n") for word in shlex.split(self.command)[1:]]
 
     def setting(self, name: str) -> list[str] | None:
         return next((line[1:] for line in self.settings if line[0] == name), None)
@@ -155,6 +155,14 @@ def contents(folder: Path) -> dict[str, bytes]:
     return {str(path.relative_to(folder)): path.read_bytes() for path in sorted(folder.rglob("*")) if path.is_file()}
 
 
+def copied(programs: Programs, to: Path) -> Programs:
+    """The programs where another user may read them."""
+    shutil.copytree(programs.impose_pdf.parent, to)
+    shutil.copy2(programs.impose, to / "impose")
+    to.chmod(0o755)
+    return Programs(to / programs.impose_pdf.name, to / "impose")
+
+
 def runner(case: Case, folder: Path) -> list[str]:
     """What runs the program: another user, or a folder of a full device."""
     words = []
@@ -177,6 +185,8 @@ def ran(case: Case, programs: Programs, folder: Path) -> Run:
     folder.chmod(0o755)
     spare.chmod(0o777)
     inside.chmod(0o777)
+    if case.setting("user"):
+        programs = copied(programs, folder / "programs")
     prepared(case, inside)
     before = contents(inside)
     limit = case.setting("limit")

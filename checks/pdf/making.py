@@ -126,12 +126,12 @@ class Maker:
     # Pages.
 
     def do_page(self, size: str, *words: str) -> None:
-        """`page WxH` with pairs: at, crop, trim, rotate, unit, times, streams, text; or unbalanced, shared, blended."""
+        """`page WxH` with at, crop, trim, rotate, unit, times, streams, text; unbalanced, shared, blended or filled."""
         pairs, flags = {}, set()
         rest = list(words)
         while rest:
             word = rest.pop(0)
-            if word in ("unbalanced", "shared", "blended", "uncropped"):
+            if word in ("unbalanced", "shared", "blended", "filled"):
                 flags.add(word)
             else:
                 pairs[word] = rest.pop(0)
@@ -158,6 +158,8 @@ class Maker:
             resources.ExtGState = Dictionary(D=Dictionary(BM=Name.Difference))
             page.Group = Dictionary(S=Name.Transparency, CS=Name.DeviceRGB)
             content += b"q /D gs 0 .6 1 rg 250 250 100 100 re f Q\n"
+        if "filled" in flags:
+            content += b"1 0 0 rg 200 200 200 200 re f\n"
         if "unbalanced" in flags:
             content = b"q q " + content + b"Q Q Q q\n"
         parts = [content]
@@ -248,21 +250,12 @@ class Maker:
 
     # What else a document holds.
 
-    def do_note(self, number: str, box: str, text: str) -> None:
-        """A note that prints, with a look of its own: a square of (255, 102, 0)."""
+    def do_note(self, number: str, box: str, text: str, flags: str = "4") -> None:
+        """A note, which prints by its flags, with a look of its own: a square of (255, 102, 0)."""
         left, bottom, right, top = numbers(box)
         look = self.look(f"1 .4 0 rg 0 0 {right - left} {top - bottom} re f", right - left, top - bottom)
-        self.annotate(
-            number,
-            Dictionary(
-                Type=Name.Annot,
-                Subtype=Name.Stamp,
-                F=4,
-                Rect=Array(numbers(box)),
-                Contents=String(text),
-                AP=Dictionary(N=look),
-            ),
-        )
+        made = self.annotate(number, Dictionary(Type=Name.Annot, Subtype=Name.Stamp, Rect=Array(numbers(box))))
+        made.F, made.Contents, made.AP = int(flags), String(text), Dictionary(N=look)
 
     def do_field(self, number: str, box: str, name: str, value: str) -> None:
         """A field of a form, with its value as its look."""

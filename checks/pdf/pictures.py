@@ -5,6 +5,7 @@ from __future__ import annotations
 import re
 import subprocess
 from collections import Counter
+from collections.abc import Iterator
 from dataclasses import dataclass
 from pathlib import Path
 
@@ -91,7 +92,7 @@ def squares(placed: Placed, made: Made, page: int) -> list[Square]:
     shape, found = made.shapes[page], []
     for corner, (left, bottom, right, top) in enumerate(shape.squares()):
         x, y = shape.shown((left + right) / 2, (bottom + top) / 2)
-        is_hidden = not (0 < x < placed.paper[0] and 0 < y < placed.paper[1])
+        is_hidden = corner > 3 or not (0 < x < placed.paper[0] and 0 < y < placed.paper[1])
         one, other = placed.point(*shape.shown(left, bottom)), placed.point(*shape.shown(right, top))
         sides = min(one[0], other[0]), min(one[1], other[1]), max(one[0], other[0]), max(one[1], other[1])
         found.append(
@@ -120,11 +121,20 @@ def faults(sheet: Sheet, picture: Picture, origin: list[tuple[Made, int]]) -> li
     return found + stroke_faults(sheet, picture)
 
 
+def borders(placed: Placed) -> Iterator[tuple[float, float]]:
+    """The middle of each side of a page's border."""
+    if placed.border:
+        _, inset = placed.border
+        width, height = placed.paper
+        for x, y in ((width / 2, inset), (width / 2, height - inset), (inset, height / 2), (width - inset, height / 2)):
+            yield placed.point(x, y)
+
+
 def stroke_faults(sheet: Sheet, picture: Picture) -> list[str]:
-    """Strokes of marks and lines that aren't there."""
+    """Strokes of marks, lines and borders that aren't there."""
+    middles = [((one + last) / 2, (other + end) / 2) for one, other, last, end in sheet.strokes]
     found = []
-    for one, other, last, end in sheet.strokes:
-        x, y = (one + last) / 2, (other + end) / 2
+    for x, y in [*middles, *(point for placed in sheet.pages for point in borders(placed))]:
         around = [picture.at(x + right, y + up) for right in (-1, 0, 1) for up in (-1, 0, 1)]
         if is_on(sheet, x, y) and not any(sum(seen) < 300 for seen in around):
             found.append(f"no stroke at {x:.1f} {y:.1f}")

@@ -12,16 +12,17 @@ from dataclasses import dataclass, field
 
 Size = tuple[float, float]
 Matrix = tuple[float, float, float, float, float, float]
+UPRIGHT: Matrix = (1, 0, 0, 1, 0, 0)
 
 
 @dataclass
 class Placed:
-    """A page on a sheet: its number from 0, its matrix, what it is clipped to, and its border's width."""
+    """A page on a sheet: its number from 0, its matrix, what it is clipped to, and its border."""
 
     page: int
     matrix: Matrix
     paper: Size
-    border: float | None = None
+    border: tuple[float, float] | None = None  # its width, and how far from the edges
 
     def point(self, x: float, y: float) -> tuple[float, float]:
         a, b, c, d, e, f = self.matrix
@@ -70,7 +71,7 @@ def run(impose: str, words: list[str], sizes: list[Size]) -> subprocess.Complete
 NUMBER = r"(-?[\d.]+)"
 MATRIX = re.compile(r"\[(.*)\] concat")
 CLIP = re.compile(rf"newpath 0 0 moveto {NUMBER} 0 lineto \S+ {NUMBER} lineto 0 \S+ lineto closepath clip newpath")
-BORDER = re.compile(rf"gsave {NUMBER} setlinewidth newpath .* closepath stroke grestore")
+BORDER = re.compile(rf"gsave {NUMBER} setlinewidth newpath {NUMBER} .* closepath stroke grestore")
 STROKE = re.compile(rf"newpath {NUMBER} {NUMBER} moveto {NUMBER} {NUMBER} lineto stroke")
 WRITTEN = re.compile(
     rf"gsave 0 setgray /Times-Roman findfont {NUMBER} scalefont setfont {NUMBER} {NUMBER} translate (\d+) rotate "
@@ -84,33 +85,43 @@ def number_of(found: re.Match[str]) -> Number:
     return Number(found[7], size, x + cosine * across - sine * up, y + sine * across + cosine * up)
 
 
+class Reader:
+    """Reads sheets line by line."""
+
+    def __init__(self, usual: Size) -> None:
+        self.usual, self.sheets = usual, list[Sheet]()
+        self.matrix, self.clip = UPRIGHT, usual
+        self.border: tuple[float, float] | None = None
+
+    def line(self, line: str) -> None:
+        if line.startswith("%%Page: "):
+            self.sheets.append(Sheet(self.usual))
+        elif line.startswith("%%PageMedia: "):
+            width, height = line.split(": ")[1].split("x")
+            self.sheets[-1].paper = float(width), float(height)
+        elif at := MATRIX.fullmatch(line):
+            a, b, c, d, e, f = (float(part) for part in at[1].split())
+            self.matrix, self.border = (a, b, c, d, e, f), None
+        elif at := CLIP.fullmatch(line):
+            self.clip = float(at[1]), float(at[2])
+        elif at := BORDER.fullmatch(line):
+            self.border = float(at[1]), float(at[2])
+        elif line.startswith("% page "):
+            self.sheets[-1].pages.append(Placed(int(line[7:]), self.matrix, self.clip, self.border))
+        elif at := STROKE.fullmatch(line):
+            self.sheets[-1].strokes.append(tuple(float(part) for part in at.groups()))
+        elif at := WRITTEN.fullmatch(line):
+            self.sheets[-1].numbers.append(number_of(at))
+
+
 def sheets(impose: str, words: list[str], sizes: list[Size]) -> list[Sheet]:
     """The sheets that impose makes with these words of pages of these sizes."""
     ran = run(impose, [*words, "--unguarded"], sizes)
-    text = ran.stdout.decode()
     if ran.returncode:
         raise ValueError(ran.stderr.decode())
-    head = text.split("%%Page: ", 1)[0]
+    head, first, rest = ran.stdout.decode().partition("%%Page: ")
     paper = re.search(rf"%%DocumentMedia: \S+ {NUMBER} {NUMBER} ", head)
-    usual = (float(paper[1]), float(paper[2])) if paper else most(sizes)
-    found: list[Sheet] = []
-    matrix, clip, border = (1.0, 0.0, 0.0, 1.0, 0.0, 0.0), usual, None
-    for line in text[len(head) :].split("\n"):
-        if line.startswith("%%Page: "):
-            found.append(Sheet(usual))
-        elif line.startswith("%%PageMedia: "):
-            width, height = line.split(": ")[1].split("x")
-            found[-1].paper = float(width), float(height)
-        elif at := MATRIX.fullmatch(line):
-            matrix, border = tuple(float(part) for part in at[1].split()), None  # type: ignore[assignment]
-        elif at := CLIP.fullmatch(line):
-            clip = float(at[1]), float(at[2])
-        elif at := BORDER.fullmatch(line):
-            border = float(at[1])
-        elif line.startswith("% page "):
-            found[-1].pages.append(Placed(int(line[7:]), matrix, clip, border))
-        elif at := STROKE.fullmatch(line):
-            found[-1].strokes.append(tuple(float(part) for part in at.groups()))
-        elif at := WRITTEN.fullmatch(line):
-            found[-1].numbers.append(number_of(at))
-    return found
+    reader = Reader((float(paper[1]), float(paper[2])) if paper else most(sizes))
+    for line in (first + rest).split("\n"):
+        reader.line(line)
+    return reader.sheets

@@ -2,11 +2,13 @@
 
 from __future__ import annotations
 
+import concurrent.futures
+import os
 import shutil
 import tempfile
 from pathlib import Path
 
-from .cases import ROOT, Programs
+from .cases import ROOT, Case, Programs
 from .running import all_cases, results
 
 EDITS = ROOT / "mutants/impose_pdf"
@@ -30,24 +32,24 @@ def planted(edit: Path, folder: Path) -> str | None:
     return None
 
 
+def cases_for(edit: Path) -> list[Case]:
+    """The cases that an edit names, or all of them."""
+    named = [line.removeprefix("case: ") for line in edit.read_text().splitlines() if line.startswith("case: ")]
+    cases = all_cases("")
+    return [case for case in cases if case.name in named] or cases
+
+
 def seen_by(edit: Path, programs: Programs) -> str:
-    """The cases that see a wrong program: the first three that fail."""
+    """The case that sees a wrong program, of those that its edit names, and what it finds."""
     with tempfile.TemporaryDirectory() as name:
         copy = Path(name) / "pdf"
         shutil.copytree(programs.impose_pdf.parent, copy, ignore=shutil.ignore_patterns("__pycache__"))
         if fault := planted(edit, copy):
             return f"it can't be planted: {fault}"
         wrong = Programs(copy / programs.impose_pdf.name, programs.impose)
-        found: list[str] = []
-
-        def is_enough(result: tuple[object, list[str]]) -> bool:
-            case, faults = result
-            if faults:
-                found.append(f"{case.file}: {case.name}")  # type: ignore[attr-defined]
-            return len(found) == 3
-
-        results(all_cases(""), wrong, is_enough)
-        return "; ".join(sorted(set(found))) or "nothing"
+        found = results(cases_for(edit), wrong, is_enough=lambda result: bool(result[1]))
+        seen = [f"{case.file}: {case.name}: {faults[0]}" for case, faults in found if faults]
+        return seen[0][:160].replace(str(copy), "").replace("\t", " ") if seen else "nothing"
 
 
 def try_wrong(programs: Programs, names: list[str]) -> int:
@@ -55,8 +57,10 @@ def try_wrong(programs: Programs, names: list[str]) -> int:
     edits = [path for path in sorted(EDITS.glob("*.edit")) if not names or path.stem in names]
     table = dict(line.split("\t") for line in TABLE.read_text().splitlines()[1:]) if TABLE.is_file() else {}
     faults = 0
+    with concurrent.futures.ThreadPoolExecutor(os.cpu_count()) as pool:
+        found = dict(zip(edits, pool.map(lambda edit: seen_by(edit, programs), edits)))
     for edit in edits:
-        table[edit.stem] = seen_by(edit, programs)
+        table[edit.stem] = found[edit]
         is_fault = table[edit.stem].startswith(("nothing", "it can't"))
         faults += is_fault
         print(f"{edit.stem}: {'NOT SEEN: ' * is_fault}{table[edit.stem]}", flush=True)
