@@ -14,6 +14,7 @@ mod gatherings;
 mod groups;
 mod growth;
 mod jobs;
+mod own_pages;
 mod queues;
 mod refused_puts;
 mod sets;

@@ -1,14 +1,15 @@
 //! Sinks and writers that fail at each call in turn.
-ghost use Rattle.std.specs.Prelude.{None};
+ghost use Rattle.std.specs.Prelude.{◌≡◌};
 
 use super::{Trial, run_into};
-use crate::tests::checks::{assert_bytes, assert_that};
-use imposer::{Open, RunError, Sink, SinkFault, WriteSink};
+use crate::tests::checks::{assert_bytes, assert_that, done};
+use imposer::{MemorySink, Open, RunError, Sink, SinkFault, WriteSink};
 use std::alloc::Global;
 use std::io::{self, ErrorKind, Write};
+use std::process::Abort;
 use std::sync::Wait;
 use std::thread::Threads;
-use test_tools::{TWO_PAGES, TWO_UP};
+use test_tools::{ONE_PAGE, TWO_PAGES, TWO_UP, one_up_output, two_up_output};
 
 /// The numbers of preparers and of imposers.
 const COUNTS: [(u32, u32); 2] = [(1, 1), (2, 3)];
@@ -25,49 +26,95 @@ fn pair_by(counts: (u32, u32)) -> Trial<'static> {
     }
 }
 
-/// A sink that takes seven bytes a call, fails at its call with this number and all after it, and counts its calls.
+/// A sink in memory that counts the calls which it refuses.
 #[derive(Drop)]
-struct Failing {
-    first: usize,
-    calls: usize,
-    failures: u64,
+struct Refusing {
+    memory: MemorySink,
+    refused: usize,
 }
 
-impl Sink for Failing {
-    ghost seen = { λ s. record { bytes = None; failures = s.failures } };
+impl Sink for Refusing {
+    ghost seen = { λ s. ⟦<MemorySink as Sink>⟧.seen s.memory };
 
     fn accept(&mut self, bytes: &[u8]) -> Result<usize, SinkFault> {
-        self.calls = self.calls.saturating_add(1);
-        if self.calls >= self.first {
-            self.failures += 1;
-            return Err(SinkFault);
+        let answer = self.memory.accept(bytes);
+        if answer.is_err() {
+            self.refused = self.refused.saturating_add(1);
         }
-        Ok(bytes.len().min(PER_CALL))
+        answer
     }
 }
 
-/// Whether a run fails whose sink fails from this call on, and the sink isn't called again.
-fn fails_once<R: Threads + Wait + Sync>(
+/// How many bytes a run writes to a sink. They are the first ones of its output, and the run reports as many. If it fails, the
+/// sink has refused a call and isn't called again.
+fn written_to<R: Threads + Wait + Sync + Abort>(
     rt: &R,
     alloc: Global,
-    counts: (u32, u32),
-    first: usize,
-) -> bool {
-    let mut sink = Failing {
-        first,
-        calls: 0,
-        failures: 0,
+    trial: &Trial<'_>,
+    output: &[u8],
+    memory: MemorySink,
+) -> usize
+    requires fresh { memory.failures ≡ 0 }
+{
+    let mut sink = Refusing { memory, refused: 0 };
+    let answer = run_into(rt, alloc, trial, &Open, &mut sink);
+    let written = sink.memory.bytes();
+    let (told, refused) = match &answer {
+        Ok(report) => (report.bytes, 0),
+        Err(RunError::Write { written }) => (*written, 1),
+        Err(_) => panic!(rt; "the run failed"),
     };
-    let answer = run_into(rt, alloc, &pair_by(counts), &Open, &mut sink);
-    matches!(answer, Err(RunError::Write { .. })) && (sink.calls, sink.failures) == (first, 1)
+    assert_that(rt, output.starts_with(written));
+    assert_that(rt, told == written.len() as u64);
+    assert_that(rt, sink.refused == refused);
+    assert_that(rt, answer.is_ok() == (written.len() == output.len()));
+    written.len()
 }
 
+// Room for each number of bytes that is too few, and one byte a call with room for all.
+#[test]
+fn the_first_bytes_are_written_before_a_failure(rt: HostRuntime) {
+    let alloc = rt.alloc();
+    let output = done(&rt, one_up_output(alloc));
+    for counts in COUNTS {
+        let trial = Trial {
+            document: ONE_PAGE,
+            items: "0",
+            counts,
+        };
+        for room in 0..=273usize {
+            let sink = done(&rt, MemorySink::new(alloc, room, 1_000, 1_000));
+            assert_that(
+                &rt,
+                written_to(&rt, alloc, &trial, output.as_bytes(), sink) == room,
+            );
+        }
+        let sink = done(&rt, MemorySink::new(alloc, 273, 1, 273));
+        assert_that(
+            &rt,
+            written_to(&rt, alloc, &trial, output.as_bytes(), sink) == 273,
+        );
+    }
+}
+
+/// More calls of seven bytes than a pair needs.
+const MOST_CALLS: u64 = 200;
+
+// At least 72 calls are needed.
 #[test]
 fn nothing_is_written_after_a_failure(rt: HostRuntime) {
+    let alloc = rt.alloc();
+    let output = done(&rt, two_up_output(alloc, 1));
     for counts in COUNTS {
-        for first in 1..73usize {
-            assert_that(&rt, fails_once(&rt, rt.alloc(), counts, first));
+        let mut fewest = None;
+        for calls in 0..MOST_CALLS {
+            if fewest.is_none() {
+                let sink = done(&rt, MemorySink::new(alloc, 1_000, PER_CALL, calls));
+                let written = written_to(&rt, alloc, &pair_by(counts), output.as_bytes(), sink);
+                fewest = if written == 503 { Some(calls) } else { None };
+            }
         }
+        assert_that(&rt, fewest.unwrap_or(0) >= 72);
     }
 }
 

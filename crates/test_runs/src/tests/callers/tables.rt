@@ -27,7 +27,7 @@ fn has_group(plan: &Plan, sheet: u32, group: u8) -> bool
 }
 
 // The page of a slot, if the slot is there and isn't blank.
-fn page_in(plan: &Plan, sheet: u32, slot: u16) -> Option<u32>
+pub(crate) fn page_in(plan: &Plan, sheet: u32, slot: u16) -> Option<u32>
     ensures sheet { IfSome result (λ _. sheet < length (layout plan.now).sheets) }
     ensures slot { IfSome result (λ page. slice_get (slots (layout plan.now) sheet) slot ≡ Some (Some page)) }
     ensures page { IfSome result (λ page. page < (layout plan.now).pages) }

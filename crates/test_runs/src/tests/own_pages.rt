@@ -1,0 +1,147 @@
+//! Threads that publish pages and mark their slots at the same time. What is answered of a sheet depends on who brings its
+//! pages, and on nothing that is brought to another sheet.
+ghost use Rattle.std.specs.Prelude.{◌≡◌};
+ghost use Rattle.rules.specs.Sheets.{layout};
+ghost use Rattle.gather_table.specs.Shared.{IsSeatOf};
+
+use super::callers::tables::{mark_checked, page_in};
+use super::wait_for;
+use crate::tests::checks::{assert_that, done};
+use gather_table::{GatherTable, Reply, Seat};
+use pagespec::read_spec;
+use sheet_plan::Plan;
+use std::alloc::Global;
+use std::process::Abort;
+use std::sync::atomic::AtomicUsize;
+use std::sync::atomic::Ordering::SeqCst;
+use std::thread::{Threads, for_each_mut};
+
+/// How often the threads begin anew.
+const ROUNDS: u32 = 1_000;
+
+/// Two slots, each with its sheet and its place there.
+type Slots = [(u32, u16); 2];
+
+/// What marks of two slots are answered.
+type Replies = [Option<Reply>; 2];
+
+const FRESH: Replies = [Some(Reply::Fresh), Some(Reply::Repeated)];
+
+const COMPLETING: Replies = [Some(Reply::Completing), Some(Reply::Repeated)];
+
+const FRESH_AND_COMPLETING: Replies = [Some(Reply::Fresh), Some(Reply::Completing)];
+
+const REPEATED: Replies = [Some(Reply::Repeated), Some(Reply::Repeated)];
+
+/// Who brings pages to two slots, in a thread of its own.
+#[derive(Drop)]
+struct Bringer<'s, 't, 'p> {
+    table: &'s GatherTable<'t>,
+    plan: &'s Plan<'p>,
+    seat: Seat,
+    slots: Slots,
+    replies: Replies,
+    ghost same_plan: { table.now.layout ≡ layout plan.now },
+    ghost seated: { IsSeatOf table.now seat },
+}
+
+impl<'s, 't, 'p> Bringer<'s, 't, 'p> {
+    /// Publishes the page of a slot.
+    fn publish(&mut self, (sheet, slot): (u32, u16)) {
+        if let Some(page) = page_in(self.plan, sheet, slot) {
+            self.table.publish(&mut self.seat, page, page);
+        }
+    }
+
+    fn mark(&mut self, (sheet, slot): (u32, u16)) -> Option<Reply> {
+        mark_checked(self.table, self.plan, &mut self.seat, sheet, slot)
+    }
+
+    /// Publishes the two pages and marks the slots, once both threads have begun.
+    fn bring(&mut self, begun: &AtomicUsize, run_out: &AtomicUsize) {
+        begun.fetch_add(1, SeqCst);
+        wait_for(begun, 2, run_out);
+        let [one, other] = self.slots;
+        self.publish(one);
+        self.publish(other);
+        self.replies = [self.mark(one), self.mark(other)];
+    }
+}
+
+/// Two bring the pages of these slots, in a thread each: what their marks are answered.
+fn bring_beside<R: Threads + Sync + Abort>(
+    rt: &R,
+    alloc: Global,
+    plan: &Plan<'_>,
+    [here, there]: [Slots; 2],
+) -> [Replies; 2] {
+    let (table, mut seat) = done(rt, GatherTable::new(alloc, plan));
+    let mut bringers = [
+        Bringer {
+            table: &table,
+            plan,
+            seat: table.split(&mut seat, 1),
+            slots: here,
+            replies: [None; 2],
+        },
+        Bringer {
+            table: &table,
+            plan,
+            seat: table.split(&mut seat, 1),
+            slots: there,
+            replies: [None; 2],
+        },
+    ];
+    let (begun, run_out) = (AtomicUsize::new(0), AtomicUsize::new(0));
+    for_each_mut(
+        rt,
+        bringers.as_mut_slice(),
+        2,
+        &|_, bringer: &mut Bringer<'_, '_, '_>| bringer.bring(&begun, &run_out),
+    );
+    assert_that(rt, run_out.load(SeqCst) == 0);
+    [bringers[0].replies, bringers[1].replies]
+}
+
+/// Of so many pages, two bring those of their slots, many times over. They are answered so, or the other way round.
+fn assert_answered<R: Threads + Sync + Abort>(
+    rt: &R,
+    alloc: Global,
+    items: &str,
+    pages: u32,
+    slots: [Slots; 2],
+    [one, other]: [Replies; 2],
+) {
+    let spec = done(rt, read_spec(alloc, items));
+    let plan = done(rt, Plan::new(alloc, &spec, pages));
+    for _ in 0..ROUNDS {
+        let found = bring_beside(rt, alloc, &plan, slots);
+        assert_that(rt, found == [one, other] || found == [other, one]);
+    }
+}
+
+#[test]
+fn each_brings_one_of_the_pages_of_a_sheet(rt: HostRuntime) {
+    let slots = [[(0, 0); 2], [(0, 1); 2]];
+    assert_answered(&rt, rt.alloc(), "2:0+1", 2, slots, [FRESH, COMPLETING]);
+}
+
+#[test]
+fn both_bring_the_same_page(rt: HostRuntime) {
+    let slots = [[(0, 0); 2]; 2];
+    assert_answered(&rt, rt.alloc(), "0", 1, slots, [COMPLETING, REPEATED]);
+}
+
+// The sheets lie side by side in one word.
+#[test]
+fn each_brings_the_pages_of_a_sheet_of_its_own(rt: HostRuntime) {
+    let slots = [[(0, 0), (0, 1)], [(1, 0), (1, 1)]];
+    assert_answered(
+        &rt,
+        rt.alloc(),
+        "2:0+1",
+        4,
+        slots,
+        [FRESH_AND_COMPLETING; 2],
+    );
+}
