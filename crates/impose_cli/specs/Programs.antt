@@ -3,13 +3,12 @@ use Rattle.std.specs.Prelude.{⊤, ◌≡◌, ◌⊎◌, ◌+◌, ◌<◌, ℕ, 
 use Rattle.std.specs.Prelude.{codes, option_map, string_bytes}
 use Rattle.std.specs.Io.KnownBytes.{Appends}
 use Rattle.std.specs.IoError.{error_kind}
-use Rattle.std.specs.declared.io.ErrorKind.{ErrorKind}
 use Rattle.std.specs.declared.io.ErrorKind.TheVariants.{OutOfMemory}
 use Rattle.clap.specs.Words.{Text}
 use Rattle.world.specs.Outputs.{told_if}
 use Rattle.world.specs.Input.{IsFirst, most_bytes}
 use Rattle.world.specs.Rests.{has_output}
-use Rattle.world.specs.Worlds.{HasGranted, HasRefused, WasAsked, WorldView, opening}
+use Rattle.world.specs.Worlds.{HasGranted, WasAsked, WorldView, opening}
 use Rattle.rules.specs.Papers.{Paper}
 use Rattle.papers.specs.Home.{home_paper}
 use Rattle.impose_cli.specs.Endings.{AfterWrite, Edge, IsUncreated, RefusesRow, Runs}
@@ -55,12 +54,12 @@ abbrev pub most_home_bytes : ℕ
 most_home_bytes = 4_096
 
 -- What was read of that file, with the world before and after. Nothing, and it was passed over: it is no regular file, as far as that
--- is known. Nothing, and the world refused it. Or its first bytes, or nothing if it couldn't be read.
+-- is known. Nothing, and the world failed: the file couldn't be opened or read. Or its first bytes.
 abbrev pub LooksHome : Gives → (regular : List ℕ → Option Bool) → (old new : WorldView) → (file : List ℕ) → Type 0
 LooksHome gives regular old new file =
     ((new ≡ old) × IfSome (regular home_file) (λ is. is ≡ false) × (file ≡ []))
-    ⊎ (((cause : ErrorKind) × HasRefused (opening (Some home_file)) cause old new × (file ≡ []))
-    ⊎ (HasGranted (opening (Some home_file)) old new × (IsFirst most_home_bytes (gives (Some home_file)) file ⊎ (file ≡ []))))
+    ⊎ ((WasAsked (opening (Some home_file)) old new × (new.failures ≡ old.failures + 1) × (file ≡ []))
+    ⊎ (HasGranted (opening (Some home_file)) old new × IsFirst most_home_bytes (gives (Some home_file)) file))
 
 -- the paper at home is by the value of PAPERSIZE and by what was read of that file
 abbrev pub FindsHome : (variable : List ℕ) → Gives → (regular : List ℕ → Option Bool) → (old new : WorldView) → Paper → Type 0

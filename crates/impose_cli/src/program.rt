@@ -6,7 +6,7 @@ ghost use Rattle.world.specs.Input.{IsFirst, most_bytes};
 ghost use Rattle.impose_cli.specs.Endings.{edge, shown};
 ghost use Rattle.impose_cli.specs.Looks.{MayBeMade};
 ghost use Rattle.impose_cli.specs.Programs.{BreaksAt, CarriesOut, EndsProgram, FindsHome, HasGiven, IsCreatedFor, IsReading, IsUnread, Makes};
-ghost use Rattle.impose_cli.specs.Programs.{Prints, Shows, Writes, most_home_bytes, status_of};
+ghost use Rattle.impose_cli.specs.Programs.{Prints, Shows, Writes, status_of};
 ghost use Rattle.impose_cli.specs.RowTasks.{LaysRows};
 ghost use Rattle.impose_said.specs.declared.fault.ImposeFault.TheVariants as faults;
 
@@ -24,10 +24,10 @@ use lengths::Paper;
 use papers::home_paper;
 use std::alloc::Global;
 use std::io;
-use std::io::{ErrorKind, Read, Write};
+use std::io::{ErrorKind, Write};
 use std::sync::Wait;
 use std::thread::Threads;
-use world::{ReadFault, ReadSource, Rest, World, read_input, read_input_behind};
+use world::{ReadFault, ReadSource, Rest, World, read_front, read_input_behind};
 
 /// How the program ended.
 #[derive(Drop)]
@@ -74,7 +74,7 @@ pub fn impose<R: Threads + Wait + Sync, W: World>(
 {
     match read_command(alloc, words) {
         Ok(read) => {
-            let request = at_home(read, home_of(alloc, paper_size, &mut world));
+            let request = at_home(read, home_of(paper_size, &mut world));
             let left = carry_out(rt, alloc, &request, world);
             Ended {
                 request: Some(request),
@@ -104,11 +104,11 @@ fn at_home(request: ImposeRequest, home: Paper) -> ImposeRequest
 const HOME_FILE: &str = "/etc/papersize";
 
 /// How many of its bytes are read.
-const HOME_BYTES: u64 = 4_096;
+const HOME_BYTES: usize = 4_096;
 
 /// The paper at home, by the value of `PAPERSIZE` and by what the file begins with. What can't be read, or is no regular
-/// file, counts as empty.
-fn home_of<W: World>(alloc: Global, paper_size: &[u8], world: &mut W) -> Paper
+/// file, counts as empty. It needs no memory.
+fn home_of<W: World>(paper_size: &[u8], world: &mut W) -> Paper
     requires countable { (W.seen world.old).failures < u64.MAX }
     ensures home { FindsHome paper_size.now (W.gives world.old) (W.regular world.old) (W.seen world.old) (W.seen world.new) result }
     ensures again { W.gives world.new ≡ W.gives world.old }
@@ -117,21 +117,17 @@ fn home_of<W: World>(alloc: Global, paper_size: &[u8], world: &mut W) -> Paper
     if !world.is_file(HOME_FILE) {
         return home_paper(paper_size, b"");
     }
-    match world.open(Some(HOME_FILE)) {
-        Ok(file) => match read_head(alloc, file) {
-            Ok(head) => home_paper(paper_size, head.as_slice()),
-            Err(_) => home_paper(paper_size, b""),
-        },
+    let Ok(file) = world.open(Some(HOME_FILE)) else {
+        return home_paper(paper_size, b"");
+    };
+    let mut head = [0; HOME_BYTES];
+    let mut source = ReadSource::new(file);
+    let read = read_front(&mut head, &mut source);
+    drop(world.close(source));
+    match read {
+        Ok(count) => home_paper(paper_size, &head[..count]),
         Err(_) => home_paper(paper_size, b""),
     }
-}
-
-/// The first bytes of the file that names the paper at home.
-fn read_head<I: Read + Drop>(alloc: Global, file: I) -> Result<Vec<u8>, ReadFault>
-    ensures { IfOk result (λ head. IsFirst most_home_bytes (I.remaining file) head.items) }
-{
-    let mut source = ReadSource::new(file.take(HOME_BYTES));
-    read_input(alloc, &mut source)
 }
 
 /// Checks the request, reads the input, and then makes what is asked for.

@@ -1,6 +1,6 @@
 //! The answer of a command, which has it again where each of its growths is refused in turn by the library of `checks/refuse.c`.
 use crate::answer::Answer;
-use crate::words::{Document, without_form, word};
+use crate::words::{Document, without_form};
 use crate::{documents, programs, specifications};
 use std::alloc::Global;
 use std::sync::Wait;
@@ -9,9 +9,6 @@ use test_tools::{has_refused, refuse};
 
 /// Of each command fewer growths are refused than this, one after the other.
 const MOST_REFUSED: u32 = 1_000;
-
-/// Those of `at_home` are fewer: once it reads /etc/papersize, impose does without that file if memory is out.
-const MOST_REFUSED_AT_HOME: u32 = 40;
 
 /// The answer of a command, if it is one, once no growth of it is refused. One in which a growth is refused has no answer,
 /// reports that memory is out, or has the answer that it always has.
@@ -22,11 +19,7 @@ pub fn answer_of<R: Threads + Wait + Sync>(
     documents: &[Document],
 ) -> Option<Vec<u8>> {
     let usual = answer_once(rt, alloc, words, documents)?;
-    let most = match word(words, 0) {
-        Some("at_home") => MOST_REFUSED_AT_HOME,
-        _ => MOST_REFUSED,
-    };
-    for number in 1..most {
+    for number in 1..MOST_REFUSED {
         refuse(alloc, number);
         let answer = answer_once(rt, alloc, words, documents);
         if !has_refused(alloc) {

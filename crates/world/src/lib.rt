@@ -2,6 +2,7 @@
 #![tactic(auto)]
 
 mod failures;
+mod front;
 mod host;
 mod output;
 mod read;
@@ -12,6 +13,7 @@ mod told;
 mod world;
 
 pub use failures::Failures;
+pub use front::read_front;
 pub use host::{Host, HostInput, HostOutput};
 pub use output::Created;
 pub use read::{MOST_BYTES, ReadFault, read_input, read_input_behind};

@@ -195,7 +195,7 @@ fn give_back_room(bytes: &mut Vec<u8>)
 }
 
 /// Fills what is after the first `filled` bytes.
-fn fill_behind<S: Source>(
+pub(crate) fn fill_behind<S: Source>(
     source: &mut S,
     buffer: &mut [u8],
     filled: usize,

@@ -1,0 +1,24 @@
+//! Reading what an input begins with.
+ghost use Rattle.std.specs.Prelude.{◌<◌, ◌≤◌, IfOk, length, take};
+ghost use Rattle.world.specs.Input.{Counts, IsFirst};
+
+use crate::read::fill_behind;
+use crate::source::{Source, SourceFault};
+
+/// The first bytes of the source, read into the buffer: as many as it takes, or all if there are fewer. It needs no memory.
+pub fn read_front<S: Source>(buffer: &mut [u8], source: &mut S) -> Result<usize, SourceFault>
+    requires countable { (S.seen source.old).failures < u64.MAX }
+    ensures within { IfOk result (λ count. count ≤ length buffer.new) }
+    ensures read { IfOk result (λ count. IsFirst (length buffer.old) (S.seen source.old).bytes (take count buffer.new)) }
+    ensures counted { Counts (S.seen source.old).failures (S.seen source.new).failures result }
+{
+    let mut filled = 0;
+    while filled < buffer.len() {
+        let count = fill_behind(source, buffer, filled)?;
+        if count == 0 {
+            break;
+        }
+        filled += count;
+    }
+    Ok(filled)
+}
