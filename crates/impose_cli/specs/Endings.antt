@@ -45,7 +45,7 @@ AfterWrite (fault.Write n cause) failed spent = failed n
 AfterWrite (fault.Run (run.NoMemory n)) failed spent = spent n
 AfterWrite other failed spent = ⊥
 
--- what clauses say of a world: whether its outputs report what they have, and what it was asked
+-- what clauses see of a world: whether its outputs report what they have, and what it was asked for
 pub record Edge (W : Type 0) : Type 0 where
   pub tells : Bool
   pub seen : W → WorldView
@@ -55,18 +55,18 @@ edge tells seen = record { tells = tells; seen = seen }
 
 -- the world is back, and has refused an output of this name with an error of this kind
 abbrev pub Refused : {W O : Type 0} → Edge W → (name : Option (List ℕ)) → ErrorKind → (world : W) → Rest W O → Type 0
-Refused {W} e name cause world rest = (left : W) × (rest ≡ World left) × HasRefused (creating name) cause (e.seen world) (e.seen left)
+Refused {W} edge name cause world rest = (left : W) × (rest ≡ World left) × HasRefused (creating name) cause (edge.seen world) (edge.seen left)
 
 -- no output of this name could be created: the fault says so, with the world's cause
 abbrev pub IsUncreated : {W O : Type 0} → Edge W → (name : Option (List ℕ)) → (world : W) → ImposeFault → Rest W O → Type 0
-IsUncreated e name world (fault.Write n (Some cause)) rest = (n ≡ 0) × Refused e name (error_kind cause) world rest
-IsUncreated e name world other rest = ⊥
+IsUncreated edge name world (fault.Write n (Some cause)) rest = (n ≡ 0) × Refused edge name (error_kind cause) world rest
+IsUncreated edge name world other rest = ⊥
 
 -- nor was there memory for its buffer: then the very world is back, or it has refused for want of memory
 abbrev pub IsNotCreated : {T W O : Type 0} → Edge W → (name : Option (List ℕ)) → (world : W) → Result T ImposeFault → Rest W O → Type 0
-IsNotCreated e name world (Ok x) rest = ⊥
-IsNotCreated e name world (Err f) rest =
-    ((f ≡ without_memory) × ((rest ≡ World world) ⊎ Refused e name OutOfMemory world rest)) ⊎ IsUncreated e name world f rest
+IsNotCreated edge name world (Ok x) rest = ⊥
+IsNotCreated edge name world (Err f) rest =
+    ((f ≡ without_memory) × ((rest ≡ World world) ⊎ Refused edge name OutOfMemory world rest)) ⊎ IsUncreated edge name world f rest
 
 -- the output has the first bytes of this text, so many, if it reports what it has
 abbrev pub HasFirst : (old new : Option (List ℕ)) → (text : List ℕ) → (n : ℕ) → Type 0
@@ -90,12 +90,12 @@ IsSaidOf other n f = AfterWrite f (λ m. m ≡ n) (λ m. ⊥)
 -- back; or a whole output would have this text, and none could be created, or one has its front. `Refuses` says why it is
 -- refused, and `Wrote` what a whole output was before and is now.
 abbrev pub Comes : {T W O : Type 0} → (Refuses : ImposeFault → Type 0) → (Wrote : (old new : Option (List ℕ)) → T → Type 0)
-    → (name : Option (List ℕ)) → (tells : Edge W) → Result T ImposeFault → (world : W) → (rest : Rest W O) → (written : Option (List ℕ)) → Type 0
-Comes {T} Refuses Wrote name tells (Ok what) world rest written = Wrote (told_if tells.tells name []) written what
-Comes {T} Refuses Wrote name tells (Err f) world rest written =
+    → (name : Option (List ℕ)) → (edge : Edge W) → Result T ImposeFault → (world : W) → (rest : Rest W O) → (written : Option (List ℕ)) → Type 0
+Comes {T} Refuses Wrote name edge (Ok what) world rest written = Wrote (told_if edge.tells name []) written what
+Comes {T} Refuses Wrote name edge (Err f) world rest written =
     (Refuses f × (rest ≡ World world))
     ⊎ ((text : List ℕ) × (what : T) × Wrote (Some []) (Some text) what
-    × (IsNotCreated {T = T} tells name world (Err f) rest ⊎ HasFront (told_if tells.tells name []) written text f))
+    × (IsNotCreated {T = T} edge name world (Err f) rest ⊎ HasFront (told_if edge.tells name []) written text f))
 
 -- ---- the sheets of a job
 
@@ -160,7 +160,7 @@ RefusesImposing (layout.SpecRow specs signing) r input f = RefusesSpecRowRun r i
 RefusesImposing other r input f = RefusesRow r input f
 
 -- what comes of a request to impose this input
-abbrev pub Runs : {W O : Type 0} → ImposeRequest → (input : List ℕ) → (tells : Edge W) → Result Done ImposeFault
+abbrev pub Runs : {W O : Type 0} → ImposeRequest → (input : List ℕ) → (edge : Edge W) → Result Done ImposeFault
     → (world : W) → (rest : Rest W O) → (written : Option (List ℕ)) → Type 0
-Runs r input tells outcome world rest written =
-    Comes (RefusesImposing r.layout r input) (IsImposed r input) (option_map string_bytes r.outfile) tells outcome world rest written
+Runs r input edge outcome world rest written =
+    Comes (RefusesImposing r.layout r input) (IsImposed r input) (option_map string_bytes r.outfile) edge outcome world rest written

@@ -92,69 +92,69 @@ abbrev pub BreaksAt : (old new : Option (List ℕ)) → (text : List ℕ) → Im
 BreaksAt old new text f = AfterWrite f (λ n. (n < length text) × Appends old new (take n text)) (λ n. ⊥)
 
 -- a text wasn't written whole to the output of this name
-abbrev pub FailsToWrite : {W O : Type 0} → (name : Option (List ℕ)) → (text : List ℕ) → (tells : Edge W) → ImposeFault
+abbrev pub FailsToWrite : {W O : Type 0} → (name : Option (List ℕ)) → (text : List ℕ) → (edge : Edge W) → ImposeFault
     → (world : W) → (rest : Rest W O) → (written : Option (List ℕ)) → Type 0
-FailsToWrite name text tells f world rest written =
-    IsUncreated tells name world f rest ⊎ BreaksAt (told_if tells.tells name []) written text f
+FailsToWrite name text edge f world rest written =
+    IsUncreated edge name world f rest ⊎ BreaksAt (told_if edge.tells name []) written text f
 
 -- What comes of a text that is written to the output of this name: the output tells its name and exactly the text; or a
 -- write failed.
-abbrev pub Writes : {W O : Type 0} → (name : Option (List ℕ)) → (text : List ℕ) → Done → (tells : Edge W) → Result Done ImposeFault
+abbrev pub Writes : {W O : Type 0} → (name : Option (List ℕ)) → (text : List ℕ) → Done → (edge : Edge W) → Result Done ImposeFault
     → (world : W) → (rest : Rest W O) → (written : Option (List ℕ)) → Type 0
-Writes name text what tells (Ok said) world rest written = (said ≡ what) × Appends (told_if tells.tells name []) written text
-Writes name text what tells (Err f) world rest written = FailsToWrite name text tells f world rest written
+Writes name text what edge (Ok said) world rest written = (said ≡ what) × Appends (told_if edge.tells name []) written text
+Writes name text what edge (Err f) world rest written = FailsToWrite name text edge f world rest written
 
 -- What comes of a request to print the specification for this input: there is a task, which nothing refuses, and standard
 -- output has what was printed of it; or there is none, or no memory, and the world is back; or there is such a task, and a
 -- write failed.
-abbrev pub Prints : {W O : Type 0} → ImposeRequest → (input : List ℕ) → (tells : Edge W) → Result Done ImposeFault
+abbrev pub Prints : {W O : Type 0} → ImposeRequest → (input : List ℕ) → (edge : Edge W) → Result Done ImposeFault
     → (world : W) → (rest : Rest W O) → (written : Option (List ℕ)) → Type 0
-Prints r input tells (Ok (done.Imposed finished)) world rest written = ⊥
-Prints r input tells (Ok done.Printed) world rest written =
+Prints r input edge (Ok (done.Imposed finished)) world rest written = ⊥
+Prints r input edge (Ok done.Printed) world rest written =
     (task : Task) × IsTask r input task × HasNoFault r input
-    × Appends (told_if tells.tells None []) written (printed_text r task)
-Prints r input tells (Ok done.Shown) world rest written = ⊥
-Prints r input tells (Err f) world rest written =
+    × Appends (told_if edge.tells None []) written (printed_text r task)
+Prints r input edge (Ok done.Shown) world rest written = ⊥
+Prints r input edge (Err f) world rest written =
     ((RefusesTask r input f ⊎ (f ≡ without_memory)) × (rest ≡ World world))
     ⊎ ((task : Task) × IsTask r input task × HasNoFault r input
-    × FailsToWrite None (printed_text r task) tells f world rest written)
+    × FailsToWrite None (printed_text r task) edge f world rest written)
 
 -- What comes of a request to show the sheets for this input: the output of this name has exactly the text that reports on the
 -- sheets that would be imposed; or the request is refused as its run would be, and the world is back; or there is such a
 -- text, and a write failed.
-abbrev pub Shows : {W O : Type 0} → Overview → (name : Option (List ℕ)) → ImposeRequest → (input : List ℕ) → (tells : Edge W) → Result Done ImposeFault
+abbrev pub Shows : {W O : Type 0} → Overview → (name : Option (List ℕ)) → ImposeRequest → (input : List ℕ) → (edge : Edge W) → Result Done ImposeFault
     → (world : W) → (rest : Rest W O) → (written : Option (List ℕ)) → Type 0
-Shows l name r input tells (Ok (done.Imposed finished)) world rest written = ⊥
-Shows l name r input tells (Ok done.Printed) world rest written = ⊥
-Shows l name r input tells (Ok done.Shown) world rest written =
-    (text : List ℕ) × TellsRow r input l text × Appends (told_if tells.tells name []) written text
-Shows l name r input tells (Err f) world rest written =
+Shows l name r input edge (Ok (done.Imposed finished)) world rest written = ⊥
+Shows l name r input edge (Ok done.Printed) world rest written = ⊥
+Shows l name r input edge (Ok done.Shown) world rest written =
+    (text : List ℕ) × TellsRow r input l text × Appends (told_if edge.tells name []) written text
+Shows l name r input edge (Err f) world rest written =
     (RefusesRow r input f × (rest ≡ World world))
-    ⊎ ((text : List ℕ) × TellsRow r input l text × FailsToWrite name text tells f world rest written)
+    ⊎ ((text : List ℕ) × TellsRow r input l text × FailsToWrite name text edge f world rest written)
 
 -- ---- all of it
 
 -- this is made of what the input gives: the sheets in OUTFILE, a specification or a plan on standard output, or a picture in
 -- its own file
-abbrev pub Makes : {W O : Type 0} → Product → ImposeRequest → (input : List ℕ) → (tells : Edge W) → Result Done ImposeFault
+abbrev pub Makes : {W O : Type 0} → Product → ImposeRequest → (input : List ℕ) → (edge : Edge W) → Result Done ImposeFault
     → (world : W) → (rest : Rest W O) → (written : Option (List ℕ)) → Type 0
-Makes product.Sheets r input tells outcome world rest written = Runs r input tells outcome world rest written
-Makes product.Specification r input tells outcome world rest written = Prints r input tells outcome world rest written
-Makes product.Plan r input tells outcome world rest written =
-    Shows look.Plan None r input tells outcome world rest written
-Makes (product.Picture file) r input tells outcome world rest written =
-    Shows look.Picture (option_map string_bytes file) r input tells outcome world rest written
+Makes product.Sheets r input edge outcome world rest written = Runs r input edge outcome world rest written
+Makes product.Specification r input edge outcome world rest written = Prints r input edge outcome world rest written
+Makes product.Plan r input edge outcome world rest written =
+    Shows look.Plan None r input edge outcome world rest written
+Makes (product.Picture file) r input edge outcome world rest written =
+    Shows look.Picture (option_map string_bytes file) r input edge outcome world rest written
 
 -- What comes of a request: it is refused before its input is read; or it isn't, and its input can't be read, and the world is
 -- back; or the input was read, and what is asked for is made of it (RULES, 16)
-abbrev pub CarriesOut : {W O : Type 0} → (seen : W → WorldView) → ImposeRequest → Gives → (tells : Edge W) → Result Done ImposeFault
+abbrev pub CarriesOut : {W O : Type 0} → (seen : W → WorldView) → ImposeRequest → Gives → (edge : Edge W) → Result Done ImposeFault
     → (world : W) → (rest : Rest W O) → (written : Option (List ℕ)) → Type 0
-CarriesOut {W} seen r gives tells outcome world rest written =
+CarriesOut {W} seen r gives edge outcome world rest written =
     ((f : ImposeFault) × (left : W) × (outcome ≡ Err f) × (rest ≡ World left)
     × ((RefusesRequest r f × (left ≡ world)) ⊎ (MayBeRead r × IsReading (option_map string_bytes r.infile) (seen world) (seen left) f)))
     ⊎ ((input : List ℕ) × (read : W) × IsFirst most_bytes (gives (option_map string_bytes r.infile)) input
     × HasGiven (option_map string_bytes r.infile) (seen world) (seen read) × MayBeRead r
-    × Makes r.product r input tells outcome read rest written)
+    × Makes r.product r input edge outcome read rest written)
 
 -- what is refused has no output: one that exists is that of a request that was carried out, or for which a write failed or
 -- memory ran out
@@ -165,13 +165,13 @@ IsCreatedFor (Err f) rest = (has_output rest ≡ false) ⊎ AfterWrite f (λ n. 
 -- How the program ends: the words are refused, and the world is back; or they make a request, with the paper at home,
 -- and this comes of it.
 abbrev pub EndsProgram : {W O : Type 0} → (seen : W → WorldView) → (words : List Text) → (variable : List ℕ) → Gives
-    → (regular : List ℕ → Option Bool) → (tells : Edge W) → Option ImposeRequest → Result Done ImposeFault → (world : W)
+    → (regular : List ℕ → Option Bool) → (edge : Edge W) → Option ImposeRequest → Result Done ImposeFault → (world : W)
     → (rest : Rest W O) → (written : Option (List ℕ)) → Type 0
-EndsProgram seen words variable gives regular tells None (Ok what) world rest written = ⊥
-EndsProgram seen words variable gives regular tells None (Err (fault.Command f)) world rest written =
+EndsProgram seen words variable gives regular edge None (Ok what) world rest written = ⊥
+EndsProgram seen words variable gives regular edge None (Err (fault.Command f)) world rest written =
     Refuses words f × (rest ≡ World world)
-EndsProgram seen words variable gives regular tells None (Err other) world rest written = ⊥
-EndsProgram {W} seen words variable gives regular tells (Some r) outcome world rest written =
+EndsProgram seen words variable gives regular edge None (Err other) world rest written = ⊥
+EndsProgram {W} seen words variable gives regular edge (Some r) outcome world rest written =
     Entered words (λ name found. Reads name found r) × (looked : W)
     × FindsHome variable gives regular (seen world) (seen looked) r.home_paper
-    × CarriesOut seen r gives tells outcome looked rest written
+    × CarriesOut seen r gives edge outcome looked rest written
