@@ -12,4 +12,4 @@ pub mod Examples
 pub mod Turns
 pub mod Given
 pub mod Quiet
-mod AtFoot
+pub mod AtFoot

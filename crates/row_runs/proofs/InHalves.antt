@@ -25,7 +25,8 @@ use Rattle.row_runs.specs.Mirrored.{mirrored}
 use Rattle.row_runs.specs.Turning.{both, turned_item, turned_paper, turned_sheet, turned_slot}
 use Rattle.row_runs.specs.Written.{AreInHalves, KeepLeaves, SlotIsInHalf}
 use Rattle.row_runs.proofs.Backs.{fused}
-use Rattle.row_runs.proofs.InCells.{IsWhole, SlotIsWhole, even_either, mirror_of, numbered, turned_stays_in_cell, zine_is_whole}
+use Rattle.row_runs.proofs.Boxes.{turned_stays_in_cell}
+use Rattle.row_runs.proofs.InCells.{IsWhole, SlotIsWhole, even_either, mirror_of, numbered, zine_is_whole}
 use Rattle.row_runs.proofs.Rooms.{SlotIsWhole as SlotIsWholeSo, all_apart, inside}
 
 -- ---- a page
@@ -53,7 +54,7 @@ moved_is_whole page by item is =
       y_is = ap (λ (m : Measure). record { number = m.number +ℤ (pos 10_000 *ℤ by); unit = Pt }) is.y_is ∙ ap (λ n. record { number = n; unit = Pt }) sum;
     }
 
-page_is_whole : (f : Filling) (by_half : Bool) (k creep page : ℕ) → AreHalves f.setting → EntryCreeps f creep (Some page) → IsWhole (f.paper_of page) (creeping f.setting by_half (f.paper_of page) k creep)
+pub page_is_whole : (f : Filling) (by_half : Bool) (k creep page : ℕ) → AreHalves f.setting → EntryCreeps f creep (Some page) → IsWhole (f.paper_of page) (creeping f.setting by_half (f.paper_of page) k creep)
 page_is_whole f by_half k creep page halved has =
     let paper = f.paper_of page in
     moved_is_whole paper (up_to_fold f.setting.order.right_to_left by_half k creep) (in_half f.setting by_half paper k)

@@ -16,8 +16,10 @@ use Rattle.pagespec.specs.Items.{turn_of}
 use Rattle.row_runs.specs.declared.asked.Laying.{Laying}
 use Rattle.row_runs.specs.declared.asked.Laying.TheVariants as laying
 use Rattle.row_runs.specs.declared.asked.Scheme.TheVariants as scheme
+use Rattle.row_runs.specs.declared.run.RowJob.{RowJob}
 use Rattle.row_runs.specs.Evened.{evened_if}
 use Rattle.row_runs.specs.Mirrored.{mirror_in, mirrored}
+use Rattle.row_runs.specs.Runs.{AreTurned}
 use Rattle.row_runs.specs.Sheets.{FitAsLaid, MayBeLaid, laying_for, leaves_in, sewn, sheets_laid}
 use Rattle.row_runs.specs.Standing.{StandAsLaid}
 use Rattle.row_runs.specs.Turning.{turned_sheet}
@@ -54,20 +56,26 @@ same_mirror m true (laying.AsTheyAre blank) papers row = refl
 same_mirror m true (laying.InCells t how) papers row = refl
 same_mirror m true (laying.Poster p) papers row = refl
 
+-- what is written is the row, laid, with backs moved and pages turned
+made_is : (j : RowJob) (made : List MadeSheet) → (are : AreTurned j made)
+    → (let l = laying_for j.asked j.papers.now are.asked.row in
+    made ≡ map (turned_sheet (turn_of j.turn)) (mirrored (mirror_in j.mirrored l) (sheets_laid l (leaves_in (sewn j.asked) are.asked.row) j.papers.now (signed (sewn j.asked) are.asked.row))))
+made_is j made are =
+    let turn = turn_of j.turn in
+    are.turned
+    ∙ ap₂ (λ (m : Option Room) (xs : List MadeSheet). map (turned_sheet turn) (mirrored m xs)) (same_mirror j.mirrored j.asked.same_scale j.asked.laying j.papers.now (signed (sewn j.asked) are.asked.row)) are.asked.are_laid
+
+-- and it may be laid so
+may_be : (j : RowJob) (made : List MadeSheet) → (are : AreTurned j made) → MayBeLaid (laying_for j.asked j.papers.now are.asked.row)
+may_be j made are = evened_may_be j.asked.same_scale j.asked.laying j.papers.now (signed (sewn j.asked) are.asked.row) are.may.laid
+
 pub written_in_cells : WrittenInCells
 written_in_cells j made are =
-    let a = j.asked in
-    let papers = j.papers.now in
-    let laid = are.laid in
     let row = are.asked.row in
-    let l = laying_for a papers row in
-    let turn = turn_of j.turn in
-    let printed = signed (sewn a) row in
-    let leaves = leaves_in (sewn a) row in
-    let same : made ≡ map (turned_sheet turn) (mirrored (mirror_in j.mirrored l) (sheets_laid l leaves papers printed)) = are.turned
-    ∙ ap₂ (λ (m : Option Room) (xs : List MadeSheet). map (turned_sheet turn) (mirrored m xs)) (same_mirror j.mirrored a.same_scale a.laying papers printed) are.asked.are_laid in
-    subst (AreInTheirCells turn j.mirrored l leaves) (sym same)
-    (lie_as j.mirrored turn l leaves papers printed (evened_may_be a.same_scale a.laying papers printed are.may.laid) are.asked.fits)
+    let l = laying_for j.asked j.papers.now row in
+    let leaves = leaves_in (sewn j.asked) row in
+    subst (AreInTheirCells (turn_of j.turn) j.mirrored l leaves) (sym (made_is j made are))
+    (lie_as j.mirrored (turn_of j.turn) l leaves j.papers.now (signed (sewn j.asked) row) (may_be j made are) are.asked.fits)
 
 -- ---- between the margins
 
@@ -117,16 +125,10 @@ keep_as m turn (laying.InCells t scheme.Leaves) leaves papers row may fits stand
 
 pub written_keep_room : WrittenKeepRoom
 written_keep_room j made are =
-    let a = j.asked in
-    let papers = j.papers.now in
-    let laid = are.laid in
     let row = are.asked.row in
-    let l = laying_for a papers row in
-    let turn = turn_of j.turn in
-    let printed = signed (sewn a) row in
-    let leaves = leaves_in (sewn a) row in
-    let same : made ≡ map (turned_sheet turn) (mirrored (mirror_in j.mirrored l) (sheets_laid l leaves papers printed)) = are.turned
-    ∙ ap₂ (λ (m : Option Room) (xs : List MadeSheet). map (turned_sheet turn) (mirrored m xs)) (same_mirror j.mirrored a.same_scale a.laying papers printed) are.asked.are_laid in
-    let stand : StandInRoom l (sheets_laid l leaves papers printed) = subst (StandInRoom l) are.asked.are_laid (in_room_too a.same_scale a.laying papers printed laid are.stand) in
-    subst (KeepTheirRoom j.mirrored l leaves) (sym same)
-    (keep_as j.mirrored turn l leaves papers printed (evened_may_be a.same_scale a.laying papers printed are.may.laid) are.asked.fits stand)
+    let l = laying_for j.asked j.papers.now row in
+    let leaves = leaves_in (sewn j.asked) row in
+    let printed = signed (sewn j.asked) row in
+    let stand : StandInRoom l (sheets_laid l leaves j.papers.now printed) = subst (StandInRoom l) are.asked.are_laid (in_room_too j.asked.same_scale j.asked.laying j.papers.now printed are.laid are.stand) in
+    subst (KeepTheirRoom j.mirrored l leaves) (sym (made_is j made are))
+    (keep_as j.mirrored (turn_of j.turn) l leaves j.papers.now printed (may_be j made are) are.asked.fits stand)

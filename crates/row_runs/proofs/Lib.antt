@@ -14,8 +14,10 @@ mod Backs
 pub mod Refused
 mod Fit
 mod Written
+mod Boxes
 mod InCells
 mod Rooms
 mod InHalves
 mod Kept
+mod NumbersLie
 mod ReadInOrder

@@ -29,7 +29,8 @@ use Rattle.row_runs.specs.Mirrored.{IsInPoints, exchanged, mirror_on, mirrored, 
 use Rattle.row_runs.specs.Turning.{turned_item, turned_paper, turned_sheet, turned_slot}
 use Rattle.row_runs.specs.Written.{KeepRoom, SlotIsInCell, side_room}
 use Rattle.row_runs.proofs.Backs.{filled_in_points, fused, side_stands}
-use Rattle.row_runs.proofs.InCells.{Box, IsMoved, box_at, from_start, mirror_of, moved_by, moved_cell, moved_too, numbered, on_side, paper_of, point, sheet_is}
+use Rattle.row_runs.proofs.Boxes.{Box, box_at, from_start, paper_of, point}
+use Rattle.row_runs.proofs.InCells.{IsMoved, mirror_of, moved_by, moved_cell, moved_too, numbered, on_side, sheet_is}
 use Rattle.row_runs.proofs.Written.{count_is}
 
 -- ---- a cell is on what the margins leave

@@ -14,6 +14,7 @@ pub mod Turning
 pub mod Mirrored
 pub mod Marked
 pub mod Numbers
+pub mod NumbersLie
 pub mod Runs
 pub mod Written
 pub mod BySpec

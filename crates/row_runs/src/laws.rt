@@ -3,6 +3,7 @@ ghost use Rattle.row_runs.specs.InPlaces.{AskedStandInPlaces};
 ghost use Rattle.row_runs.specs.ReadAsBound.{AskedIsRead};
 ghost use Rattle.row_runs.specs.Mirrored.{FittedAreInPoints, MirroredStands};
 ghost use Rattle.row_runs.specs.Turning.{TurnedStands, TurnsAddUp};
+ghost use Rattle.row_runs.specs.NumbersLie.{NumbersInCells, NumbersInHalves};
 ghost use Rattle.row_runs.specs.Written.{NothingIsMoved, TurnedStaysInCell, UprightIsUnturned, WrittenInCells, WrittenInPlaces, WrittenKeepRoom, WrittenStand};
 
 /// The pages of the sheets that are asked for are fitted into their cells and read in order, stacks and zines are the row once
@@ -52,4 +53,10 @@ pub fn written_keeps_place()
     ensures places { WrittenInPlaces }
     ensures cells { WrittenInCells }
     ensures room { WrittenKeepRoom }
+{}
+
+/// The number of each page stands at the foot of the page's cell, in its middle, and so in the halves of a booklet.
+pub fn numbers_lie_in_cells()
+    ensures cells { NumbersInCells }
+    ensures halves { NumbersInHalves }
 {}

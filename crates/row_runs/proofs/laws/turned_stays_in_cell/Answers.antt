@@ -1,4 +1,4 @@
-use Rattle.row_runs.proofs.InCells.{turned_stays_in_cell}
+use Rattle.row_runs.proofs.Boxes.{turned_stays_in_cell}
 use Rattle.row_runs.proofs.laws.turned_stays_in_cell.Goals as goal
 
 pub returns : goal.returns
