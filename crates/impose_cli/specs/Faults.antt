@@ -19,4 +19,5 @@ of_asked pages (asked.Row e) = of_row pages e
 of_asked pages (asked.Arrangement e) = fault.Layout e
 of_asked pages (asked.Poster e) = fault.Poster e
 of_asked pages (asked.Sheets e) = fault.Sheets e
+of_asked pages asked.OutOfReach = fault.OutOfReach
 of_asked pages asked.NoMemory = without_memory

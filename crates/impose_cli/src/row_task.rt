@@ -390,6 +390,7 @@ pub(crate) fn asked_fault_of(error: AskedError, pages: u32) -> ImposeFault
         AskedError::Arrangement(error) => ImposeFault::Layout(error),
         AskedError::Poster(error) => ImposeFault::Poster(error),
         AskedError::Sheets(error) => ImposeFault::Sheets(error),
+        AskedError::OutOfReach => ImposeFault::OutOfReach,
         AskedError::NoMemory => ImposeFault::no_memory(),
     }
 }

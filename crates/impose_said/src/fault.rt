@@ -46,6 +46,8 @@ pub enum ImposeFault {
         place: usize,
         pages: u32,
     },
+    /// A turned page would be placed 100,000 points or more away.
+    OutOfReach,
     /// The sheets of the row can't be planned.
     Sheets(MadeError),
     /// No specification says what is asked for.

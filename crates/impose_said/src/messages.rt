@@ -45,6 +45,7 @@ pub fn fault_text(
         }
         ImposeFault::Run(error) => return run_text(alloc, error, request),
         ImposeFault::Poster(error) => poster_message(error),
+        ImposeFault::OutOfReach => OUT_OF_REACH,
         ImposeFault::Sheets(error) => sheets_message(error),
         ImposeFault::NoSpecification => NO_SPECIFICATION,
         ImposeFault::SeveralPapers => SEVERAL_PAPERS,
@@ -56,6 +57,9 @@ pub fn fault_text(
     };
     String::from_str(alloc, message)
 }
+
+const OUT_OF_REACH: &str =
+    "a turned page would be placed 100,000 points or more away: take smaller papers or fewer sheets, or leave --turn out";
 
 const NO_SPECIFICATION: &str =
     "--print-spec: no specification says a selection, a zine, cards, a stack, notes or a poster, nor --pages, --odd, --even, --reverse, \

@@ -10,6 +10,7 @@ mod OneScale
 mod NotLaid
 mod Turned
 mod Turns
+mod Reach
 mod Backs
 pub mod Refused
 mod Fit

@@ -90,6 +90,7 @@ of_laying pages papers a row (error.Sheets e) few is even h =
       h.1,
       h.2 pages few,
     )
+of_laying pages papers a row error.OutOfReach few is even h = absurd h
 of_laying pages papers a row error.NoMemory few is even h = subst IsOk (sym is) refl
 of_laying pages papers a row other few is even h = (row, is, after_even _ _ _ even h)
 

@@ -18,6 +18,7 @@ use Rattle.row_runs.specs.Sheets.{RefusesAsked}
 
 of_asked : (j : RowJob) (e : AskedError) → RefusesAsked (page_count j) j.papers.now j.asked e → RefusesRun j e
 of_asked j (error.Sheets e) h = (h.0, h.1, turned_refused (turn_of j.turn) (mirror_for j) (page_count j) h.0 e h.3)
+of_asked j error.OutOfReach h = absurd h
 of_asked j other h = h
 
 -- a run that makes no sheets

@@ -1,6 +1,6 @@
 -- Turned pages: turns add up, and each point stands where it should.
-use Rattle.std.proofs.Common.{arith, ◌≡◌, ◌∙◌, ℕ, zero, suc, ◌+◌, ◌*◌, ◌/◌, ap, ap₂, refl, sym, subst, Bool, List, [], ◌∷◌, Option, Some, None, map, take, ◌++◌}
-use Rattle.std.specs.Prelude.{ℤ, pos, neg_ℤ, ◌+ℤ◌, ◌-ℤ◌, ◌*ℤ◌, slice_get, IfNone}
+use Rattle.std.proofs.Common.{arith, ◌≡◌, ◌∙◌, ℕ, zero, suc, ◌+◌, ◌*◌, ◌/◌, ap, ap₂, refl, sym, subst, Bool, List, [], ◌∷◌, Some, map, take, ◌++◌}
+use Rattle.std.specs.Prelude.{ℤ, pos, neg_ℤ, ◌+ℤ◌, ◌-ℤ◌, ◌*ℤ◌, slice_get}
 use Rattle.std.proofs.Math.IntN.{suc_ℤ-*ℤ, zero-*ℤ, pos-*ℤ-pos}
 use Rattle.std.proofs.lemmas.Int.{ints}
 use Rattle.std.proofs.lemmas.Option.{none-some, same_Some}
@@ -12,13 +12,13 @@ use Rattle.sheet_plan.specs.OfSheets.{slots_at}
 use Rattle.layouts.specs.Placed.{fine, finer, times}
 use Rattle.row_runs.specs.Turning.{IsDrawnTurned, IsLittle, TurnedStands, TurnsAddUp, both, corner, excess, farther, further, long, on_turned, turned_item, turned_paper, turned_sheet, turned_slot}
 
-abbrev point : ℤ → ℤ → Point
+abbrev pub point : ℤ → ℤ → Point
 point x y = record { x = x; y = y }
 
 abbrev paper_of : (width height : ℤ) → Paper
 paper_of width height = record { width = width; height = height }
 
-abbrev item_at : ℕ → Bool → Turn → ℤ → Measure → Measure → Item
+abbrev pub item_at : ℕ → Bool → Turn → ℤ → Measure → Measure → Item
 item_at page from_end turn scale x y = record { page = page; from_end = from_end; turn = turn; scale = scale; x = x; y = y }
 
 -- ---- turns add up
@@ -105,11 +105,6 @@ turns_add_up (Placed page item paper) =
           (twice_farther right.x fourth.x (pos 0) item.x (ap (λ (q : Point). q.x) four) ∙ no_farther (pos 0) item.x refl)
           (twice_farther right.y fourth.y (pos 0) item.y (ap (λ (q : Point). q.y) four) ∙ no_farther (pos 0) item.y refl));
     }
-
--- what holds anyway holds at None
-pub none_always : {T : Type 0} (r : Option T) (P : Type 0) → P → IfNone r P
-none_always None P p = p
-none_always (Some x) P p = tt
 
 -- an item that is turned, by its parts
 pub item_is : (turn : Turn) (paper : Paper) (item : Item) (w h a b x y : ℤ) (t : Turn) (mx my : Measure) → w ≡ pos (long item.scale paper.width)

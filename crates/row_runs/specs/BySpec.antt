@@ -51,4 +51,5 @@ RefusesBySpec j (error.Row e) = RefusesRow (row_by j) e
 RefusesBySpec j (error.Arrangement e) = ⊥
 RefusesBySpec j (error.Poster e) = ⊥
 RefusesBySpec j (error.Sheets e) = (made : List MadeSheet) × AreBySpec j made × RefusesMade (pages_of j) made e
+RefusesBySpec j error.OutOfReach = ⊥
 RefusesBySpec j error.NoMemory = IsOk (row_by j)

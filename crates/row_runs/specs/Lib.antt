@@ -1,5 +1,5 @@
 -- Read in this order: what is written of made sheets. Then, of a row: what errors are called; layings with one scale; limits;
--- the sheets that are asked for, how their pages are placed and read, turned pages; backs; their marks and
+-- the sheets that are asked for, how their pages are placed and read, turned pages; backs; which places can be written; their marks and
 -- numbers; what the answers mean, also those by a specification; lines on sheets; how sheets are read; what is shown of them before they are imposed.
 -- At last, how many pages a document says that it has.
 pub mod SheetsRuns
@@ -12,6 +12,7 @@ pub mod InPlaces
 pub mod ReadAsBound
 pub mod Turning
 pub mod Mirrored
+pub mod Reaching
 pub mod Marked
 pub mod Numbers
 pub mod NumbersLie

@@ -1,6 +1,8 @@
 -- The numbers of the pages on the sheets that are asked for.
-use Rattle.std.specs.Prelude.{ℕ, ◌+◌, ◌*◌, ℤ, pos, List, [], ◌∷◌, map, Option, Some, None, option_map, Result, Ok, Err}
+use Rattle.std.specs.Prelude.{ℕ, ◌+◌, ◌*◌, nat_le, ℤ, pos, Bool, true, ◌&&◌, List, [], ◌∷◌, length, map, Option, Some, None, option_map, Result, Ok, Err}
 use Rattle.rules.specs.Papers.{Paper}
+use Rattle.rules.specs.Run.{most_sheets}
+use Rattle.rules.specs.Specification.{Upright}
 use Rattle.made_sheets.specs.Choice.{RowFault, signed}
 use Rattle.made_sheets.specs.Made.{MadeSheet}
 use Rattle.made_sheets.specs.Rows.{Row}
@@ -10,6 +12,7 @@ use Rattle.row_sheets.specs.RowSheets.{paper_of}
 use Rattle.dressing.specs.declared.numbers.Numbering.{Numbering}
 use Rattle.sheet_text.specs.declared.numbers.Numbers.{Numbers}
 use Rattle.row_runs.specs.Mirrored.{mirrored}
+use Rattle.row_runs.specs.Reaching.{are_reached}
 use Rattle.row_runs.specs.Sheets.{laying_for, leaves_in, row_chosen, sewn, sheets_laid}
 use Rattle.row_runs.specs.declared.asked.Asked.{Asked}
 use Rattle.row_runs.specs.declared.asked.Laying.{Laying}
@@ -57,3 +60,9 @@ numbers_asked pages papers a mirror asked = option_map (λ how. record {
   places = mirrored mirror (places_by papers a (row_chosen pages a));
   below = below_middle a.laying;
 }) asked
+
+-- they can be moved so: there are few enough, and none comes out of reach
+abbrev pub are_numbers_reached : (pages : ℕ) → List Paper → Asked → (mirror : Option Room) → Option Numbering → Bool
+are_numbers_reached pages papers a mirror None = true
+are_numbers_reached pages papers a mirror (Some how) = let places = places_by papers a (row_chosen pages a) in
+    nat_le (length places) most_sheets && are_reached Upright mirror places

@@ -1,5 +1,5 @@
 -- What is written of a row, and why it is refused.
-use Rattle.std.specs.Prelude.{◌≡◌, ℕ, List, length, map, Option, IsOk, Ok}
+use Rattle.std.specs.Prelude.{◌≡◌, ℕ, Bool, true, false, ◌&&◌, List, length, map, Option, IsOk, Ok}
 use Rattle.rules.specs.Parts.{pages}
 use Rattle.rules.specs.Output.{Border, border_within}
 use Rattle.made_sheets.specs.Made.{MadeSheet}
@@ -8,12 +8,13 @@ use Rattle.layouts.specs.Placed.{Room}
 use Rattle.pagespec.specs.Items.{turn_of}
 use Rattle.row_runs.specs.Turning.{turned_sheet}
 use Rattle.row_runs.specs.Mirrored.{mirror_in, mirrored}
+use Rattle.row_runs.specs.Reaching.{are_reached}
 use Rattle.sheet_plan.specs.MadeRefusals.{RefusesMade}
 use Rattle.row_runs.specs.SheetsRuns.{told_output}
 use Rattle.row_runs.specs.Sheets.{AreAsked, MayBeAsked, row_chosen}
 use Rattle.row_runs.specs.Sheets as sheets
 use Rattle.row_runs.specs.Marked.{strokes_in}
-use Rattle.row_runs.specs.Numbers.{numbers_asked}
+use Rattle.row_runs.specs.Numbers.{are_numbers_reached, numbers_asked}
 use Rattle.dressing.specs.Numbered.{Drawn}
 use Rattle.sheet_text.specs.declared.numbers.Numbers.{Numbers}
 use Rattle.dressing.specs.declared.strokes.Stroke.{Stroke}
@@ -34,13 +35,22 @@ mirror_for j = mirror_in j.mirrored j.asked.laying
 abbrev pub turned_on : RowJob → List MadeSheet → List MadeSheet
 turned_on j laid = map (turned_sheet (turn_of j.turn)) (mirrored (mirror_for j) laid)
 
+-- each page that is laid so can be written once it is moved and turned
+abbrev pub are_laid_in_reach : RowJob → (laid : List MadeSheet) → Bool
+are_laid_in_reach j laid = are_reached (turn_of j.turn) (mirror_for j) laid
+
+-- and each number once it is moved
+abbrev pub have_numbers_in_reach : RowJob → Bool
+have_numbers_in_reach j = are_numbers_reached (page_count j) j.papers.now j.asked (mirror_for j) j.marks.numbers
+
 -- these sheets are asked for, with pages of the papers that they have once they are turned, which lie as they are to be laid;
--- and then backs are moved, and they are turned
+-- and then backs are moved, and they are turned, which brings none out of reach
 pub record AreTurned (j : RowJob) (made : List MadeSheet) : Type 0 where
   pub may : MayBeAsked j.asked
   pub laid : List MadeSheet
   pub asked : AreAsked (page_count j) j.papers.now j.asked laid
   pub stand : StandAsLaid j.asked.laying laid
+  pub reached : are_laid_in_reach j laid ≡ true
   pub turned : made ≡ turned_on j laid
 
 -- and they can be planned
@@ -69,11 +79,13 @@ abbrev pub output_on : RowJob → List MadeSheet → List ℕ
 output_on j made = told_output (border_on j) (drawn_of j) made j.document.now
 
 -- a refusal names the first fault: of the row; if there is one, of a page in its cell or as a poster; if its pages have their places, of
--- the sheets. Out of memory comes after the checks of the row
+-- the sheets, or that a page or its number would come out of reach. Out of memory comes after the checks of the row
 abbrev pub RefusesRun : RowJob → AskedError → Type 0
 RefusesRun j (error.Row e) = sheets.RefusesAsked (page_count j) j.papers.now j.asked (error.Row e)
 RefusesRun j (error.Arrangement e) = sheets.RefusesAsked (page_count j) j.papers.now j.asked (error.Arrangement e)
 RefusesRun j (error.Poster e) = sheets.RefusesAsked (page_count j) j.papers.now j.asked (error.Poster e)
 RefusesRun j (error.Sheets e) =
     (laid : List MadeSheet) × AreAsked (page_count j) j.papers.now j.asked laid × RefusesMade (page_count j) (turned_on j laid) e
+RefusesRun j error.OutOfReach = (laid : List MadeSheet) × AreAsked (page_count j) j.papers.now j.asked laid
+    × ((are_laid_in_reach j laid && have_numbers_in_reach j) ≡ false)
 RefusesRun j error.NoMemory = IsOk (row_chosen (page_count j) j.asked)

@@ -100,6 +100,7 @@ WhyNoPlan l leaves papers row e = (pages : ℕ) → pages ≤ most_pages → Ref
 abbrev pub RefusesLaying : Laying → (leaves : ℕ) → List Paper → Row → AskedError → Type 0
 RefusesLaying l leaves papers row (error.Arrangement e) = why_not_laid l leaves papers row ≡ Some (error.Arrangement e)
 RefusesLaying l leaves papers row (error.Poster e) = why_not_laid l leaves papers row ≡ Some (error.Poster e)
+RefusesLaying l leaves papers row error.OutOfReach = ⊥
 RefusesLaying l leaves papers row error.NoMemory = ⊤
 RefusesLaying l leaves papers row (error.Row e) = ⊥
 RefusesLaying l leaves papers row (error.Sheets e) =
@@ -145,4 +146,5 @@ RefusesAsked pages papers a (error.Poster e) =
     (row : Row) × (row_chosen pages a ≡ Ok row) × (why_not_asked papers a row ≡ Some (error.Poster e))
 RefusesAsked pages papers a (error.Sheets e) = (made : List MadeSheet) × (asked : AreAsked pages papers a made)
     × (limit_in (laying_for a papers asked.row) (length (signed (sewn a) asked.row)) ≡ Some e) × RefusesMade pages made e
+RefusesAsked pages papers a error.OutOfReach = ⊥
 RefusesAsked pages papers a error.NoMemory = IsOk (row_chosen pages a)

@@ -1,7 +1,6 @@
 -- Pages that are turned before they are placed: they are laid as pages of the papers that they have then. All here is this
 -- project's own rules.
-use Rattle.std.specs.Prelude.{◌≡◌, ⊤, ℕ, ◌+◌, ◌*◌, ◌/◌, ℤ, pos, ◌+ℤ◌, ◌-ℤ◌, ◌*ℤ◌, ◌≤ℤ◌, nat_abs, map}
-use Rattle.lengths.specs.Ranges.{FitsNumber}
+use Rattle.std.specs.Prelude.{◌≡◌, ℕ, ◌+◌, ◌*◌, ◌/◌, ℤ, pos, ◌+ℤ◌, ◌-ℤ◌, ◌*ℤ◌, ◌≤ℤ◌, nat_abs, map}
 use Rattle.rules.specs.Papers.{Paper, Pt}
 use Rattle.rules.specs.Placement.{Point, moved, turned}
 use Rattle.rules.specs.Specification.{Item, Measure, Turn, Upright, Left, Half, Right}
@@ -64,14 +63,6 @@ turned_slot turn (Placed page item paper) = Placed page (turned_item turn paper 
 
 abbrev pub turned_sheet : Turn → MadeSheet → MadeSheet
 turned_sheet turn sheet = record { paper = sheet.paper; slots = map (turned_slot turn) sheet.slots }
-
--- both offsets are numbers that can be written
-abbrev pub FitsItem : Item → Type 0
-FitsItem item = FitsNumber item.x.number × FitsNumber item.y.number
-
-abbrev pub FitsSlot : MadeSlot → Type 0
-FitsSlot Blank = ⊤
-FitsSlot (Placed page item paper) = FitsItem item
 
 -- ---- laws
 

@@ -23,6 +23,9 @@ pub enum AskedError {
     /// The sheets can't be planned, never for memory.
     #[error(transparent)]
     Sheets(MadeError),
+    /// A page that is moved on a back, or turned, would have an offset of 100,000 points or more.
+    #[error("a page would be placed 100,000 points or more away")]
+    OutOfReach,
     /// Memory was refused.
     #[error("out of memory")]
     NoMemory,

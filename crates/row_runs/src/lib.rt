@@ -13,6 +13,7 @@ mod look;
 mod marked;
 mod mirrored;
 mod numbered;
+mod reaching;
 mod reading;
 mod run;
 mod turning;

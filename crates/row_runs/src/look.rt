@@ -12,6 +12,7 @@ use crate::asked::asked_sheets;
 use crate::error::{AskedError, plan_error};
 use crate::guides::guides_of;
 use crate::mirrored::mirror_in;
+use crate::reaching::check_reach;
 use crate::reading::{reading_of, sides_by};
 use crate::run::RowJob;
 use crate::turning::turned_sheets;
@@ -89,6 +90,7 @@ fn planned_sheets(alloc: Global, job: &RowJob<'_, '_>) -> Result<MadeSheets, Ask
     let count = job.document.pages();
     let sheets = asked_sheets(alloc, count, job.papers, &job.asked)?;
     let mirror = mirror_in(job.mirrored, &job.asked.laying);
+    check_reach(job.turn, &mirror, &sheets)?;
     let Ok(sheets) = turned_sheets(alloc, job.turn, &mirror, sheets) else {
         return Err(AskedError::NoMemory);
     };

@@ -1,8 +1,10 @@
 //! Sheets that are printed on both sides, fronts and backs in turn: on backs left and right margins are exchanged.
-ghost use Rattle.std.specs.Prelude.{◌≡◌, ◌^◌, ◌≤◌, IfNone, IfOk, IfSome, nat_abs};
-ghost use Rattle.row_runs.specs.Turning.{FitsItem};
+ghost use Rattle.std.specs.Prelude.{◌≡◌, ◌^◌, ◌≤◌, IfOk, IfSome, is_some, length, nat_abs, true};
+ghost use Rattle.rules.specs.Run.{most_sheets};
+ghost use Rattle.rules.specs.Specification.{Upright};
 ghost use Rattle.pagespec.specs.Items.{item_of};
 ghost use Rattle.row_runs.specs.Mirrored as meaning;
+ghost use Rattle.row_runs.specs.Reaching.{are_reached, is_moved_near};
 
 use crate::asked::Laying;
 use crate::turning::{farther, turned_sheets};
@@ -27,6 +29,8 @@ pub(crate) fn mirrored_sheets(
     mirror: &Option<Room>,
     sheets: MadeSheets,
 ) -> Result<MadeSheets, AllocError>
+    requires few { length sheets ≤ most_sheets }
+    requires reached { are_reached Upright mirror.now sheets ≡ true }
     ensures { IfOk result (λ made. made ≡ meaning.mirrored mirror.now sheets) }
 {
     turned_sheets(alloc, Turn::None, mirror, sheets)
@@ -39,10 +43,11 @@ pub(crate) fn mirror_on(mirror: &Option<Room>, sheet: u32) -> Option<Room>
     if sheet % 2 == 1 { *mirror } else { None }
 }
 
-/// The item by which a page is placed once it is moved from this room into the exchanged one, if there is one.
+/// The item by which a page is placed once it is moved from this room into the exchanged one, if there is one and the offset can
+/// be written.
 pub(crate) fn moved_item(mirror: &Option<Room>, item: &Item) -> Option<Item>
     ensures value { IfSome result (λ moved. item_of moved ≡ meaning.moved_item mirror.now (item_of item.now)) }
-    ensures out_of_range { IfNone result (¬ (FitsItem (meaning.moved_item mirror.now (item_of item.now)))) }
+    ensures near { is_some result ≡ is_moved_near mirror.now (item_of item.now) }
 {
     match mirror {
         None => Some(*item),

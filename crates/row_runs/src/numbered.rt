@@ -1,23 +1,27 @@
 //! The numbers on sheets.
-ghost use Rattle.std.specs.Prelude.{◌≡◌, ◌≤◌, ◌<◌, ℕ, IfOk, Option, Some, length, map, slice_get};
+ghost use Rattle.std.specs.Prelude.{◌≡◌, ◌≤◌, ◌<◌, ◌⊎◌, ℕ, IfErr, IfOk, Option, Some, false, length, map, slice_get};
 ghost use Rattle.made_sheets.specs.Choice.{most_entries};
-ghost use Rattle.row_runs.specs.Numbers.{below_middle as below_of, named, numbers_asked, paper_in as paper_of_entry, places_by};
+ghost use Rattle.row_runs.specs.Numbers.{are_numbers_reached, below_middle as below_of, named, numbers_asked, paper_in as paper_of_entry, places_by};
 ghost use Rattle.row_runs.specs.Numbers.{places_from, sheet_paper as sheet_paper_of};
 ghost use Rattle.row_runs.specs.Sheets.{MayBeAsked, row_chosen};
 
 use crate::asked::{Asked, Laying, laid, leaves_in};
+use crate::error::AskedError;
 use crate::evened::evened_if;
 use crate::guides::grains;
 use crate::mirrored::mirrored_sheets;
+use crate::reaching::check_reach;
 use dressing::{Numbering, cell_height};
 use layouts::Room;
 use lengths::{Grains, Paper};
+use pagespec::Turn;
 use rows::{chosen_row, signed_row};
 use sheet_plan::MadeSheets;
 use sheet_text::Numbers;
 use std::alloc::{AllocError, Global};
 
-/// The numbers that are asked for of a document with so many pages, if any are, which are moved on backs as their pages are.
+/// The numbers that are asked for of a document with so many pages, if any are, which are moved on backs as their pages are, if
+/// they can be.
 pub(crate) fn numbers_of(
     alloc: Global,
     pages: u32,
@@ -25,19 +29,29 @@ pub(crate) fn numbers_of(
     asked: &Asked<'_>,
     mirror: &Option<Room>,
     how: Option<Numbering>,
-) -> Result<Option<Numbers>, AllocError>
+) -> Result<Option<Numbers>, AskedError>
     requires pages { pages ≤ most_entries }
     requires asked { MayBeAsked asked.now }
-    ensures { IfOk result (λ numbers. numbers ≡ numbers_asked pages papers.now asked.now mirror.now how) }
+    ensures made { IfOk result (λ numbers. numbers ≡ numbers_asked pages papers.now asked.now mirror.now how) }
+    ensures refused { IfErr result (λ error. (error ≡ AskedError.NoMemory)
+        ⊎ ((error ≡ AskedError.OutOfReach) × (are_numbers_reached pages papers.now asked.now mirror.now how ≡ false))) }
 {
     let Some(how) = how else {
         return Ok(None);
     };
-    let places = places_of(alloc, pages, papers, asked)?;
+    let Ok(places) = places_of(alloc, pages, papers, asked) else {
+        return Err(AskedError::NoMemory);
+    };
+    let Ok(()) = check_reach(Turn::None, mirror, &places) else {
+        return Err(AskedError::OutOfReach);
+    };
+    let Ok(places) = mirrored_sheets(alloc, mirror, places) else {
+        return Err(AskedError::NoMemory);
+    };
     Ok(Some(Numbers {
         size: how.size,
         first: how.first,
-        places: mirrored_sheets(alloc, mirror, places)?,
+        places,
         below: below_middle(&asked.laying),
     }))
 }

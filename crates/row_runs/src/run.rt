@@ -9,6 +9,7 @@ use crate::error::AskedError;
 use crate::marked::strokes_of;
 use crate::mirrored::mirror_in;
 use crate::numbered::numbers_of;
+use crate::reaching::check_reach;
 use crate::turning::turned_sheets;
 use dressing::{Marks, dress_of};
 use dsc::Document;
@@ -47,15 +48,13 @@ impl<'j, 'd> RowJob<'j, 'd> {
     {
         let count = self.document.pages();
         let sheets = asked_sheets(alloc, count, self.papers, &self.asked)?;
+        let mirror = mirror_in(self.mirrored, &self.asked.laying);
+        check_reach(self.turn, &mirror, &sheets)?;
         let Ok(strokes) = strokes_of(alloc, self.marks, &self.asked.laying) else {
             return Err(AskedError::NoMemory);
         };
         let numbering = self.marks.numbers;
-        let mirror = mirror_in(self.mirrored, &self.asked.laying);
-        let Ok(numbers) = numbers_of(alloc, count, self.papers, &self.asked, &mirror, numbering)
-        else {
-            return Err(AskedError::NoMemory);
-        };
+        let numbers = numbers_of(alloc, count, self.papers, &self.asked, &mirror, numbering)?;
         let Ok(sheets) = turned_sheets(alloc, self.turn, &mirror, sheets) else {
             return Err(AskedError::NoMemory);
         };

@@ -1,12 +1,13 @@
 //! Pages that are turned before they are placed.
-ghost use Rattle.std.specs.Prelude.{◌≡◌, ◌^◌, ◌<◌, ◌≤◌, IfNone, IfOk, IfSome, IsTrue, OnErr, OnOk, length, map, nat_abs, pos};
-ghost use Rattle.std.specs.Prelude.{◌⊎◌};
-ghost use Rattle.lengths.specs.Ranges.{FitsNumber};
+ghost use Rattle.std.specs.Prelude.{◌≡◌, ◌^◌, ◌<◌, ◌≤◌, IfOk, IfSome, IsTrue, OnOk, is_some, length, map, nat_abs, pos, true};
+ghost use Rattle.std.specs.List.{list_all};
 ghost use Rattle.rules.specs.Papers.{is_side};
 ghost use Rattle.rules.specs.Placement.{turned as turned_point};
+ghost use Rattle.rules.specs.Run.{most_sheets};
 ghost use Rattle.pagespec.specs.Items.{item_of, measure_of, turn_of};
 ghost use Rattle.sheet_plan.specs.OfSheets.{placed_of, slot_of, slots_at};
 ghost use Rattle.row_runs.specs.Mirrored.{mirrored, moved_item as moved_of, moved_slot};
+ghost use Rattle.row_runs.specs.Reaching as reaching;
 ghost use Rattle.row_runs.specs.Turning as meaning;
 
 use crate::mirrored::{mirror_on, moved_item};
@@ -51,14 +52,15 @@ fn all_papers(alloc: Global, turn: Turn, papers: &[Paper]) -> Result<Vec<Paper>,
 }
 
 /// The same sheets with the pages turned, which were laid as pages of the papers that they have then. Before that what is on
-/// backs is moved from this room into the exchanged one, if there is one. Refused are, for want of memory, 2^32 sheets and a
-/// place of 100,000 points or more.
+/// backs is moved from this room into the exchanged one, if there is one.
 pub(crate) fn turned_sheets(
     alloc: Global,
     turn: Turn,
     mirror: &Option<Room>,
     sheets: MadeSheets,
 ) -> Result<MadeSheets, AllocError>
+    requires few { length sheets ≤ most_sheets }
+    requires reached { reaching.are_reached (turn_of turn) mirror.now sheets ≡ true }
     ensures { IfOk result (λ turned. turned ≡ map (meaning.turned_sheet (turn_of turn)) (mirrored mirror.now sheets)) }
 {
     match (turn, mirror) {
@@ -73,14 +75,13 @@ fn all_sheets(
     mirror: &Option<Room>,
     sheets: &MadeSheets,
 ) -> Result<MadeSheets, AllocError>
+    requires few { length sheets.now ≤ most_sheets }
+    requires reached { reaching.are_reached (turn_of turn) mirror.now sheets.now ≡ true }
     ensures { IfOk result (λ turned. turned ≡ map (meaning.turned_sheet (turn_of turn)) (mirrored mirror.now sheets.now)) }
 {
-    let Ok(count) = u32::try_from(sheets.len()) else {
-        return Err(AllocError);
-    };
     let mut turned = MadeSheets::new(alloc);
     let mut slots = Vec::new(alloc);
-    for sheet in 0..count {
+    for sheet in 0..sheets.len() as u32 {
         let side = mirror_on(mirror, sheet);
         turn_slots(&mut slots, turn, &side, sheets, sheet)?;
         turned.push(sheets.paper(sheet), slots.as_slice())?;
@@ -96,55 +97,54 @@ fn turn_slots(
     sheets: &MadeSheets,
     sheet: u32,
 ) -> Result<(), AllocError>
-    requires { sheet < length sheets.now }
+    requires sheet { sheet < length sheets.now }
+    requires reached { list_all (reaching.is_slot_reached (turn_of turn) mirror.now) (slots_at sheets.now sheet) ≡ true }
     ensures { OnOk result (map slot_of slots.new.items
         ≡ map (λ slot. meaning.turned_slot (turn_of turn) (moved_slot mirror.now slot)) (slots_at sheets.now sheet)) }
 {
     slots.clear();
     for slot in 0..sheets.slots(sheet) {
-        slots.push(turned_slot(turn, mirror, sheets.placed(sheet, slot))?)?;
+        slots.push(turned_slot(turn, mirror, sheets.placed(sheet, slot)))?;
     }
     Ok(())
 }
 
-fn turned_slot(
-    turn: Turn,
-    mirror: &Option<Room>,
-    slot: Option<PlacedSlot<'_>>,
-) -> Result<MadeSlot, AllocError>
-    ensures value { IfOk result (λ turned.
-        slot_of turned ≡ meaning.turned_slot (turn_of turn) (moved_slot mirror.now (placed_of slot.entry))) }
-    ensures out_of_range { OnErr result (¬ (meaning.FitsSlot (moved_slot mirror.now (placed_of slot.entry))
-        × meaning.FitsSlot (meaning.turned_slot (turn_of turn) (moved_slot mirror.now (placed_of slot.entry))))) }
+fn turned_slot(turn: Turn, mirror: &Option<Room>, slot: Option<PlacedSlot<'_>>) -> MadeSlot
+    requires { reaching.is_slot_reached (turn_of turn) mirror.now (placed_of slot) ≡ true }
+    ensures { slot_of result ≡ meaning.turned_slot (turn_of turn) (moved_slot mirror.now (placed_of slot.entry)) }
 {
     match slot {
-        None => Ok(MadeSlot::Blank),
+        None => MadeSlot::Blank,
         Some(placed) => match changed_item(turn, mirror, placed.paper, placed.item) {
-            Some(item) => Ok(MadeSlot::Placed {
+            Some(item) => MadeSlot::Placed {
                 page: placed.page,
                 item,
                 paper: turned_paper(turn, placed.paper),
-            }),
-            None => Err(AllocError),
+            },
+            None => unreachable!(),
         },
     }
 }
 
-/// An item whose page is moved first, and then turned.
-fn changed_item(turn: Turn, mirror: &Option<Room>, paper: &Paper, item: &Item) -> Option<Item>
+/// An item whose page is moved first, and then turned, if its offsets can be written.
+pub(crate) fn changed_item(
+    turn: Turn,
+    mirror: &Option<Room>,
+    paper: &Paper,
+    item: &Item,
+) -> Option<Item>
     ensures value { IfSome result (λ changed.
         item_of changed ≡ meaning.turned_item (turn_of turn) paper.now (moved_of mirror.now (item_of item.now))) }
-    ensures out_of_range { IfNone result (¬ (meaning.FitsItem (moved_of mirror.now (item_of item.now))
-        × meaning.FitsItem (meaning.turned_item (turn_of turn) paper.now (moved_of mirror.now (item_of item.now))))) }
+    ensures reached { is_some result ≡ reaching.is_item_reached (turn_of turn) mirror.now paper.now (item_of item.now) }
 {
     let moved = moved_item(mirror, item)?;
     turned_item(turn, paper, &moved)
 }
 
-/// The item by which a page is placed where this one places a page of its turned paper.
+/// The item by which a page is placed where this one places a page of its turned paper, if its offsets can be written.
 fn turned_item(turn: Turn, paper: &Paper, item: &Item) -> Option<Item>
     ensures value { IfSome result (λ turned. item_of turned ≡ meaning.turned_item (turn_of turn) paper.now (item_of item.now)) }
-    ensures out_of_range { IfNone result (¬ (meaning.FitsItem (meaning.turned_item (turn_of turn) paper.now (item_of item.now)))) }
+    ensures near { is_some result ≡ reaching.is_turned_near (turn_of turn) paper.now (item_of item.now) }
 {
     let width = long(item.scale, paper.width());
     let height = long(item.scale, paper.height());
@@ -225,11 +225,11 @@ fn long(scale: Number, side: Grains) -> i64
     ((length + 1_269_999_999_999_999) / 1_270_000_000_000_000) as i64
 }
 
-/// So many 10^-5 of a point farther, unless that is out of range.
+/// So many 10^-5 of a point farther, if that can be written.
 pub(crate) fn farther(by: i64, measure: Measure) -> Option<Measure>
     requires { nat_abs by ≤ 10 ^ 17 }
     ensures value { IfSome result (λ moved. measure_of moved ≡ meaning.farther by (measure_of measure)) }
-    ensures out_of_range { IfNone result (¬ (FitsNumber (meaning.farther by (measure_of measure)).number)) }
+    ensures near { is_some result ≡ reaching.is_near (meaning.farther by (measure_of measure)) }
 {
     let number = i128::from(measure.number.billionths()) + 10_000 * i128::from(by);
     match i64::try_from(number) {

@@ -1,11 +1,14 @@
-use Rattle.std.proofs.Common.{◌∙◌, ap, map}
+use Rattle.std.proofs.Common.{rules, ◌≡◌, ◌∙◌, ◌<◌, ap, length, map, subst, sym, true}
+use Rattle.std.specs.List.{list_all}
 use Rattle.std.specs.Prelude.{List}
 use Rattle.pagespec.specs.Items.{turn_of}
 use Rattle.made_sheets.specs.Made.{MadeSlot}
 use Rattle.sheet_plan.specs.OfSheets.{slot_of, slots_at}
 use Rattle.row_runs.specs.Mirrored.{mirror_on, moved_slot}
+use Rattle.row_runs.specs.Reaching.{is_slot_reached}
 use Rattle.row_runs.specs.Turning.{turned_slot}
 use Rattle.row_runs.proofs.Backs.{fused, sheet_more}
+use Rattle.row_runs.proofs.Reach.{reached_at}
 use Rattle.row_runs.proofs.Turns.{sheet_at}
 use Rattle.row_runs.proofs.turning.all_sheets.Goals as goal
 
@@ -21,3 +24,11 @@ loop-sheet-preserved c =
     sheet_more t c.args.mirror.now c.loop-sheet.turned _ s all _ _ (sheet_at all s c.paper.result.now c.paper.ensures)
     c.loop-sheet.invariant c.in_ok-push.ensures.pushed
     (ap (λ (xs : List MadeSlot). record { paper = c.paper.result.now; slots = xs }) slots)
+
+pub turn_slots-requires-clause-reached : goal.turn_slots-requires-clause-reached
+turn_slots-requires-clause-reached c =
+    let all = c.args.sheets.now in
+    let s = c.loop-sheet.sheet in
+    let t = turn_of c.args.turn in
+    let within : s < length all = search rules in
+    subst (λ k. list_all (is_slot_reached t k) (slots_at all s) ≡ true) (sym c.mirror_on-side.ensures) (reached_at t c.args.mirror.now s all within c.requires.reached)

@@ -1,4 +1,4 @@
-use Rattle.std.proofs.Common.{◌∙◌, ap, ap₂, List, map, ℕ, Option}
+use Rattle.std.proofs.Common.{◌≡◌, ◌∙◌, ap, ap₂, subst, List, map, ℕ, Option, true}
 use Rattle.papers.specs.Told.{telling}
 use Rattle.layouts.specs.Placed.{Room}
 use Rattle.pagespec.specs.Items.{turn_of}
@@ -7,9 +7,11 @@ use Rattle.dressing.specs.Numbered.{drawn_on}
 use Rattle.dressing.specs.declared.strokes.Stroke.{Stroke}
 use Rattle.row_runs.specs.Mirrored.{mirrored}
 use Rattle.row_runs.specs.Numbers.{numbers_asked}
+use Rattle.row_runs.specs.Reaching.{are_reached}
 use Rattle.row_runs.specs.Turning.{turned_sheet}
 use Rattle.layouts.proofs.Fitting.{handed_on}
 use Rattle.row_runs.specs.Runs.{RefusesRun}
+use Rattle.row_runs.proofs.Reach.{reach_refused}
 use Rattle.row_runs.proofs.Refused.{run_refused}
 use Rattle.row_runs.proofs.run.RowJob.lay.Goals as goal
 
@@ -18,12 +20,19 @@ returns-in_err-sheets-clause-refused c =
     handed_on c.from_residual.result c.in_err-sheets.field-0.0 (RefusesRun c.args.self.now) c.from_residual.ensures.1
     (run_refused c.args.self.now c.pages-count.result c.in_err-sheets.field-0.0 c.pages-count.ensures.count c.in_err-sheets.ensures.refused)
 
+pub returns-in_err-check_reach-clause-refused : goal.returns-in_err-check_reach-clause-refused
+returns-in_err-check_reach-clause-refused c =
+    handed_on c.from_residual-in_err-check_reach.result c.in_err-check_reach.field-0.0 (RefusesRun c.args.self.now) c.from_residual-in_err-check_reach.ensures.1
+    (reach_refused c.args.self.now c.pages-count.result c.mirror_in-mirror.result c.in_ok-sheets.sheets c.in_err-check_reach.field-0.0 c.pages-count.ensures.count
+    c.mirror_in-mirror.ensures c.pages-count.ensures.few c.in_ok-sheets.ensures.made c.in_err-check_reach.ensures.refused)
+
 pub returns-in-Ok-dress_of-clause-turned : goal.returns-in-Ok-dress_of-clause-turned
 returns-in-Ok-dress_of-clause-turned c = record {
   may = c.requires;
   laid = c.in_ok-sheets.sheets;
   asked = rw c.pages-count.ensures.count at c.in_ok-sheets.ensures.made;
   stand = c.in_ok-sheets.ensures.stands;
+  reached = subst (λ m. are_reached (turn_of c.args.self.now.turn) m c.in_ok-sheets.sheets ≡ true) c.mirror_in-mirror.ensures c.in_ok-check_reach.ensures.reached;
   turned = c.in-Ok-turned_sheets.ensures
       ∙ ap (λ m. map (turned_sheet (turn_of c.args.self.now.turn)) (mirrored m c.in_ok-sheets.sheets)) c.mirror_in-mirror.ensures;
 }
@@ -32,7 +41,7 @@ pub returns-in-Ok-dress_of-clause-dressed : goal.returns-in-Ok-dress_of-clause-d
 returns-in-Ok-dress_of-clause-dressed c =
     let j = c.args.self.now in
     let strokes = c.as_slice.ensures.value ∙ c.in-Ok.ensures in
-    let numbers = c.in-Ok-numbers_of.ensures
+    let numbers = c.in_ok-numbers.ensures.made
     ∙ ap₂ (λ (n : ℕ) (m : Option Room). numbers_asked n j.papers.now j.asked m j.marks.numbers) c.pages-count.ensures.count c.mirror_in-mirror.ensures in
     c.in-Ok-dress_of.ensures
     ∙ ap₂ (λ (s : List Stroke) (n : Option Numbers). drawn_on (record { strokes = s; numbers = n }) (telling c.in-Ok-turned_sheets.sheets)) strokes numbers

@@ -1,0 +1,193 @@
+-- Places that can be written once pages are moved and turned.
+use Rattle.std.proofs.Common.{arith, ◌≡◌, ◌∙◌, ℕ, zero, suc, ◌+◌, ◌<◌, ◌≤◌, ◌^◌, Bool, true, false, true≢false, List, [], ◌∷◌, Option, Some, ap, refl, sym, subst, length, take, FitsSigned, to_z, of_z}
+use Rattle.std.specs.Prelude.{ℤ, pos, nat_abs, ◌&&◌, slice_get}
+use Rattle.std.specs.List.{list_all}
+use Rattle.std.proofs.lemmas.Bool.{false_from_ne_true, leb-true}
+use Rattle.std.proofs.lemmas.Bool.Decides.{nat_tests}
+use Rattle.std.proofs.lemmas.Int.{ints, to_z-of_z}
+use Rattle.std.proofs.lemmas.Option.{none-some, same_Some}
+use mir.Syntax.{w64}
+use Rattle.rules.specs.Numbers.{greatest_number}
+use Rattle.rules.specs.Papers.{Paper}
+use Rattle.rules.specs.Placement.{turned}
+use Rattle.rules.specs.Run.{most_pages}
+use Rattle.rules.specs.Specification.{Item, Measure, Turn}
+use Rattle.lengths.specs.Ranges.{FitsNumber}
+use Rattle.layouts.specs.Placed.{Room}
+use Rattle.made_sheets.specs.Made.{MadeSheet, MadeSlot}
+use Rattle.pagespec.specs.Items.{turn_of}
+use Rattle.sheet_plan.specs.OfSheets.{slots_at}
+use Rattle.sheet_plan.specs.declared.error.MadeError.TheVariants as plan
+use Rattle.sheet_plan.proofs.Accepted.{too_many_sheets}
+use Rattle.row_runs.specs.Mirrored.{mirror_on}
+use Rattle.row_runs.specs.Reaching.{IsNotReached, are_reached, are_reached_from, is_near, is_slot_reached}
+use Rattle.row_runs.specs.Turning.{both, corner, farther, long, turned_item}
+use Rattle.row_runs.specs.Runs.{RefusesRun, mirror_for, page_count}
+use Rattle.row_runs.specs.Sheets.{AreAsked}
+use Rattle.row_runs.specs.declared.error.AskedError.{AskedError}
+use Rattle.row_runs.specs.declared.error.AskedError.TheVariants as error
+use Rattle.row_runs.specs.declared.run.RowJob.{RowJob}
+use Rattle.row_runs.proofs.Turned.{turned_refused}
+use Rattle.row_runs.proofs.Turns.{item_at, item_is, point}
+
+-- ---- one offset
+
+pub is_near_if : (m : Measure) → FitsNumber m.number → is_near m ≡ true
+is_near_if m fits = grind (arith, nat_tests)
+
+pub is_far_if : (m : Measure) → (FitsNumber m.number → ⊥) → is_near m ≡ false
+is_far_if m never = false_from_ne_true (is_near m) (λ is. never (leb-true (nat_abs m.number) greatest_number is))
+
+-- ---- one item
+
+abbrev pub word : ℤ → ℤ
+word z = to_z w64 (of_z w64 z)
+
+abbrev pub IsSmall : ℤ → Type 0
+IsSmall z = nat_abs z ≤ 10 ^ 17
+
+word_is : (z : ℤ) → IsSmall z → word z ≡ z
+word_is z small = let fits : FitsSigned w64 z = omega (arith, ints, small) in simp to_z-of_z
+
+-- the parts of an item that is turned, as its function counts them
+pub turned_is : (turn : Turn) (paper : Paper) (item : Item) (w h a b x y : ℤ) (t : Turn) (mx my : Measure)
+    → IsSmall w → IsSmall h → IsSmall a → IsSmall b → IsSmall x → IsSmall y
+    → w ≡ pos (long item.scale paper.width) → h ≡ pos (long item.scale paper.height)
+    → a ≡ (corner turn (word w) (word h)).x → b ≡ (corner turn (word w) (word h)).y
+    → x ≡ (turned item.turn (point (word a) (word b))).x → y ≡ (turned item.turn (point (word a) (word b))).y
+    → t ≡ both turn item.turn → mx ≡ farther (word x) item.x → my ≡ farther (word y) item.y
+    → item_at item.page item.from_end t item.scale mx my ≡ turned_item turn paper item
+turned_is turn paper item w h a b x y t mx my w_small h_small a_small b_small x_small y_small w_is h_is a_is b_is x_is y_is t_is mx_is my_is =
+    let in_w = word_is w w_small in
+    let in_h = word_is h h_small in
+    let in_a = word_is a a_small in
+    let in_b = word_is b b_small in
+    let in_x = word_is x x_small in
+    let in_y = word_is y y_small in
+    item_is turn paper item w h a b x y t mx my w_is h_is
+    (a_is ∙ ap (λ (z : ℤ). (corner turn z (word h)).x) in_w ∙ ap (λ (z : ℤ). (corner turn w z).x) in_h)
+    (b_is ∙ ap (λ (z : ℤ). (corner turn z (word h)).y) in_w ∙ ap (λ (z : ℤ). (corner turn w z).y) in_h)
+    (x_is ∙ ap (λ (z : ℤ). (turned item.turn (point z (word b))).x) in_a ∙ ap (λ (z : ℤ). (turned item.turn (point a z)).x) in_b)
+    (y_is ∙ ap (λ (z : ℤ). (turned item.turn (point z (word b))).y) in_a ∙ ap (λ (z : ℤ). (turned item.turn (point a z)).y) in_b)
+    t_is
+    (mx_is ∙ ap (λ (z : ℤ). farther z item.x) in_x)
+    (my_is ∙ ap (λ (z : ℤ). farther z item.y) in_y)
+
+-- ---- all of a list
+
+and_true : (a b : Bool) → a ≡ true → b ≡ true → (a && b) ≡ true
+and_true a b is too = rw is too
+
+and_false : (a b : Bool) → b ≡ false → (a && b) ≡ false
+and_false true b is = is
+and_false false b is = refl
+
+left_of : (a b : Bool) → (a && b) ≡ true → a ≡ true
+left_of true b is = refl
+left_of false b is = is
+
+right_of : (a b : Bool) → (a && b) ≡ true → b ≡ true
+right_of true b is = is
+right_of false b is = absurd (true≢false (sym is))
+
+pub all_more : {X : Type 0} (p : X → Bool) (i : ℕ) (xs : List X) (x : X) → slice_get xs i ≡ Some x → list_all p (take i xs) ≡ true → p x ≡ true
+    → list_all p (take (suc i) xs) ≡ true
+all_more p i [] x at is too = absurd (none-some x at)
+all_more p zero (y ∷ xs) x at is too = and_true (p y) true (ap p (same_Some y x at) ∙ too) refl
+all_more p (suc i) (y ∷ xs) x at is too =
+    and_true (p y) (list_all p (take (suc i) xs)) (left_of (p y) (list_all p (take i xs)) is) (all_more p i xs x at (right_of (p y) (list_all p (take i xs)) is) too)
+
+pub not_all : {X : Type 0} (p : X → Bool) (i : ℕ) (xs : List X) (x : X) → slice_get xs i ≡ Some x → p x ≡ false → list_all p xs ≡ false
+not_all p i [] x at never = absurd (none-some x at)
+not_all p zero (y ∷ xs) x at never = rw (ap p (same_Some y x at) ∙ never) refl
+not_all p (suc i) (y ∷ xs) x at never = and_false (p y) (list_all p xs) (not_all p i xs x at never)
+
+pub one_of_all : {X : Type 0} (p : X → Bool) (i : ℕ) (xs : List X) (x : X) → slice_get xs i ≡ Some x → list_all p xs ≡ true → p x ≡ true
+one_of_all p i [] x at is = absurd (none-some x at)
+one_of_all p zero (y ∷ xs) x at is = ap p (sym (same_Some y x at)) ∙ left_of (p y) (list_all p xs) is
+one_of_all p (suc i) (y ∷ xs) x at is = one_of_all p i xs x at (right_of (p y) (list_all p xs) is)
+
+-- ---- all sheets
+
+abbrev slots_reached : Turn → Option Room → (s : ℕ) → List MadeSlot → Bool
+slots_reached t m s slots = list_all (is_slot_reached t (mirror_on m s)) slots
+
+more_reached : (t : Turn) (m : Option Room) (s i : ℕ) (made : List MadeSheet) → i < length made → are_reached_from t m s (take i made) ≡ true
+    → slots_reached t m (s + i) (slots_at made i) ≡ true → are_reached_from t m s (take (suc i) made) ≡ true
+more_reached t m s i [] less is too = absurd (omega (arith, less))
+more_reached t m s zero (x ∷ made) less is too =
+    let here : s + 0 ≡ s = omega arith in
+    and_true (slots_reached t m s x.slots) true (subst (λ n. slots_reached t m n x.slots ≡ true) here too) refl
+more_reached t m s (suc i) (x ∷ made) less is too =
+    let next : s + suc i ≡ (s + 1) + i = omega arith in
+    let first = slots_reached t m s x.slots in
+    let rest = are_reached_from t m (s + 1) (take i made) in
+    and_true first (are_reached_from t m (s + 1) (take (suc i) made)) (left_of first rest is)
+    (more_reached t m (s + 1) i made (omega (arith, less)) (right_of first rest is) (subst (λ n. slots_reached t m n (slots_at made i) ≡ true) next too))
+
+pub sheet_reached : (t : Turn) (m : Option Room) (i : ℕ) (made : List MadeSheet) → i < length made → are_reached t m (take i made) ≡ true
+    → slots_reached t m i (slots_at made i) ≡ true → are_reached t m (take (i + 1) made) ≡ true
+sheet_reached t m i made less is too =
+    let next : suc i ≡ i + 1 = omega arith in
+    let place : i ≡ 0 + i = omega arith in
+    subst (λ n. are_reached t m (take n made) ≡ true) next
+    (more_reached t m 0 i made less is (subst (λ n. slots_reached t m n (slots_at made i) ≡ true) place too))
+
+one_not_reached : (t : Turn) (m : Option Room) (s i : ℕ) (made : List MadeSheet) → i < length made → slots_reached t m (s + i) (slots_at made i) ≡ false
+    → are_reached_from t m s made ≡ false
+one_not_reached t m s i [] less never = absurd (omega (arith, less))
+one_not_reached t m s zero (x ∷ made) less never =
+    let here : s + 0 ≡ s = omega arith in
+    rw (subst (λ n. slots_reached t m n x.slots ≡ false) here never) refl
+one_not_reached t m s (suc i) (x ∷ made) less never =
+    let next : s + suc i ≡ (s + 1) + i = omega arith in
+    and_false (slots_reached t m s x.slots) (are_reached_from t m (s + 1) made)
+    (one_not_reached t m (s + 1) i made (omega (arith, less)) (subst (λ n. slots_reached t m n (slots_at made i) ≡ false) next never))
+
+pub not_reached : (t : Turn) (m : Option Room) (i : ℕ) (made : List MadeSheet) → i < length made → slots_reached t m i (slots_at made i) ≡ false
+    → are_reached t m made ≡ false
+not_reached t m i made less never =
+    let place : i ≡ 0 + i = omega arith in
+    one_not_reached t m 0 i made less (subst (λ n. slots_reached t m n (slots_at made i) ≡ false) place never)
+
+one_reached : (t : Turn) (m : Option Room) (s i : ℕ) (made : List MadeSheet) → i < length made → are_reached_from t m s made ≡ true
+    → slots_reached t m (s + i) (slots_at made i) ≡ true
+one_reached t m s i [] less is = absurd (omega (arith, less))
+one_reached t m s zero (x ∷ made) less is =
+    let here : s ≡ s + 0 = omega arith in
+    subst (λ n. slots_reached t m n x.slots ≡ true) here (left_of (slots_reached t m s x.slots) (are_reached_from t m (s + 1) made) is)
+one_reached t m s (suc i) (x ∷ made) less is =
+    let next : (s + 1) + i ≡ s + suc i = omega arith in
+    subst (λ n. slots_reached t m n (slots_at made i) ≡ true) next
+    (one_reached t m (s + 1) i made (omega (arith, less)) (right_of (slots_reached t m s x.slots) (are_reached_from t m (s + 1) made) is))
+
+pub reached_at : (t : Turn) (m : Option Room) (i : ℕ) (made : List MadeSheet) → i < length made → are_reached t m made ≡ true
+    → slots_reached t m i (slots_at made i) ≡ true
+reached_at t m i made less is =
+    let place : 0 + i ≡ i = omega arith in
+    subst (λ n. slots_reached t m n (slots_at made i) ≡ true) place (one_reached t m 0 i made less is)
+
+-- ---- what a refusal says of a run
+
+-- of the sheets that are laid
+laid_too_far : (j : RowJob) (laid : List MadeSheet) (e : AskedError) → page_count j ≤ most_pages → AreAsked (page_count j) j.papers.now j.asked laid
+    → IsNotReached (turn_of j.turn) (mirror_for j) laid e → RefusesRun j e
+laid_too_far j laid (error.Sheets plan.TooManySheets) few asked h =
+    (laid, asked, turned_refused (turn_of j.turn) (mirror_for j) (page_count j) laid plan.TooManySheets (too_many_sheets (page_count j) laid few h))
+laid_too_far j laid (error.Sheets plan.TooManyPages) few asked h = absurd h
+laid_too_far j laid (error.Sheets (plan.SlotsOutOfRange sheet)) few asked h = absurd h
+laid_too_far j laid (error.Sheets plan.TooManyPlaces) few asked h = absurd h
+laid_too_far j laid (error.Sheets (plan.NoSuchPage sheet)) few asked h = absurd h
+laid_too_far j laid (error.Sheets plan.NoMemory) few asked h = absurd h
+laid_too_far j laid error.OutOfReach few asked h = (laid, asked, rw h.1 refl)
+laid_too_far j laid (error.Row e) few asked h = absurd h
+laid_too_far j laid (error.Arrangement e) few asked h = absurd h
+laid_too_far j laid (error.Poster e) few asked h = absurd h
+laid_too_far j laid error.NoMemory few asked h = absurd h
+
+-- the same by the numbers that a run counts
+pub reach_refused : (j : RowJob) (n : ℕ) (m : Option Room) (laid : List MadeSheet) (e : AskedError) → n ≡ page_count j → m ≡ mirror_for j → n ≤ most_pages
+    → AreAsked n j.papers.now j.asked laid → IsNotReached (turn_of j.turn) m laid e → RefusesRun j e
+reach_refused j n m laid e count mirror few asked h =
+    laid_too_far j laid e (subst (λ k. k ≤ most_pages) count few) (subst (λ k. AreAsked k j.papers.now j.asked laid) count asked)
+    (subst (λ r. IsNotReached (turn_of j.turn) r laid e) mirror h)

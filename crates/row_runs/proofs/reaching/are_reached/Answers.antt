@@ -1,0 +1,27 @@
+use Rattle.std.proofs.Common.{rules, ◌≡◌, ◌∙◌, ◌<◌, false, length, subst, sym, true}
+use Rattle.std.specs.List.{list_all}
+use Rattle.pagespec.specs.Items.{turn_of}
+use Rattle.sheet_plan.specs.OfSheets.{slots_at}
+use Rattle.row_runs.specs.Reaching.{is_slot_reached}
+use Rattle.row_runs.proofs.Reach.{not_reached, sheet_reached}
+use Rattle.row_runs.proofs.reaching.are_reached.Goals as goal
+
+pub returns-then-not-is_sheet_reached : goal.returns-then-not-is_sheet_reached
+returns-then-not-is_sheet_reached c =
+    let all = c.args.sheets.now in
+    let s = c.loop-sheet.sheet in
+    let t = turn_of c.args.turn in
+    let within : s < length all = search rules in
+    sym (not_reached t c.args.mirror.now s all within
+    (subst (λ k. list_all (is_slot_reached t k) (slots_at all s) ≡ false) c.mirror_on.ensures
+    (sym c.is_sheet_reached.ensures ∙ c.if-not-is_sheet_reached.true)))
+
+pub loop-sheet-preserved : goal.loop-sheet-preserved
+loop-sheet-preserved c =
+    let all = c.args.sheets.now in
+    let s = c.loop-sheet.sheet in
+    let t = turn_of c.args.turn in
+    let within : s < length all = search rules in
+    sheet_reached t c.args.mirror.now s all within c.loop-sheet.invariant
+    (subst (λ k. list_all (is_slot_reached t k) (slots_at all s) ≡ true) c.mirror_on.ensures
+    (sym c.is_sheet_reached.ensures ∙ c.if-not-is_sheet_reached.false))

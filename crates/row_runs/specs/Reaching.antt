@@ -1,0 +1,51 @@
+-- Places that can be written: offsets have less than 100,000 points. A page that is moved on a back, and then turned, may come to
+-- have others. All here is this project's own rules.
+use Rattle.std.specs.Prelude.{◌≡◌, ◌<◌, ◌≤◌, ℕ, ◌+◌, nat_abs, nat_le, Bool, true, false, ◌&&◌, List, [], ◌∷◌, length, Option, Some, None}
+use Rattle.std.specs.List.{list_all}
+use Rattle.rules.specs.Numbers.{greatest_number}
+use Rattle.rules.specs.Papers.{Paper}
+use Rattle.rules.specs.Run.{most_sheets}
+use Rattle.rules.specs.Specification.{Item, Measure, Turn}
+use Rattle.made_sheets.specs.Made.{MadeSlot, Blank, Placed, MadeSheet}
+use Rattle.layouts.specs.Placed.{Room}
+use Rattle.sheet_plan.specs.declared.error.MadeError.TheVariants as plan
+use Rattle.row_runs.specs.Turning.{turned_item}
+use Rattle.row_runs.specs.Mirrored.{mirror_on, moved_item}
+use Rattle.row_runs.specs.declared.error.AskedError.{AskedError}
+use Rattle.row_runs.specs.declared.error.AskedError.TheVariants as error
+
+-- an offset of less than 100,000 points
+abbrev pub is_near : Measure → Bool
+is_near m = nat_le (nat_abs m.number) greatest_number
+
+-- a page has such offsets once it is moved to the side, if it is
+abbrev pub is_moved_near : Option Room → Item → Bool
+is_moved_near None item = true
+is_moved_near (Some room) item = is_near (moved_item (Some room) item).x
+
+-- and once it is turned
+abbrev pub is_turned_near : Turn → (paper : Paper) → Item → Bool
+is_turned_near turn paper item = let turned = turned_item turn paper item in is_near turned.x && is_near turned.y
+
+-- and so the page of a slot, if there is one
+abbrev pub is_item_reached : Turn → Option Room → (paper : Paper) → Item → Bool
+is_item_reached turn mirror paper item = is_moved_near mirror item && is_turned_near turn paper (moved_item mirror item)
+
+abbrev pub is_slot_reached : Turn → Option Room → MadeSlot → Bool
+is_slot_reached turn mirror Blank = true
+is_slot_reached turn mirror (Placed page item paper) = is_item_reached turn mirror paper item
+
+-- so has each page of these sheets, of which the first is sheet s
+abbrev pub are_reached_from : Turn → Option Room → (s : ℕ) → List MadeSheet → Bool
+are_reached_from turn mirror s [] = true
+are_reached_from turn mirror s (sheet ∷ made) =
+    list_all (is_slot_reached turn (mirror_on mirror s)) sheet.slots && are_reached_from turn mirror (s + 1) made
+
+abbrev pub are_reached : Turn → Option Room → List MadeSheet → Bool
+are_reached turn mirror made = are_reached_from turn mirror 0 made
+
+-- a refusal says that there are more sheets than can be planned, or that there aren't and a page isn't reached
+abbrev pub IsNotReached : Turn → Option Room → List MadeSheet → AskedError → Type 0
+IsNotReached turn mirror made (error.Sheets plan.TooManySheets) = most_sheets < length made
+IsNotReached turn mirror made error.OutOfReach = (length made ≤ most_sheets) × (are_reached turn mirror made ≡ false)
+IsNotReached turn mirror made other = ⊥
