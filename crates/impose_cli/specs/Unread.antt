@@ -1,5 +1,6 @@
 -- What can be said of a request before its document is read.
 use Rattle.std.specs.Prelude.{◌≡◌, ◌≢◌, ◌⊎◌, ⊤, ℕ, ◌==◌, ℤ, pos, ◌+ℤ◌, int_lt, int_le, Bool, true, false, ◌&&◌, not, if◌then◌else◌, is_some, List, Option, None, Some, Err, IfSome, option_map, string_bytes}
+use Rattle.std.specs.Ordering.{int_eq}
 use Rattle.std.specs.Str.{bytes_eq}
 use Rattle.rules.specs.Papers.{Paper}
 use Rattle.rules.specs.Specification.{Spec}
@@ -21,7 +22,7 @@ use Rattle.impose_words.specs.declared.request.ImposeRequest.{ImposeRequest}
 use Rattle.layouts.specs.Grids.{count_of}
 use Rattle.layouts.specs.declared.arrangement.Free.{Free}
 use Rattle.impose_said.specs.declared.fault.IdleOption.{IdleOption}
-use Rattle.impose_said.specs.declared.fault.IdleOption.TheVariants.{Sheet, CutMarks, Inner, InnerMarks}
+use Rattle.impose_said.specs.declared.fault.IdleOption.TheVariants.{Sheet, CutMarks, Inner, InnerMarks, Left}
 use Rattle.impose_said.specs.declared.fault.ImposeFault.{ImposeFault}
 use Rattle.impose_said.specs.declared.fault.ImposeFault.TheVariants as fault
 
@@ -87,13 +88,19 @@ is_bound (layout.NUp cells) = true
 is_bound (layout.Booklet signing long_edge) = true
 is_bound other = false
 
--- the first such option: a paper for sheets that keep their own; a margin at an edge that there isn't; marks that aren't where
--- that margin is; and marks outside of pages that have no room for them (RULES, 16, step 4)
+-- a left margin is asked for, and the left edge is the inner one of fronts, which has its own
+abbrev pub has_two_left : Layout → Spacing → Bool
+has_two_left (layout.NUp cells) s = is_some s.inner && not (int_eq s.free.left (pos 0))
+has_two_left other s = false
+
+-- the first such option: a paper for sheets that keep their own; a margin at an edge that there isn't, or that has another; marks
+-- that aren't where that margin is; and marks outside of pages that have no room for them (RULES, 16, step 4)
 abbrev pub idle_option : ImposeRequest → Option IdleOption
 idle_option r = if keeps_papers r.layout && is_some r.sheet_paper then Some Sheet
     else (if is_some r.spacing.inner && not (is_bound r.layout) then Some Inner
+    else (if has_two_left r.layout r.spacing then Some Left
     else (if r.marks.cut && is_some r.spacing.inner then Some InnerMarks
-    else (if r.marks.cut && (is_cut_outside r.layout && not (has_margins r.spacing.free)) then Some CutMarks else None)))
+    else (if r.marks.cut && (is_cut_outside r.layout && not (has_margins r.spacing.free)) then Some CutMarks else None))))
 
 -- ---- a file that is read and written
 

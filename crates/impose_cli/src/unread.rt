@@ -6,7 +6,7 @@ ghost use Rattle.impose_cli.specs.Unread.{AreRanges, MayBeRead, RefusesRanges, R
 use crate::task::check_layout;
 use command_words::name_of;
 use impose_said::{IdleOption, ImposeFault};
-use impose_words::{ImposeRequest, Layout, PageChoice, Product};
+use impose_words::{ImposeRequest, Layout, PageChoice, Product, Spacing};
 use layouts::Free;
 use lengths::Grains;
 use rows::{RowError, read_row};
@@ -59,7 +59,8 @@ fn is_one_file(one: Option<&str>, other: Option<&str>) -> bool
 }
 
 /// The first option that would do nothing, or not what it says: a paper for sheets that keep their own; a margin at an edge
-/// that there isn't; marks that aren't where that margin is; and marks outside of pages that have no room for them.
+/// that there isn't, or that has another; marks that aren't where that margin is; and marks outside of pages that have no room
+/// for them.
 fn idle_option(request: &ImposeRequest) -> Option<IdleOption>
     ensures { result ≡ meaning.idle_option request.now }
 {
@@ -67,6 +68,8 @@ fn idle_option(request: &ImposeRequest) -> Option<IdleOption>
         Some(IdleOption::Sheet)
     } else if request.spacing.inner.is_some() && !is_bound(&request.layout) {
         Some(IdleOption::Inner)
+    } else if has_two_left(&request.layout, &request.spacing) {
+        Some(IdleOption::Left)
     } else if request.marks.cut && request.spacing.inner.is_some() {
         Some(IdleOption::InnerMarks)
     } else if request.marks.cut
@@ -90,6 +93,16 @@ fn is_bound(layout: &Layout) -> bool
     ensures { result ≡ meaning.is_bound layout.now }
 {
     matches!(layout, Layout::NUp(_) | Layout::Booklet { .. })
+}
+
+/// Whether a left margin is asked for, where the left edge is the inner one of fronts, which has its own.
+fn has_two_left(layout: &Layout, spacing: &Spacing) -> bool
+    ensures { result ≡ meaning.has_two_left layout.now spacing.now }
+{
+    match layout {
+        Layout::NUp(_) => spacing.inner.is_some() && spacing.free.left.get() != 0,
+        _ => false,
+    }
 }
 
 /// Whether sheets are cut outside their cells alone: they have one cell, or are folded between them.

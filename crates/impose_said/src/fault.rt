@@ -26,6 +26,8 @@ pub enum IdleOption {
     CutMarks,
     /// A margin at the inner edge, where sheets have none.
     Inner,
+    /// A left margin beside one at the inner edge, which is the left one of fronts.
+    Left,
     /// Marks where sheets are cut, which are the same on fronts and backs, where margins aren't.
     InnerMarks,
 }

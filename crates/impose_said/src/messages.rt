@@ -83,6 +83,8 @@ fn idle_message(option: IdleOption) -> &'static str {
             "--marks cut draws nothing without room outside the pages: give a --margin of half the --gap at least, as --margin 5mm",
         IdleOption::Inner =>
             "only nup and booklet have an inner edge: name left, right, top or bottom in its place, as --margin left=2cm",
+        IdleOption::Left =>
+            "inner is the left edge of fronts, so left does nothing beside it: name right for the other edge, as --margin inner=2cm,right=1cm",
         IdleOption::InnerMarks =>
             "--marks cut is drawn where margins are the same on fronts and backs: leave it out, or name left or right in place of inner",
     }

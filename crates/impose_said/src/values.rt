@@ -13,6 +13,7 @@ pub(crate) fn value_text(alloc: Global, option: Opt, text: &str) -> Result<Strin
             alloc, option, text,
         ),
         Opt::Margin | Opt::Gap | Opt::Numbers if is_number(text) => unit_text(alloc, option, text),
+        Opt::Margin => margin_text(alloc, text),
         Opt::Count(command) => cells_text(alloc, command, text),
         Opt::CutMarks => cut_marks_text(alloc, text),
         Opt::Outfile => outfile_text(alloc, text),
@@ -24,6 +25,42 @@ pub(crate) fn value_text(alloc: Global, option: Opt, text: &str) -> Result<Strin
 /// Whether a text is a length but for its unit.
 fn is_number(text: &str) -> bool {
     lacks_unit(text) && !text.starts_with("-")
+}
+
+/// What is said of a text that names no margins. An edge may be named twice.
+fn margin_text(alloc: Global, text: &str) -> Result<String, AllocError> {
+    let Some(edge) = edge_named_twice(text) else {
+        return refused_text(alloc, Opt::Margin, text);
+    };
+    let shown = shown_word(alloc, text)?;
+    let edge = shown_word(alloc, edge)?;
+    format!(in alloc; "'{shown}' after --margin names {edge} twice: name each edge once")
+}
+
+/// The first edge in a text that is named again after it.
+fn edge_named_twice(text: &str) -> Option<&str> {
+    for (place, part) in text.split(',').enumerate() {
+        if let Some((edge, _)) = part.split_once('=') {
+            if is_named_after(text, place, edge) {
+                return Some(edge);
+            }
+        }
+    }
+    None
+}
+
+/// Whether a part of a text behind this one names the edge.
+fn is_named_after(text: &str, place: usize, edge: &str) -> bool {
+    for (other, part) in text.split(',').enumerate() {
+        if other > place {
+            if let Some((name, _)) = part.split_once('=') {
+                if name == edge {
+                    return true;
+                }
+            }
+        }
+    }
+    false
 }
 
 /// That a text after an option is none of its values, and what to do.

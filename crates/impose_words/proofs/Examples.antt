@@ -70,7 +70,7 @@ inner_edge : margins_named (codes "inner=1in,right=2in") ≡ Some (record (margi
 unfolding number_at
 inner_edge = refl
 
-no_margin : map margins_named (codes "1" ∷ codes "1in," ∷ codes "1in,2in,3in" ∷ codes "1in,2in,3in,4in,5in" ∷ codes "left=1" ∷ codes "middle=1in" ∷ codes "left=1in,2in" ∷ codes "inner=1" ∷ []) ≡ None ∷ None ∷ None ∷ None ∷ None ∷ None ∷ None ∷ None ∷ []
+no_margin : map margins_named (codes "1" ∷ codes "1in," ∷ codes "1in,2in,3in" ∷ codes "1in,2in,3in,4in,5in" ∷ codes "left=1" ∷ codes "middle=1in" ∷ codes "left=1in,2in" ∷ codes "inner=1" ∷ codes "left=1in,left=1in" ∷ codes "top=0,left=1in,top=2in" ∷ codes "inner=1in,inner=1in" ∷ []) ≡ None ∷ None ∷ None ∷ None ∷ None ∷ None ∷ None ∷ None ∷ None ∷ None ∷ None ∷ []
 unfolding number_at
 no_margin = refl
 

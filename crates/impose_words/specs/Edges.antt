@@ -1,10 +1,11 @@
 -- What is kept free along the edges of a sheet, and between its cells, as people write it.
-use Rattle.std.specs.Prelude.{ℕ, ℤ, ◌==◌, nat_lt, if◌then◌else◌, is_some, List, length, Option, Some, None, codes, option_map}
+use Rattle.std.specs.Prelude.{ℕ, ℤ, pos, ◌==◌, nat_lt, if◌then◌else◌, is_some, List, length, Option, Some, None, codes, option_map, unwrap_or}
 use Rattle.std.specs.List.{after_first, before_first, position_or_len}
 use Rattle.std.specs.Str.{bytes_eq}
 use Rattle.layouts.specs.Grids.{nothing_free}
 use Rattle.layouts.specs.declared.arrangement.Free.{Free}
 use Rattle.impose_words.specs.Sizes.{length_with_unit}
+use Rattle.impose_words.specs.declared.edges.Edges.{Edges}
 use Rattle.impose_words.specs.declared.edges.Margins.{Margins}
 
 -- the text before the first such byte, and the text after it, if there is one
@@ -53,50 +54,70 @@ abbrev pub lengths_by : Option (List ℕ × List ℕ) → List ℕ → Option Fr
 lengths_by None text = let all = length_with_unit text in margins_of all all all all
 lengths_by (Some (one, rest)) text = of_more (length_with_unit one) (cut_at comma rest) rest
 
--- ---- or edges by their names, of which the others have no margin
+-- ---- or edges by their names, each once, of which the others have no margin
 
-abbrev pub with_edge : Free → (name : List ℕ) → (margin : ℤ) → Option Free
-with_edge f name margin =
-    if bytes_eq name (codes "left") then Some (record f { left = margin })
-    else (if bytes_eq name (codes "right") then Some (record f { right = margin })
-    else (if bytes_eq name (codes "top") then Some (record f { top = margin })
-    else (if bytes_eq name (codes "bottom") then Some (record f { bottom = margin }) else None)))
+-- the margin of an edge that had none before
+abbrev pub once : (before : Option ℤ) → (margin : ℤ) → Option (Option ℤ)
+once None margin = Some (Some margin)
+once (Some before) margin = None
 
--- and the inner edge, which is another one on fronts than on backs
-abbrev pub with_margin : Margins → (name : List ℕ) → Option ℤ → Option Margins
-with_margin m name None = None
-with_margin m name (Some margin) = if bytes_eq name (codes "inner") then Some (record m { inner = Some margin })
-    else option_map (λ f. record m { free = f }) (with_edge m.free name margin)
+-- the edges with one more, which is no edge that is among them. The inner edge is another one on fronts than on backs
+abbrev pub with_edge : Edges → (name : List ℕ) → (margin : ℤ) → Option Edges
+with_edge e name margin =
+    if bytes_eq name (codes "inner") then option_map (λ m. record e { inner = m }) (once e.inner margin)
+    else (if bytes_eq name (codes "left") then option_map (λ m. record e { left = m }) (once e.left margin)
+    else (if bytes_eq name (codes "right") then option_map (λ m. record e { right = m }) (once e.right margin)
+    else (if bytes_eq name (codes "top") then option_map (λ m. record e { top = m }) (once e.top margin)
+    else (if bytes_eq name (codes "bottom") then option_map (λ m. record e { bottom = m }) (once e.bottom margin) else None))))
 
-abbrev pub named_by : Option Margins → Option (List ℕ × List ℕ) → Option Margins
+abbrev pub with_margin : Edges → (name : List ℕ) → Option ℤ → Option Edges
+with_margin e name None = None
+with_margin e name (Some margin) = with_edge e name margin
+
+abbrev pub named_by : Option Edges → Option (List ℕ × List ℕ) → Option Edges
 named_by None part = None
-named_by (Some m) None = None
-named_by (Some m) (Some (name, text)) = with_margin m name (length_with_unit text)
+named_by (Some e) None = None
+named_by (Some e) (Some (name, text)) = with_margin e name (length_with_unit text)
 
 -- the name and the length of an edge, with an equals sign between them
-abbrev pub edge_in : Option Margins → List ℕ → Option Margins
-edge_in m text = named_by m (cut_at equals text)
+abbrev pub edge_in : Option Edges → List ℕ → Option Edges
+edge_in e text = named_by e (cut_at equals text)
 
 -- up to four of them, with commas between them
-abbrev pub last_edges : Option Margins → Option (List ℕ × List ℕ) → List ℕ → Option Margins
-last_edges m None text = edge_in m text
-last_edges m (Some (part, rest)) text = edge_in (edge_in m part) rest
+abbrev pub last_edges : Option Edges → Option (List ℕ × List ℕ) → List ℕ → Option Edges
+last_edges e None text = edge_in e text
+last_edges e (Some (part, rest)) text = edge_in (edge_in e part) rest
 
-abbrev pub more_edges : Option Margins → Option (List ℕ × List ℕ) → List ℕ → Option Margins
-more_edges m None text = edge_in m text
-more_edges m (Some (part, rest)) text = last_edges (edge_in m part) (cut_at comma rest) rest
+abbrev pub more_edges : Option Edges → Option (List ℕ × List ℕ) → List ℕ → Option Edges
+more_edges e None text = edge_in e text
+more_edges e (Some (part, rest)) text = last_edges (edge_in e part) (cut_at comma rest) rest
+
+abbrev pub no_edges : Edges
+no_edges = record { left = None; right = None; top = None; bottom = None; inner = None }
+
+abbrev pub edges_by : Option (List ℕ × List ℕ) → List ℕ → Option Edges
+edges_by None text = edge_in (Some no_edges) text
+edges_by (Some (part, rest)) text = more_edges (edge_in (Some no_edges) part) (cut_at comma rest) rest
+
+-- what is kept free along these edges, and nothing along the others
+abbrev pub along_edges : Edges → Margins
+along_edges e = record {
+  free = record nothing_free {
+    left = unwrap_or e.left (pos 0);
+    right = unwrap_or e.right (pos 0);
+    bottom = unwrap_or e.bottom (pos 0);
+    top = unwrap_or e.top (pos 0);
+  };
+  inner = e.inner;
+}
 
 -- no edge is the inner one
 abbrev pub margins_in : Free → Margins
 margins_in f = record { free = f; inner = None }
 
-abbrev pub edges_by : Option (List ℕ × List ℕ) → List ℕ → Option Margins
-edges_by None text = edge_in (Some (margins_in nothing_free)) text
-edges_by (Some (part, rest)) text = more_edges (edge_in (Some (margins_in nothing_free)) part) (cut_at comma rest) rest
-
 -- RULES, 13.1
 abbrev pub margins_named : List ℕ → Option Margins
-margins_named text = if is_some (cut_at equals text) then edges_by (cut_at comma text) text
+margins_named text = if is_some (cut_at equals text) then option_map along_edges (edges_by (cut_at comma text) text)
     else option_map margins_in (lengths_by (cut_at comma text) text)
 
 -- ---- all that is kept free

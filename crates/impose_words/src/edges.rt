@@ -15,6 +15,48 @@ pub struct Margins {
     pub inner: Option<Grains>,
 }
 
+/// The edges that are named, with their margins.
+#[derive(Clone, Copy)]
+pub struct Edges {
+    pub left: Option<Grains>,
+    pub right: Option<Grains>,
+    pub top: Option<Grains>,
+    pub bottom: Option<Grains>,
+    pub inner: Option<Grains>,
+}
+
+impl Edges {
+    /// None is named.
+    fn none() -> Edges
+        ensures { result ≡ meaning.no_edges }
+    {
+        Edges {
+            left: None,
+            right: None,
+            top: None,
+            bottom: None,
+            inner: None,
+        }
+    }
+
+    /// What is kept free along these edges, and nothing along the others.
+    fn margins(&self) -> Margins
+        ensures { result ≡ meaning.along_edges self.now }
+    {
+        let free = Free {
+            left: self.left.unwrap_or(Grains::ZERO),
+            right: self.right.unwrap_or(Grains::ZERO),
+            bottom: self.bottom.unwrap_or(Grains::ZERO),
+            top: self.top.unwrap_or(Grains::ZERO),
+            ..Free::none()
+        };
+        Margins {
+            free,
+            inner: self.inner,
+        }
+    }
+}
+
 impl Margins {
     /// So much, and no edge is the inner one.
     pub fn of(free: Free) -> Margins
@@ -51,7 +93,8 @@ pub fn margins_named(text: &str) -> Option<Margins>
     ensures { result ≡ meaning.margins_named text.now }
 {
     if cut_at(text, '=').is_some() {
-        edges_named(text)
+        let edges = edges_named(text)?;
+        Some(edges.margins())
     } else {
         Some(Margins::of(lengths_named(text)?))
     }
@@ -100,11 +143,11 @@ fn margins_of(top: &str, right: &str, bottom: &str, left: &str) -> Option<Free>
     })
 }
 
-/// Up to four edges by their names.
-fn edges_named(text: &str) -> Option<Margins>
+/// Up to four edges by their names, each once.
+fn edges_named(text: &str) -> Option<Edges>
     ensures { result ≡ meaning.edges_by (meaning.cut_at 44 text.now) text.now }
 {
-    let none = Some(Margins::of(Free::none()));
+    let none = Some(Edges::none());
     match cut_at(text, ',') {
         None => edge_in(none, text),
         Some((part, rest)) => more_edges(edge_in(none, part), rest),
@@ -112,64 +155,71 @@ fn edges_named(text: &str) -> Option<Margins>
 }
 
 /// Up to three edges after the first one.
-fn more_edges(margins: Option<Margins>, text: &str) -> Option<Margins>
-    ensures { result ≡ meaning.more_edges margins (meaning.cut_at 44 text.now) text.now }
+fn more_edges(edges: Option<Edges>, text: &str) -> Option<Edges>
+    ensures { result ≡ meaning.more_edges edges (meaning.cut_at 44 text.now) text.now }
 {
     match cut_at(text, ',') {
-        None => edge_in(margins, text),
-        Some((part, rest)) => last_edges(edge_in(margins, part), rest),
+        None => edge_in(edges, text),
+        Some((part, rest)) => last_edges(edge_in(edges, part), rest),
     }
 }
 
 /// The last two of them.
-fn last_edges(margins: Option<Margins>, text: &str) -> Option<Margins>
-    ensures { result ≡ meaning.last_edges margins (meaning.cut_at 44 text.now) text.now }
+fn last_edges(edges: Option<Edges>, text: &str) -> Option<Edges>
+    ensures { result ≡ meaning.last_edges edges (meaning.cut_at 44 text.now) text.now }
 {
     match cut_at(text, ',') {
-        None => edge_in(margins, text),
-        Some((part, rest)) => edge_in(edge_in(margins, part), rest),
+        None => edge_in(edges, text),
+        Some((part, rest)) => edge_in(edge_in(edges, part), rest),
     }
 }
 
-/// One edge, by its name and its length.
-fn edge_in(margins: Option<Margins>, text: &str) -> Option<Margins>
-    ensures { result ≡ meaning.edge_in margins text.now }
+/// One edge more, by its name and its length.
+fn edge_in(edges: Option<Edges>, text: &str) -> Option<Edges>
+    ensures { result ≡ meaning.edge_in edges text.now }
 {
-    let margins = margins?;
+    let edges = edges?;
     let (name, text) = cut_at(text, '=')?;
     let margin = length_with_unit(text)?;
-    with_margin(margins, name, margin)
+    with_edge(edges, name, margin)
 }
 
-/// The margin of the edge with this name, which may be the inner one.
-fn with_margin(margins: Margins, name: &str, margin: Grains) -> Option<Margins>
-    ensures { result ≡ meaning.with_margin margins name.now (Some margin) }
+/// The edges with the one of this name, which wasn't among them: one of a sheet as it lies, or the inner one.
+fn with_edge(edges: Edges, name: &str, margin: Grains) -> Option<Edges>
+    ensures { result ≡ meaning.with_edge edges name.now margin }
 {
-    if name == "inner" {
-        return Some(Margins {
-            inner: Some(margin),
-            ..margins
-        });
+    match name {
+        "inner" => Some(Edges {
+            inner: once(edges.inner, margin)?,
+            ..edges
+        }),
+        "left" => Some(Edges {
+            left: once(edges.left, margin)?,
+            ..edges
+        }),
+        "right" => Some(Edges {
+            right: once(edges.right, margin)?,
+            ..edges
+        }),
+        "top" => Some(Edges {
+            top: once(edges.top, margin)?,
+            ..edges
+        }),
+        "bottom" => Some(Edges {
+            bottom: once(edges.bottom, margin)?,
+            ..edges
+        }),
+        _ => None,
     }
-    let free = with_edge(margins.free, name, margin)?;
-    Some(Margins { free, ..margins })
 }
 
-/// The margin of the edge with this name, of a sheet as it lies.
-fn with_edge(free: Free, name: &str, margin: Grains) -> Option<Free>
-    ensures { result ≡ meaning.with_edge free name.now margin }
+/// The margin of an edge that had none before.
+fn once(before: Option<Grains>, margin: Grains) -> Option<Option<Grains>>
+    ensures { result ≡ meaning.once before margin }
 {
-    let (left, right, top, bottom) = (margin, margin, margin, margin);
-    if name == "left" {
-        Some(Free { left, ..free })
-    } else if name == "right" {
-        Some(Free { right, ..free })
-    } else if name == "top" {
-        Some(Free { top, ..free })
-    } else if name == "bottom" {
-        Some(Free { bottom, ..free })
-    } else {
-        None
+    match before {
+        None => Some(Some(margin)),
+        Some(_) => None,
     }
 }
 
