@@ -22,3 +22,4 @@ mod InHalves
 mod Kept
 mod NumbersLie
 mod ReadInOrder
+mod WrittenOrder

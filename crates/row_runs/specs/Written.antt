@@ -1,9 +1,10 @@
 -- How pages lie on the sheets that are written: they were laid, then backs were moved, and then pages were turned.
-use Rattle.std.specs.Prelude.{◌≡◌, ⊤, ℕ, ◌<◌, ℤ, pos, Bool, true, false, List, length, All, None, slice_index_or}
+use Rattle.std.specs.Prelude.{◌≡◌, ⊤, ℕ, ◌<◌, ℤ, pos, Bool, true, false, List, length, All, None, Some, slice_index_or}
 use Rattle.rules.specs.Papers.{Paper}
 use Rattle.rules.specs.Specification.{Item, Turn, Upright}
-use Rattle.made_sheets.specs.Choice.{signed}
+use Rattle.made_sheets.specs.Choice.{sides_for, signed}
 use Rattle.made_sheets.specs.Made.{MadeSlot, Blank, Placed, MadeSheet}
+use Rattle.made_sheets.specs.Rows.{Row}
 use Rattle.layouts.specs.declared.setting.Setting.{Setting}
 use Rattle.layouts.specs.Placed.{Room}
 use Rattle.layouts.specs.Cells.{column_of, in_points, kept, row_of}
@@ -15,11 +16,15 @@ use Rattle.row_sheets.specs.Halves.{StandCrept, creeping_half, side_turn}
 use Rattle.row_sheets.specs.Standing.{StandsIn}
 use Rattle.pagespec.specs.Items.{turn_of}
 use Rattle.row_runs.specs.Mirrored.{mirrored, room_on}
+use Rattle.rows.specs.Sewing.{signing_of}
+use Rattle.rows.specs.declared.sewing.Signing.{Signing}
+use Rattle.row_sheets.specs.Stacked.{ArePiled, ArePiledLeaves}
+use Rattle.row_runs.specs.ReadAsBound.{AreReadAs}
 use Rattle.row_runs.specs.InPlaces.{StandInPlaces}
 use Rattle.row_runs.specs.Runs.{AreTurned, mirror_for}
 use Rattle.row_runs.specs.Sheets.{laying_for, leaves_in, sewn}
 use Rattle.row_runs.specs.Standing.{StandAsLaid}
-use Rattle.row_sheets.specs.Zine.{past_row, zine_turn}
+use Rattle.row_sheets.specs.Zine.{AreReadFolded, past_row, zine_turn}
 use Rattle.row_runs.specs.Turning.{both, turned_item, turned_paper, turned_slot}
 use Rattle.row_runs.specs.declared.asked.Laying.{Laying}
 use Rattle.row_runs.specs.declared.asked.Laying.TheVariants as laying
@@ -61,6 +66,26 @@ WrittenStand = (j : RowJob) (made : List MadeSheet) → AreTurned j made → tur
 abbrev pub WrittenInPlaces : Type 0
 WrittenInPlaces = (j : RowJob) (made : List MadeSheet) → (are : AreTurned j made) → turn_of j.turn ≡ Upright → mirror_for j ≡ None
     → StandInPlaces (laying_for j.asked j.papers.now are.asked.row) j.papers.now (signed (sewn j.asked) are.asked.row) made
+
+-- ---- in order, also turned
+
+-- a stack's sheets, cut and laid, or a zine's, folded and cut, are the row
+abbrev pub AreReadInOrder : Laying → Row → List MadeSheet → Type 0
+AreReadInOrder (laying.InCells t (scheme.Stack cells)) row made = ArePiled cells row made
+AreReadInOrder (laying.InCells t scheme.Leaves) row made = ArePiledLeaves t row made
+AreReadInOrder (laying.InCells t scheme.Zine) row made = AreReadFolded row made
+AreReadInOrder other row made = ⊤
+
+-- so it is of the sheets that are written, as by `impose stack 4 --duplex --turn left`: a law
+abbrev pub WrittenAreRead : Type 0
+WrittenAreRead = (j : RowJob) (made : List MadeSheet) → (are : AreTurned j made)
+    → AreReadInOrder (laying_for j.asked j.papers.now are.asked.row) (signed (sewn j.asked) are.asked.row) made
+
+-- and the booklet that is written is read in the order of the row that is chosen, as by `impose booklet --turn left`: a law
+abbrev pub WrittenIsBound : Type 0
+WrittenIsBound = (j : RowJob) (made : List MadeSheet) (t : Setting) (turned_backs : Bool) (creep : ℕ) (how : Signing) → (are : AreTurned j made)
+    → j.asked.laying ≡ laying.InCells t (scheme.Booklet turned_backs creep) → j.asked.signing ≡ Some how
+    → AreReadAs t.order.right_to_left turned_backs (sides_for (signing_of how) (length are.asked.row)) are.asked.row made
 
 -- ---- in their cells, also turned
 

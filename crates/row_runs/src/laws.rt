@@ -4,7 +4,7 @@ ghost use Rattle.row_runs.specs.ReadAsBound.{AskedIsRead};
 ghost use Rattle.row_runs.specs.Mirrored.{FittedAreInPoints, MirroredStands};
 ghost use Rattle.row_runs.specs.Turning.{TurnedStands, TurnsAddUp};
 ghost use Rattle.row_runs.specs.NumbersLie.{NumbersInCells, NumbersInHalves};
-ghost use Rattle.row_runs.specs.Written.{NothingIsMoved, TurnedStaysInCell, UprightIsUnturned, WrittenInCells, WrittenInPlaces, WrittenKeepRoom, WrittenStand};
+ghost use Rattle.row_runs.specs.Written.{NothingIsMoved, TurnedStaysInCell, UprightIsUnturned, WrittenAreRead, WrittenInCells, WrittenInPlaces, WrittenIsBound, WrittenKeepRoom, WrittenStand};
 
 /// The pages of the sheets that are asked for are fitted into their cells and read in order, stacks and zines are the row once
 /// they are cut and laid, or folded, and each point of a poster's pages is shown: none of them had to be refused.
@@ -46,13 +46,15 @@ pub fn turned_stays_in_cell()
 {}
 
 /// What is written keeps its place. If no page is turned, the sheets stand as they are laid, each back between the margins of its
-/// side (`stand`), and are in order (`places`). Turned or not, each page lies in its cell (`cells`), and untrimmed ones between
-/// the margins and apart (`room`).
+/// side (`stand`), and in their places (`places`). Turned or not, each page lies in its cell (`cells`), and untrimmed ones between
+/// the margins and apart (`room`); stacks and zines (`read`) and booklets (`bound`) are read in the order of the row.
 pub fn written_keeps_place()
     ensures stand { WrittenStand }
     ensures places { WrittenInPlaces }
     ensures cells { WrittenInCells }
     ensures room { WrittenKeepRoom }
+    ensures read { WrittenAreRead }
+    ensures bound { WrittenIsBound }
 {}
 
 /// The number of each page stands at the foot of the page's cell, in its middle, and so in the halves of a booklet.

@@ -1,0 +1,111 @@
+-- Neither a turn nor a move changes which page is in which slot, so what is written is read as it is laid.
+use Rattle.std.proofs.Common.{◌≡◌, ◌∙◌, ℕ, suc, zero, ◌+◌, ◌*◌, ◌/◌, ◌++◌, length, Bool, true, false, List, [], ◌∷◌, Option, ap, ap₂, refl, subst, sym, map}
+use Rattle.std.specs.Prelude.{flat_map, slice_index_or}
+use Rattle.std.specs.List.{range_with_len}
+use Rattle.rules.specs.Sheets.{blocks}
+use Rattle.rules.specs.Specification.{Turn}
+use Rattle.made_sheets.specs.Choice.{sides_for, signed}
+use Rattle.made_sheets.specs.Leaves.{Face, read_signature}
+use Rattle.made_sheets.specs.Made.{Blank, MadeSheet, MadeSlot, Placed}
+use Rattle.made_sheets.specs.Rows.{Row}
+use Rattle.layouts.specs.Cells.{size}
+use Rattle.layouts.specs.Placed.{Room}
+use Rattle.rows.specs.Sewing.{signing_of}
+use Rattle.row_sheets.specs.Bound.{as_bound, face, face_in, faces_from, is_first_left, shown_in}
+use Rattle.row_sheets.specs.Filled.{behind_in, is_turned}
+use Rattle.row_sheets.specs.Stacked.{pile, shown_at, turned_pile}
+use Rattle.row_sheets.specs.Zine.{in_hand, read_folded}
+use Rattle.pagespec.specs.Items.{turn_of}
+use Rattle.rules.specs.Papers.{Paper}
+use Rattle.row_runs.specs.declared.asked.Laying.{Laying}
+use Rattle.row_runs.specs.declared.asked.Laying.TheVariants as laying
+use Rattle.row_runs.specs.declared.asked.Scheme.TheVariants as scheme
+use Rattle.row_runs.specs.InPlaces.{StandInPlaces}
+use Rattle.row_runs.specs.Mirrored.{mirror_on, mirrored_from, moved_sheet, moved_slot}
+use Rattle.row_runs.specs.ReadAsBound.{AreReadAs}
+use Rattle.row_runs.specs.Runs.{mirror_for, page_count}
+use Rattle.row_runs.specs.Sheets.{laying_for, sewn}
+use Rattle.row_runs.specs.Turning.{turned_sheet, turned_slot}
+use Rattle.row_runs.specs.Written.{AreReadInOrder, WrittenAreRead, WrittenIsBound}
+use Rattle.row_runs.proofs.Fit.{asked_stand_in_places}
+use Rattle.row_runs.proofs.ReadInOrder.{asked_is_read}
+
+-- ---- a sheet
+
+same_page : (turn : Turn) (m : Option Room) (slot : MadeSlot) → shown_in (turned_slot turn (moved_slot m slot)) ≡ shown_in slot
+same_page turn m Blank = refl
+same_page turn m (Placed page item paper) = refl
+
+same_shown : (turn : Turn) (m : Option Room) (slots : List MadeSlot) (k : ℕ) → shown_in (slice_index_or (map (turned_slot turn) (map (moved_slot m) slots)) k Blank) ≡ shown_in (slice_index_or slots k Blank)
+same_shown turn m [] k = refl
+same_shown turn m (slot ∷ slots) zero = same_page turn m slot
+same_shown turn m (slot ∷ slots) (suc k) = same_shown turn m slots k
+
+-- a sheet as it is written, and all of them from one on
+abbrev written : Turn → Option Room → MadeSheet → MadeSheet
+written turn m sheet = turned_sheet turn (moved_sheet m sheet)
+
+abbrev written_from : Turn → Option Room → (s : ℕ) → List MadeSheet → List MadeSheet
+written_from turn m s laid = map (turned_sheet turn) (mirrored_from m s laid)
+
+same_at : (turn : Turn) (m : Option Room) (sheet : MadeSheet) (c : ℕ) → shown_at (written turn m sheet) c ≡ shown_at sheet c
+same_at turn m sheet c = same_shown turn m sheet.slots c
+
+-- ---- stacks
+
+same_pile : (turn : Turn) (m : Option Room) (s : ℕ) (laid : List MadeSheet) (c : ℕ) → pile (written_from turn m s laid) c ≡ pile laid c
+same_pile turn m s [] c = refl
+same_pile turn m s (sheet ∷ laid) c = ap₂ (λ (x : Option ℕ) (xs : Row). x ∷ xs) (same_at turn (mirror_on m s) sheet c) (same_pile turn m (s + 1) laid c)
+
+same_leaves : (turn : Turn) (m : Option Room) (s : ℕ) (laid : List MadeSheet) (c b : ℕ) → turned_pile c b (written_from turn m s laid) ≡ turned_pile c b laid
+same_leaves turn m s [] c b = refl
+same_leaves turn m s (front ∷ []) c b = ap (λ (x : Option ℕ). x ∷ []) (same_at turn (mirror_on m s) front c)
+same_leaves turn m s (front ∷ back ∷ laid) c b =
+    ap₂ (λ (x y : Option ℕ). x ∷ y ∷ turned_pile c b (written_from turn m (s + 1 + 1) laid)) (same_at turn (mirror_on m s) front c) (same_at turn (mirror_on m (s + 1)) back b)
+    ∙ ap (λ (xs : Row). shown_at front c ∷ shown_at back b ∷ xs) (same_leaves turn m (s + 1 + 1) laid c b)
+
+-- ---- zines
+
+same_folded : (turn : Turn) (m : Option Room) (s : ℕ) (laid : List MadeSheet) → flat_map read_folded (written_from turn m s laid) ≡ flat_map read_folded laid
+same_folded turn m s [] = refl
+same_folded turn m s (sheet ∷ laid) =
+    ap₂ (λ (x y : Row). x ++ y) (λ i. map (λ p. same_at turn (mirror_on m s) sheet (p.row * 4 + p.column) i) in_hand) (same_folded turn m (s + 1) laid)
+
+-- ---- booklets
+
+same_face : (first_is_left : Bool) (turn : Turn) (m : Option Room) (side : MadeSheet) → face_in first_is_left (written turn m side) ≡ face_in first_is_left side
+same_face true turn m side = ap₂ face (same_shown turn m side.slots 0) (same_shown turn m side.slots 1)
+same_face false turn m side = ap₂ face (same_shown turn m side.slots 1) (same_shown turn m side.slots 0)
+
+same_faces : (b turned_backs : Bool) (turn : Turn) (m : Option Room) (s n : ℕ) (laid : List MadeSheet) → faces_from b turned_backs n (written_from turn m s laid) ≡ faces_from b turned_backs n laid
+same_faces b turned_backs turn m s n [] = refl
+same_faces b turned_backs turn m s n (side ∷ laid) =
+    ap₂ (λ (x : Face) (xs : List Face). x ∷ xs) (same_face (is_first_left b (is_turned turned_backs n)) turn (mirror_on m s) side) (same_faces b turned_backs turn m (s + 1) (n + 1) laid)
+
+-- ---- what is written
+
+read_as_laid : (l : Laying) (papers : List Paper) (row : Row) (turn : Turn) (m : Option Room) (laid : List MadeSheet) → StandInPlaces l papers row laid → AreReadInOrder l row (written_from turn m 0 laid)
+read_as_laid (laying.InCells t (scheme.Stack cells)) papers row turn m laid h = ap (λ (f : ℕ → Row). flat_map f (range_with_len 0 cells)) (λ i c. same_pile turn m 0 laid c i) ∙ h.1
+read_as_laid (laying.InCells t scheme.Leaves) papers row turn m laid h = ap (λ (f : ℕ → Row). flat_map f (range_with_len 0 (size t.grid))) (λ i c. same_leaves turn m 0 laid c (behind_in t c) i) ∙ h.1
+read_as_laid (laying.InCells t scheme.Zine) papers row turn m laid h = same_folded turn m 0 laid ∙ h.0
+read_as_laid (laying.InCells t (scheme.Grid cells)) papers row turn m laid h = tt
+read_as_laid (laying.InCells t (scheme.Cards cells)) papers row turn m laid h = tt
+read_as_laid (laying.InCells t (scheme.Booklet turned_backs creep)) papers row turn m laid h = tt
+read_as_laid (laying.AsTheyAre blank) papers row turn m laid h = tt
+read_as_laid (laying.Poster p) papers row turn m laid h = tt
+
+pub written_are_read : WrittenAreRead
+written_are_read j made are =
+    let l = laying_for j.asked j.papers.now are.asked.row in
+    let row = signed (sewn j.asked) are.asked.row in
+    subst (AreReadInOrder l row) (sym are.turned)
+    (read_as_laid l j.papers.now row (turn_of j.turn) (mirror_for j) are.laid (asked_stand_in_places (page_count j) j.papers.now j.asked are.laid are.may are.asked))
+
+pub written_is_bound : WrittenIsBound
+written_is_bound j made t turned_backs creep how are is sewn_so =
+    let b = t.order.right_to_left in
+    let row = are.asked.row in
+    let sides = sides_for (signing_of how) (length row) in
+    subst (AreReadAs b turned_backs sides row) (sym are.turned)
+    (ap (λ (faces : List Face). flat_map (λ signature. read_signature (sides / 4) (map (as_bound b) faces) signature) (range_with_len 0 (blocks sides (length row)))) (same_faces b turned_backs (turn_of j.turn) (mirror_for j) 0 0 are.laid)
+    ∙ asked_is_read (page_count j) j.papers.now j.asked are.laid t turned_backs creep how are.may are.asked is sewn_so)
