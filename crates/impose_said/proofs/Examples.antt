@@ -3,6 +3,7 @@ use Rattle.std.proofs.Common.{◌≡◌, true, false, [], ◌∷◌, refl, map}
 use Rattle.std.specs.Prelude.{codes, neg_ℤ, pos, None, Some}
 use Rattle.std.specs.Fmt.{digits}
 use Rattle.clap.specs.declared.error.kind.ErrorKind.TheVariants.{DisplayHelp, DisplayVersion, UnknownArgument}
+use Rattle.layouts.specs.Placed.{bare}
 use Rattle.layouts.specs.declared.error.ArrangementError.TheVariants as layout
 use Rattle.impose_said.specs.declared.fault.ImposeFault.TheVariants as fault
 use Rattle.impose_said.specs.declared.fault.Packing.TheVariants.{Gzip}
@@ -20,7 +21,7 @@ help_and_version = refl
 commands : map (λ f. fault_status (fault.Command f)) (command.NoText ∷ command.Lacking ∷ command.OddAndEven ∷ command.NoMemory ∷ []) ≡ 2 ∷ 2 ∷ 2 ∷ 3 ∷ []
 commands = refl
 
-layouts : map (λ e. fault_status (fault.Layout e)) (layout.CellsOutOfRange ∷ layout.NoRoom ∷ layout.FoldOnLongEdge ∷ layout.NoMemory ∷ []) ≡ 1 ∷ 1 ∷ 1 ∷ 3 ∷ []
+layouts : map (λ e. fault_status (fault.Layout e)) (layout.CellsOutOfRange ∷ layout.NoRoom (bare (points 1 1)) ∷ layout.FoldOnLongEdge ∷ layout.NoMemory ∷ []) ≡ 1 ∷ 1 ∷ 1 ∷ 3 ∷ []
 layouts = refl
 
 faults : map fault_status (fault.NoSuchPage 1 2 ∷ fault.NoSpecification ∷ fault.NoInput ∷ fault.Pdf ∷ fault.Compressed Gzip ∷ fault.JobLanguage ∷ fault.DosEps ∷ fault.Utf16 ∷ fault.TooLong ∷ fault.SeveralPapers ∷ fault.Idle CutMarks ∷ fault.Read None ∷ fault.Write 0 None ∷ []) ≡ 1 ∷ 1 ∷ 1 ∷ 1 ∷ 1 ∷ 1 ∷ 1 ∷ 1 ∷ 1 ∷ 1 ∷ 2 ∷ 3 ∷ 3 ∷ []

@@ -1,3 +1,4 @@
 pub mod Lines
+mod NoRoom
 pub mod Examples
 mod InputExamples

@@ -1,7 +1,7 @@
--- What is said on standard error of how the program ended: which lines, in which order, and what is in those of a finished run. What
--- a fault's message is no word here says, nor what is said of words that the command doesn't take.
+-- What is said on standard error of how the program ended: which lines, in which order, and what is in those of a finished run. Of
+-- messages of faults only one is here, and nothing of what is said of words that the command doesn't take.
 use Rattle.std.specs.Prelude.{⊤, ◌≡◌, ◌==◌, ◌⊎◌, ◌++◌, if◌then◌else◌, ℕ, List, [], Bool, true, false, Option, Some, None, Result, Ok, Err}
-use Rattle.std.specs.Prelude.{◌+◌, ◌-◌, ◌*◌, ◌/◌, ℤ, pos, int_le, codes, decimal, nat_eq, nat_le, nat_lt, ◌||◌, ◌&&◌, option_map, string_bytes}
+use Rattle.std.specs.Prelude.{◌+◌, ◌-◌, ◌*◌, ◌/◌, ℤ, pos, int_le, codes, decimal, nat_abs, nat_eq, nat_le, nat_lt, ◌||◌, ◌&&◌, option_map, string_bytes}
 use Rattle.std.specs.Prelude.{String, length, map, min, take}
 use Rattle.std.specs.declared.alloc.Global.{Global}
 use Rattle.std.specs.List.{ends_with}
@@ -15,6 +15,7 @@ use Rattle.rules.specs.Bytes.{line}
 use Rattle.rules.specs.Numbers.{points_text}
 use Rattle.rules.specs.Papers.{Paper}
 use Rattle.layouts.specs.Grids.{count_of}
+use Rattle.layouts.specs.Placed.{Room}
 use Rattle.papers.specs.declared.media.Comment.TheVariants as comment
 use Rattle.papers.specs.declared.boxes.Edges.{Edges}
 use Rattle.papers.specs.declared.cuts.Cut.{Cut}
@@ -183,6 +184,31 @@ IsNoteIf true message = (shown : List ℕ) × (message ≡ Some (shown
 abbrev pub IsNote : (outfile : Option (List ℕ)) → (message : Option (List ℕ)) → Type 0
 IsNote None message = message ≡ None
 IsNote (Some name) message = IsNoteIf (is_pdf_name name) message
+
+-- ---- the message of sheets without room for pages
+
+-- two lengths of so many 10^-5 of a point
+abbrev pub lengths_text : (across up : ℕ) → List ℕ
+lengths_text across up = sides_text (pos (1_270_000 * across)) (pos (1_270_000 * up))
+
+-- what so many leave of a side, in grains
+abbrev pub left_of : (side : ℤ) → (taken : ℕ) → ℕ
+left_of side taken = nat_abs side - 1_270_000 * taken
+
+-- something is left of both sides
+abbrev pub leaves_some : Room → Bool
+leaves_some room = nat_lt 0 (left_of room.paper.width (room.left + room.right)) && nat_lt 0 (left_of room.paper.height (room.bottom + room.top))
+
+-- then gaps leave nothing of that
+abbrev pub gaps_text : Room → List ℕ
+gaps_text room = if leaves_some room then codes ", and gaps of " ++ (lengths_text room.gap_across room.gap_up ++ codes " pt none of that") else []
+
+-- how much the margins along opposite edges are, and what they leave of the sheet
+abbrev pub no_room_text : Room → List ℕ
+no_room_text room = let across = room.left + room.right in let up = room.bottom + room.top in
+    codes "margins of " ++ (lengths_text across up ++ (codes " pt leave "
+    ++ (sides_text (pos (left_of room.paper.width across)) (pos (left_of room.paper.height up)) ++ (codes " of a sheet of "
+    ++ (size_text room.paper ++ (codes " pt" ++ (gaps_text room ++ codes ": take smaller ones, or a larger sheet")))))))
 
 -- ---- lines
 

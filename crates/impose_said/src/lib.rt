@@ -7,6 +7,7 @@ mod inputs;
 mod messages;
 mod mistakes;
 mod reports;
+mod rooms;
 mod said;
 mod shown;
 mod statuses;

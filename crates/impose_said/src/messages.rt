@@ -2,6 +2,7 @@
 
 use crate::fault::{IdleOption, ImposeFault, Packing};
 use crate::mistakes::looks_like_file;
+use crate::rooms::no_room_text;
 use crate::shown::{joined, shown_word};
 use crate::values::value_text;
 use command_words::{caret_below, group_place, item_place, large_place, name_of, range_place};
@@ -285,7 +286,7 @@ fn layout_text(
         ArrangementError::UnevenMargins =>
             "margins are alike along opposite edges of what is folded or printed on both sides, and along all edges of a poster",
         ArrangementError::FoldOnLongEdge => return fold_text(alloc, request),
-        ArrangementError::NoRoom => "margins and gaps leave no room for pages: take smaller ones",
+        ArrangementError::NoRoom(room) => return no_room_text(alloc, room),
         ArrangementError::ScaleOutOfRange if is_scaled(request) =>
             "the scale is 0 or below, or too large: give one as --scale 0.7",
         ArrangementError::ScaleOutOfRange =>

@@ -148,13 +148,13 @@ fn are_sides(request: &ImposeRequest) -> bool
 }
 
 /// Both sides of a paper, in points.
-fn size_text(alloc: Global, paper: &Paper) -> Result<String, AllocError>
+pub(crate) fn size_text(alloc: Global, paper: &Paper) -> Result<String, AllocError>
     ensures { IfOk result (λ text. string_bytes text ≡ text_of_size paper.now) }
 {
     sides_text(alloc, paper.width(), paper.height())
 }
 
-fn sides_text(alloc: Global, width: Grains, height: Grains) -> Result<String, AllocError>
+pub(crate) fn sides_text(alloc: Global, width: Grains, height: Grains) -> Result<String, AllocError>
     ensures { IfOk result (λ text. string_bytes text ≡ text_of_sides width height) }
 {
     let width = points_text(alloc, width)?;

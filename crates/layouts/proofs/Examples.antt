@@ -208,7 +208,7 @@ trimmed_away : why_not_arranged a4 a4 (asked (AtLeast 4) (pos 0) (pos 0) (pos 37
 unfolding a4 asked
 trimmed_away = refl
 
-no_room : why_not_arranged a4 a4 (asked (AtLeast 4) (pos 37_782_500_000_000) (pos 0) (pos 0) None) ≡ Some why.NoRoom
+no_room : why_not_arranged a4 a4 (asked (AtLeast 4) (pos 37_782_500_000_000) (pos 0) (pos 0) None) ≡ Some (why.NoRoom (record { paper = a4; left = 29_750_000; right = 29_750_000; bottom = 29_750_000; top = 29_750_000; gap_across = 0; gap_up = 0; trim = 0 }))
 unfolding a4 asked
 no_room = refl
 

@@ -57,7 +57,7 @@ pub record IsGoodScale (room : Room) (s largest : ℕ) : Type 0 where
 
 pub good_scale : (room : Room) (s largest : ℕ) → why_no_scale room s largest ≡ None → IsGoodScale room s largest
 good_scale room s largest h =
-    let one = passed (nat_le 1 largest) why.NoRoom (first_of (is_scale s) why.ScaleOutOfRange (first_of (nat_le s largest) why.ScaleTooLarge (first_of (is_near room s) why.ScaleOutOfRange None))) h in
+    let one = passed (nat_le 1 largest) (why.NoRoom room) (first_of (is_scale s) why.ScaleOutOfRange (first_of (nat_le s largest) why.ScaleTooLarge (first_of (is_near room s) why.ScaleOutOfRange None))) h in
     let two = passed (is_scale s) why.ScaleOutOfRange (first_of (nat_le s largest) why.ScaleTooLarge (first_of (is_near room s) why.ScaleOutOfRange None)) one.1 in
     let three = passed (nat_le s largest) why.ScaleTooLarge (first_of (is_near room s) why.ScaleOutOfRange None) two.1 in
     let four = passed (is_near room s) why.ScaleOutOfRange None three.1 in

@@ -74,7 +74,7 @@ first_of holds e next = if holds then next else Some e
 -- why pages can't have this scale in cells that take so large ones at most (RULES, 16, step 9)
 abbrev pub why_no_scale : Room → (scale largest : ℕ) → Option ArrangementError
 why_no_scale room s largest =
-    first_of (nat_le 1 largest) why.NoRoom
+    first_of (nat_le 1 largest) (why.NoRoom room)
     (first_of (is_scale s) why.ScaleOutOfRange
     (first_of (nat_le s largest) why.ScaleTooLarge
     (first_of (is_near room s) why.ScaleOutOfRange None)))

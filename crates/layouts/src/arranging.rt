@@ -217,7 +217,7 @@ pub fn scale_found(
 {
     let scale = scale_asked(asked, largest);
     if largest < 1 {
-        return Err(ArrangementError::NoRoom);
+        return Err(ArrangementError::NoRoom(*room));
     }
     if !is_scale(scale) {
         return Err(ArrangementError::ScaleOutOfRange);

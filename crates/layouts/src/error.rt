@@ -1,4 +1,5 @@
 //! Why pages can't be arranged.
+use super::room::Room;
 use thiserror::Error;
 
 /// Why pages can't be arranged as they are asked to be.
@@ -23,9 +24,9 @@ pub enum ArrangementError {
     /// be parallel to its longer edge.
     #[error("a booklet would fold along the longer edge of the sheet")]
     FoldOnLongEdge,
-    /// Margins and gaps leave nothing of the sheet for pages.
+    /// Margins and gaps leave nothing of this sheet for pages.
     #[error("margins and gaps leave no room for pages")]
-    NoRoom,
+    NoRoom(Room),
     /// The scale of the pages would be 0, or above 99,999.
     #[error("the pages would be too small or too large: their scale must be from 0.000000001 to 99999")]
     ScaleOutOfRange,

@@ -11,7 +11,7 @@ use std::marker::Model;
 /// A sheet: its paper, what is kept free along each of its edges, what is kept free between cells that are side by side,
 /// and between those that are one above another, and what is trimmed of its pages along each of their sides, in 10^-5 of a
 /// point. Contracts see it as the definitions' room.
-#[derive(Clone, Copy)]
+#[derive(Clone, Copy, Debug, PartialEq, Eq)]
 pub struct Room {
     pub paper: Paper,
     pub left: u64,

@@ -127,17 +127,17 @@ passes false e x b h = absurd (cc (b))
 -- a scale that some pages may have, which is no larger than the largest one of others, these may have too
 fits_less : (room : Room) (s largest own other : ℕ) → why_no_scale room s largest ≡ None → why_no_scale room own other ≡ None → s ≤ own → why_no_scale room s other ≡ None
 fits_less room s largest own other mine its less =
-    let a = passed (nat_le 1 largest) why.NoRoom _ mine in
+    let a = passed (nat_le 1 largest) (why.NoRoom room) _ mine in
     let b = passed (is_scale s) why.ScaleOutOfRange _ a.1 in
     let c = passed (nat_le s largest) why.ScaleTooLarge _ b.1 in
     let d = passed (is_near room s) why.ScaleOutOfRange None c.1 in
-    let a' = passed (nat_le 1 other) why.NoRoom _ its in
+    let a' = passed (nat_le 1 other) (why.NoRoom room) _ its in
     let b' = passed (is_scale own) why.ScaleOutOfRange _ a'.1 in
     let c' = passed (nat_le own other) why.ScaleTooLarge _ b'.1 in
     let le : own ≤ other = search (rules, c'.0) in
     let within : s ≤ other = omega (arith, le, less) in
     let test : nat_le s other ≡ true = search (rules, within) in
-    passes (nat_le 1 other) why.NoRoom _ a'.0 (passes (is_scale s) why.ScaleOutOfRange _ b.0 (passes (nat_le s other) why.ScaleTooLarge _ test (passes (is_near room s) why.ScaleOutOfRange None d.0 refl)))
+    passes (nat_le 1 other) (why.NoRoom room) _ a'.0 (passes (is_scale s) why.ScaleOutOfRange _ b.0 (passes (nat_le s other) why.ScaleTooLarge _ test (passes (is_near room s) why.ScaleOutOfRange None d.0 refl)))
 
 or_none : (b : Bool) (x : Option ArrangementError) → x ≡ None → (if b then None else x) ≡ None
 or_none true x h = refl

@@ -1,0 +1,79 @@
+//! What is said of sheets that have no room for pages.
+ghost use Rattle.std.specs.Prelude.{◌≡◌, ◌*◌, ◌≤◌, IfOk, IsTrue, pos, string_bytes};
+ghost use Rattle.rules.specs.Papers.{is_side};
+ghost use Rattle.impose_said.specs.Said.{gaps_text as text_of_gaps, leaves_some as leaves_some_of, left_of as left_of_side, lengths_text as text_of_lengths};
+ghost use Rattle.impose_said.specs.Said.{no_room_text as text_of_no_room};
+
+use crate::reports::{sides_text, size_text};
+use layouts::{Room, side};
+use lengths::Grains;
+use std::alloc::{AllocError, Global};
+
+/// How much margins and gaps are that leave no room for pages, of which sheet, and how much of it margins leave.
+pub(crate) fn no_room_text(alloc: Global, room: &Room) -> Result<String, AllocError>
+    ensures { IfOk result (λ text. string_bytes text ≡ text_of_no_room room.now) }
+{
+    let (across, up) = (room.left + room.right, room.bottom + room.top);
+    let margins = lengths_text(alloc, across, up)?;
+    let width = left_of(room.paper.width(), across);
+    let height = left_of(room.paper.height(), up);
+    let left = sides_text(alloc, width, height)?;
+    let size = size_text(alloc, &room.paper)?;
+    let gaps = gaps_text(alloc, room)?;
+    format!(in alloc;
+        "margins of {margins} pt leave {left} of a sheet of {size} pt{gaps}: take smaller ones, or a larger sheet"
+    )
+}
+
+/// That gaps leave nothing of what margins leave, if that is something.
+fn gaps_text(alloc: Global, room: &Room) -> Result<String, AllocError>
+    ensures { IfOk result (λ text. string_bytes text ≡ text_of_gaps room.now) }
+{
+    if !leaves_some(room) {
+        return Ok(String::new(alloc));
+    }
+    let gaps = lengths_text(alloc, room.gap_across, room.gap_up)?;
+    format!(in alloc; ", and gaps of {gaps} pt none of that")
+}
+
+/// Whether margins leave something of both sides.
+fn leaves_some(room: &Room) -> bool
+    ensures { result ≡ leaves_some_of room.now }
+{
+    let width = left_of(room.paper.width(), room.left + room.right);
+    let height = left_of(room.paper.height(), room.bottom + room.top);
+    0 < width.get() && 0 < height.get()
+}
+
+/// Two lengths of so many 10^-5 of a point.
+fn lengths_text(alloc: Global, across: u64, up: u64) -> Result<String, AllocError>
+    requires across { across ≤ 20_000_000_000 }
+    requires up { up ≤ 20_000_000_000 }
+    ensures { IfOk result (λ text. string_bytes text ≡ text_of_lengths across up) }
+{
+    sides_text(alloc, grains(across), grains(up))
+}
+
+/// What so many 10^-5 of a point leave of a side.
+fn left_of(length: Grains, taken: u64) -> Grains
+    requires side { IsTrue (is_side length) }
+    requires taken { taken ≤ 20_000_000_000 }
+    ensures { result ≡ pos (left_of_side length taken) }
+{
+    let left = side(length).saturating_sub(1_270_000 * taken);
+    match Grains::new(i128::from(left)) {
+        Some(left) => left,
+        None => unreachable!(),
+    }
+}
+
+/// So many 10^-5 of a point.
+fn grains(count: u64) -> Grains
+    requires { count ≤ 20_000_000_000 }
+    ensures { result ≡ pos (1_270_000 * count) }
+{
+    match Grains::new(1_270_000 * i128::from(count)) {
+        Some(length) => length,
+        None => unreachable!(),
+    }
+}
