@@ -23,6 +23,7 @@ pub fn run<R: Threads + Wait + Sync>(
         "fault" => return faults::reported(out, more),
         "pstops_fault" => return pstops_calls::reported(out, more),
         "pstops" => return pstops_calls::ran(rt, out, more),
+        "run_request" => return pstops_calls::request_ran(rt, out, more),
         "long_input" => pstops_calls::long_input(out, count(more, 0)?),
         "failing_input" => {
             pstops_calls::failing_input(out, count(more, 0)?, word(more, 1).is_some());

@@ -49,9 +49,11 @@ fn answer_once<R: Threads + Wait + Sync>(
     if is_command { out.whole() } else { None }
 }
 
-/// Whether a call in which a growth is refused may have this answer: it reports that memory is out, or it is the usual one.
+/// Whether a call in which a growth is refused may have this answer: it reports that memory is out, with the status 3 if it has
+/// one, or it is the usual one.
 fn is_fair(text: &[u8], usual: &[u8]) -> bool {
-    text == usual || reports_no_memory(text)
+    let is_failure = text.starts_with(b"status 3\n") || !text.starts_with(b"status");
+    text == usual || is_failure && reports_no_memory(text)
 }
 
 /// Whether an answer names an error for want of memory, or has its message.

@@ -2,15 +2,18 @@
 use crate::answer::Answer;
 use crate::programs::in_folder::{asked_for, pstops_in_folder};
 use crate::programs::made_faults::fault_named;
-use crate::words::{count_in, word};
+use crate::words::{count, count_in, word};
 use impose_cli::ImposeFault;
-use imposer::RunError;
-use pstops_cli::{CommandFault, Fault, ReadFault, ReadSource, Rest, fault_line, read_input};
+use imposer::{MemorySink, RunError};
+use pstops_cli::{
+    CommandFault, Fault, ReadFault, ReadSource, Rest, fault_line, read_command, read_input,
+    run_request,
+};
 use std::io;
 use std::io::{ErrorKind, Read};
 use std::sync::Wait;
 use std::thread::Threads;
-use test_tools::{GivenFile, ONE_PAGE, Takes};
+use test_tools::{GivenFile, ONE_PAGE, Takes, document_of};
 
 /// The status after the fault that the first word names, and its line.
 pub fn reported(out: &mut Answer, words: &[String]) -> Option<()> {
@@ -124,5 +127,34 @@ pub fn ran<R: Threads + Wait + Sync>(rt: &R, out: &mut Answer, words: &[String])
         Rest::Output(Some(output)) => out.lossy(output.bytes.as_slice()),
         Rest::Output(None) => {}
     }
+    Some(())
+}
+
+/// The request of these words, run over a document into memory: status, line, and what is written. The first words say how many
+/// pages there are, and for how many bytes there is room.
+pub fn request_ran<R: Threads + Wait + Sync>(
+    rt: &R,
+    out: &mut Answer,
+    words: &[String],
+) -> Option<()> {
+    let (pages, room) = (count(words, 0)?, count(words, 1)?);
+    let [_, _, words @ ..] = words else {
+        return None;
+    };
+    let alloc = out.alloc;
+    let (Ok(text), Ok(request)) = (document_of(alloc, pages), read_command(alloc, words)) else {
+        out.note(false);
+        return Some(());
+    };
+    let Ok(mut sink) = MemorySink::new(alloc, room as usize, 1_000, 1_000) else {
+        out.note(false);
+        return Some(());
+    };
+    let (status, line) = run_request(rt, alloc, &request, text.as_bytes(), &mut sink);
+    out.labelled("status", status);
+    // The line is left out where memory runs out for it.
+    out.note(status != 3 || !line.is_empty());
+    out.lossy(line.as_slice());
+    out.lossy(sink.bytes());
     Some(())
 }
