@@ -40,7 +40,8 @@ Makes words r = Takes words × Reads (matches_of pstops words) r
 abbrev pub HasRead : (words : List Text) → Gives → Request → (input : List ℕ) → Type 0
 HasRead words gives r input = Makes words r × IsFirst most_bytes (gives (option_map string_bytes r.infile)) input
 
--- a world after an input that it couldn't open or read: it failed once more, but for want of memory perhaps outside it
+-- A world after an input that couldn't be opened or read: it failed once more. For want of memory it failed for that, or memory ran
+-- out outside it.
 abbrev pub IsUnread : ReadFault → (old new : WorldView) → Type 0
 IsUnread read.Device old new = new.failures ≡ old.failures + 1
 IsUnread read.NoMemory old new =

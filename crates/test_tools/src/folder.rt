@@ -40,7 +40,9 @@ impl<'a> Folder<'a> {
     }
 
     /// What it was asked for, if it remembers all of it.
-    pub fn trace(&self) -> &Trace {
+    pub fn trace(&self) -> &Trace
+        ensures { accesses_in result.now ≡ (⟦<Folder<'a> as World>⟧.seen self.now).asked }
+    {
         &self.trace
     }
 
@@ -77,7 +79,7 @@ impl<'a> World for Folder<'a> {
                 Some(bytes) => Ok(bytes),
                 None => {
                     let cause = io::Error::from(ErrorKind::NotFound);
-                    self.failures.count(&cause);
+                    self.failures.add(&cause);
                     Err(cause)
                 }
             },
@@ -109,7 +111,7 @@ impl<'a> World for Folder<'a> {
             Err(cause) => {
                 let mut world = self;
                 world.trace.add(alloc, true, name);
-                world.failures.count(&cause);
+                world.failures.add(&cause);
                 Err(Refused { world, cause })
             }
         }

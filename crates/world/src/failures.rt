@@ -27,7 +27,7 @@ impl Failures {
     }
 
     /// One more, for this cause.
-    pub fn count(&mut self, cause: &io::Error)
+    pub fn add(&mut self, cause: &io::Error)
         requires { self.old.count < u64.MAX }
         ensures { self.new ≡ record { count = self.old.count + 1; last = Some (error_kind cause.now) } }
     {

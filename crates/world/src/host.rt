@@ -60,7 +60,7 @@ impl<'a, R: Files> World for Host<'a, R> {
             Some(path) => match File::open(self.files, path) {
                 Ok(file) => Ok(HostInput::File(file)),
                 Err(cause) => {
-                    self.failures.count(&cause);
+                    self.failures.add(&cause);
                     Err(cause)
                 }
             },
@@ -93,7 +93,7 @@ impl<'a, R: Files> World for Host<'a, R> {
                 Ok(file) => Ok(HostOutput::File(file)),
                 Err(cause) => {
                     let mut world = self;
-                    world.failures.count(&cause);
+                    world.failures.add(&cause);
                     Err(Refused { world, cause })
                 }
             },
