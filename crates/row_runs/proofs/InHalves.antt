@@ -1,33 +1,34 @@
 -- Each page of a booklet lies in its half, also if it is turned, and sides keep what is left of the gap.
-use Rattle.std.proofs.Common.{arith, ◌≡◌, ◌∙◌, ℕ, ◌<◌, Bool, true, false, List, Option, Some, None, ap, refl, subst, sym, length, map}
-use Rattle.std.specs.Prelude.{ℤ, pos, ◌+ℤ◌, ◌*ℤ◌, nat_abs, slice_index_or}
+use Rattle.std.proofs.Common.{arith, ◌≡◌, ◌∙◌, ℕ, ◌+◌, ◌*◌, ◌<◌, Bool, true, false, List, Option, Some, None, ap, refl, subst, sym, length, map}
+use Rattle.std.specs.Prelude.{ℤ, pos, ◌+ℤ◌, ◌*ℤ◌, ◌≤ℤ◌, nat_abs, slice_index_or}
 use Rattle.std.specs.List.{range_with_len}
 use Rattle.std.proofs.lemmas.Int.{ints}
 use Rattle.rules.specs.Papers.{Paper, Pt}
+use Rattle.rules.specs.Placement.{Point}
 use Rattle.rules.specs.Sheets.{blocks}
-use Rattle.rules.specs.Specification.{Item, Measure, Turn}
-use Rattle.made_sheets.specs.Made.{MadeSheet, MadeSlot}
+use Rattle.rules.specs.Specification.{Item, Measure, Turn, Upright, Left, Half, Right}
+use Rattle.made_sheets.specs.Made.{Blank, MadeSheet, MadeSlot, Placed}
 use Rattle.made_sheets.specs.Rows.{Row}
 use Rattle.layouts.specs.declared.setting.Setting.{Setting}
 use Rattle.layouts.specs.Cells.{kept, size}
 use Rattle.layouts.specs.Laws.{LiesInCell}
-use Rattle.layouts.specs.Placed.{stands}
+use Rattle.layouts.specs.Placed.{IsOfPage, Room, fine, stands}
 use Rattle.layouts.proofs.InGrid.{on_sheet, sides_are}
 use Rattle.row_sheets.specs.Creep.{AreHalves, creep_on, creeping, creeping_sheets, creeping_slot, in_half, moved_up, up_to_fold}
 use Rattle.row_sheets.specs.Filled.{Filling, SlotIsInside, grid_entry, is_turned}
-use Rattle.row_sheets.specs.Halves.{creeping_half, crept_room, side_turn}
-use Rattle.row_sheets.specs.Standing.{AllFitOnLeaves, EntryCreeps, EntryFits, StandsIn}
+use Rattle.row_sheets.specs.Halves.{creeping_half, crept_room, is_before, side_turn}
+use Rattle.row_sheets.specs.Standing.{AllFitOnLeaves, EntryCreeps, EntryFits, StandsIn, fold_on}
 use Rattle.row_sheets.proofs.Halves.{slot_lies}
-use Rattle.row_sheets.proofs.LeftGap.{side_of, side_stands}
-use Rattle.row_sheets.proofs.OnLeaves.{fits_in}
+use Rattle.row_sheets.proofs.LeftGap.{side_of, side_stands, slot_stays}
+use Rattle.row_sheets.proofs.OnLeaves.{SlotStays, fits_in, line, line_in_middle}
 use Rattle.row_sheets.proofs.OnSheets.{numbered as numbered_in_turn}
 use Rattle.row_runs.specs.Mirrored.{mirrored}
 use Rattle.row_runs.specs.Turning.{both, turned_item, turned_paper, turned_sheet, turned_slot}
-use Rattle.row_runs.specs.Written.{AreInHalves, KeepLeaves, SlotIsInHalf}
+use Rattle.row_runs.specs.Written.{AreInHalves, KeepFold, KeepLeaves, SlotIsInHalf, SlotKeepsFold}
 use Rattle.row_runs.proofs.Backs.{fused}
-use Rattle.row_runs.proofs.Boxes.{turned_stays_in_cell}
+use Rattle.row_runs.proofs.Boxes.{from_start, point, turned_stays_in_cell}
 use Rattle.row_runs.proofs.InCells.{IsWhole, SlotIsWhole, even_either, mirror_of, numbered, zine_is_whole}
-use Rattle.row_runs.proofs.Rooms.{SlotIsWhole as SlotIsWholeSo, all_apart, inside}
+use Rattle.row_runs.proofs.Rooms.{SlotIsWhole as SlotIsWholeSo, all_apart, box, inside}
 
 -- ---- a page
 
@@ -119,15 +120,74 @@ halves_lie m turn f turned_backs creep leaves row halved fit s k sheet d less wi
     numbered (λ k. SlotIsInHalf turn f.setting half k by) (turned_slot turn) (λ k. creeping_slot f half k by (grid_entry 2 row s k)) 2
     (λ k in_k. slot_in_half turn f half k by (grid_entry 2 row s k) in_k halved (fit s k in_k))) s sheet less k d within
 
+-- two corners of a box are before a line, or behind it; so is what is as long as the box, rounded up to whole 10^-5 of a point, but for
+-- one of twice as many
+still_before : (t : Turn) (x y : ℤ) (n m l k T : ℕ) (a b : ℤ) → 1_270_000_000_000_000 * l < n + 1_270_000_000_000_000 → 1_270_000_000_000_000 * k < m + 1_270_000_000_000_000
+    → (pos 2 *ℤ (from_start t x y (point (pos 0) (pos 0))).y) ≤ℤ fine T → (pos 2 *ℤ (from_start t x y (point (pos n) (pos m))).y) ≤ℤ fine T
+    → pos 0 ≤ℤ a → a ≤ℤ fine l → pos 0 ≤ℤ b → b ≤ℤ fine k → (pos 2 *ℤ (from_start t x y (point a b)).y) ≤ℤ fine (T + 1)
+still_before Upright x y n m l k T a b wide high one other a0 a1 b0 b1 = omega (arith, ints, other, high, b1)
+still_before Left x y n m l k T a b wide high one other a0 a1 b0 b1 = omega (arith, ints, other, wide, a1)
+still_before Half x y n m l k T a b wide high one other a0 a1 b0 b1 = omega (arith, ints, one, b0)
+still_before Right x y n m l k T a b wide high one other a0 a1 b0 b1 = omega (arith, ints, one, a0)
+
+still_behind : (t : Turn) (x y : ℤ) (n m l k T : ℕ) (a b : ℤ) → 1_270_000_000_000_000 * l < n + 1_270_000_000_000_000 → 1_270_000_000_000_000 * k < m + 1_270_000_000_000_000
+    → fine T ≤ℤ (pos 2 *ℤ (from_start t x y (point (pos 0) (pos 0))).y) → fine T ≤ℤ (pos 2 *ℤ (from_start t x y (point (pos n) (pos m))).y)
+    → pos 0 ≤ℤ a → a ≤ℤ fine l → pos 0 ≤ℤ b → b ≤ℤ fine k → fine T ≤ℤ ((pos 2 *ℤ (from_start t x y (point a b)).y) +ℤ fine 1)
+still_behind Upright x y n m l k T a b wide high one other a0 a1 b0 b1 = omega (arith, ints, one, b0)
+still_behind Left x y n m l k T a b wide high one other a0 a1 b0 b1 = omega (arith, ints, one, a0)
+still_behind Half x y n m l k T a b wide high one other a0 a1 b0 b1 = omega (arith, ints, other, high, b1)
+still_behind Right x y n m l k T a b wide high one other a0 a1 b0 b1 = omega (arith, ints, other, wide, a1)
+
+slot_keeps_fold : (turn t : Turn) (before : Bool) (room : Room) (T : ℕ) (slot : MadeSlot) → room.trim ≡ 0 → SlotIsWholeSo t slot → SlotStays before room T slot → SlotKeepsFold before room T (turned_slot turn slot)
+unfolding SlotIsWholeSo
+slot_keeps_fold turn t true room T Blank none is h = tt
+slot_keeps_fold turn t false room T Blank none is h = tt
+slot_keeps_fold turn t true room T (Placed page item paper) none is h = λ p of.
+    let b = box turn t paper item is in
+    let u = b.all p (subst (λ l. IsOfPage l (turned_paper turn paper) p) none of) in
+    let off : (r : Point) → IsOfPage 0 paper r → IsOfPage room.trim paper r = λ r. subst (λ l. IsOfPage l paper r) (sym none) in
+    let P : Point → Type 0 = λ r. (pos 2 *ℤ r.y) ≤ℤ fine T in
+    subst (λ (r : Point). (pos 2 *ℤ r.y) ≤ℤ fine (T + 1)) (sym u.is)
+    (still_before t b.x b.y b.n b.m b.l b.k T u.a u.b b.wide b.high (subst P b.first.2 (h b.first.0 (off b.first.0 b.first.1))) (subst P b.last.2 (h b.last.0 (off b.last.0 b.last.1))) u.left u.right u.bottom u.top)
+slot_keeps_fold turn t false room T (Placed page item paper) none is h = λ p of.
+    let b = box turn t paper item is in
+    let u = b.all p (subst (λ l. IsOfPage l (turned_paper turn paper) p) none of) in
+    let off : (r : Point) → IsOfPage 0 paper r → IsOfPage room.trim paper r = λ r. subst (λ l. IsOfPage l paper r) (sym none) in
+    let P : Point → Type 0 = λ r. fine T ≤ℤ (pos 2 *ℤ r.y) in
+    subst (λ (r : Point). fine T ≤ℤ ((pos 2 *ℤ r.y) +ℤ fine 1)) (sym u.is)
+    (still_behind t b.x b.y b.n b.m b.l b.k T u.a u.b b.wide b.high (subst P b.first.2 (h b.first.0 (off b.first.0 b.first.1))) (subst P b.last.2 (h b.last.0 (off b.last.0 b.last.1))) u.left u.right u.bottom u.top)
+
+leaves_fold : (m : Bool) (turn : Turn) (f : Filling) (turned_backs : Bool) (creep leaves : ℕ) (row : Row) → f.setting.room.trim ≡ 0 → AreHalves f.setting → AllFitOnLeaves f creep leaves row
+    → KeepFold f.setting turned_backs (map (turned_sheet turn) (mirrored (mirror_of m f.setting.room) (creeping_sheets f turned_backs creep leaves row)))
+leaves_fold m turn f turned_backs creep leaves row none halved fit =
+    let room = f.setting.room in
+    let b = f.setting.order.right_to_left in
+    let middle = line_in_middle room halved.even in
+    record {
+      twice = line room;
+      no_farther = middle.0;
+      no_nearer = middle.1;
+      sides = λ s k sheet d less within.
+          on_sides (λ s x. (k : ℕ) (d : MadeSlot) → k < length x.slots
+          → SlotKeepsFold (is_before b (is_turned turned_backs s) k) room (fold_on room (is_turned turned_backs s) (line room)) (slice_index_or x.slots k d)) m turn f turned_backs creep leaves row halved
+          (λ s. let half = is_turned turned_backs s in let by = creep_on creep leaves s in
+          numbered (λ k. SlotKeepsFold (is_before b half k) room (fold_on room half (line room))) (turned_slot turn) (λ k. creeping_slot f half k by (grid_entry 2 row s k)) 2
+          (λ k in_k. let entry = grid_entry 2 row s k in
+          slot_keeps_fold turn (side_turn half) (is_before b half k) room (fold_on room half (line room)) (creeping_slot f half k by entry) none
+          (slot_is_whole f half k by entry in_k halved (fit s k in_k)) (slot_stays f half k by entry in_k halved (fit s k in_k)))) s sheet less k d within;
+    }
+
 pub leaves_keep : (m : Bool) (turn : Turn) (f : Filling) (turned_backs : Bool) (creep leaves : ℕ) (row : Row) → AreHalves f.setting → AllFitOnLeaves f creep leaves row
-    → KeepLeaves f.setting creep leaves (map (turned_sheet turn) (mirrored (mirror_of m f.setting.room) (creeping_sheets f turned_backs creep leaves row)))
-leaves_keep m turn f turned_backs creep leaves row halved fit none =
-    on_sides (λ s. StandsIn (crept_room f.setting.room (creep_on creep leaves s))) m turn f turned_backs creep leaves row halved
-    (λ s. let half = is_turned turned_backs s in let by = creep_on creep leaves s in let slot : ℕ → MadeSlot = λ k. creeping_slot f half k by (grid_entry 2 row s k) in record {
-      paper = refl;
-      inside = numbered (λ k. SlotIsInside (crept_room f.setting.room by)) (turned_slot turn) slot 2
-          (λ k in_k. slot_keeps turn f half k by (grid_entry 2 row s k) in_k none halved (fit s k in_k));
-      apart = all_apart turn (side_turn half) (crept_room f.setting.room by) (map slot (range_with_len 0 2)) none
-          (numbered_in_turn (λ k. SlotIsWholeSo (side_turn half)) slot 2 (λ k in_k. slot_is_whole f half k by (grid_entry 2 row s k) in_k halved (fit s k in_k)))
-          (side_stands f half by (grid_entry 2 row s 0) (grid_entry 2 row s 1) halved (fit s 0 (omega arith)) (fit s 1 (omega arith))).apart;
-    })
+    → KeepLeaves f.setting turned_backs creep leaves (map (turned_sheet turn) (mirrored (mirror_of m f.setting.room) (creeping_sheets f turned_backs creep leaves row)))
+leaves_keep m turn f turned_backs creep leaves row halved fit none = (
+  on_sides (λ s. StandsIn (crept_room f.setting.room (creep_on creep leaves s))) m turn f turned_backs creep leaves row halved
+      (λ s. let half = is_turned turned_backs s in let by = creep_on creep leaves s in let slot : ℕ → MadeSlot = λ k. creeping_slot f half k by (grid_entry 2 row s k) in record {
+        paper = refl;
+        inside = numbered (λ k. SlotIsInside (crept_room f.setting.room by)) (turned_slot turn) slot 2
+            (λ k in_k. slot_keeps turn f half k by (grid_entry 2 row s k) in_k none halved (fit s k in_k));
+        apart = all_apart turn (side_turn half) (crept_room f.setting.room by) (map slot (range_with_len 0 2)) none
+            (numbered_in_turn (λ k. SlotIsWholeSo (side_turn half)) slot 2 (λ k in_k. slot_is_whole f half k by (grid_entry 2 row s k) in_k halved (fit s k in_k)))
+            (side_stands f half by (grid_entry 2 row s 0) (grid_entry 2 row s 1) halved (fit s 0 (omega arith)) (fit s 1 (omega arith))).apart;
+      }),
+  leaves_fold m turn f turned_backs creep leaves row none halved fit,
+)

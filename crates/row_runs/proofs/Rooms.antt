@@ -131,7 +131,7 @@ pub record IsMovedByWhole (turn : Turn) (page : Paper) (item : Item) : Type 0 wh
   pub x_is : item.x ≡ in_points x
   pub y_is : item.y ≡ in_points y
 
-box : (turn t : Turn) (page : Paper) (item : Item) → IsMovedByWhole t page item → Box t page item turn
+pub box : (turn t : Turn) (page : Paper) (item : Item) → IsMovedByWhole t page item → Box t page item turn
 box turn t page item is =
     let w = nat_abs page.width in
     let h = nat_abs page.height in

@@ -1,19 +1,20 @@
 -- How pages lie on the sheets that are written: they were laid, then backs were moved, and then pages were turned.
-use Rattle.std.specs.Prelude.{◌≡◌, ⊤, ℕ, ◌<◌, ℤ, pos, Bool, true, false, List, length, All, None, Some, slice_index_or}
+use Rattle.std.specs.Prelude.{◌≡◌, ⊤, ℕ, ◌+◌, ◌<◌, ◌≤◌, ℤ, pos, ◌+ℤ◌, ◌*ℤ◌, ◌≤ℤ◌, nat_abs, Bool, true, false, List, length, All, None, Some, slice_index_or}
 use Rattle.rules.specs.Papers.{Paper}
+use Rattle.rules.specs.Placement.{Point}
 use Rattle.rules.specs.Specification.{Item, Turn, Upright}
 use Rattle.made_sheets.specs.Choice.{sides_for, signed}
 use Rattle.made_sheets.specs.Made.{MadeSlot, Blank, Placed, MadeSheet}
 use Rattle.made_sheets.specs.Rows.{Row}
 use Rattle.layouts.specs.declared.setting.Setting.{Setting}
-use Rattle.layouts.specs.Placed.{Room}
-use Rattle.layouts.specs.Cells.{column_of, in_points, kept, row_of}
+use Rattle.layouts.specs.Placed.{IsOfPage, Room, fine, stands}
+use Rattle.layouts.specs.Cells.{column_of, in_points, kept, row_of, whole}
 use Rattle.layouts.specs.Fitted.{is_whole, past_cell}
 use Rattle.layouts.specs.Laws.{Cell, IsInCell, cell_at}
 use Rattle.row_sheets.specs.Creep.{creep_on}
 use Rattle.row_sheets.specs.Filled.{is_turned}
-use Rattle.row_sheets.specs.Halves.{StandCrept, creeping_half, side_turn}
-use Rattle.row_sheets.specs.Standing.{StandsIn}
+use Rattle.row_sheets.specs.Halves.{StandCrept, creeping_half, is_before, side_turn}
+use Rattle.row_sheets.specs.Standing.{StandsIn, fold_on}
 use Rattle.pagespec.specs.Items.{turn_of}
 use Rattle.row_runs.specs.Mirrored.{mirrored, room_on}
 use Rattle.rows.specs.Sewing.{signing_of}
@@ -155,16 +156,31 @@ abbrev pub KeepRoom : (exchanged : Bool) → Setting → List MadeSheet → Type
 KeepRoom exchanged t made = t.room.trim ≡ 0 → ((page : Paper) → is_whole t page ≡ false)
     → (s : ℕ) (d : MadeSheet) → s < length made → StandsIn (side_room exchanged t.room s) (slice_index_or made s d)
 
--- and of a booklet so does each side, with what its leaf leaves of the gap as it creeps
-abbrev pub KeepLeaves : Setting → (creep leaves : ℕ) → List MadeSheet → Type 0
-KeepLeaves t creep leaves made = t.room.trim ≡ 0 → StandCrept t.room creep leaves made
+-- a slot of a booklet's side stays on its side of the fold, which is twice as far up as said, but for half of 10^-5 of a point
+abbrev pub SlotKeepsFold : (is_before : Bool) → Room → (twice : ℕ) → MadeSlot → Type 0
+SlotKeepsFold is_before room twice Blank = ⊤
+SlotKeepsFold true room twice (Placed page item paper) = (p : Point) → IsOfPage room.trim paper p → (pos 2 *ℤ (stands paper item p).y) ≤ℤ fine (twice + 1)
+SlotKeepsFold false room twice (Placed page item paper) = (p : Point) → IsOfPage room.trim paper p → fine twice ≤ℤ ((pos 2 *ℤ (stands paper item p).y) +ℤ fine 1)
+
+-- the fold is one line for all sides of a booklet, in the middle of the sheet to 10^-5 of a point
+pub record KeepFold (t : Setting) (turned_backs : Bool) (made : List MadeSheet) : Type 0 where
+  pub twice : ℕ
+  pub no_farther : twice ≤ whole (nat_abs t.room.paper.height) + 1
+  pub no_nearer : whole (nat_abs t.room.paper.height) ≤ twice + 1
+  pub sides : (s k : ℕ) (sheet : MadeSheet) (d : MadeSlot) → s < length made → k < length (slice_index_or made s sheet).slots
+      → SlotKeepsFold (is_before t.order.right_to_left (is_turned turned_backs s) k) t.room (fold_on t.room (is_turned turned_backs s) twice)
+      (slice_index_or (slice_index_or made s sheet).slots k d)
+
+-- and so does each side of a booklet, with what its leaf leaves of the gap as it creeps
+abbrev pub KeepLeaves : Setting → (turned_backs : Bool) → (creep leaves : ℕ) → List MadeSheet → Type 0
+KeepLeaves t turned_backs creep leaves made = t.room.trim ≡ 0 → StandCrept t.room creep leaves made × KeepFold t turned_backs made
 
 abbrev pub KeepTheirRoom : (exchanged : Bool) → Laying → (leaves : ℕ) → List MadeSheet → Type 0
 KeepTheirRoom exchanged (laying.InCells t (scheme.Grid cells)) leaves made = KeepRoom exchanged t made
 KeepTheirRoom exchanged (laying.InCells t (scheme.Cards cells)) leaves made = KeepRoom exchanged t made
 KeepTheirRoom exchanged (laying.InCells t (scheme.Stack cells)) leaves made = KeepRoom exchanged t made
 KeepTheirRoom exchanged (laying.InCells t scheme.Leaves) leaves made = KeepRoom exchanged t made
-KeepTheirRoom exchanged (laying.InCells t (scheme.Booklet turned_backs creep)) leaves made = KeepLeaves t creep leaves made
+KeepTheirRoom exchanged (laying.InCells t (scheme.Booklet turned_backs creep)) leaves made = KeepLeaves t turned_backs creep leaves made
 KeepTheirRoom exchanged other leaves made = ⊤
 
 -- so it is of the sheets that are written, as by `impose nup 4 --gap 1cm --turn left`: a law

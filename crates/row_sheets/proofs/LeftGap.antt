@@ -15,12 +15,12 @@ use Rattle.layouts.specs.Grids.{beside, leaf_order}
 use Rattle.layouts.proofs.Folds.{fold, lies_before, lies_behind, turned_before, turned_behind}
 use Rattle.row_sheets.specs.Creep.{AreHalves, creep_on, creeping, creeping_slot, leaf_item, to_fold}
 use Rattle.row_sheets.specs.Filled.{Filling, SlotIsInside, SlotsAreApart, grid_entry, is_turned}
-use Rattle.row_sheets.specs.Halves.{BookletKeepsGap, crept_room}
-use Rattle.row_sheets.specs.Standing.{EntryCreeps, FitsOnLeaf, StandsIn}
+use Rattle.row_sheets.specs.Halves.{BookletKeepsGap, crept_room, is_before}
+use Rattle.row_sheets.specs.Standing.{EntryCreeps, FitsOnLeaf, StandsIn, fold_on}
 use Rattle.row_sheets.proofs.Creeping.{halves, of_halves}
 use Rattle.row_sheets.proofs.Halves.{back_by, front_by}
 use Rattle.row_sheets.proofs.Leaves.{creep_moves}
-use Rattle.row_sheets.proofs.OnLeaves.{Creeps, Stays, back_item, back_moves, back_slot, back_stays, creeps_on, front_is, front_slot, front_stays, no_higher, on_halves, one_of_two, slot_there}
+use Rattle.row_sheets.proofs.OnLeaves.{Creeps, SlotStays, Stays, back_item, back_moves, back_slot, back_stays, creeps_on, front_is, front_slot, front_stays, line, no_higher, on_halves, one_of_two, slot_there}
 use Rattle.row_sheets.proofs.OnSheets.{numbered}
 
 -- ---- a page
@@ -131,6 +131,28 @@ slot_inside room b asked paper_of by_half (suc (suc k)) creep entry less even ha
 still_inside : (room : Room) (creep : ℕ) (slot : MadeSlot) → SlotIsInside room slot → SlotIsInside (crept_room room creep) slot
 still_inside room creep Blank h = tt
 still_inside room creep (Placed page item paper) h = λ p of. let at = h p of in record { left = at.left; right = at.right; bottom = at.bottom; top = at.top }
+
+-- ---- the fold
+
+stays_on_halves : (room : Room) (b : Bool) (asked : Option ℤ) (paper_of : ℕ → Paper) (by_half : Bool) (k creep : ℕ) (entry : Option ℕ) → k < 2 → IsEven room → EntryCreeps (on_halves room b asked paper_of) creep entry
+    → SlotStays (is_before b by_half k) room (fold_on room by_half (line room)) (creeping_slot (on_halves room b asked paper_of) by_half k creep entry)
+stays_on_halves room false asked paper_of false zero creep entry less even has = (front_slot true room false asked paper_of creep entry even has).1
+stays_on_halves room false asked paper_of false (suc zero) creep entry less even has = (front_slot false room false asked paper_of creep entry even has).1
+stays_on_halves room true asked paper_of false zero creep entry less even has = (front_slot false room true asked paper_of creep entry even has).1
+stays_on_halves room true asked paper_of false (suc zero) creep entry less even has = (front_slot true room true asked paper_of creep entry even has).1
+stays_on_halves room false asked paper_of true zero creep entry less even has = (back_slot true room false asked paper_of creep entry even has).1
+stays_on_halves room false asked paper_of true (suc zero) creep entry less even has = (back_slot false room false asked paper_of creep entry even has).1
+stays_on_halves room true asked paper_of true zero creep entry less even has = (back_slot false room true asked paper_of creep entry even has).1
+stays_on_halves room true asked paper_of true (suc zero) creep entry less even has = (back_slot true room true asked paper_of creep entry even has).1
+stays_on_halves room b asked paper_of by_half (suc (suc k)) creep entry less even has = absurd (omega (arith, less))
+
+-- a slot stays on its side of the fold
+pub slot_stays : (f : Filling) (by_half : Bool) (k creep : ℕ) (entry : Option ℕ) → k < 2 → AreHalves f.setting → EntryCreeps f creep entry
+    → SlotStays (is_before f.setting.order.right_to_left by_half k) f.setting.room (fold_on f.setting.room by_half (line f.setting.room)) (creeping_slot f by_half k creep entry)
+slot_stays f by_half k creep entry less halved has =
+    of_halves (λ t. let g : Filling = record { setting = t; paper_of = f.paper_of } in
+    EntryCreeps g creep entry → SlotStays (is_before t.order.right_to_left by_half k) t.room (fold_on t.room by_half (line t.room)) (creeping_slot g by_half k creep entry)) f.setting halved
+    (stays_on_halves f.setting.room f.setting.order.right_to_left f.setting.scale f.paper_of by_half k creep entry less halved.even) has
 
 -- ---- a side
 

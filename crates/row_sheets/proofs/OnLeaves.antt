@@ -282,10 +282,10 @@ line_is page room b s creep c =
     let h = nat_abs room.paper.height in
     sym (cond-true (nat_lt 0 (cell (along_height room) h 2)) (fold (along_height room) h) (whole h) (lt-ltb 0 (cell (along_height room) h 2) (some_cell page room s c.place)))
 
-abbrev InMiddle : (T W : ℕ) → Type 0
+abbrev pub InMiddle : (T W : ℕ) → Type 0
 InMiddle T W = (T ≤ W + 1) × (W ≤ T + 1)
 
-line_in_middle : (room : Room) → IsEven room → InMiddle (line room) (whole (nat_abs room.paper.height))
+pub line_in_middle : (room : Room) → IsEven room → InMiddle (line room) (whole (nat_abs room.paper.height))
 line_in_middle room even =
     let h = nat_abs room.paper.height in
     cond_both (nat_lt 0 (cell (along_height room) h 2)) (fold (along_height room) h) (whole h) (λ T. InMiddle T (whole h))
