@@ -1,5 +1,5 @@
 -- What can be said of a request before its document is read.
-use Rattle.std.specs.Prelude.{◌≡◌, ◌≢◌, ◌⊎◌, ⊤, ℕ, ◌==◌, ℤ, pos, ◌+ℤ◌, int_lt, int_le, Bool, true, false, ◌&&◌, not, if◌then◌else◌, is_some, List, Option, None, Some, Err, IfSome, option_map, string_bytes}
+use Rattle.std.specs.Prelude.{◌≡◌, ◌≢◌, ◌⊎◌, ℕ, ◌==◌, ℤ, pos, ◌+ℤ◌, int_lt, int_le, Bool, true, false, ◌&&◌, not, if◌then◌else◌, is_some, List, Option, None, Some, Err, IfSome, option_and_then, option_map, string_bytes}
 use Rattle.std.specs.Ordering.{int_eq}
 use Rattle.std.specs.Str.{bytes_eq}
 use Rattle.rules.specs.Papers.{Paper}
@@ -10,7 +10,7 @@ use Rattle.rows.specs.declared.error.RowError.TheVariants as row
 use Rattle.pagespec.specs.Refusals.{IsPlaced, IsRefusal}
 use Rattle.pagespec.specs.declared.error.SpecError.{SpecError}
 use Rattle.planned_runs.specs.Outcomes.{of_spec}
-use Rattle.impose_cli.specs.RowTasks.{cells_paper, sheet_paper_in, why_not_laid}
+use Rattle.impose_cli.specs.RowTasks.{cells_in, cells_paper, sheet_paper_in, why_not_laid}
 use Rattle.impose_cli.specs.Refusals.{RefusesLaying}
 use Rattle.impose_words.specs.declared.request.Spacing.{Spacing}
 use Rattle.impose_words.specs.declared.request.Layout.{Layout}
@@ -19,7 +19,9 @@ use Rattle.impose_words.specs.declared.request.PageChoice.{PageChoice}
 use Rattle.impose_words.specs.declared.request.Product.{Product}
 use Rattle.impose_words.specs.declared.request.Product.TheVariants as product
 use Rattle.impose_words.specs.declared.request.ImposeRequest.{ImposeRequest}
+use Rattle.impose_words.specs.Spacings.{binding_in}
 use Rattle.layouts.specs.Grids.{count_of}
+use Rattle.layouts.specs.Refusals.{why_no_room}
 use Rattle.layouts.specs.declared.arrangement.Free.{Free}
 use Rattle.impose_said.specs.declared.fault.IdleOption.{IdleOption}
 use Rattle.impose_said.specs.declared.fault.IdleOption.TheVariants.{Sheet, CutMarks, Inner, InnerMarks, Left}
@@ -34,11 +36,29 @@ IsSpecification text = (spec : Spec) × Takes most_slots text spec
 abbrev pub RefusesSpecification : (text : List ℕ) → ImposeFault → Type 0
 RefusesSpecification text f = (e : SpecError) × (f ≡ fault.Run (of_spec e)) × IsRefusal text e × IsPlaced text e
 
--- the text of a specification is one; and if the paper of the pages is named, the layout lays them on such sheets
+-- what is kept free on the sheets of a layout that has cells
+abbrev pub kept_free : Layout → Spacing → Option Free
+kept_free (layout.Booklet signing long_edge) s = Some (binding_in s long_edge).free
+kept_free (layout.Poster columns rows) s = None
+kept_free layout.Selection s = None
+kept_free (layout.Spec specs) s = None
+kept_free (layout.SpecRow specs signing) s = None
+kept_free other s = Some (cells_in other s).free
+
+-- why pages of any paper have no room on these sheets
+abbrev pub why_not_on : Layout → Spacing → (sheet : Paper) → Option ImposeFault
+why_not_on l s sheet = option_map fault.Layout (option_and_then (why_no_room sheet) (kept_free l s))
+
+-- on those that are named, if they are
+abbrev pub why_no_sheets : Layout → Spacing → (sheet_paper : Option Paper) → Option ImposeFault
+why_no_sheets l s sheet_paper = option_and_then (why_not_on l s) sheet_paper
+
+-- the text of a specification is one; if the paper of the pages is named, the layout lays them on such sheets; and if it isn't,
+-- pages of any paper may have room on the sheets that are
 abbrev pub IsPossible : Layout → Spacing → (page_paper sheet_paper : Option Paper) → Type 0
 IsPossible (layout.Spec specs) s page_paper sheet_paper = IsSpecification (string_bytes specs)
 IsPossible (layout.SpecRow specs signing) s page_paper sheet_paper = IsSpecification (string_bytes specs)
-IsPossible other s None sheet_paper = ⊤
+IsPossible other s None sheet_paper = why_no_sheets other s sheet_paper ≡ None
 IsPossible other s (Some page_paper) sheet_paper =
     why_not_laid other s page_paper (sheet_paper_in other sheet_paper page_paper) ≡ None
 
@@ -46,7 +66,7 @@ IsPossible other s (Some page_paper) sheet_paper =
 abbrev pub RefusesUnread : Layout → Spacing → (page_paper sheet_paper : Option Paper) → ImposeFault → Type 0
 RefusesUnread (layout.Spec specs) s page_paper sheet_paper f = RefusesSpecification (string_bytes specs) f
 RefusesUnread (layout.SpecRow specs signing) s page_paper sheet_paper f = RefusesSpecification (string_bytes specs) f
-RefusesUnread other s None sheet_paper f = ⊥
+RefusesUnread other s None sheet_paper f = why_no_sheets other s sheet_paper ≡ Some f
 RefusesUnread other s (Some page_paper) sheet_paper f =
     RefusesLaying other s page_paper (sheet_paper_in other sheet_paper page_paper) f
 

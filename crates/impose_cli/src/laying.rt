@@ -9,13 +9,14 @@ ghost use Rattle.impose_cli.specs.Refusals.{RefusesLaying, RefusesOptions};
 ghost use Rattle.impose_cli.specs.RowTasks.{has_even_margins as are_even, has_one_margin as are_one, is_even_enough as are_even_enough};
 ghost use Rattle.impose_cli.specs.RowTasks.{cells_in, filled_in, laying_in, scheme_in, why_not_laid, why_not_placed};
 ghost use Rattle.impose_cli.specs.RowTasks.{cells_paper, sheet_paper_in, signing_in};
+ghost use Rattle.impose_cli.specs.Unread.{kept_free as kept_free_in, why_no_sheets};
 ghost use Rattle.impose_words.specs.declared.request.Layout.TheVariants as layout;
 ghost use Rattle.impose_said.specs.declared.fault.ImposeFault.TheVariants as faults;
 
 use impose_said::ImposeFault;
 use impose_words::{ImposeRequest, Layout, Spacing};
 use imposer::RunError;
-use layouts::{Arrangement, ArrangementError, Cells, Free, Papers, Setting};
+use layouts::{Arrangement, ArrangementError, Cells, Free, Papers, Setting, check_room};
 use lengths::{Grains, Paper};
 use row_runs::{Laying, Scheme, turned_paper};
 use row_sheets::{Poster, check_poster};
@@ -66,6 +67,42 @@ pub(crate) fn laying_for(
             blank: papers.sheet,
         })),
         Layout::Spec(_) | Layout::SpecRow { .. } => Ok(None),
+    }
+}
+
+/// Whether pages of any paper may have room on the sheets that are named, if they are.
+pub(crate) fn check_sheets(
+    layout: &Layout,
+    spacing: &Spacing,
+    sheet_paper: &Option<Paper>,
+) -> Result<(), ImposeFault>
+    ensures possible { OnOk result (why_no_sheets layout.now spacing.now sheet_paper.now ≡ None) }
+    ensures refused { IfErr result (λ fault. why_no_sheets layout.now spacing.now sheet_paper.now ≡ Some fault) }
+{
+    let Some(sheet) = sheet_paper else {
+        return Ok(());
+    };
+    let Some(free) = kept_free(layout, spacing) else {
+        return Ok(());
+    };
+    match check_room(sheet, &free) {
+        Ok(()) => Ok(()),
+        Err(error) => Err(ImposeFault::Layout(error)),
+    }
+}
+
+/// What is kept free on the sheets of a layout that has cells.
+fn kept_free(layout: &Layout, spacing: &Spacing) -> Option<Free>
+    ensures { result ≡ kept_free_in layout.now spacing.now }
+{
+    match layout {
+        Layout::NUp(_) | Layout::Cards(_) | Layout::Stack { .. } | Layout::Notes { .. } => Some(
+            cells_for(layout, spacing).free,
+        ),
+        Layout::Zine => Some(cells_for(layout, spacing).free),
+        Layout::Booklet { long_edge, .. } => Some(spacing.binding(*long_edge).free),
+        Layout::Poster { .. } | Layout::Selection => None,
+        Layout::Spec(_) | Layout::SpecRow { .. } => None,
     }
 }
 

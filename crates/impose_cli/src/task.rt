@@ -20,7 +20,7 @@ ghost use Rattle.impose_cli.specs.Unread.{IsPossible, IsSpecification, RefusesSp
 ghost use Rattle.impose_words.specs.declared.request.Layout.TheVariants as layout;
 ghost use Rattle.impose_said.specs.declared.fault.ImposeFault.TheVariants as faults;
 
-use crate::laying::{laying_for, papers_for};
+use crate::laying::{check_sheets, laying_for, papers_for};
 use crate::reach::reach_over;
 use crate::row_task::has_one_paper;
 use dsc::{Document, Parts};
@@ -67,7 +67,8 @@ pub(crate) const WORKERS: Workers = Workers {
 };
 
 /// The checks of a layout that don't ask for the document, so that a mistake is found before a byte is read: those of a
-/// specification, and if the paper of the pages is named those of pages on sheets.
+/// specification, if the paper of the pages is named those of pages on sheets, and else whether the sheets that are named have
+/// room for pages.
 pub fn check_layout(alloc: Global, request: &ImposeRequest) -> Result<(), ImposeFault>
     ensures possible { OnOk result
         (IsPossible request.now.layout request.now.spacing (cells_named request.now) request.now.sheet_paper) }
@@ -77,7 +78,7 @@ pub fn check_layout(alloc: Global, request: &ImposeRequest) -> Result<(), Impose
     match (&request.layout, &request.page_paper) {
         (Layout::Spec(specs), _) => check_spec(alloc, specs.as_str()),
         (Layout::SpecRow { specs, .. }, _) => check_spec(alloc, specs.as_str()),
-        (_, None) => Ok(()),
+        (layout, None) => check_sheets(layout, &request.spacing, &request.sheet_paper),
         (layout, Some(page_paper)) => {
             let papers = papers_for(request, page_paper);
             match laying_for(layout, &request.spacing, &papers) {

@@ -1,6 +1,6 @@
 -- Worked examples.
-use Rattle.std.proofs.Common.{◌≡◌, refl}
-use Rattle.std.specs.Prelude.{codes, ℤ, pos, true, false, None, Some, Option}
+use Rattle.std.proofs.Common.{◌≡◌, [], ◌∷◌, refl, map}
+use Rattle.std.specs.Prelude.{codes, ℤ, pos, negsuc, true, false, None, Some, Option}
 use Rattle.std.specs.Fmt.{digits}
 use Rattle.rules.specs.Papers.{Paper, points}
 use Rattle.rules.specs.Specification.{canonical}
@@ -13,7 +13,7 @@ use Rattle.layouts.specs.declared.arrangement.Order.{Order}
 use Rattle.layouts.specs.declared.error.ArrangementError.TheVariants as why
 use Rattle.layouts.specs.Placed.{bare}
 use Rattle.layouts.specs.Grids.{best_grid, best_formed, arranged, bound, nothing_free, plain, plain_binding, plain_order}
-use Rattle.layouts.specs.Refusals.{is_count, is_reached, is_scale, is_length, why_no_scale, why_not_arranged, why_not_bound}
+use Rattle.layouts.specs.Refusals.{is_count, is_reached, is_scale, is_length, leaves_room, why_no_scale, why_not_arranged, why_not_bound}
 
 four_on_letter : best_grid (points 612 792) (bare (points 612 792)) 4 ≡ record { rows = 2; columns = 2; turned = false }
 four_on_letter = refl
@@ -211,6 +211,12 @@ trimmed_away = refl
 no_room : why_not_arranged a4 a4 (asked (AtLeast 4) (pos 37_782_500_000_000) (pos 0) (pos 0) None) ≡ Some (why.NoRoom (record { paper = a4; left = 29_750_000; right = 29_750_000; bottom = 29_750_000; top = 29_750_000; gap_across = 0; gap_up = 0; trim = 0 }))
 unfolding a4 asked
 no_room = refl
+
+-- margins of half the width leave nothing of it, whatever the pages are; 10^-5 of a point less do, and so does what is no length
+rooms : map (λ margin. leaves_room a4 (record nothing_free { left = margin; right = margin })) (pos 37_782_500_000_000 ∷ pos 37_782_498_730_000 ∷ negsuc 0 ∷ [])
+    ≡ false ∷ true ∷ true ∷ []
+unfolding a4
+rooms = refl
 
 as_large_as_cells : why_not_arranged a4 a4 (asked (AtLeast 4) (pos 0) (pos 0) (pos 0) (Some (pos 500_000_000))) ≡ None
 unfolding a4 asked

@@ -256,7 +256,7 @@ counts : (n : ℕ) → is_count n ≡ true → (1 ≤ n) × (n ≤ 1_024)
 counts n h = let both = both_true (nat_le 1 n) (nat_le n 1_024) h in (leb-true 1 n both.0, leb-true n 1_024 both.1)
 
 -- what holds where nothing refuses
-record NothingRefuses (page sheet : Paper) (a : Arrangement) : Type 0 where
+pub record NothingRefuses (page sheet : Paper) (a : Arrangement) : Type 0 where
   pub some : 1 ≤ count_of a.cells
   pub few : count_of a.cells ≤ 1_024
   pub reached : are_reached page && are_reached sheet ≡ true
@@ -265,7 +265,7 @@ record NothingRefuses (page sheet : Paper) (a : Arrangement) : Type 0 where
       let largest = scale_in page room (grid_of page room a.order.turned a.cells) in
       (if is_itself page sheet a then None else why_no_scale room (scale_for a.scale largest) largest) ≡ None)
 
-nothing_refuses : (page sheet : Paper) (a : Arrangement) → why_not_arranged page sheet a ≡ None → NothingRefuses page sheet a
+pub nothing_refuses : (page sheet : Paper) (a : Arrangement) → why_not_arranged page sheet a ≡ None → NothingRefuses page sheet a
 nothing_refuses page sheet a h =
     let room = room_of sheet a.free in
     let largest = scale_in page room (grid_of page room a.order.turned a.cells) in
@@ -419,6 +419,18 @@ leaves_fit page sheet b h =
       folds = five.0;
       scaled = cond-true (are_reached page && are_reached sheet) _ _ one.0 ∙ (cond-true (is_shown page room) _ _ three.0 ∙ five.1);
     }
+
+-- and pages have a scale in them
+pub leaves_scaled : (page sheet : Paper) (b : Binding) → why_not_bound page sheet b ≡ None
+    → (let room = room_of sheet b.free in
+    let largest = scale_in page room (beside true) in
+    why_no_scale room largest largest ≡ None)
+leaves_scaled page sheet b h =
+    let room = room_of sheet b.free in
+    let scaled = (leaves_fit page sheet b h).scaled in
+    let last = why_no_scale room (scale_in page room (beside true)) (scale_in page room (beside true)) in
+    let one = passed (are_reached page && are_reached sheet) why.SideTooLong _ scaled in
+    (passed (is_shown page room) why.NothingLeftOfPage last one.1).1
 
 -- as much is kept free along their opposite edges
 pub leaves_even : (page sheet : Paper) (b : Binding) → why_not_bound page sheet b ≡ None → IsEven (room_of sheet b.free)

@@ -16,4 +16,5 @@ pub mod Writable
 mod LaidOut
 pub mod Possible
 pub mod Fitting
+mod Narrow
 mod Examples

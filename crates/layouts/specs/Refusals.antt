@@ -1,14 +1,14 @@
 -- Why there is no layout.
-use Rattle.std.specs.Prelude.{◌≡◌, ◌⊎◌, ℕ, ◌+◌, ◌*◌, ℤ, pos, int_le, nat_abs, Bool, true, false, ◌&&◌, ◌==◌, nat_le, nat_lt}
+use Rattle.std.specs.Prelude.{◌≡◌, ◌⊎◌, ℕ, ◌+◌, ◌*◌, ℤ, pos, int_le, nat_abs, Bool, true, false, ◌&&◌, ◌||◌, not, ◌==◌, nat_le, nat_lt}
 use Rattle.std.specs.Prelude.{if◌then◌else◌, Option, Some, None}
-use Rattle.rules.specs.Papers.{Paper}
+use Rattle.rules.specs.Papers.{Paper, is_paper}
 use Rattle.layouts.specs.Placed.{Room}
 use Rattle.layouts.specs.declared.arrangement.Arrangement.{Arrangement}
 use Rattle.layouts.specs.declared.arrangement.Binding.{Binding}
 use Rattle.layouts.specs.declared.arrangement.Free.{Free}
 use Rattle.layouts.specs.declared.error.ArrangementError.{ArrangementError}
 use Rattle.layouts.specs.declared.error.ArrangementError.TheVariants as why
-use Rattle.layouts.specs.Cells.{scale_in, trimmed, whole}
+use Rattle.layouts.specs.Cells.{along_height, along_width, left_free, scale_in, trimmed, whole}
 use Rattle.layouts.specs.Grids.{beside, is_itself, room_of, grid_of, scale_for, count_of}
 
 -- how many pages a sheet takes at most (RULES, 13.5)
@@ -103,6 +103,24 @@ why_not_bound page sheet b =
     why_no_sheet page sheet b.free
     (first_of (is_even room) why.UnevenMargins
     (first_of (folds_short page room) why.FoldOnLongEdge (why_no_scale room largest largest)))
+
+-- margins leave something of a sheet, whatever the pages are; what is no length is another fault (RULES, 16, step 5)
+abbrev pub leaves_room : (sheet : Paper) → Free → Bool
+leaves_room sheet f = let room = room_of sheet f in not (are_lengths f)
+    || (nat_lt 0 (left_free (along_width room) (nat_abs sheet.width)) && nat_lt 0 (left_free (along_height room) (nat_abs sheet.height)))
+
+-- why pages can't have room there
+abbrev pub why_no_room : (sheet : Paper) → Free → Option ArrangementError
+why_no_room sheet f = first_of (leaves_room sheet f) (why.NoRoom (room_of sheet f)) None
+
+-- where they leave nothing, pages of any paper are refused: a law
+pub record NothingIsLeft (page sheet : Paper) (f : Free) : Type 0 where
+  pub arranged : (a : Arrangement) → a.free ≡ f → why_not_arranged page sheet a ≡ None → ⊥
+  pub bound : (b : Binding) → b.free ≡ f → why_not_bound page sheet b ≡ None → ⊥
+
+abbrev pub NothingIsLeftOfSheet : Type 0
+NothingIsLeftOfSheet = (page sheet : Paper) (f : Free) → is_paper sheet.width sheet.height ≡ true → leaves_room sheet f ≡ false
+    → NothingIsLeft page sheet f
 
 abbrev pub IsFault : Option ArrangementError → ArrangementError → Type 0
 IsFault found e = (e ≡ why.NoMemory) ⊎ (found ≡ Some e)

@@ -10,14 +10,14 @@ ghost use Rattle.layouts.specs.Grids.{arranged, bound, is_same, is_itself as is_
 ghost use Rattle.layouts.specs.Grids.{room_of};
 ghost use Rattle.layouts.specs.Grids.{scale_for, above_zero, leaf_order as leaf_order_of};
 ghost use Rattle.layouts.specs.Refusals.{why_not_arranged, why_not_bound, IsFault};
-ghost use Rattle.layouts.specs.Refusals.{are_reached, folds_short, why_no_sheet, why_no_scale, is_shown as are_shown};
+ghost use Rattle.layouts.specs.Refusals.{are_reached, folds_short, why_no_room, why_no_sheet, why_no_scale, is_shown as are_shown};
 
 use super::arrangement::{Arrangement, Binding, Free, Order, Papers, Run, Turned};
 use super::error::ArrangementError;
 use super::grid::Grid;
 use super::item::is_near;
 use super::room::{Room, are_lengths};
-use super::scale::{is_scale, scale_in, side};
+use super::scale::{is_scale, left_free, scale_in, side};
 use super::setting::Setting;
 use lengths::{Number, Paper};
 use pagespec::{Item, Spec};
@@ -203,6 +203,24 @@ pub fn sheet_in(papers: &Papers, free: &Free) -> Result<Room, ArrangementError>
         return Err(ArrangementError::NothingLeftOfPage);
     }
     Ok(room)
+}
+
+/// Whether margins leave something of a sheet, whatever the pages are. What is no length is another fault.
+pub fn check_room(sheet: &Paper, free: &Free) -> Result<(), ArrangementError>
+    ensures possible { OnOk result (why_no_room sheet.now free.now ≡ None) }
+    ensures refused { IfErr result (λ error. why_no_room sheet.now free.now ≡ Some error) }
+{
+    if !are_lengths(free) {
+        return Ok(());
+    }
+    let room = Room::of(*sheet, free);
+    let width = left_free(&room.along_width(), side(sheet.width()));
+    let height = left_free(&room.along_height(), side(sheet.height()));
+    if 0 < width && 0 < height {
+        Ok(())
+    } else {
+        Err(ArrangementError::NoRoom(room))
+    }
 }
 
 /// The scale of pages in cells that take so large ones at most, if they can have it.

@@ -1,4 +1,5 @@
 //! Laws of the definitions. The functions do nothing.
+ghost use Rattle.layouts.specs.Refusals.{NothingIsLeftOfSheet};
 ghost use Rattle.layouts.specs.Placed.{StandsWherePut};
 ghost use Rattle.layouts.specs.Fitted.{FittedStands, FittedIsApart, FittedIsInOrder, ArrangedIsFitted, BoundIsFitted};
 ghost use Rattle.layouts.specs.Laws.{GridIsInside, GridIsApart, GridIsInOrder, GridIsInCell, GridIsInMiddle};
@@ -33,6 +34,11 @@ pub fn pages_are_in_cells()
 /// Each page is in the middle of its cell, to 10^-5 of a point.
 pub fn pages_are_in_middle()
     ensures { GridIsInMiddle }
+{}
+
+/// Where margins leave nothing of a sheet, pages of any paper are refused.
+pub fn nothing_is_left()
+    ensures { NothingIsLeftOfSheet }
 {}
 
 /// The grid that is chosen for n pages has n cells or more.

@@ -13,7 +13,7 @@ mod scale;
 pub mod setting;
 
 pub use arrangement::{Arrangement, Binding, Cells, Free, Order, Papers, Run, Turned};
-pub use arranging::{arrange, bind};
+pub use arranging::{arrange, bind, check_room};
 pub use error::ArrangementError;
 pub use grid::Grid;
 pub use item::{number, points, read_sides};

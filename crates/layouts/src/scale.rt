@@ -32,7 +32,7 @@ pub fn kept(trim: u64, length: u64) -> u64
 }
 
 /// What the margins leave of a side, in grains.
-fn left_free(along: &Along, side: u64) -> u64
+pub fn left_free(along: &Along, side: u64) -> u64
     requires { side ≤ longest_side }
     ensures value { result ≡ left_free_of along.now side }
     ensures in_range { result ≤ longest_side }
