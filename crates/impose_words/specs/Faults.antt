@@ -165,12 +165,13 @@ abbrev pub RefusesFound : (name : Text) → (found : List Row) → RequestFault 
 RefusesFound name found f = Says found f (first (wrong_sizes found) (wrong_layout name found))
     ⊎ ((layout : Layout) × AsksFor name found layout × (wrong_sizes found ≡ None) × Says found f (wrong_for layout found))
 
--- what a refusal says of the words: clap's own faults are those of the words, or a call for help or for the version
+-- what a refusal says of the words: clap's own faults are those of the words, or a call for help or for the version. All others
+-- come only if the command takes the words, so that help is told as nothing else
 abbrev pub Refuses : (words : List Text) → RequestFault → Type 0
 Refuses words (fault.Words error) = IsAmong (kind_of error) (fault_of impose words)
 Refuses words fault.NoText = ⊥
 Refuses words fault.NoMemory = ⊤
-Refuses words fault.Lacking = (subcommand_of impose words ≡ None)
+Refuses words fault.Lacking = ((fault_of impose words ≡ []) × (subcommand_of impose words ≡ None))
     ⊎ Entered words (λ name found. RefusesFound name found fault.Lacking)
 Refuses words fault.OddAndEven = Entered words (λ name found. RefusesFound name found fault.OddAndEven)
 Refuses words (fault.BadValue option text) = Entered words (λ name found. RefusesFound name found (fault.BadValue option text))

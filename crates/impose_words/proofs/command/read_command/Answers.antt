@@ -30,4 +30,4 @@ returns-in-Some-clause-refused c =
     IfErr-weaker c.request_of.result _ _ (λ f h. refuses_words words name found f enters h) c.request_of.ensures.refused
 
 pub returns-clause-refused : goal.returns-clause-refused
-returns-clause-refused c = inl (sym c.in_ok-matches.ensures.found ∙ unmet c.in_ok-matches.matches c.in-None.ensures.name)
+returns-clause-refused c = inl (c.in_ok-matches.ensures.taken, sym c.in_ok-matches.ensures.found ∙ unmet c.in_ok-matches.matches c.in-None.ensures.name)
