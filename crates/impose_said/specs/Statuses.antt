@@ -9,6 +9,7 @@ use Rattle.row_sheets.specs.declared.poster.PosterError.TheVariants as poster
 use Rattle.rows.specs.declared.error.RowError.TheVariants as row
 use Rattle.sheet_plan.specs.declared.error.MadeError.TheVariants as made
 use Rattle.imposer.specs.Statuses.{run_status}
+use Rattle.impose_words.specs.declared.fault.RequestFault.{RequestFault}
 use Rattle.impose_words.specs.declared.fault.RequestFault.TheVariants as command
 use Rattle.impose_said.specs.declared.fault.ImposeFault.{ImposeFault}
 use Rattle.impose_said.specs.declared.fault.ImposeFault.TheVariants as fault
@@ -18,18 +19,39 @@ words_status DisplayHelp = 0
 words_status DisplayVersion = 0
 words_status other = 2
 
+abbrev pub command_status : RequestFault → ℕ
+command_status (command.Words error) = words_status (kind_of error)
+command_status command.NoMemory = 3
+command_status command.NoText = 2
+command_status command.Lacking = 2
+command_status (command.BadValue option text) = 2
+command_status command.OddAndEven = 2
+command_status (command.TwoProducts one other) = 2
+
 -- RULES, 16
 abbrev pub fault_status : ImposeFault → ℕ
-fault_status (fault.Command (command.Words error)) = words_status (kind_of error)
-fault_status (fault.Command command.NoMemory) = 3
+fault_status (fault.Command f) = command_status f
 fault_status (fault.Layout layout.NoMemory) = 3
+fault_status (fault.Layout e) = 1
 fault_status (fault.Poster poster.NoMemory) = 3
+fault_status (fault.Poster e) = 1
 fault_status (fault.Row row.NoMemory) = 3
+fault_status (fault.Row e) = 1
 fault_status (fault.Sheets made.NoMemory) = 3
+fault_status (fault.Sheets e) = 1
 fault_status (fault.Read cause) = 3
 fault_status (fault.Write written cause) = 3
 fault_status (fault.Run e) = run_status e
-fault_status (fault.Command f) = 2
 fault_status (fault.Idle option) = 2
 fault_status fault.OverInput = 2
-fault_status other = 1
+fault_status (fault.NoSuchPage place pages) = 1
+fault_status fault.OutOfReach = 1
+fault_status fault.NoSpecification = 1
+fault_status fault.SeveralPapers = 1
+fault_status fault.NoInput = 1
+fault_status fault.Pdf = 1
+fault_status (fault.Compressed packing) = 1
+fault_status fault.DosEps = 1
+fault_status fault.Utf16 = 1
+fault_status fault.JobLanguage = 1
+fault_status fault.TooLong = 1

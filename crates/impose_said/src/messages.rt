@@ -31,18 +31,11 @@ pub fn fault_text(
         ImposeFault::Layout(error) => return layout_text(alloc, error, request),
         ImposeFault::Row(error) => return row_text(alloc, error, request),
         ImposeFault::NoSuchPage { place, pages } => {
-            let message = format!(in alloc;
-                "page ranges: the document has pages 1 to {pages} only"
-            )?;
-            return shown(alloc, message.as_str(), ranges_of(request), *place);
+            return no_page_text(alloc, *place, *pages, request);
         }
-        ImposeFault::Read(cause) => {
-            let text = input_text(alloc, "cannot read ", request, "")?;
-            return with_cause(alloc, text.as_str(), cause);
-        }
+        ImposeFault::Read(cause) => return read_text(alloc, cause, request),
         ImposeFault::Write { written, cause } => {
-            let text = written_text(alloc, *written, request)?;
-            return with_cause(alloc, text.as_str(), cause);
+            return write_text(alloc, *written, cause, request);
         }
         ImposeFault::Run(error) => return run_text(alloc, error, request),
         ImposeFault::Poster(error) => poster_message(error),
@@ -54,9 +47,49 @@ pub fn fault_text(
         ImposeFault::OverInput => {
             return input_text(alloc, "--preview would write over ", request, OVER_INPUT);
         }
-        fault => return input_text(alloc, "", request, unread_message(fault)),
+        ImposeFault::NoInput => return input_text(alloc, "", request, NO_INPUT),
+        ImposeFault::Pdf => return input_text(alloc, "", request, PDF),
+        ImposeFault::Compressed(packing) => {
+            return input_text(alloc, "", request, packed_message(*packing));
+        }
+        ImposeFault::DosEps => return input_text(alloc, "", request, DOS_EPS),
+        ImposeFault::Utf16 => return input_text(alloc, "", request, UTF_16),
+        ImposeFault::JobLanguage => return input_text(alloc, "", request, JOB_LANGUAGE),
+        ImposeFault::TooLong => return input_text(alloc, "", request, TOO_LONG),
     };
     String::from_str(alloc, message)
+}
+
+/// A range of pages that the document doesn't have.
+fn no_page_text(
+    alloc: Global,
+    place: usize,
+    pages: u32,
+    request: Option<&ImposeRequest>,
+) -> Result<String, AllocError> {
+    let message = format!(in alloc; "page ranges: the document has pages 1 to {pages} only")?;
+    shown(alloc, message.as_str(), ranges_of(request), place)
+}
+
+/// An input that couldn't be opened or read.
+fn read_text(
+    alloc: Global,
+    cause: &Option<io::Error>,
+    request: Option<&ImposeRequest>,
+) -> Result<String, AllocError> {
+    let text = input_text(alloc, "cannot read ", request, "")?;
+    with_cause(alloc, text.as_str(), cause)
+}
+
+/// An output that couldn't be written after so many bytes.
+fn write_text(
+    alloc: Global,
+    written: u64,
+    cause: &Option<io::Error>,
+    request: Option<&ImposeRequest>,
+) -> Result<String, AllocError> {
+    let text = written_text(alloc, written, request)?;
+    with_cause(alloc, text.as_str(), cause)
 }
 
 const OUT_OF_REACH: &str =
@@ -91,27 +124,31 @@ fn idle_message(option: IdleOption) -> &'static str {
     }
 }
 
-/// What is said of an input that isn't read as a document, after its name.
-fn unread_message(fault: &ImposeFault) -> &'static str {
-    match fault {
-        ImposeFault::NoInput => " is empty; name a file with a PostScript document, or pipe one in",
-        ImposeFault::Pdf =>
-            " is a PDF, not PostScript; use: impose-pdf .. in.pdf out.pdf, or pdftops in.pdf - | impose .. -",
-        ImposeFault::Compressed(packing) => match packing {
-            Packing::Gzip => " is compressed, not PostScript; use: zcat in.ps.gz | impose .. -",
-            Packing::Bzip2 => " is compressed, not PostScript; use: bzcat in.ps.bz2 | impose .. -",
-            Packing::Xz => " is compressed, not PostScript; use: xzcat in.ps.xz | impose .. -",
-            Packing::Zip => " is compressed, not PostScript; use: unzip -p in.zip | impose .. -",
-        },
-        ImposeFault::DosEps =>
-            " is an EPS with a preview before it, as DOS had them; use: ps2ps in.eps - | impose .. -",
-        ImposeFault::Utf16 => {
-            " is a text of two bytes a letter (UTF-16), not PostScript; use: iconv -f UTF-16 -t ISO-8859-1 in.ps | \
-            impose .. -"
-        }
-        ImposeFault::JobLanguage =>
-            " begins with a printer's job language, not with %!; cut that off: sed -n '/^%!/,$p' in.ps | impose .. -",
-        _ => " is longer than 1,073,741,824 bytes; split it first",
+// What is said of an input that isn't read as a document, after its name.
+
+const NO_INPUT: &str = " is empty; name a file with a PostScript document, or pipe one in";
+
+const PDF: &str =
+    " is a PDF, not PostScript; use: impose-pdf .. in.pdf out.pdf, or pdftops in.pdf - | impose .. -";
+
+const DOS_EPS: &str =
+    " is an EPS with a preview before it, as DOS had them; use: ps2ps in.eps - | impose .. -";
+
+const UTF_16: &str =
+    " is a text of two bytes a letter (UTF-16), not PostScript; use: iconv -f UTF-16 -t ISO-8859-1 in.ps | \
+    impose .. -";
+
+const JOB_LANGUAGE: &str =
+    " begins with a printer's job language, not with %!; cut that off: sed -n '/^%!/,$p' in.ps | impose .. -";
+
+const TOO_LONG: &str = " is longer than 1,073,741,824 bytes; split it first";
+
+fn packed_message(packing: Packing) -> &'static str {
+    match packing {
+        Packing::Gzip => " is compressed, not PostScript; use: zcat in.ps.gz | impose .. -",
+        Packing::Bzip2 => " is compressed, not PostScript; use: bzcat in.ps.bz2 | impose .. -",
+        Packing::Xz => " is compressed, not PostScript; use: xzcat in.ps.xz | impose .. -",
+        Packing::Zip => " is compressed, not PostScript; use: unzip -p in.zip | impose .. -",
     }
 }
 
@@ -428,7 +465,8 @@ fn spec_of(request: Option<&ImposeRequest>) -> &str {
     match &request.layout {
         Layout::SpecRow { specs, .. } => specs.as_str(),
         Layout::Spec(spec) => spec.as_str(),
-        _ => "",
+        Layout::NUp(_) | Layout::Booklet { .. } | Layout::Cards(_) | Layout::Stack { .. } => "",
+        Layout::Notes { .. } | Layout::Poster { .. } | Layout::Zine | Layout::Selection => "",
     }
 }
 

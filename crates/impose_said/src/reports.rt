@@ -95,7 +95,8 @@ fn places_on(layout: &Layout) -> u64
         Layout::Notes { pages } => u64::from(*pages),
         Layout::Booklet { .. } => 2,
         Layout::Zine => 8,
-        _ => 0,
+        Layout::Cards(_) | Layout::Stack { .. } | Layout::Poster { .. } | Layout::Selection => 0,
+        Layout::Spec(_) | Layout::SpecRow { .. } => 0,
     }
 }
 
@@ -143,7 +144,9 @@ fn are_sides(request: &ImposeRequest) -> bool
     match &request.layout {
         Layout::Booklet { .. } => true,
         Layout::Stack { duplex, .. } => *duplex,
-        _ => request.is_mirrored(),
+        Layout::NUp(_) | Layout::Cards(_) | Layout::Notes { .. } => request.is_mirrored(),
+        Layout::Poster { .. } | Layout::Zine | Layout::Selection => request.is_mirrored(),
+        Layout::Spec(_) | Layout::SpecRow { .. } => request.is_mirrored(),
     }
 }
 

@@ -1,6 +1,6 @@
 //! With which exit status the program ends.
 ghost use Rattle.std.specs.Prelude.{◌≡◌};
-ghost use Rattle.impose_said.specs.Statuses.{fault_status as status_of_fault, words_status as status_of_words};
+ghost use Rattle.impose_said.specs.Statuses.{command_status as status_of_command, fault_status as status_of_fault, words_status as status_of_words};
 
 use crate::fault::ImposeFault;
 use clap::error::ErrorKind;
@@ -18,15 +18,29 @@ pub fn fault_status(fault: &ImposeFault) -> u8
     ensures { result ≡ status_of_fault fault.now }
 {
     match fault {
-        ImposeFault::Command(RequestFault::Words(error)) => words_status(error.kind()),
-        ImposeFault::Command(RequestFault::NoMemory) => 3,
+        ImposeFault::Command(fault) => command_status(fault),
         ImposeFault::Layout(ArrangementError::NoMemory)
         | ImposeFault::Poster(PosterError::NoMemory) => 3,
         ImposeFault::Row(RowError::NoMemory) | ImposeFault::Sheets(MadeError::NoMemory) => 3,
         ImposeFault::Read(_) | ImposeFault::Write { .. } => 3,
         ImposeFault::Run(error) => run_status(error),
-        ImposeFault::Command(_) | ImposeFault::Idle(_) | ImposeFault::OverInput => 2,
-        _ => 1,
+        ImposeFault::Idle(_) | ImposeFault::OverInput => 2,
+        ImposeFault::Layout(_) | ImposeFault::Poster(_) | ImposeFault::Row(_) => 1,
+        ImposeFault::NoSuchPage { .. } | ImposeFault::OutOfReach | ImposeFault::Sheets(_) => 1,
+        ImposeFault::NoSpecification | ImposeFault::SeveralPapers | ImposeFault::NoInput => 1,
+        ImposeFault::Pdf | ImposeFault::Compressed(_) | ImposeFault::DosEps => 1,
+        ImposeFault::Utf16 | ImposeFault::JobLanguage | ImposeFault::TooLong => 1,
+    }
+}
+
+fn command_status(fault: &RequestFault) -> u8
+    ensures { result ≡ status_of_command fault.now }
+{
+    match fault {
+        RequestFault::Words(error) => words_status(error.kind()),
+        RequestFault::NoMemory => 3,
+        RequestFault::NoText | RequestFault::Lacking | RequestFault::BadValue(_, _) => 2,
+        RequestFault::OddAndEven | RequestFault::TwoProducts(_, _) => 2,
     }
 }
 

@@ -9,16 +9,25 @@ use std::alloc::{AllocError, Global};
 pub(crate) fn value_text(alloc: Global, option: Opt, text: &str) -> Result<String, AllocError> {
     match option {
         Opt::Paper | Opt::Sheet => paper_text(alloc, option, text),
-        Opt::Border | Opt::Trim | Opt::Creep | Opt::Overlap if is_number(text) => unit_text(
-            alloc, option, text,
-        ),
-        Opt::Margin | Opt::Gap | Opt::Numbers if is_number(text) => unit_text(alloc, option, text),
         Opt::Margin => margin_text(alloc, text),
+        Opt::Border | Opt::Trim | Opt::Creep | Opt::Overlap | Opt::Gap | Opt::Numbers => {
+            length_text(alloc, option, text)
+        }
         Opt::Count(command) => cells_text(alloc, command, text),
         Opt::CutMarks => cut_marks_text(alloc, text),
         Opt::Outfile => outfile_text(alloc, text),
         Opt::Signature => signature_text(alloc, text),
-        _ => refused_text(alloc, option, text),
+        Opt::Order | Opt::Turn | Opt::Turned | Opt::Scale => refused_text(alloc, option, text),
+        Opt::BookletMarks | Opt::NumbersFrom | Opt::Preview => refused_text(alloc, option, text),
+    }
+}
+
+/// What is said of a text that is no length. It may be one but for its unit.
+fn length_text(alloc: Global, option: Opt, text: &str) -> Result<String, AllocError> {
+    if is_number(text) {
+        no_unit_text(alloc, option, text)
+    } else {
+        refused_text(alloc, option, text)
     }
 }
 
@@ -30,7 +39,7 @@ fn is_number(text: &str) -> bool {
 /// What is said of a text that names no margins. An edge may be named twice.
 fn margin_text(alloc: Global, text: &str) -> Result<String, AllocError> {
     let Some(edge) = edge_named_twice(text) else {
-        return refused_text(alloc, Opt::Margin, text);
+        return length_text(alloc, Opt::Margin, text);
     };
     let shown = shown_word(alloc, text)?;
     let edge = shown_word(alloc, edge)?;
@@ -107,30 +116,37 @@ fn refusal(option: Opt) -> (&'static str, &'static str) {
         ),
         Opt::BookletMarks => ("unknown marks", "give fold, cut or fold,cut"),
         Opt::CutMarks => ("unknown marks", "give cut"),
-        _ => ("bad length", "give it as 5mm, .2in or 14pt"),
+        Opt::Trim | Opt::Creep | Opt::Overlap => ("bad length", "give it as 5mm, .2in or 14pt"),
+        Opt::Count(_) | Opt::Outfile => ("bad value", "see impose --help"),
     }
 }
 
-/// What is said of a length or a size without a unit.
-fn unit_text(alloc: Global, option: Opt, text: &str) -> Result<String, AllocError> {
+/// What is said of a size without a unit.
+fn no_size_unit_text(alloc: Global, option: Opt, text: &str) -> Result<String, AllocError> {
     let text = shown_word(alloc, text)?;
     let id = option.id();
-    match option {
-        Opt::Paper | Opt::Sheet => format!(in alloc;
-            "size '{text}' after --{id} has no unit at its end: write {text}mm, {text}in or {text}pt"
-        ),
-        _ => format!(in alloc;
-            "length '{text}' after --{id} has no unit: write {text}cm, {text}mm, {text}in or {text}pt"
-        ),
-    }
+    format!(in alloc;
+        "size '{text}' after --{id} has no unit at its end: write {text}mm, {text}in or {text}pt"
+    )
+}
+
+/// What is said of a length without a unit.
+fn no_unit_text(alloc: Global, option: Opt, text: &str) -> Result<String, AllocError> {
+    let text = shown_word(alloc, text)?;
+    let id = option.id();
+    format!(in alloc;
+        "length '{text}' after --{id} has no unit: write {text}cm, {text}mm, {text}in or {text}pt"
+    )
 }
 
 /// What is said of a text that means no paper.
 fn paper_text(alloc: Global, option: Opt, text: &str) -> Result<String, AllocError> {
     match read_paper(text.as_bytes()) {
-        Err(PaperError::NoUnit) if may_have_unit(alloc, text)? => unit_text(alloc, option, text),
+        Err(PaperError::NoUnit) if may_have_unit(alloc, text)? => {
+            no_size_unit_text(alloc, option, text)
+        }
         Err(PaperError::NoUnit) | Err(PaperError::NoSuchSize) => refused_text(alloc, option, text),
-        _ => unknown_paper_text(alloc, option, text),
+        Err(PaperError::Unknown) | Ok(_) => unknown_paper_text(alloc, option, text),
     }
 }
 
@@ -210,7 +226,10 @@ fn cells_text(alloc: Global, command: GridCommand, text: &str) -> Result<String,
 fn missing_cells(command: GridCommand) -> (&'static str, &'static str) {
     match command {
         GridCommand::Poster => ("columns and rows of sheets are", "': they come after "),
-        _ => ("the number of pages is", "': it comes after "),
+        GridCommand::NUp | GridCommand::Cards | GridCommand::Stack | GridCommand::Notes => (
+            "the number of pages is",
+            "': it comes after ",
+        ),
     }
 }
 
@@ -233,11 +252,11 @@ fn bad_cells(command: GridCommand, is_grid: bool) -> (&'static str, &'static str
             "bad grid",
             "columns and rows of sheets as 2x3, at most 1024 in all",
         ),
-        _ if is_grid => (
+        GridCommand::NUp | GridCommand::Cards | GridCommand::Stack if is_grid => (
             "bad grid",
             "columns and rows as 2x4, at most 1024 cells in all",
         ),
-        _ => (
+        GridCommand::NUp | GridCommand::Cards | GridCommand::Stack => (
             "bad number of pages",
             "one from 1 to 1024, or columns and rows as 2x4",
         ),
