@@ -216,46 +216,50 @@ no_room_text room = let across = room.left + room.right in let up = room.bottom 
 abbrev pub said : (message : List ℕ) → List ℕ
 said message = line (codes "impose: " ++ message)
 
--- the line of a message, if there is one; without memory for it there is nothing
-abbrev pub IsLineOf : (message : Option (List ℕ)) → (text : List ℕ) → Type 0
-IsLineOf None text = text ≡ []
-IsLineOf (Some message) text = (text ≡ []) ⊎ (text ≡ said message)
+-- that of a message, if there is one
+abbrev pub line_of : (message : Option (List ℕ)) → List ℕ
+line_of None = []
+line_of (Some message) = said message
 
--- the line of a message of which this holds, if there is one, and memory for it
-abbrev pub MaySay : (Option (List ℕ) → Type 0) → (text : List ℕ) → Type 0
-MaySay Holds text = (text ≡ []) ⊎ ((message : List ℕ) × Holds (Some message) × (text ≡ said message))
+-- the same, but without memory for it there is nothing
+abbrev pub IsLineOf : (message : Option (List ℕ)) → (text : List ℕ) → Type 0
+IsLineOf message text = (text ≡ []) ⊎ (text ≡ line_of message)
+
+-- the line of a message of which this holds, if there is memory for it
+abbrev pub MaySay : (List ℕ → Type 0) → (text : List ℕ) → Type 0
+MaySay Holds text = (text ≡ []) ⊎ ((message : List ℕ) × Holds message × (text ≡ said message))
 
 -- the line of a message that was to be made: without memory for it there is nothing
-abbrev pub IsMadeLine : {E : Type 0} → Result (Option (String Global)) E → (text : List ℕ) → Type 0
-IsMadeLine (Ok message) text = IsLineOf (option_map string_bytes message) text
+abbrev pub IsMadeLine : {E : Type 0} → Result (String Global) E → (text : List ℕ) → Type 0
+IsMadeLine (Ok message) text = IsLineOf (Some (string_bytes message)) text
 IsMadeLine (Err e) text = text ≡ []
 
 -- a text of which this holds comes after what was said before
 abbrev pub Adds : (List ℕ → Type 0) → (before after : List ℕ) → Type 0
 Adds Holds before after = (text : List ℕ) × Holds text × (after ≡ before ++ text)
 
--- a text is one of which this holds, and after it one of which that holds
-abbrev pub Then : (This That : List ℕ → Type 0) → (text : List ℕ) → Type 0
-Then This That text = (first rest : List ℕ) × This first × That rest × (text ≡ first ++ rest)
-
 -- ---- all of it
 
--- Of a finished run seven lines are said, in this order: the report, then that the document names an unknown paper, that pages
--- are cut, that pages reach beyond their papers, that pages follow the trailer, that not as many were found as the document
--- says, and that the output is no PDF.
+-- Of a finished run six lines are said, in this order: the report, then that the document names an unknown paper, that pages are
+-- cut, that pages reach beyond their papers, that pages follow the trailer, and that not as many were found as the document says
+abbrev pub run_lines : Finished → ImposeRequest → List ℕ
+run_lines finished r =
+    line_of (Some (report_text finished r)) ++ line_of (unknown_text (option_map (λ name. name.items) finished.told.unknown))
+    ++ line_of (cut_text finished.cut finished.page_paper) ++ line_of (reach_text finished.reach) ++ line_of (behind_text finished.behind)
+    ++ line_of (told_text finished.told.pages finished.report.pages)
+
+-- and behind them that the output is no PDF
 abbrev pub SaysLines : Finished → ImposeRequest → (text : List ℕ) → Type 0
-SaysLines finished r =
-    Then (IsLineOf (Some (report_text finished r)))
-    (Then (IsLineOf (unknown_text (option_map (λ name. name.items) finished.told.unknown)))
-    (Then (IsLineOf (cut_text finished.cut finished.page_paper))
-    (Then (IsLineOf (reach_text finished.reach))
-    (Then (IsLineOf (behind_text finished.behind))
-    (Then (IsLineOf (told_text finished.told.pages finished.report.pages)) (MaySay (IsNote (option_map string_bytes r.outfile))))))))
+SaysLines finished r text = (note : Option (List ℕ)) × IsNote (option_map string_bytes r.outfile) note × (text ≡ run_lines finished r ++ line_of note)
+
+-- in place of all of them, without memory for one
+abbrev pub no_report : List ℕ
+no_report = codes "out of memory for the report"
 
 -- a quiet request says nothing
 abbrev pub SaysUnless : (quiet : Bool) → Finished → ImposeRequest → (text : List ℕ) → Type 0
 SaysUnless true finished r text = text ≡ []
-SaysUnless false finished r text = SaysLines finished r text
+SaysUnless false finished r text = SaysLines finished r text ⊎ IsLineOf (Some no_report) text
 
 abbrev pub SaysRun : Finished → ImposeRequest → (text : List ℕ) → Type 0
 SaysRun finished r text = SaysUnless r.is_quiet finished r text

@@ -1,6 +1,6 @@
 //! What is said on standard error of how the program ended.
-ghost use Rattle.std.specs.Prelude.{◌≡◌, option_map, string_bytes};
-ghost use Rattle.impose_said.specs.Said.{Adds, IsMadeLine, Says, SaysFault, SaysRun, SaysWords, is_broken_pipe};
+ghost use Rattle.std.specs.Prelude.{◌≡◌, ◌++◌, IfOk, OnOk, Some, option_map, string_bytes};
+ghost use Rattle.impose_said.specs.Said.{Adds, IsLineOf, IsMadeLine, Says, SaysFault, SaysLines, SaysRun, SaysWords, is_broken_pipe, line_of, no_report};
 
 use crate::fault::ImposeFault;
 use crate::finished::{Done, Finished};
@@ -18,7 +18,7 @@ use std::io::ErrorKind;
 /// there is to say of them, unless the request is quiet; of a fault its message, unless whoever reads the output has
 /// closed it; and nothing of anything else. Help and the version, which go to standard output, aren't said here.
 ///
-/// What is done is done: a line for which there is no memory isn't said, and the others are.
+/// What is done is done: without memory for its lines one says so in their place.
 pub fn text_said(
     alloc: Global,
     outcome: &Result<Done, ImposeFault>,
@@ -32,27 +32,69 @@ pub fn text_said(
             Some(request) => text_of_run(alloc, done, request),
             None => String::new(alloc),
         },
-        Ok(_) => String::new(alloc),
+        Ok(Done::Printed) | Ok(Done::Shown) => String::new(alloc),
         Err(fault) => text_of_fault(alloc, fault, request, words),
     }
 }
 
-/// What is said of a finished run.
+/// What is said of a finished run: all its lines, or that there is no memory for them.
 fn text_of_run(alloc: Global, done: &Finished, request: &ImposeRequest) -> String
     ensures { SaysRun done.now request.now (string_bytes result) }
 {
-    let mut said = String::new(alloc);
     if request.is_quiet {
-        return said;
+        return String::new(alloc);
     }
-    add_line(alloc, &mut said, Ok(report_text(alloc, done, request).ok()));
-    add_line(alloc, &mut said, unknown_text(alloc, done));
-    add_line(alloc, &mut said, cut_text(alloc, done));
-    add_line(alloc, &mut said, reach_text(alloc, done));
-    add_line(alloc, &mut said, behind_text(alloc, done));
-    add_line(alloc, &mut said, told_text(alloc, done));
-    add_line(alloc, &mut said, note_text(alloc, request));
+    match lines_text(alloc, done, request) {
+        Ok(text) => text,
+        Err(_) => no_report_text(alloc),
+    }
+}
+
+/// That there is no memory for the lines of a finished run; nothing if there is none for that either.
+fn no_report_text(alloc: Global) -> String
+    ensures { IsLineOf (Some no_report) (string_bytes result) }
+{
+    let mut said = String::new(alloc);
+    add_line(
+        alloc,
+        &mut said,
+        String::from_str(alloc, "out of memory for the report"),
+    );
     said
+}
+
+/// The lines of a finished run.
+fn lines_text(alloc: Global, done: &Finished, request: &ImposeRequest) -> Result<String, AllocError>
+    ensures { IfOk result (λ text. SaysLines done.now request.now (string_bytes text)) }
+{
+    let mut said = String::new(alloc);
+    let report = report_text(alloc, done, request)?;
+    push_line(alloc, &mut said, &Some(report))?;
+    let unknown = unknown_text(alloc, done)?;
+    push_line(alloc, &mut said, &unknown)?;
+    let cut = cut_text(alloc, done)?;
+    push_line(alloc, &mut said, &cut)?;
+    let reach = reach_text(alloc, done)?;
+    push_line(alloc, &mut said, &reach)?;
+    let behind = behind_text(alloc, done)?;
+    push_line(alloc, &mut said, &behind)?;
+    let told = told_text(alloc, done)?;
+    push_line(alloc, &mut said, &told)?;
+    let note = note_text(alloc, request)?;
+    push_line(alloc, &mut said, &note)?;
+    Ok(said)
+}
+
+/// Adds the line of a message, if there is one.
+fn push_line(alloc: Global, said: &mut String, message: &Option<String>) -> Result<(), AllocError>
+    ensures { OnOk result (string_bytes said.new
+        ≡ string_bytes said.old ++ line_of (option_map string_bytes message.now)) }
+{
+    let Some(message) = message else {
+        return Ok(());
+    };
+    let line = format!(in alloc; "impose: {message}\n")?;
+    said.push_str(line.as_str())
 }
 
 /// What is said of a fault.
@@ -69,7 +111,7 @@ fn text_of_fault(
     }
     let mut said = String::new(alloc);
     if !is_broken_pipe(fault) {
-        add_line(alloc, &mut said, Ok(fault_text(alloc, fault, request).ok()));
+        add_line(alloc, &mut said, fault_text(alloc, fault, request));
     }
     said
 }
@@ -98,11 +140,11 @@ fn is_broken_pipe(fault: &ImposeFault) -> bool
     }
 }
 
-/// Adds a line with this message, if there is one and memory for it and for the line.
-fn add_line(alloc: Global, said: &mut String, message: Result<Option<String>, AllocError>)
+/// Adds a line with this message, if there is memory for it and for the line.
+fn add_line(alloc: Global, said: &mut String, message: Result<String, AllocError>)
     ensures { Adds (IsMadeLine message) (string_bytes said.old) (string_bytes said.new) }
 {
-    if let Ok(Some(message)) = message {
+    if let Ok(message) = message {
         if let Ok(line) = format!(in alloc; "impose: {message}\n") {
             let _ = said.push_str(line.as_str());
         }
