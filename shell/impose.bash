@@ -57,7 +57,7 @@ _impose_files() {
 _impose() {
     local cur=${COMP_WORDS[COMP_CWORD]} before=${COMP_WORDS[COMP_CWORD - 1]} command='' is_behind='' number=0 at word values
     local patterns=('*.[pP][sS]' '*.[eE][pP][sS]')
-    [ "${1##*/}" != impose-pdf ] || patterns=('*.[pP][dD][fF]')
+    [ "${1##*/}" != impose-pdf ] || patterns=('*.[pP][dD][fF]' '*.[jJ][pP][gG]' '*.[jJ][pP][eE][gG]' '*.[pP][nN][gG]')
     COMPREPLY=()
     # A specification with a colon comes as several words.
     [ "$before" != : ] && [ "$cur" != : ] || return 0

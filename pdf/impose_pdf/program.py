@@ -7,9 +7,10 @@ import signal
 import sys
 
 from impose_pdf import words as said
-from impose_pdf.plan import Imposer
+from impose_pdf.plan import Imposer, usual
 from impose_pdf.words import Refusal, Request, refusal, shown
 
+A4 = 595.0, 842.0
 OPENED: dict[str, object] = {}  # PDFs, which stay open to the end
 
 
@@ -69,7 +70,7 @@ def run(words: list[str], here: str) -> None:
 def look_at_words(request: Request, program: str) -> None:
     """Refuses mistakes among impose's words, which may be why other words were taken for files."""
     try:
-        Imposer(program, request, [(595, 842)]).run()
+        Imposer(program, request, [A4], A4).run()
     except Refusal as refused:
         if refused.status == 2 or len(request.infiles) + bool(request.outfile) < 2:
             raise
@@ -90,7 +91,9 @@ def impose(request: Request, program: str) -> None:
         look_at_words(request, program)
         raise
     OPENED.update(opened)
-    imposer = Imposer(program, request, [source.size(k) for source, k in row])
+    sizes = [source.size(k) for source, k in row]
+    of_first = [size for size, (source, _) in zip(sizes, row) if source is row[0][0]]
+    imposer = Imposer(program, request, sizes, usual(of_first))
     if outfile is None:
         text, report = imposer.run()
         sys.stdout.write(text)
@@ -100,7 +103,7 @@ def impose(request: Request, program: str) -> None:
         making.make(sheets, turn_to_read(request, sheets), imposer.flip())
         outfile.write(making.pdf)
     sys.stderr.write("".join(source.warning() for source in opened.values()))
-    sys.stderr.write(reported(report, len({source.shapes[k].size for source, k in row}) == 1))
+    sys.stderr.write(reported(report, len(set(sizes)) == 1))
 
 
 def reported(report: str, is_one_size: bool) -> str:
