@@ -1,20 +1,21 @@
--- Stacks are read in the order of their rows.
-use Rattle.std.proofs.Common.{arith, ◌≡◌, ◌∙◌, ℕ, suc, zero, ◌+◌, ◌*◌, ◌<◌, Bool, true, false, [], ◌∷◌, length, map, Option, Some, None, refl, ap}
+-- Grids, cards and stacks are read in the order of their rows.
+use Rattle.std.proofs.Common.{arith, ◌≡◌, ◌∙◌, ℕ, suc, zero, ◌+◌, ◌*◌, ◌<◌, Bool, true, false, [], ◌∷◌, length, map, Option, Some, None, refl, ap, ap₂, ◌++◌, List}
 use Rattle.std.specs.Prelude.{flat_map}
 use Rattle.std.specs.List.{range_with_len}
 use Rattle.std.proofs.lemmas.Simd.{map-map}
 use Rattle.std.proofs.lemmas.List.FromFn.{get_or-map-range_with_len}
 use Rattle.rules.specs.Sheets.{blocks}
 use Rattle.made_sheets.specs.Made.{MadeSheet, Blank}
+use Rattle.made_sheets.specs.Rows.{Row}
 use Rattle.layouts.specs.Cells.{size}
 use Rattle.layouts.specs.declared.setting.Setting.{Setting}
-use Rattle.row_sheets.specs.Filled.{Filling, behind_in, duplex_entry, duplex_sheets, is_turned, slot_on, stack_entry, stack_sheets}
+use Rattle.row_sheets.specs.Filled.{Filling, behind_in, card_entry, duplex_entry, duplex_sheets, grid_entry, is_turned, slot_on, stack_entry, stack_sheets}
 use Rattle.row_sheets.specs.Bound.{shown_in}
-use Rattle.row_sheets.specs.Stacked.{LeavesAreRead, StackIsRead, pile, shown_at, turned_pile}
+use Rattle.row_sheets.specs.Stacked.{CardsAreRead, GridIsRead, LeavesAreRead, StackIsRead, pile, shown_at, shown_on, turned_pile}
 use Rattle.row_sheets.proofs.Behind.{behind_is_mirror}
 use Rattle.row_sheets.proofs.Filling.{sheet}
 use Rattle.row_sheets.proofs.Specified.{same_map}
-use Rattle.row_sheets.proofs.Runs.{duplex_runs_on, part_of_leaf, same_each, stack_runs_on}
+use Rattle.row_sheets.proofs.Runs.{duplex_runs_on, grid_runs_on, part_of_leaf, same_each, stack_runs_on}
 
 -- ---- a sheet shows its entries
 
@@ -32,6 +33,33 @@ sheet_shows : (f : Filling) (cells : ℕ) (entry : (s c : ℕ) → Option ℕ) (
 sheet_shows f cells entry s c within =
     ap shown_in (get_or-map-range_with_len (λ k. slot_on f (is_turned false s) k (entry s k)) 0 cells c c Blank within (omega arith))
     ∙ shown_is f (is_turned false s) c (entry s c)
+
+-- ---- cell by cell
+
+each_within : (g h : ℕ → Option ℕ) (a n : ℕ) → ((c : ℕ) → c < a + n → g c ≡ h c) → map g (range_with_len a n) ≡ map h (range_with_len a n)
+each_within g h a zero same = refl
+each_within g h a (suc n) same = ap₂ (λ (x : Option ℕ) (xs : Row). x ∷ xs) (same a (omega arith)) (each_within g h (a + 1) n (λ c less. same c (omega (arith, less))))
+
+cells_show : (f : Filling) (cells : ℕ) (entry : (s c : ℕ) → Option ℕ) (s : ℕ) → shown_on cells (sheet_in f cells entry s) ≡ map (entry s) (range_with_len 0 cells)
+cells_show f cells entry s = each_within (shown_at (sheet_in f cells entry s)) (entry s) 0 cells (λ c less. sheet_shows f cells entry s c (omega (arith, less)))
+
+joined : (g : MadeSheet → Row) (h : ℕ → MadeSheet) (xs : List ℕ) → flat_map g (map h xs) ≡ flat_map (λ x. g (h x)) xs
+joined g h [] = refl
+joined g h (x ∷ xs) = ap (λ (ys : Row). g (h x) ++ ys) (joined g h xs)
+
+pub grid_is_read : GridIsRead
+grid_is_read f cells row =
+    let sheets = blocks cells (length row) in
+    let entry = grid_entry cells row in
+    joined (shown_on cells) (sheet_in f cells entry) (range_with_len 0 sheets)
+    ∙ same_each (λ s. shown_on cells (sheet_in f cells entry s)) (λ s. map (entry s) (range_with_len 0 cells)) 0 sheets (λ s less. cells_show f cells entry s)
+    ∙ grid_runs_on cells sheets row
+
+pub cards_are_read : CardsAreRead
+cards_are_read f cells row =
+    let entry = card_entry row in
+    map-map (shown_on cells) (sheet_in f cells entry) (range_with_len 0 (length row))
+    ∙ same_map (λ s. shown_on cells (sheet_in f cells entry s)) (λ s. map (entry s) (range_with_len 0 cells)) (cells_show f cells entry) (range_with_len 0 (length row))
 
 -- ---- piles
 

@@ -1,5 +1,5 @@
--- How a stack is read: its sheets are cut, and the piles of their cells are laid on one another. All here is this project's
--- own rules.
+-- How sheets are read: cell by cell; and those of a stack once they are cut, and the piles of their cells laid on one another. All here
+-- is this project's own rules.
 use Rattle.std.specs.Prelude.{◌≡◌, ℕ, ◌+◌, ◌*◌, ◌<◌, ◌≤◌, nat_abs, Bool, true, false, not, if◌then◌else◌}
 use Rattle.std.specs.Prelude.{List, [], ◌∷◌, map, flat_map, length, slice_index_or, Option}
 use Rattle.std.specs.List.{range_with_len}
@@ -14,12 +14,32 @@ use Rattle.layouts.specs.Placed.{IsEven}
 use Rattle.layouts.specs.Cells.{column_of, high, read_columns, row_of, size, whole, wide}
 use Rattle.layouts.specs.Laws.{Cell, cell_at}
 use Rattle.layouts.specs.declared.setting.Setting.{Setting}
-use Rattle.row_sheets.specs.Filled.{Filling, behind_in, duplex_sheets, stack_sheets}
+use Rattle.row_sheets.specs.Filled.{Filling, behind_in, card_sheets, duplex_sheets, grid_sheets, stack_sheets}
 use Rattle.row_sheets.specs.Bound.{shown_in}
 
 -- what a sheet shows in cell c
 abbrev pub shown_at : MadeSheet → (c : ℕ) → Option ℕ
 shown_at sheet c = shown_in (slice_index_or sheet.slots c Blank)
+
+-- what it shows in so many cells, in their order
+abbrev pub shown_on : (cells : ℕ) → MadeSheet → Row
+shown_on cells sheet = map (shown_at sheet) (range_with_len 0 cells)
+
+-- cell by cell, and sheet by sheet, that is the row; after its end are blanks
+abbrev pub AreFilledInTurn : (cells : ℕ) → Row → List MadeSheet → Type 0
+AreFilledInTurn cells row made = flat_map (shown_on cells) made ≡ map (entry_of row) (range_with_len 0 (blocks cells (length row) * cells))
+
+-- so it is of a grid, as of `impose nup 4`: a law
+abbrev pub GridIsRead : Type 0
+GridIsRead = (f : Filling) (cells : ℕ) (row : Row) → AreFilledInTurn cells row (grid_sheets f cells row)
+
+-- each sheet shows one entry of the row in all of its cells
+abbrev pub AreCards : (cells : ℕ) → Row → List MadeSheet → Type 0
+AreCards cells row made = map (shown_on cells) made ≡ map (λ s. map (λ c. entry_of row s) (range_with_len 0 cells)) (range_with_len 0 (length row))
+
+-- so it is of cards: a law
+abbrev pub CardsAreRead : Type 0
+CardsAreRead = (f : Filling) (cells : ℕ) (row : Row) → AreCards cells row (card_sheets f cells row)
 
 -- the pile of a cell: its parts, from the first sheet to the last
 abbrev pub pile : List MadeSheet → (c : ℕ) → Row

@@ -8,7 +8,7 @@ ghost use Rattle.row_sheets.specs.Filled.{FilledIsInside, FilledIsApart, SidesAr
 ghost use Rattle.row_sheets.specs.Creep.{CreepMoves, CreepGrows, CreepKeepsSides, NoCreepIsPlain};
 ghost use Rattle.row_sheets.specs.Halves.{BookletKeepsGap, BookletLiesInHalves};
 ghost use Rattle.row_sheets.specs.Bound.{BookletIsRead};
-ghost use Rattle.row_sheets.specs.Stacked.{CellsLieBehind, LeavesAreRead, StackIsRead};
+ghost use Rattle.row_sheets.specs.Stacked.{CardsAreRead, CellsLieBehind, GridIsRead, LeavesAreRead, StackIsRead};
 ghost use Rattle.row_sheets.specs.Posters.{PosterCovers, PosterHasTiles, PosterIsInMiddle, PosterIsLarge, RowIsShown, TilesOverlap};
 ghost use Rattle.row_sheets.specs.SameScale.{HaveOneScale, OneScaleStands};
 ghost use Rattle.row_sheets.specs.Standing.{FilledStandsInCells};
@@ -22,6 +22,16 @@ pub fn by_spec_on_all()
 /// The cells of the sheets of a grid, sheet by sheet, are the row.
 pub fn grid_runs_on()
     ensures { GridRunsOn }
+{}
+
+/// The sheets of a grid show the row, cell by cell and sheet by sheet.
+pub fn grid_is_read()
+    ensures { GridIsRead }
+{}
+
+/// Each sheet of cards shows one entry of the row in all of its cells.
+pub fn cards_are_read()
+    ensures { CardsAreRead }
 {}
 
 /// The sheets of a stack, cut, with the piles of their cells laid on one another, are the row.
