@@ -12,22 +12,23 @@ use Rattle.layouts.specs.Cells.{size}
 use Rattle.layouts.specs.Placed.{Room}
 use Rattle.rows.specs.Sewing.{signing_of}
 use Rattle.row_sheets.specs.Bound.{as_bound, face, face_in, faces_from, is_first_left, shown_in}
-use Rattle.row_sheets.specs.Filled.{behind_in, is_turned}
-use Rattle.row_sheets.specs.Stacked.{pile, shown_at, turned_pile}
+use Rattle.row_sheets.specs.Filled.{behind_in, card_sheets, duplex_sheets, grid_sheets, is_turned, stack_sheets, zine_sheets}
+use Rattle.row_sheets.specs.Stacked.{pile, shown_at, shown_on, turned_pile}
+use Rattle.row_sheets.specs.Shapes.{filling}
+use Rattle.row_sheets.proofs.Stacking.{cards_are_read, grid_is_read, leaves_are_read, stack_is_read}
+use Rattle.row_sheets.proofs.Zines.{zine_is_read}
 use Rattle.row_sheets.specs.Zine.{in_hand, read_folded}
 use Rattle.pagespec.specs.Items.{turn_of}
 use Rattle.rules.specs.Papers.{Paper}
 use Rattle.row_runs.specs.declared.asked.Laying.{Laying}
 use Rattle.row_runs.specs.declared.asked.Laying.TheVariants as laying
 use Rattle.row_runs.specs.declared.asked.Scheme.TheVariants as scheme
-use Rattle.row_runs.specs.InPlaces.{StandInPlaces}
 use Rattle.row_runs.specs.Mirrored.{mirror_on, mirrored_from, moved_sheet, moved_slot}
 use Rattle.row_runs.specs.ReadAsBound.{AreReadAs}
 use Rattle.row_runs.specs.Runs.{mirror_for, page_count}
-use Rattle.row_runs.specs.Sheets.{laying_for, sewn}
+use Rattle.row_runs.specs.Sheets.{laying_for, leaves_in, sewn, sheets_laid}
 use Rattle.row_runs.specs.Turning.{turned_sheet, turned_slot}
 use Rattle.row_runs.specs.Written.{AreReadInOrder, WrittenAreRead, WrittenIsBound}
-use Rattle.row_runs.proofs.Fit.{asked_stand_in_places}
 use Rattle.row_runs.proofs.ReadInOrder.{asked_is_read}
 
 -- ---- a sheet
@@ -50,6 +51,19 @@ written_from turn m s laid = map (turned_sheet turn) (mirrored_from m s laid)
 
 same_at : (turn : Turn) (m : Option Room) (sheet : MadeSheet) (c : ℕ) → shown_at (written turn m sheet) c ≡ shown_at sheet c
 same_at turn m sheet c = same_shown turn m sheet.slots c
+
+-- ---- grids and cards
+
+same_cells : (turn : Turn) (m : Option Room) (cells : ℕ) (sheet : MadeSheet) → shown_on cells (written turn m sheet) ≡ shown_on cells sheet
+same_cells turn m cells sheet = ap (λ (f : ℕ → Option ℕ). map f (range_with_len 0 cells)) (λ i c. same_at turn m sheet c i)
+
+same_grid : (turn : Turn) (m : Option Room) (s cells : ℕ) (laid : List MadeSheet) → flat_map (shown_on cells) (written_from turn m s laid) ≡ flat_map (shown_on cells) laid
+same_grid turn m s cells [] = refl
+same_grid turn m s cells (sheet ∷ laid) = ap₂ (λ (x y : Row). x ++ y) (same_cells turn (mirror_on m s) cells sheet) (same_grid turn m (s + 1) cells laid)
+
+same_cards : (turn : Turn) (m : Option Room) (s cells : ℕ) (laid : List MadeSheet) → map (shown_on cells) (written_from turn m s laid) ≡ map (shown_on cells) laid
+same_cards turn m s cells [] = refl
+same_cards turn m s cells (sheet ∷ laid) = ap₂ (λ (x : Row) (xs : List Row). x ∷ xs) (same_cells turn (mirror_on m s) cells sheet) (same_cards turn m (s + 1) cells laid)
 
 -- ---- stacks
 
@@ -84,22 +98,24 @@ same_faces b turned_backs turn m s n (side ∷ laid) =
 
 -- ---- what is written
 
-read_as_laid : (l : Laying) (papers : List Paper) (row : Row) (turn : Turn) (m : Option Room) (laid : List MadeSheet) → StandInPlaces l papers row laid → AreReadInOrder l row (written_from turn m 0 laid)
-read_as_laid (laying.InCells t (scheme.Stack cells)) papers row turn m laid h = ap (λ (f : ℕ → Row). flat_map f (range_with_len 0 cells)) (λ i c. same_pile turn m 0 laid c i) ∙ h.1
-read_as_laid (laying.InCells t scheme.Leaves) papers row turn m laid h = ap (λ (f : ℕ → Row). flat_map f (range_with_len 0 (size t.grid))) (λ i c. same_leaves turn m 0 laid c (behind_in t c) i) ∙ h.1
-read_as_laid (laying.InCells t scheme.Zine) papers row turn m laid h = same_folded turn m 0 laid ∙ h.0
-read_as_laid (laying.InCells t (scheme.Grid cells)) papers row turn m laid h = tt
-read_as_laid (laying.InCells t (scheme.Cards cells)) papers row turn m laid h = tt
-read_as_laid (laying.InCells t (scheme.Booklet turned_backs creep)) papers row turn m laid h = tt
-read_as_laid (laying.AsTheyAre blank) papers row turn m laid h = tt
-read_as_laid (laying.Poster p) papers row turn m laid h = tt
+read_as_laid : (l : Laying) (leaves : ℕ) (papers : List Paper) (row : Row) (turn : Turn) (m : Option Room) → AreReadInOrder l row (written_from turn m 0 (sheets_laid l leaves papers row))
+read_as_laid (laying.InCells t (scheme.Grid cells)) leaves papers row turn m = same_grid turn m 0 cells (grid_sheets (filling t papers) cells row) ∙ grid_is_read (filling t papers) cells row
+read_as_laid (laying.InCells t (scheme.Cards cells)) leaves papers row turn m = same_cards turn m 0 cells (card_sheets (filling t papers) cells row) ∙ cards_are_read (filling t papers) cells row
+read_as_laid (laying.InCells t (scheme.Stack cells)) leaves papers row turn m =
+    ap (λ (f : ℕ → Row). flat_map f (range_with_len 0 cells)) (λ i c. same_pile turn m 0 (stack_sheets (filling t papers) cells row) c i) ∙ stack_is_read (filling t papers) cells row
+read_as_laid (laying.InCells t scheme.Leaves) leaves papers row turn m =
+    ap (λ (f : ℕ → Row). flat_map f (range_with_len 0 (size t.grid))) (λ i c. same_leaves turn m 0 (duplex_sheets (filling t papers) row) c (behind_in t c) i) ∙ leaves_are_read (filling t papers) row
+read_as_laid (laying.InCells t scheme.Zine) leaves papers row turn m = same_folded turn m 0 (zine_sheets (filling t papers) row) ∙ zine_is_read (filling t papers) row
+read_as_laid (laying.InCells t (scheme.Booklet turned_backs creep)) leaves papers row turn m = tt
+read_as_laid (laying.AsTheyAre blank) leaves papers row turn m = tt
+read_as_laid (laying.Poster p) leaves papers row turn m = tt
 
 pub written_are_read : WrittenAreRead
 written_are_read j made are =
-    let l = laying_for j.asked j.papers.now are.asked.row in
     let row = signed (sewn j.asked) are.asked.row in
-    subst (AreReadInOrder l row) (sym are.turned)
-    (read_as_laid l j.papers.now row (turn_of j.turn) (mirror_for j) are.laid (asked_stand_in_places (page_count j) j.papers.now j.asked are.laid are.may are.asked))
+    let l = laying_for j.asked j.papers.now are.asked.row in
+    subst (AreReadInOrder l row) (sym (are.turned ∙ ap (λ (xs : List MadeSheet). written_from (turn_of j.turn) (mirror_for j) 0 xs) are.asked.are_laid))
+    (read_as_laid l (leaves_in (sewn j.asked) are.asked.row) j.papers.now row (turn_of j.turn) (mirror_for j))
 
 pub written_is_bound : WrittenIsBound
 written_is_bound j made t turned_backs creep how are is sewn_so =

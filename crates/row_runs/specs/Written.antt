@@ -19,7 +19,7 @@ use Rattle.pagespec.specs.Items.{turn_of}
 use Rattle.row_runs.specs.Mirrored.{mirrored, room_on}
 use Rattle.rows.specs.Sewing.{signing_of}
 use Rattle.rows.specs.declared.sewing.Signing.{Signing}
-use Rattle.row_sheets.specs.Stacked.{ArePiled, ArePiledLeaves}
+use Rattle.row_sheets.specs.Stacked.{AreCards, AreFilledInTurn, ArePiled, ArePiledLeaves}
 use Rattle.row_runs.specs.ReadAsBound.{AreReadAs}
 use Rattle.row_runs.specs.InPlaces.{StandInPlaces}
 use Rattle.row_runs.specs.Runs.{AreTurned, mirror_for}
@@ -70,14 +70,17 @@ WrittenInPlaces = (j : RowJob) (made : List MadeSheet) → (are : AreTurned j ma
 
 -- ---- in order, also turned
 
--- a stack's sheets, cut and laid, or a zine's, folded and cut, are the row
+-- cells that are filled in turn are the row, and each sheet of cards has one entry of it; a stack's sheets, cut and laid, or a zine's,
+-- folded and cut, are the row
 abbrev pub AreReadInOrder : Laying → Row → List MadeSheet → Type 0
+AreReadInOrder (laying.InCells t (scheme.Grid cells)) row made = AreFilledInTurn cells row made
+AreReadInOrder (laying.InCells t (scheme.Cards cells)) row made = AreCards cells row made
 AreReadInOrder (laying.InCells t (scheme.Stack cells)) row made = ArePiled cells row made
 AreReadInOrder (laying.InCells t scheme.Leaves) row made = ArePiledLeaves t row made
 AreReadInOrder (laying.InCells t scheme.Zine) row made = AreReadFolded row made
 AreReadInOrder other row made = ⊤
 
--- so it is of the sheets that are written, as by `impose stack 4 --duplex --turn left`: a law
+-- so it is of the sheets that are written, as by `impose nup 4 --turn left`: a law
 abbrev pub WrittenAreRead : Type 0
 WrittenAreRead = (j : RowJob) (made : List MadeSheet) → (are : AreTurned j made)
     → AreReadInOrder (laying_for j.asked j.papers.now are.asked.row) (signed (sewn j.asked) are.asked.row) made

@@ -47,7 +47,7 @@ pub fn turned_stays_in_cell()
 
 /// What is written keeps its place. If no page is turned, the sheets stand as they are laid, each back between the margins of its
 /// side (`stand`), and in their places (`places`). Turned or not, each page lies in its cell (`cells`), and untrimmed ones between
-/// the margins and apart (`room`); stacks and zines (`read`) and booklets (`bound`) are read in the order of the row.
+/// the margins and apart (`room`); cells, stacks and zines (`read`) and booklets (`bound`) are read in the order of the row.
 pub fn written_keeps_place()
     ensures stand { WrittenStand }
     ensures places { WrittenInPlaces }
