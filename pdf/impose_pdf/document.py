@@ -3,7 +3,6 @@
 import io
 import os
 import re
-import sys
 from collections.abc import Iterator
 from typing import Any
 
@@ -23,7 +22,8 @@ LEAST, MOST = 1, 100_000  # points: the sides of pages that impose knows
 def content(name: str) -> bytes | None:
     """What an INFILE holds that is no plain file; None for a plain one."""
     if name == "-":
-        return sys.stdin.buffer.read()
+        with open(0, "rb", closefd=False) as stream:
+            return stream.read()
     if os.path.isfile(name):
         return None
     with open(name, "rb") as stream:

@@ -4,7 +4,6 @@ import io
 import os
 import signal
 import stat
-import sys
 from typing import Any
 
 from pikepdf import ObjectStreamMode, Pdf, StreamDecodeLevel
@@ -99,7 +98,7 @@ class Outfile:
 
     def hand_over(self, data: memoryview) -> None:
         """Writes to standard output, a device or a pipe."""
-        sink = Sink(sys.stdout.fileno() if self.given == "-" else os.open(self.given, os.O_WRONLY))
+        sink = Sink(1 if self.given == "-" else os.open(self.given, os.O_WRONLY))
         sink.write(data)
         sink.end()
 

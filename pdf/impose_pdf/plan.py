@@ -134,7 +134,7 @@ class Imposer:
         self.program, self.request, self.count = program, request, len(sizes)
         self.stub = stub(sizes, paper)
 
-    def run(self, *added: str) -> tuple[str, str]:
+    def run(self, *added: str) -> tuple[bytes, str]:
         """What it prints and what it says, with options put before its other words. A refusal is handed on."""
         words = [self.program, self.request.command, *added, *self.request.words, "-", "-"]
         try:
@@ -146,7 +146,7 @@ class Imposer:
                 r"\bimpose (.*)in\.ps out\.ps", r"impose-pdf \1in.pdf out.pdf", done.stderr.decode(errors="replace")
             )
             raise Refusal(done.returncode if 0 < done.returncode <= 3 else 3, told)
-        return done.stdout.decode(errors="replace"), done.stderr.decode(errors="replace")
+        return done.stdout, done.stderr.decode(errors="replace")
 
     def sheets(self) -> tuple[list[Sheet], str]:
         """The sheets, and impose's report."""
@@ -154,7 +154,7 @@ class Imposer:
         # Of all pages, spec leaves the sheets' paper out.
         added += ["--pages", "1-"] if self.request.command == "spec" and "--pages" not in self.request.options else []
         text, report = self.run(*added)
-        sheets = read(text)
+        sheets = read(text.decode(errors="replace"))
         if any(placed.page >= self.count for sheet in sheets for placed in sheet.placed):
             raise refusal(3, "impose places pages that there aren't")
         return sheets, report
@@ -164,5 +164,5 @@ class Imposer:
         if self.request.command == "spec":
             return ""
         text, _ = self.run("--plan", *(["--quiet"] if "--quiet" not in self.request.options else []))
-        found = re.search(r"^print on both sides, flip on the (short|long) edge$", text, re.MULTILINE)
-        return found[1] if found else ""
+        found = re.search(rb"^print on both sides, flip on the (short|long) edge$", text, re.MULTILINE)
+        return found[1].decode() if found else ""

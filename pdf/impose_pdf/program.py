@@ -4,7 +4,6 @@ import os
 import re
 import shutil
 import signal
-import sys
 
 from impose_pdf import words as said
 from impose_pdf.plan import Imposer, usual
@@ -23,22 +22,35 @@ def imposer(here: str) -> str:
     return named
 
 
+def put(text: bytes) -> None:
+    """Writes to standard output."""
+    with open(1, "wb", closefd=False) as stream:
+        stream.write(text)
+
+
+def say(text: str) -> None:
+    """Writes to standard error, if it takes anything."""
+    try:
+        os.write(2, text.encode(errors="backslashreplace"))
+    except OSError:
+        pass
+
+
 def main(words: list[str], here: str) -> int:
     """Runs the program, and gives its exit status."""
     signal.signal(signal.SIGINT, signal.SIG_DFL)
     try:
         run(words, here)
-        sys.stdout.flush()
     except Refusal as refused:
-        sys.stderr.write(str(refused))
+        say(str(refused))
         return refused.status
     except BrokenPipeError:
         return 3
     except MemoryError:
-        sys.stderr.write("impose-pdf: out of memory\n")
+        say("impose-pdf: out of memory\n")
         return 3
     except OSError as error:
-        sys.stderr.write(f"impose-pdf: cannot write to standard output: {(error.strerror or '').lower()}\n")
+        say(f"impose-pdf: cannot write to standard output: {(error.strerror or '').lower()}\n")
         return 3
     return 0
 
@@ -48,7 +60,7 @@ def run(words: list[str], here: str) -> None:
     if not words:
         raise Refusal(2, said.USAGE)
     if words[0] in ("-h", "--help") or words == ["help"]:
-        sys.stdout.write(said.USAGE)
+        put(said.USAGE.encode())
         return
     request = said.read(words)
     if words[0] in ("help", "-V", "--version") or "--help" in request.options:
@@ -62,13 +74,16 @@ def run(words: list[str], here: str) -> None:
         raise refusal(3, "pikepdf is missing: install python3-pikepdf") from None
     try:
         impose(request, imposer(here))
-    except (pikepdf.PdfError, pikepdf.ForeignObjectError, RuntimeError) as error:
+    except (pikepdf.PdfError, pikepdf.ForeignObjectError, RuntimeError, LookupError, TypeError, ValueError) as error:
+        # which pikepdf has for things that a PDF mustn't have
         names = ", ".join(shown(name) for name, _ in request.infiles)
-        raise refusal(1, f"{names}: {error}") from None
+        raise refusal(1, f"{names} can't be put on sheets: {error}") from None
 
 
 def look_at_words(request: Request, program: str) -> None:
     """Refuses mistakes among impose's words, which may be why other words were taken for files."""
+    if "--preview" in request.options:
+        return  # it would be drawn
     try:
         Imposer(program, request, [A4], A4).run()
     except Refusal as refused:
@@ -96,14 +111,14 @@ def impose(request: Request, program: str) -> None:
     imposer = Imposer(program, request, sizes, usual(of_first))
     if outfile is None:
         text, report = imposer.run()
-        sys.stdout.write(text)
+        put(text)
     else:
         sheets, report = imposer.sheets()
         making = Making(row)
         making.make(sheets, turn_to_read(request, sheets), imposer.flip())
         outfile.write(making.pdf)
-    sys.stderr.write("".join(source.warning() for source in opened.values()))
-    sys.stderr.write(reported(report, len(set(sizes)) == 1))
+    say("".join(source.warning() for source in opened.values()))
+    say(reported(report, len(set(sizes)) == 1))
 
 
 def reported(report: str, is_one_size: bool) -> str:

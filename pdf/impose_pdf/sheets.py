@@ -16,15 +16,15 @@ SIDES: dict[int, tuple[int, int]] = {0: (1, 0), 90: (0, 1), 180: (-1, 0), 270: (
 
 
 def drawing(sheet: Sheet) -> bytes:
-    """The content of a sheet: its pages, cut at their papers, and over them lines and numbers."""
+    """The content of a sheet: its pages, each cut at its paper and over its border, and then lines and numbers."""
     lines = []
     for placed in sheet.placed:
-        lines.append(f"q {numerals(*placed.matrix)} cm q 0 0 {numerals(*placed.paper)} re W n /P{placed.page} Do Q")
+        lines.append(f"q {numerals(*placed.matrix)} cm 0 0 {numerals(*placed.paper)} re W n")
         if placed.border:
             pen, *corners = placed.border
-            ways = " l ".join(numerals(*corners[k : k + 2]) for k in (2, 4, 6))
-            lines.append(f"0 G {numerals(pen)} w {numerals(*corners[:2])} m {ways} l s")
-        lines.append("Q")
+            path = " l ".join(numerals(*corners[k : k + 2]) for k in (2, 4, 6))
+            lines.append(f"q {numerals(pen)} w {numerals(*corners[:2])} m {path} l s Q")
+        lines.append(f"/P{placed.page} Do Q")
     if sheet.strokes:
         lines.append("q 0 G .25 w")
         lines += [f"{numerals(*stroke[:2])} m {numerals(*stroke[2:])} l S" for stroke in sheet.strokes]

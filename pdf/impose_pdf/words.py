@@ -43,7 +43,8 @@ WITH_VALUE = {
 LOOKS = ("--plan", "--preview", "--print-spec")
 LETTERS = {"p": "--paper", "q": "--quiet", "h": "--help", "V": "--version"}
 
-RANGES = re.compile(r"_?\d+(-(_?\d+)?)?(,_?\d+(-(_?\d+)?)?)*")
+PAGE = "_?[0-9]{1,9}"
+RANGES = re.compile(f"{PAGE}(-({PAGE})?)?(,{PAGE}(-({PAGE})?)?)*")
 
 
 class Refusal(Exception):
@@ -81,15 +82,14 @@ def shown(name: str) -> str:
         return "standard input"
     if name.isprintable():
         return shlex.quote(name)
-    letters = "".join(
-        c if c.isprintable() and c not in "\\'" else "".join(f"\\x{b:02x}" for b in code(c)) for c in name
-    )
-    return f"$'{letters}'"
+    return f"$'{''.join(map(letter, name))}'"
 
 
-def code(letter: str) -> bytes:
-    """The bytes of a letter of a file's name."""
-    return letter.encode(errors="surrogateescape")
+def letter(sign: str) -> str:
+    """A sign of a name in a string of the shell's, by its bytes if it isn't printable."""
+    if sign.isprintable() and sign not in "\\'":
+        return sign
+    return "".join(f"\\x{byte:02x}" for byte in sign.encode(errors="surrogateescape"))
 
 
 def read(words: list[str]) -> Request:
@@ -127,36 +127,35 @@ def option_of(word: str) -> tuple[str, str, bool]:
 
 
 def name_files(request: Request, names: list[str]) -> None:
-    """Takes the words that name files, each with the RANGES after it; the last is OUTFILE, which a look needs not."""
-    files: list[tuple[str, str]] = []
+    """Takes the words that name files, each with the RANGES after it. The last is OUTFILE, which a look needs not."""
+    if "" in names:
+        raise refusal(2, "INFILE and OUTFILE have names, or are -")
+    files = request.infiles
     for name in names:
         if files and not files[-1][1] and RANGES.fullmatch(name):
             files[-1] = files[-1][0], name
         else:
             files.append((name, ""))
+    if files and files[-1][1] and not request.looks:
+        raise refusal(
+            2, f"OUTFILE is missing after {shown(files[-1][0])} {files[-1][1]}; ./{files[-1][1]} names a file"
+        )
     if len(files) > 1 and not files[-1][1]:
         request.outfile = files.pop()[0]
-    elif files and not request.looks and files[-1][1] and len(files) > 0:
-        raise refusal(2, f"OUTFILE is missing after {files[-1][0]} {files[-1][1]}; ./{files[-1][1]} names a file")
-    request.infiles = files
-    for name in [*(name for name, _ in files), *([request.outfile] if len(names) > 1 else [])]:
-        if not name and not (request.looks and name == request.outfile):
-            raise refusal(2, "INFILE and OUTFILE have names, or are -")
 
 
 def pages_of(ranges: str, count: int, name: str) -> list[int]:
     """The pages, from 0, that RANGES choose among so many of a file."""
     chosen: list[int] = []
-    for item in ranges.split(",") if ranges else ["1-"]:
+    for item in ranges.split(",") if ranges else ():
         first, dash, last = item.partition("-")
-        ends = place(first, count), place(last, count) if last else count if dash else place(first, count)
-        if not ranges and not count:
-            break
-        if not all(1 <= end <= count for end in ends):
+        begin = place(first, count)
+        end = place(last, count) if last else count if dash else begin
+        if not (1 <= begin <= count and 1 <= end <= count):
             raise refusal(1, f"{shown(name)} has pages 1 to {count} only, and {item} is asked for")
-        step = 1 if ends[0] <= ends[1] else -1
-        chosen += range(ends[0] - 1, ends[1] - 1 + step, step)
-    return chosen
+        step = 1 if begin <= end else -1
+        chosen += range(begin - 1, end - 1 + step, step)
+    return chosen if ranges else list(range(count))
 
 
 def place(word: str, count: int) -> int:
