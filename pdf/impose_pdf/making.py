@@ -14,7 +14,7 @@ from impose_pdf.trees import add_layers, free, tree_of
 # What the catalog keeps. Tags, threads, scripts, fields and signatures go, and all by which an old page could stay.
 KEPT = {
     *("/Type", "/Version", "/Extensions", "/PageMode", "/Metadata", "/Lang", "/OCProperties", "/OutputIntents", "/AF"),
-    "/URI",
+    *("/URI", "/Collection"),
 }
 KEPT_OF_TRAILER = {"/Root", "/Info", "/ID", "/Size", "/Encrypt"}
 
