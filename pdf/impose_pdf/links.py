@@ -1,5 +1,6 @@
 """What leads somewhere: destinations, names, actions and links of a PDF, made anew so that they lead to sheets."""
 
+import re
 from collections.abc import Iterator
 from copy import copy
 from dataclasses import dataclass
@@ -15,6 +16,7 @@ from impose_pdf.trees import free, named
 KEPT_ACTIONS = {"/URI", "/GoToR", "/GoToE", "/Launch", "/Named", "/SetOCGState"}
 LOST = {"/P", "/Parent", "/Popup", "/StructParent", "/AA", "/AP", "/AS", "/Dest", "/A", "/QuadPoints"}
 DEEPEST = 100  # of actions after actions
+TARGET = re.compile(rb"\[ ([0-9]+) (?:([0-9]+) R )?(.*)\]", re.DOTALL)  # a page by its number, or as an object
 POINTS = {b"/XYZ": (0, 1), b"/FitV": (0, None), b"/FitBV": (0, None), b"/FitH": (None, 0), b"/FitBH": (None, 0)}
 
 
@@ -30,7 +32,7 @@ class Link:
 
 
 def number(word: bytes) -> float | None:
-    """A number of a destination; null for one stays as it is on the screen."""
+    """A number of a destination; null, which leaves that of the screen, is none."""
     try:
         return float(word)
     except ValueError:
@@ -58,12 +60,11 @@ class Ways:
     def lead(self, dest: Any) -> Any:
         """Where a destination leads now, or None if its page isn't on a sheet."""
         if isinstance(dest, Array):
-            words = dest.unparse(True)[1:-1].split()
-            if words[2:3] == [b"R"]:
-                page = self.numbers.get((int(words[0]), int(words[1])), -1)
-                return self.led(page, words[3:]) if page in self.first else None
-            page = int(words[0]) if words and words[0].isdigit() else -1
-            return self.led(page, words[1:]) if page in self.first else None
+            if not (match := TARGET.match(dest.unparse(True))):
+                return None
+            page, of_page, rest = match.groups()
+            target = int(page) if of_page is None else self.numbers.get((int(page), int(of_page)), -1)
+            return self.led(target, rest.split()) if target in self.first else None
         if isinstance(dest, String):
             new = self.renamed.get(bytes(dest))
             return None if new is None else String(new)
@@ -123,7 +124,8 @@ class Ways:
             following = action.get("/Next")
             all_following = list(following) if isinstance(following, Array) else [following]
             led = [self.lead_action(each, depth + 1) for each in all_following]
-            made.Next = Array([each for each in led if each is not None])
+            if kept := [each for each in led if each is not None]:
+                made.Next = Array(kept)
         return made
 
     def lead_holder(self, holder: Any) -> tuple[str, Any] | None:

@@ -11,7 +11,7 @@ from collections.abc import Sequence
 from dataclasses import dataclass, field
 
 from impose_pdf.lines import Lines
-from impose_pdf.words import Refusal, Request, refusal
+from impose_pdf.words import Refusal, Request, refusal, shown
 
 Matrix = tuple[float, float, float, float, float, float]
 Size = tuple[float, float]
@@ -136,23 +136,23 @@ class Imposer:
 
     def run(self, *added: str) -> tuple[bytes, str]:
         """What it prints and what it says, with options put before its other words. A refusal is handed on."""
-        words = [self.program, self.request.command, *added, *self.request.words, "-", "-"]
+        unguarded = [] if "--unguarded" in self.request.options else ["--unguarded"]
+        words = [self.program, self.request.command, *unguarded, *added, *self.request.words, "-", "-"]
         try:
             done = subprocess.run(words, input=self.stub, capture_output=True)
         except OSError as error:
             raise refusal(3, f"cannot run {self.program}: {error.strerror}") from None
+        told = done.stderr.decode(errors="replace")
         if done.returncode:
-            told = re.sub(
-                r"\bimpose (.*)in\.ps out\.ps", r"impose-pdf \1in.pdf out.pdf", done.stderr.decode(errors="replace")
-            )
-            raise Refusal(done.returncode if 0 < done.returncode <= 3 else 3, told)
-        return done.stdout, done.stderr.decode(errors="replace")
+            told = re.sub(r"\bimpose (.*)in\.ps out\.ps", r"impose-pdf \1in.pdf out.pdf", told)
+            told = told.replace("standard input", ", ".join(shown(name) for name, _ in self.request.infiles))
+            raise Refusal(min(done.returncode % 256, 3), told or f"impose-pdf: impose fails with {done.returncode}\n")
+        return done.stdout, told
 
     def sheets(self) -> tuple[list[Sheet], str]:
         """The sheets, and impose's report."""
-        added = [] if "--unguarded" in self.request.options else ["--unguarded"]
         # Of all pages, spec leaves the sheets' paper out.
-        added += ["--pages", "1-"] if self.request.command == "spec" and "--pages" not in self.request.options else []
+        added = ["--pages", "1-"] if self.request.command == "spec" and "--pages" not in self.request.options else []
         text, report = self.run(*added)
         sheets = read(text.decode(errors="replace"))
         if any(placed.page >= self.count for sheet in sheets for placed in sheet.placed):
