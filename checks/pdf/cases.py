@@ -69,11 +69,12 @@ class Case:
 
 @dataclass
 class Document:
-    """A PDF by its name: made of lines, or one of cases/pdfs."""
+    """A PDF by its name, made of lines, or one of cases/pdfs; or an image."""
 
     lines: list[str]
     seed: int
     path: Path | None = None
+    image: str = ""
 
     @cached_property
     def made(self) -> Made:
@@ -81,6 +82,8 @@ class Document:
 
     @cached_property
     def data(self) -> bytes:
+        if self.image:
+            return making.image(self.lines, self.image)
         return self.path.read_bytes() if self.path else self.made.data
 
 
@@ -124,6 +127,8 @@ def read(path: Path) -> list[Case]:
         word, _, rest = head.partition(" ")
         if word == "pdf":
             documents[rest] = Document(below, 1 + (len(documents) - len(real)) % 13)
+        elif word == "image":
+            documents[rest] = Document(below, 0, image=rest)
         elif word == "case":
             name = rest
         elif word == "$":

@@ -14,6 +14,7 @@ from typing import Any
 
 import pikepdf
 from pikepdf import Array, Dictionary, Name, Pdf, String
+from PIL import Image
 
 Box = tuple[float, float, float, float]
 Colour = tuple[int, int, int]
@@ -402,3 +403,19 @@ def made(lines: list[str], seed: int) -> Made:
     for line in lines:
         maker.line(line)
     return maker.made()
+
+
+def image(lines: list[str], name: str) -> bytes:
+    """A JPEG or PNG, by its name, as `size WxH`, `dpi N`, `turned N` (of a photograph) and `colour R,G,B` say."""
+    values = dict(line.split() for line in lines)
+    width, height = (int(side) for side in values["size"].split("x"))
+    red, green, blue = (int(part) for part in values["colour"].split(","))
+    picture, out, how = Image.new("RGB", (width, height), (red, green, blue)), io.BytesIO(), dict[str, Any]()
+    if "dpi" in values:
+        how["dpi"] = (int(values["dpi"]), int(values["dpi"]))
+    if "turned" in values:
+        exif = Image.Exif()
+        exif[0x112] = int(values["turned"])
+        how["exif"] = exif
+    picture.save(out, "PNG" if name.endswith(".png") else "JPEG", **how)
+    return out.getvalue()

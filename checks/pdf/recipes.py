@@ -10,7 +10,7 @@ import subprocess
 import tempfile
 from pathlib import Path
 
-from . import checks, reading
+from . import checks, making, reading
 from .cases import ROOT, Case, Document, Programs, ran, tidied
 
 # What the documents of the recipes are.
@@ -30,6 +30,10 @@ DOCUMENTS = {
     "cards.pdf": ["page 257.953x172.913 times 12"],
     "book.pdf": ["page 595x842 times 12"],
     "scan.pdf": ["page 595x842 times 4"],
+    "cover.pdf": ["page 595x842 times 2"],
+    "text.pdf": ["page 595x842 times 6"],
+    "notes.pdf": ["page 595x842 times 4"],
+    "rest.pdf": ["page 595x842 times 3"],
 }
 
 
@@ -49,10 +53,12 @@ def cases() -> list[Case]:
     found = []
     for number, line in enumerate(told(), 1):
         case = Case("recipes", number, line, line, documents)
-        is_plain = not set("|;&<>") & set(line)
+        is_plain = not set("|;&<>*") & set(line)
         looks = checks.LOOKS & set(shlex.split(line)) if is_plain else set()
         if is_plain and not looks:
-            case.wanted = [("laid", "", []), ("words", "", [])]
+            # Words that a sheet or a paper cuts off are on no sheet.
+            is_cut = {"poster", "spec", "--paper"} & set(shlex.split(line))
+            case.wanted = [("laid", "", [])] + [("words", "", [])] * (not is_cut)
         elif "--preview" not in looks:
             case.wanted = [("prints-as-impose", "", [])]
         found.append(case)
@@ -63,7 +69,7 @@ def tried(case: Case, programs: Programs) -> list[str]:
     """The faults of a recipe."""
     folder = Path(tempfile.mkdtemp())
     try:
-        if "--preview" in case.command or set("|;&<>") & set(case.command):
+        if "--preview" in case.command or set("|;&<>*") & set(case.command):
             return typed(case, programs, folder)
         return checks.faults(ran(case, programs, folder))
     finally:
@@ -75,6 +81,9 @@ def typed(case: Case, programs: Programs, folder: Path) -> list[str]:
     for name, document in case.documents.items():
         if name in case.command:
             (folder / name).write_bytes(document.data)
+    if "*.jpg" in case.command:
+        for name in ("a.jpg", "b.jpg"):
+            (folder / name).write_bytes(making.image(["size 192x96", "colour 255,0,0"], name))
     tools = folder / "bin"
     tools.mkdir()
     (tools / "impose-pdf").symlink_to(programs.impose_pdf)
