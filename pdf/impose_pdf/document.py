@@ -94,11 +94,14 @@ class Source:
 
     def __init__(self, name: str):
         self.name, self.pdf = name, opened(name)
-        self.root = self.pdf.Root
-        self.pages = list(leaves(self.root.get("/Pages")))
+        try:
+            self.root = self.pdf.Root
+            self.pages = list(leaves(self.root.get("/Pages")))
+            self.shapes = [shape_of(page, entries) for page, entries in self.pages]
+        except PdfError as error:
+            raise refusal(1, f"{shown(name)} can't be read: {cause(error, name)}") from None
         if not self.pages:
             raise refusal(1, f"{shown(name)} has no pages")
-        self.shapes = [shape_of(page, entries) for page, entries in self.pages]
 
     def taken(self, ranges: str) -> list[int]:
         """The pages that RANGES choose."""

@@ -40,22 +40,23 @@ class Sink(io.RawIOBase):
             raise self.error
 
 
-def save(pdf: Pdf, stream: Any) -> None:
-    """Writes a PDF to a stream; its own streams stay as they are."""
+def save(pdf: Pdf, stream: Any, is_packed: bool) -> None:
+    """Writes a PDF to a stream. Streams stay as they are, but for those without Flate, if they are to be packed."""
     pdf.save(
         stream,
         min_version="1.7",
         fix_metadata_version=False,
         object_stream_mode=ObjectStreamMode.generate,
-        stream_decode_level=StreamDecodeLevel.none,
+        compress_streams=is_packed,
+        stream_decode_level=StreamDecodeLevel.generalized if is_packed else StreamDecodeLevel.none,
         encryption=False,
     )
 
 
-def saved(pdf: Pdf) -> memoryview:
+def saved(pdf: Pdf, is_packed: bool) -> memoryview:
     """The bytes of a PDF."""
     made = io.BytesIO()
-    save(pdf, made)
+    save(pdf, made, is_packed)
     return made.getbuffer()
 
 
@@ -87,14 +88,21 @@ class Outfile:
     def write(self, pdf: Pdf) -> None:
         """Writes the PDF, or leaves the place as it was."""
         try:
-            if self.is_file:
-                self.replace(pdf)
-            else:
-                self.hand_over(saved(pdf))
+            try:
+                self.put(pdf, True)
+            except RuntimeError:  # a stream can't be unpacked
+                self.put(pdf, False)
         except BrokenPipeError:
             raise Refusal(3, "") from None  # a reader that leaves knows why
         except OSError as error:
             raise refusal(3, f"cannot write {self.name}: {(error.strerror or str(error)).lower()}") from None
+
+    def put(self, pdf: Pdf, is_packed: bool) -> None:
+        """Writes the PDF, with streams packed anew or not."""
+        if self.is_file:
+            self.replace(pdf, is_packed)
+        else:
+            self.hand_over(saved(pdf, is_packed))
 
     def hand_over(self, data: memoryview) -> None:
         """Writes to standard output, a device or a pipe."""
@@ -102,16 +110,16 @@ class Outfile:
         sink.write(data)
         sink.end()
 
-    def replace(self, pdf: Pdf) -> None:
+    def replace(self, pdf: Pdf, is_packed: bool) -> None:
         """Puts a new file in the old one's place. It gets a name when it is whole, so no signal leaves a part of it."""
         path = os.path.join(self.folder, f".impose-pdf.{os.getpid()}")
         try:
             made = os.open(self.folder, os.O_TMPFILE | os.O_WRONLY, 0o666)
         except OSError:
-            return self.replace_by_name(saved(pdf), path)
+            return self.replace_by_name(saved(pdf, is_packed), path)
         sink = Sink(made)
         with io.BufferedWriter(sink, 1 << 20) as stream:
-            save(pdf, stream)
+            save(pdf, stream, is_packed)
         self.finish(sink)
         os.link(f"/proc/self/fd/{made}", path, src_dir_fd=made)  # which makes it follow that link
         self.rename(path)
