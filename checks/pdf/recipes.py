@@ -58,7 +58,7 @@ def cases() -> list[Case]:
         if is_plain and not looks:
             # Words that a sheet or a paper cuts off are on no sheet.
             is_cut = {"poster", "spec", "--paper"} & set(shlex.split(line))
-            case.wanted = [("laid", "", [])] + [("words", "", [])] * (not is_cut)
+            case.wanted += [(word, "", []) for word in (["laid"] if is_cut else ["laid", "words"])]
         elif "--preview" not in looks:
             case.wanted = [("prints-as-impose", "", [])]
         found.append(case)
