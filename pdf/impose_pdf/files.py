@@ -60,6 +60,14 @@ def saved(pdf: Pdf, is_packed: bool) -> memoryview:
     return made.getbuffer()
 
 
+def nameless(folder: str) -> int | None:
+    """A new file in a folder, without a name as yet, or None where there can't be one."""
+    try:
+        return os.open(folder, os.O_TMPFILE | os.O_WRONLY, 0o666) if os.path.isdir("/proc/self/fd") else None
+    except OSError:
+        return None
+
+
 class Outfile:
     """A place for a PDF."""
 
@@ -113,15 +121,17 @@ class Outfile:
     def replace(self, pdf: Pdf, is_packed: bool) -> None:
         """Puts a new file in the old one's place. It gets a name when it is whole, so no signal leaves a part of it."""
         path = os.path.join(self.folder, f".impose-pdf.{os.getpid()}")
-        try:
-            made = os.open(self.folder, os.O_TMPFILE | os.O_WRONLY, 0o666)
-        except OSError:
+        made = nameless(self.folder)
+        if made is None:
             return self.replace_by_name(saved(pdf, is_packed), path)
-        sink = Sink(made)
-        with io.BufferedWriter(sink, 1 << 20) as stream:
-            save(pdf, stream, is_packed)
-        self.finish(sink)
-        os.link(f"/proc/self/fd/{made}", path, src_dir_fd=made)  # which makes it follow that link
+        try:
+            sink = Sink(made)
+            with io.BufferedWriter(sink, 1 << 20) as stream:
+                save(pdf, stream, is_packed)
+            self.finish(sink)
+            os.link(f"/proc/self/fd/{made}", path, src_dir_fd=made)  # which makes it follow that link
+        finally:
+            os.close(made)
         self.rename(path)
 
     def replace_by_name(self, data: memoryview, path: str) -> None:
