@@ -77,8 +77,6 @@ def unlocked(name: str, held: bytes | None) -> Pdf:
     except PasswordError:
         cure = f"qpdf --decrypt --password=WORD {shown(name)} plain.pdf"
         raise refusal(1, f"{shown(name)} opens with its password only; take that off first, as by {cure}") from None
-    except PdfError as error:
-        raise refusal(1, f"{shown(name)} can't be read: {cause(error, name)}") from None
     if pdf.is_encrypted and not (pdf.allow.print_lowres or pdf.allow.print_highres):
         raise refusal(1, f"{shown(name)} is encrypted, and its owner doesn't allow it to be printed")
     return pdf
@@ -93,8 +91,9 @@ class Source:
     """An INFILE: its pages, and their shapes."""
 
     def __init__(self, name: str):
-        self.name, self.pdf = name, opened(name)
+        self.name = name
         try:
+            self.pdf = opened(name)
             self.root = self.pdf.Root
             self.pages = list(leaves(self.root.get("/Pages")))
             self.shapes = [shape_of(page, entries) for page, entries in self.pages]
