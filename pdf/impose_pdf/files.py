@@ -21,7 +21,7 @@ class Sink(io.RawIOBase):
         self.error: OSError | None = None
 
     def writable(self) -> bool:
-        """Yes."""
+        """It can be written."""
         return True
 
     def write(self, data: Any) -> int:

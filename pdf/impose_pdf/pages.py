@@ -1,4 +1,4 @@
-"""Pages of a PDF: their boxes and sizes, and the forms that they become. Nothing of their contents is decoded."""
+"""Pages of a PDF: their boxes, how they are held, and their sizes."""
 
 from collections.abc import Iterator
 from dataclasses import dataclass
