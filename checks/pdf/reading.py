@@ -169,8 +169,16 @@ def left_over(pdf: Pdf) -> int:
 
 def words(path: Path) -> list[Counter[str]]:
     """The words of each page, as pdftotext finds them."""
-    ran = subprocess.run(["pdftotext", "-cropbox", path, "-"], capture_output=True, timeout=60)
+    ran = subprocess.run(["pdftotext", "-cropbox", path, "-"], capture_output=True, timeout=300)
     return [Counter(page.split()) for page in ran.stdout.decode(errors="replace").split("\f")[:-1]]
+
+
+def all_words(path: Path) -> Counter[str]:
+    """The words of all pages."""
+    found: Counter[str] = Counter()
+    for page in words(path):
+        found.update(page)
+    return found
 
 
 def fonts(path: Path) -> set[tuple[str, str]]:
