@@ -19,14 +19,20 @@ def pdf_of(data: bytes) -> Pdf:
     """A PDF whose page is an image."""
     image, pdf = Image.open(io.BytesIO(data), formats=("JPEG", "PNG")), Pdf.new()
     form = jpeg(pdf, image, data) if image.format == "JPEG" else png(pdf, image, data)
-    dots = image.info.get("dpi", USUAL)
-    width, height = (pixels * 72 / (per_inch or 96) for pixels, per_inch in zip(image.size, dots))
+    width, height = (pixels * 72 / (per_inch or 96) for pixels, per_inch in zip(image.size, dots_of(image)))
     contents = pdf.make_stream(f"{numerals(width)} 0 0 {numerals(height)} 0 0 cm /I Do".encode())
     resources = Dictionary(XObject=Dictionary(I=form))
     page = Dictionary(Type=Name.Page, MediaBox=array(0, 0, width, height), Resources=resources, Contents=contents)
     page.Rotate = TURNS.get(image.getexif().get(0x112) or 0, 0)
     pdf.pages.append(Page(pdf.make_indirect(page)))
     return pdf
+
+
+def dots_of(image: Any) -> tuple[float, float]:
+    """The dots per inch of an image. Pillow gives 72 to a photograph whose EXIF data names none."""
+    is_named = image.format == "PNG" or image.info.get("jfif_unit") or 0x11A in image.getexif()
+    dots: tuple[float, float] = image.info.get("dpi", USUAL) if is_named else USUAL
+    return dots
 
 
 def stream(pdf: Pdf, size: tuple[int, int], data: bytes, space: Any, bits: int = 8, **entries: Any) -> Any:
