@@ -56,8 +56,10 @@ _impose_files() {
 
 _impose() {
     local cur=${COMP_WORDS[COMP_CWORD]} before=${COMP_WORDS[COMP_CWORD - 1]} command='' is_behind='' number=0 at word values
-    local patterns=('*.[pP][sS]' '*.[eE][pP][sS]')
-    [ "${1##*/}" != impose-pdf ] || patterns=('*.[pP][dD][fF]' '*.[jJ][pP][gG]' '*.[jJ][pP][eE][gG]' '*.[pP][nN][gG]')
+    local patterns=('*.[pP][sS]' '*.[eE][pP][sS]') of_pdf=''
+    if [ "${1##*/}" = impose-pdf ]; then
+        patterns=('*.[pP][dD][fF]' '*.[jJ][pP][gG]' '*.[jJ][pP][eE][gG]' '*.[pP][nN][gG]') of_pdf='--replace'
+    fi
     COMPREPLY=()
     # A specification with a colon comes as several words.
     [ "$before" != : ] && [ "$cur" != : ] || return 0
@@ -81,7 +83,7 @@ _impose() {
     elif [ -z "$is_behind" ] && values=$(_impose_values_of "$before"); then
         COMPREPLY=($(compgen -W "$values" -- "$cur"))
     elif [ -z "$is_behind" ] && [ "${cur:0:1}" = - ]; then
-        COMPREPLY=($(compgen -W "$(_impose_options_of "$command")" -- "$cur"))
+        COMPREPLY=($(compgen -W "$(_impose_options_of "$command") ${command:+$of_pdf}" -- "$cur"))
     elif [ -z "$command" ]; then
         COMPREPLY=($(compgen -W "$_impose_commands" -- "$cur"))
     else

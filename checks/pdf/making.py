@@ -318,6 +318,9 @@ class Maker:
             meta["dc:title"] = text
         self.pdf.docinfo["/Title"] = text
 
+    def do_producer(self, text: str) -> None:
+        self.pdf.docinfo["/Producer"] = text
+
     def do_labels(self, *spans: str) -> None:
         """`labels 0:r 2:D:A-`: from which page on (from 0) which style, and with which text before."""
         found: list[Any] = []

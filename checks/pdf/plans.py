@@ -65,6 +65,7 @@ def document(sizes: list[Size]) -> bytes:
 
 def run(impose: str, words: list[str], sizes: list[Size]) -> subprocess.CompletedProcess[bytes]:
     """impose with these words, over such a document."""
+    words = [word for word in words if word != "--replace"]  # which is of impose-pdf alone
     return subprocess.run([impose, *words, "-", "-"], input=document(sizes), capture_output=True, timeout=60)
 
 

@@ -6,9 +6,11 @@ import signal
 import stat
 from typing import Any
 
-from pikepdf import ObjectStreamMode, Pdf, StreamDecodeLevel
+from pikepdf import ObjectStreamMode, Pdf, PdfError, StreamDecodeLevel
 
-from impose_pdf.words import Refusal, refusal, shown
+from impose_pdf import images
+from impose_pdf.making import PRODUCER
+from impose_pdf.words import Refusal, Request, refusal, shown
 
 SIGNALS = (signal.SIGHUP, signal.SIGINT, signal.SIGTERM)
 
@@ -68,6 +70,19 @@ def nameless(folder: str) -> int | None:
         return None
 
 
+def is_foreign(name: str) -> bool:
+    """Whether a file is a document or an image that this program didn't write."""
+    with open(name, "rb") as stream:
+        head = stream.read(1024)
+    if b"%PDF-" not in head:
+        return head.startswith((images.JPEG, images.PNG, b"%!"))
+    try:
+        with Pdf.open(name) as pdf:
+            return str(pdf.docinfo.get("/Producer")) != PRODUCER
+    except PdfError:
+        return True
+
+
 class Outfile:
     """A place for a PDF."""
 
@@ -83,6 +98,16 @@ class Outfile:
         if self.is_file:
             self.folder, self.last = os.path.split(os.path.realpath(name))
             self.look()
+
+    def check_owner(self, request: Request) -> None:
+        """Refuses to replace a document that this program didn't write: perhaps OUTFILE was forgotten."""
+        if not (self.is_file and self.mode) or request.replaces or not os.access(self.given, os.R_OK):
+            return
+        names = [name for name, _ in request.infiles if name != "-"]
+        if not any(os.path.samefile(name, self.given) for name in names) and is_foreign(self.given):
+            raise refusal(
+                2, f"{self.name} wasn't written by impose-pdf; --replace replaces it, or name another OUTFILE"
+            )
 
     def look(self) -> None:
         """Refuses a file that can't be replaced."""

@@ -17,6 +17,7 @@ KEPT = {
     *("/URI", "/Collection"),
 }
 KEPT_OF_TRAILER = {"/Root", "/Info", "/ID", "/Size", "/Encrypt"}
+PRODUCER = "impose-pdf"  # the mark by which its own sheets are known
 
 
 class Making:
@@ -127,6 +128,7 @@ class Making:
         for page, _ in self.sources[0].pages:  # whatever else refers to one keeps nothing of it in the file
             for key in page.keys():
                 del page[key]
+        self.pdf.docinfo.Producer = String(PRODUCER)
         self.pdf.trailer.Size = 0  # without one, qpdf writes none
         for key in self.pdf.trailer.keys() - KEPT_OF_TRAILER:
             del self.pdf.trailer[key]

@@ -114,6 +114,7 @@ def impose(request: Request, program: str) -> None:
         put(text)
     else:
         sheets, report = imposer.sheets()
+        outfile.check_owner(request)
         making = Making(row)
         making.make(sheets, turn_to_read(request, sheets), imposer.flip())
         outfile.write(making.pdf)

@@ -17,7 +17,8 @@ between them. A JPEG or a PNG is a page too.
 
 Pages are placed as they are: text, fonts, links and outlines, layers, attachments stay.
 With --print-spec, --plan or --preview no sheets are made: OUTFILE stays as it was, and may be
-left out. Every failure leaves it as it was, too.
+left out. Every failure leaves it as it was, too. A document or image that impose-pdf didn't
+write, and that isn't an INFILE, is replaced only with --replace.
 
 Exit status:
   0  the PDF was written, or a text printed
@@ -69,6 +70,7 @@ class Request:
     options: dict[str, str] = field(default_factory=dict)
     infiles: list[tuple[str, str]] = field(default_factory=list)  # a name, and its RANGES or ''
     outfile: str = ""
+    replaces: bool = False
 
     @property
     def looks(self) -> bool:
@@ -101,6 +103,8 @@ def read(words: list[str]) -> Request:
             operands += rest
         elif word == "-" or not word.startswith("-"):
             operands.append(word)
+        elif word == "--replace":
+            request.replaces = True
         else:
             name, value, is_open = option_of(word)
             request.words.append(word)
