@@ -1,17 +1,20 @@
 -- What comes of what is to be written.
-use Rattle.std.proofs.Common.{◌≡◌, ◌∙◌, ◌⊎◌, ℕ, ◌≤◌, List, [], Bool, true, false, Option, Some, Result, Ok, Err, ap, arith, inl, inr, length, refl, subst, sym, take}
+use Rattle.std.proofs.Common.{◌≡◌, ◌∙◌, ◌⊎◌, ℕ, ◌-◌, ◌≤◌, List, [], Bool, true, false, Option, Some, None, Result, Ok, Err, ap, append-nil, arith, inl, inr, length, refl, subst, sym, take}
 use Rattle.std.specs.Prelude.{MatchResult}
-use Rattle.std.specs.Io.KnownBytes.{Appends, Keeps}
-use Rattle.std.proofs.KnownBytes.{Appends-kept}
+use Rattle.std.specs.Io.KnownBytes.{Appends, Keeps, append_known}
+use Rattle.std.proofs.KnownBytes.{Appends-kept, Keeps-refl}
 use Rattle.std.proofs.Math.Seq.{take-length}
 use Rattle.std.proofs.lemmas.List.{length-map}
 use Rattle.std.specs.IoError.{error_kind}
+use Rattle.std.specs.declared.io.ErrorKind.{ErrorKind}
 use Rattle.std.specs.declared.io.ErrorKind.TheVariants.{OutOfMemory}
 use Rattle.std.below.std_io.specs.declared.io.error.Error.{Error}
 use Rattle.impose_said.specs.Faults.{without_memory}
-use Rattle.world.specs.Worlds.{HasRefused, creating}
-use Rattle.world.specs.Outputs.{IsFrontOf, counted, told_if}
-use Rattle.world.proofs.Counting.{counted_front, uncounted_kept}
+use Rattle.world.specs.Worlds.{HasRefused, WorldView, creating}
+use Rattle.world.specs.Lates.{named_view}
+use Rattle.world.specs.Outputs.{OutputView, fresh_output, named, told_if}
+use Rattle.world.proofs.Naming.{named_front, unnamed_kept}
+use Rattle.sheet_writer.specs.Sinks.{SinkView}
 use Rattle.sheet_text.specs.Jobs.{JobView, output_of}
 use Rattle.rules.specs.Sheets.{Plan, layout}
 use Rattle.rules.specs.Parts.{NestedUnit, pages}
@@ -32,53 +35,42 @@ use Rattle.planned_runs.specs.declared.outcome.RunError.{RunError}
 use Rattle.planned_runs.specs.declared.outcome.RunError.TheVariants as run
 use Rattle.impose_cli.specs.RowRuns.{ReportsOn}
 use Rattle.impose_cli.specs.Abouts.{finished_by, reported_by}
-use Rattle.impose_cli.specs.Endings.{Edge, AfterWrite, Comes, HasFirst, HasFront, IsNotCreated, IsSaidOf, TellsCount, WritesJob}
+use Rattle.impose_cli.specs.Endings.{AfterWrite, BreaksOff, Comes, Edge, HasFirst, Holds, IsNotCreated, IsSaidOf, WritesJob, shown}
 use Rattle.world.specs.declared.rest.Rest.{Rest}
-use Rattle.world.specs.declared.rest.Rest.TheVariants.{World}
+use Rattle.world.specs.declared.rest.Rest.TheVariants.{Output, World}
 use Rattle.impose_cli.specs.declared.runs.About.{About}
 use Rattle.impose_said.specs.declared.fault.ImposeFault.{ImposeFault}
 use Rattle.impose_said.specs.declared.fault.ImposeFault.TheVariants as fault
 use Rattle.impose_said.specs.declared.finished.Done.{Done}
 use Rattle.impose_said.specs.declared.finished.Done.TheVariants as done
 
--- ---- after a failed write, or without memory
-
-pub after_as : (f : ImposeFault) (P Q P' Q' : ℕ → Type 0) → ((n : ℕ) → P n → P' n) → ((n : ℕ) → Q n → Q' n) → AfterWrite f P Q → AfterWrite f P' Q'
-after_as (fault.Write n cause) P Q P' Q' failed spent h = failed n h
-after_as (fault.Run (run.NoMemory n)) P Q P' Q' failed spent h = spent n h
-after_as other P Q P' Q' failed spent h = absurd h
-
 -- ---- what comes of it
 
 -- it is refused
-pub comes_refused : {T V O : Type 0} (R : ImposeFault → Type 0) (W : (old new : Option (List ℕ)) → T → Type 0) (name : Option (List ℕ)) (tells : Edge V) (f : ImposeFault) (outcome : Result T ImposeFault) (world : V) (rest : Rest V O) (written : Option (List ℕ))
+pub comes_refused : {T V O : Type 0} (R : ImposeFault → Type 0) (W : (old new : Option (List ℕ)) → T → Type 0) (name : Option (List ℕ)) (tells : Edge V O) (f : ImposeFault) (outcome : Result T ImposeFault) (world : V) (rest : Rest V O) (written : Option (List ℕ))
     → outcome ≡ Err f → rest ≡ World world → R f → Comes R W name tells outcome world rest written
 comes_refused R W name tells f outcome world rest written is none why =
     subst (λ o. Comes R W name tells o world rest written) (sym is) (inl (why, none))
 
 -- the same of other words for it
-pub comes_as : {T V O : Type 0} (R R' : ImposeFault → Type 0) (W W' : (old new : Option (List ℕ)) → T → Type 0) (name : Option (List ℕ)) (tells : Edge V) (outcome : Result T ImposeFault) (world : V) (rest : Rest V O) (written : Option (List ℕ))
+pub comes_as : {T V O : Type 0} (R R' : ImposeFault → Type 0) (W W' : (old new : Option (List ℕ)) → T → Type 0) (name : Option (List ℕ)) (tells : Edge V O) (outcome : Result T ImposeFault) (world : V) (rest : Rest V O) (written : Option (List ℕ))
     → ((f : ImposeFault) → R f → R' f) → ((old new : Option (List ℕ)) (x : T) → W old new x → W' old new x)
     → Comes R W name tells outcome world rest written → Comes R' W' name tells outcome world rest written
-comes_as R R' W W' name tells (Ok x) world rest written refused wrote h = wrote _ _ x h
+comes_as R R' W W' name tells (Ok x) world rest written refused wrote h = (wrote _ _ x h.0, h.1)
 comes_as R R' W W' name tells (Err f) world rest written refused wrote h = elim h [
   | inl stopped ↦ inl (refused f stopped.0, stopped.1)
   | inr some ↦ inr (some.0, some.1, wrote _ _ some.1 some.2, some.3)
 ]
 
-uncreated_as : {V O : Type 0} (e : Edge V) (name : Option (List ℕ)) (f : ImposeFault) (world : V) (rest : Rest V O) (written : Option (List ℕ)) (text : List ℕ) → IsNotCreated {T = Report} e name world (Err f) rest ⊎ HasFront (told_if e.tells name []) written text f
-    → IsNotCreated {T = Done} e name world (Err f) rest ⊎ HasFront (told_if e.tells name []) written text f
-uncreated_as e name f world rest written text h = h
-
 -- and of what is reported
-pub comes_reported : {V O : Type 0} (R R' : ImposeFault → Type 0) (W : (old new : Option (List ℕ)) → Report → Type 0) (W' : (old new : Option (List ℕ)) → Done → Type 0) (about : About) (name : Option (List ℕ)) (tells : Edge V)
+pub comes_reported : {V O : Type 0} (R R' : ImposeFault → Type 0) (W : (old new : Option (List ℕ)) → Report → Type 0) (W' : (old new : Option (List ℕ)) → Done → Type 0) (about : About) (name : Option (List ℕ)) (tells : Edge V O)
     (outcome : Result Report ImposeFault) (world : V) (rest : Rest V O) (written : Option (List ℕ))
     → ((f : ImposeFault) → R f → R' f) → ((old new : Option (List ℕ)) (report : Report) → W old new report → W' old new (done.Imposed (finished_by about report)))
     → Comes R W name tells outcome world rest written → Comes R' W' name tells (reported_by about outcome) world rest written
-comes_reported R R' W W' about name tells (Ok report) world rest written refused wrote h = wrote _ _ report h
+comes_reported R R' W W' about name tells (Ok report) world rest written refused wrote h = (wrote _ _ report h.0, h.1)
 comes_reported R R' W W' about name tells (Err f) world rest written refused wrote h = elim h [
   | inl stopped ↦ inl (refused f stopped.0, stopped.1)
-  | inr some ↦ inr (some.0, done.Imposed (finished_by about some.1), wrote _ _ some.1 some.2, uncreated_as tells name f world rest written some.0 some.3)
+  | inr some ↦ inr (some.0, done.Imposed (finished_by about some.1), wrote _ _ some.1 some.2, some.3)
 ]
 
 -- ---- made sheets
@@ -97,7 +89,7 @@ report_told j plan n border drawn all us report of planned laid count out told =
 
 -- what comes of their job comes of them
 pub made_comes : {V O : Type 0} (R : ImposeFault → Type 0) (W : (old new : Option (List ℕ)) → Report → Type 0) (j : JobView) (plan : Plan) (n : ℕ) (border : Option Border) (dress : Dress) (drawn : Drawn) (all : List MadeSheet) (us : List NestedUnit)
-    (name : Option (List ℕ)) (tells : Edge V) (outcome : Result Report ImposeFault) (world : V) (rest : Rest V O) (written : Option (List ℕ))
+    (name : Option (List ℕ)) (tells : Edge V O) (outcome : Result Report ImposeFault) (world : V) (rest : Rest V O) (written : Option (List ℕ))
     → j.plan ≡ plan → plan ≡ made_plan n all → layout plan ≡ made_layout n all → n ≡ length (pages us) → output_of j ≡ made_output border dress all us → dress ≡ drawn_on drawn (telling all)
     → ((old new : Option (List ℕ)) (report : Report) → Appends old new (told_output border drawn all us) → ReportsOn border drawn all us report → W old new report)
     → Comes (λ f. ⊥) (WritesJob j) name tells outcome world rest written → Comes R W name tells outcome world rest written
@@ -121,88 +113,128 @@ report_of j = record {
 whole : (j : JobView) → WritesJob j (Some []) (Some (output_of j)) (report_of j)
 whole j = (refl, record { page_count = refl; sheet_count = refl; born_blank = refl; swept_within = omega arith; byte_count = refl })
 
-abbrev Left : {V O : Type 0} → JobView → (name : Option (List ℕ)) → (tells : Edge V) → Result Report ImposeFault → (world : V) → (rest : Rest V O) → (written : Option (List ℕ)) → Type 0
+abbrev Left : {V O : Type 0} → JobView → (name : Option (List ℕ)) → (tells : Edge V O) → Result Report ImposeFault → (world : V) → (rest : Rest V O) → (written : Option (List ℕ)) → Type 0
 Left j name tells outcome world rest written = Comes (λ f. ⊥) (WritesJob j) name tells outcome world rest written
 
 -- an output wasn't created, and the fault is that of its error's kind
-pub is_not_created : {V O : Type 0} (e : Edge V) (name : Option (List ℕ)) (world left : V) (cause : Error) (outcome : Result Report ImposeFault) (rest : Rest V O)
-    → ((left ≡ world) × (error_kind cause ≡ OutOfMemory)) ⊎ HasRefused (creating name) (error_kind cause) (e.seen world) (e.seen left)
+pub is_not_created : {V O : Type 0} (e : Edge V O) (name : Option (List ℕ)) (before : WorldView) (left : V) (cause : Error) (outcome : Result Report ImposeFault) (rest : Rest V O)
+    → HasRefused (creating name) (error_kind cause) before (e.seen left)
     → ((error_kind cause ≡ OutOfMemory) × (outcome ≡ Err without_memory)) ⊎ (¬ (error_kind cause ≡ OutOfMemory) × (outcome ≡ Err (fault.Write 0 (Some cause))))
-    → rest ≡ World left → IsNotCreated e name world outcome rest
-is_not_created e name world left cause outcome rest (inl same) (inl memory) back =
-    subst (λ o. IsNotCreated e name world o rest) (sym memory.1) (inl (refl, inl (back ∙ ap World same.0)))
-is_not_created e name world left cause outcome rest (inl same) (inr other) back = absurd (other.0 same.1)
-is_not_created e name world left cause outcome rest (inr refused) (inl memory) back =
-    subst (λ o. IsNotCreated e name world o rest) (sym memory.1)
-    (inl (refl, inr (left, back, subst (λ k. HasRefused (creating name) k (e.seen world) (e.seen left)) memory.0 refused)))
-is_not_created e name world left cause outcome rest (inr refused) (inr other) back =
-    subst (λ o. IsNotCreated e name world o rest) (sym other.1) (inr (refl, (left, back, refused)))
+    → rest ≡ World left → MatchResult outcome (λ report. ⊥) (λ f. IsNotCreated e name before f rest)
+is_not_created e name before left cause outcome rest refused (inl memory) back =
+    subst (λ o. MatchResult o (λ report. ⊥) (λ f. IsNotCreated e name before f rest)) (sym memory.1)
+    (inl (refl, inr (left, back, subst (λ k. HasRefused (creating name) k before (e.seen left)) memory.0 refused)))
+is_not_created e name before left cause outcome rest refused (inr other) back =
+    subst (λ o. MatchResult o (λ report. ⊥) (λ f. IsNotCreated e name before f rest)) (sym other.1) (inr (refl, (left, back, refused)))
 
--- no output could be created for them
-pub job_uncreated : {V O : Type 0} (j : JobView) (name : Option (List ℕ)) (tells : Edge V) (outcome : Result Report ImposeFault) (world : V) (rest : Rest V O) (written : Option (List ℕ))
-    → IsNotCreated tells name world outcome rest → Left j name tells outcome world rest written
-job_uncreated j name tells (Ok report) world rest written none = absurd none
-job_uncreated j name tells (Err f) world rest written none = inr (output_of j, report_of j, whole j, inl none)
+-- a world that was asked for nothing before refused it
+pub refused_world : (name name' : Option (List ℕ)) (old before new : WorldView) (kind : ErrorKind) → name ≡ name' → old ≡ before → HasRefused (creating name) kind old new
+    → HasRefused (creating name') kind before new
+refused_world name name' old before new kind named same h = subst (λ n. HasRefused (creating n) kind before new) named (subst (λ v. HasRefused (creating name) kind v new) same h)
+
+-- so of a run that broke off
+pub refused_off : {V O : Type 0} (e : Edge V O) (name : Option (List ℕ)) (before : WorldView) (taken : ℕ) (told : Option (List ℕ)) (outcome : Result Report ImposeFault) (rest : Rest V O)
+    → MatchResult outcome (λ report. ⊥) (λ f. IsNotCreated e name before f rest) → MatchResult outcome (λ report. ⊥) (λ f. BreaksOff e name before taken told f rest)
+refused_off e name before taken told (Ok report) rest h = absurd h
+refused_off e name before taken told (Err f) rest h = inl h
+
+-- and of one whose end had nothing to write
+pub refused_whole : {V O : Type 0} (e : Edge V O) (name : Option (List ℕ)) (before : WorldView) (outcome : Result Report ImposeFault) (rest : Rest V O) (P : Report → Type 0)
+    → MatchResult outcome (λ report. ⊥) (λ f. IsNotCreated e name before f rest) → MatchResult outcome P (λ f. IsNotCreated e name before f rest)
+refused_whole e name before (Ok report) rest P h = absurd h
+refused_whole e name before (Err f) rest P h = h
+
+-- the world wasn't asked for an output
+pub unasked_off : {V O : Type 0} (e : Edge V O) (name : Option (List ℕ)) (before : WorldView) (left : V) (taken : ℕ) (told : Option (List ℕ)) (outcome : Result Report ImposeFault) (rest : Rest V O)
+    → outcome ≡ Err without_memory → rest ≡ World left → e.seen left ≡ before → MatchResult outcome (λ report. ⊥) (λ f. BreaksOff e name before taken told f rest)
+unasked_off e name before left taken told outcome rest is back same =
+    subst (λ o. MatchResult o (λ report. ⊥) (λ f. BreaksOff e name before taken told f rest)) (sym is) (inl (inl (refl, inl (left, back, same))))
+
+-- an output is there
+pub there_off : {V O : Type 0} (e : Edge V O) (name : Option (List ℕ)) (before : WorldView) (output : O) (waiting : List ℕ) (taken n : ℕ) (told : Option (List ℕ)) (outcome : Result Report ImposeFault) (rest : Rest V O)
+    → MatchResult outcome (λ report. ⊥) (IsSaidOf (e.shows output) n) → rest ≡ Output output → n ≡ taken - length waiting
+    → told ≡ append_known (named (e.shows output).bytes) waiting → MatchResult outcome (λ report. ⊥) (λ f. BreaksOff e name before taken told f rest)
+there_off e name before output waiting taken n told (Ok report) rest said is counted holds = absurd said
+there_off e name before output waiting taken n told (Err f) rest said is counted holds =
+    inr (output, is, waiting, subst (λ m. IsSaidOf (e.shows output) m f) counted said, holds)
+
+-- all was written out to an output that is there
+pub held_there : {V O : Type 0} (e : Edge V O) (view : OutputView) (buffer : List ℕ) (output : O) → view ≡ named_view (e.shows output) → buffer ≡ []
+    → Holds e (record { bytes = append_known view.bytes buffer; failures = view.failures }) (Output output)
+held_there e view buffer output is none =
+    let out = (e.shows output).bytes in
+    let told : append_known view.bytes buffer ≡ append_known (named out) []
+    = ap (λ (v : OutputView). append_known v.bytes buffer) is ∙ ap (λ l. append_known (named out) l) none in (
+      output,
+      refl,
+      unnamed_kept (append_known view.bytes buffer) out (subst (Keeps (append_known view.bytes buffer)) told (Keeps-refl (append_known view.bytes buffer))),
+      sym (ap (λ (v : OutputView). v.failures) is),
+    )
+
+none_behind : (told : Option (List ℕ)) → Keeps (append_known told []) told
+none_behind None = tt
+none_behind (Some xs) = sym (append-nil xs)
+
+-- there was nothing to write, and the output was created
+pub held_fresh : {V O : Type 0} (e : Edge V O) (view : OutputView) (buffer : List ℕ) (output : O) (told told' : Option (List ℕ)) → view ≡ fresh_output told → e.shows output ≡ fresh_output told' → told' ≡ told → buffer ≡ []
+    → Holds e (record { bytes = append_known view.bytes buffer; failures = view.failures }) (Output output)
+held_fresh e view buffer output told told' is fresh same none =
+    let out : (e.shows output).bytes ≡ told = ap (λ (v : OutputView). v.bytes) fresh ∙ same in
+    let front : append_known view.bytes buffer ≡ append_known told [] = ap (λ (v : OutputView). append_known v.bytes buffer) is ∙ ap (append_known told) none in (
+      output,
+      refl,
+      subst (λ a. Keeps a (e.shows output).bytes) (sym front) (subst (Keeps (append_known told [])) (sym out) (none_behind told)),
+      ap (λ (v : OutputView). v.failures) fresh ∙ sym (ap (λ (v : OutputView). v.failures) is),
+    )
+
+-- memory ran out before anything was made
+pub job_unasked : {V O : Type 0} (j : JobView) (name : Option (List ℕ)) (e : Edge V O) (outcome : Result Report ImposeFault) (world : V) (rest : Rest V O) (written : Option (List ℕ))
+    → outcome ≡ Err without_memory → rest ≡ World world → Left j name e outcome world rest written
+job_unasked j name e outcome world rest written is back =
+    subst (λ o. Left j name e o world rest written) (sym is) (inr (output_of j, report_of j, whole j, inl (inl (refl, inl (world, back, refl)))))
 
 -- they were written
-pub job_written : {V O : Type 0} (j : JobView) (name : Option (List ℕ)) (tells : Edge V) (n : ℕ) (report : Report) (outcome : Result Report ImposeFault) (output out : Option (List ℕ)) (world : V) (rest : Rest V O) (start all : Option (List ℕ))
-    → outcome ≡ Ok report → output ≡ out → start ≡ told_if tells.tells name [] → Appends start all (output_of j) × ReportsOf j report → Keeps all (counted n out)
-    → Left j name tells outcome world rest output
-job_written j name tells n report outcome output out world rest start all is same began wrote kept =
-    subst (λ o. Left j name tells o world rest output) (sym is) (
-      subst (λ s. Appends s output (output_of j)) began
-          (Appends-kept start all output (output_of j) wrote.0 (subst (λ o. Keeps all o) (sym same) (uncounted_kept n all out kept))),
-      wrote.1,
-    )
+pub job_held : {V O : Type 0} (j : JobView) (name : Option (List ℕ)) (e : Edge V O) (before : WorldView) (report : Report) (sink : SinkView) (outcome : Result Report ImposeFault) (world : V) (rest : Rest V O) (start all : Option (List ℕ))
+    → e.seen world ≡ before → start ≡ told_if e.tells name [] → Appends start all (output_of j) × ReportsOf j report → Keeps all sink.bytes → sink.failures ≡ 0
+    → MatchResult outcome (λ r. (r ≡ report) × Holds e sink rest) (λ f. IsNotCreated e name before f rest) → Left j name e outcome world rest (shown e.shows rest)
+job_held j name e before report sink (Ok r) world rest start all same began wrote kept steady h =
+    let held = h.1 in
+    let output = held.0 in
+    let out = (e.shows output).bytes in
+    let appended : Appends (told_if e.tells name []) out (output_of j)
+    = subst (λ s. Appends s out (output_of j)) began (Appends-kept start sink.bytes out (output_of j) (Appends-kept start all sink.bytes (output_of j) wrote.0 kept) held.2) in
+    subst (λ x. Left j name e (Ok r) world x (shown e.shows x)) (sym held.1)
+    ((appended, subst (ReportsOf j) (sym h.0) wrote.1), (output, refl, held.3 ∙ steady))
+job_held j name e before report sink (Err f) world rest start all same began wrote kept steady h =
+    inr (output_of j, report_of j, whole j, inl (subst (λ b. IsNotCreated e name b f rest) (sym same) h))
 
-front_of : (name : Option (List ℕ)) (tells : Bool) (n k : ℕ) (text : List ℕ) (all out : Option (List ℕ)) → Appends (told_if tells name []) all (take k text) → IsFrontOf (counted n out) all
-    → HasFirst (told_if tells name []) out text n
-front_of name false n k text all out wrote front = tt
-front_of name true n k text all out wrote front =
-    counted_front name n k text all out wrote front
-
-has_front : (n : ℕ) (text : List ℕ) (start out : Option (List ℕ)) (f : ImposeFault) → TellsCount {T = Report} n (Err f) → HasFirst start out text n → HasFront start out text f
-has_front n text start out f is h =
-    after_as f (λ m. m ≡ n) (λ m. m ≡ n) (HasFirst start out text) (HasFirst start out text) (λ m e. subst (λ k. HasFirst start out text k) (sym e) h) (λ m e. subst (λ k. HasFirst start out text k) (sym e) h) is
+first_of : (name : Option (List ℕ)) (tells : Bool) (taken : ℕ) (text waiting : List ℕ) (told out : Option (List ℕ)) → taken ≤ length text
+    → Appends (told_if tells name []) told (take taken text) → told ≡ append_known (named out) waiting → HasFirst (told_if tells name []) out text (taken - length waiting)
+first_of name false taken text waiting told out within wrote holds = tt
+first_of name true taken text waiting told out within wrote holds = named_front name taken text waiting told out within wrote holds
 
 -- a part of them was
-job_broken : {V O : Type 0} (j : JobView) (name : Option (List ℕ)) (tells : Edge V) (n k : ℕ) (outcome : Result Report ImposeFault) (output out : Option (List ℕ)) (world : V) (rest : Rest V O) (start all : Option (List ℕ))
-    → TellsCount n outcome → output ≡ out → start ≡ told_if tells.tells name [] → Appends start all (take k (output_of j)) → IsFrontOf (counted n out) all
-    → Left j name tells outcome world rest output
-job_broken j name tells n k (Ok report) output out world rest start all tells_it same began wrote front = absurd tells_it
-job_broken j name tells n k (Err f) output out world rest start all tells_it same began wrote front =
-    inr (
-      output_of j,
-      report_of j,
-      whole j,
-      inr (has_front n (output_of j) (told_if tells.tells name []) output f tells_it
-          (subst (λ o. HasFirst (told_if tells.tells name []) o (output_of j) n) (sym same)
-          (front_of name tells.tells n k (output_of j) all out (subst (λ s. Appends s all (take k (output_of j))) began wrote) front))),
-    )
+pub job_broke : {V O : Type 0} (j : JobView) (name : Option (List ℕ)) (e : Edge V O) (before : WorldView) (taken : ℕ) (outcome : Result Report ImposeFault) (world : V) (rest : Rest V O) (written start all told : Option (List ℕ))
+    → e.seen world ≡ before → start ≡ told_if e.tells name [] → taken ≤ length (output_of j) → Appends start all (take taken (output_of j)) → Keeps all told
+    → MatchResult outcome (λ report. ⊥) (λ f. BreaksOff e name before taken told f rest) → Left j name e outcome world rest written
+job_broke j name e before taken (Ok report) world rest written start all told same began within wrote kept h = absurd h
+job_broke j name e before taken (Err f) world rest written start all told same began within wrote kept (inl none) =
+    inr (output_of j, report_of j, whole j, inl (subst (λ b. IsNotCreated e name b f rest) (sym same) none))
+job_broke j name e before taken (Err f) world rest written start all told same began within wrote kept (inr broke) =
+    let text = output_of j in
+    let appended = subst (λ s. Appends s told (take taken text)) began (Appends-kept start all told (take taken text) wrote kept) in
+    inr (text, report_of j, whole j, inr (broke.0, broke.1, taken - length broke.2, broke.3, first_of name e.tells taken text broke.2 told (e.shows broke.0).bytes within appended broke.4))
 
--- all of them were handed on, but not all were written out
-pub job_unwritten : {V O : Type 0} (j : JobView) (name : Option (List ℕ)) (tells : Edge V) (n : ℕ) (outcome : Result Report ImposeFault) (output out : Option (List ℕ)) (world : V) (rest : Rest V O) (start all : Option (List ℕ))
-    → TellsCount n outcome → output ≡ out → start ≡ told_if tells.tells name [] → Appends start all (output_of j) → IsFrontOf (counted n out) all
-    → Left j name tells outcome world rest output
-job_unwritten j name tells n outcome output out world rest start all tells_it same began wrote front =
-    job_broken j name tells n (length (output_of j)) outcome output out world rest start all tells_it same began
-    (subst (λ t. Appends start all t) (sym (take-length (output_of j))) wrote) front
-
--- the run broke off
-pub job_broken_off : {V O : Type 0} (j : JobView) (name : Option (List ℕ)) (tells : Edge V) (n : ℕ) (error : RunError) (outcome : Result Report ImposeFault) (output out : Option (List ℕ)) (world : V) (rest : Rest V O) (start all : Option (List ℕ))
-    → TellsCount n outcome → output ≡ out → start ≡ told_if tells.tells name []
+-- as many as the sink had taken, before an error
+pub taken_of : (j : JobView) (error : RunError) (n : ℕ) (start all : Option (List ℕ)) → AfterError error ⊥ (λ k. n ≡ k) (λ k. n ≡ k)
     → AfterError error ⊥ (λ k. (k ≤ length (output_of j)) × Appends start all (take k (output_of j))) (λ k. (k ≤ length (output_of j)) × Appends start all (take k (output_of j)))
-    → IsFrontOf (counted n out) all → Left j name tells outcome world rest output
-job_broken_off j name tells n (run.NoMemory k) outcome output out world rest start all tells_it same began wrote front =
-    job_broken j name tells n k outcome output out world rest start all tells_it same began wrote.1 front
-job_broken_off j name tells n (run.Write k) outcome output out world rest start all tells_it same began wrote front =
-    job_broken j name tells n k outcome output out world rest start all tells_it same began wrote.1 front
-job_broken_off j name tells n other outcome output out world rest start all tells_it same began wrote front = absurd wrote
+    → (n ≤ length (output_of j)) × Appends start all (take n (output_of j))
+taken_of j (run.NoMemory k) n start all is wrote = subst (λ m. (m ≤ length (output_of j)) × Appends start all (take m (output_of j))) (sym is) wrote
+taken_of j (run.Write k) n start all is wrote = subst (λ m. (m ≤ length (output_of j)) × Appends start all (take m (output_of j))) (sym is) wrote
+taken_of j other n start all is wrote = absurd wrote
 
-said_as : (error : RunError) (n : ℕ) (f : ImposeFault) → IsSaidOf error n f → TellsCount {T = Report} n (Err f)
-said_as (run.NoMemory k) n f h = after_as f (λ m. ⊥) (λ m. m ≡ n) (λ m. m ≡ n) (λ m. m ≡ n) (λ m e. absurd e) (λ m e. e) h
-said_as other n f h = after_as f (λ m. m ≡ n) (λ m. ⊥) (λ m. m ≡ n) (λ m. m ≡ n) (λ m e. e) (λ m e. absurd e) h
-
-pub said_count : (error : RunError) (n : ℕ) (outcome : Result Report ImposeFault) → MatchResult outcome (λ report. ⊥) (IsSaidOf error n) → TellsCount n outcome
-said_count error n (Ok report) h = absurd h
-said_count error n (Err f) h = said_as error n f h
+-- all of them, when their run had finished
+pub taken_whole : (j : JobView) (n : ℕ) (start all : Option (List ℕ)) → n ≡ length (output_of j) → Appends start all (output_of j)
+    → (n ≤ length (output_of j)) × Appends start all (take n (output_of j))
+taken_whole j n start all is wrote =
+    (omega (arith, is), subst (λ t. Appends start all t) (sym (ap (λ m. take m (output_of j)) is ∙ take-length (output_of j))) wrote)

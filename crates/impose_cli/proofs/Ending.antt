@@ -89,7 +89,7 @@ by_spec (layout.Spec specs) text r input f is h = h
 by_spec other text r input f is h = absurd is
 
 -- there is no task
-pub spec_stops : {V O : Type 0} (r : ImposeRequest) (input : List ℕ) (tells : Edge V) (f : ImposeFault) (outcome : Result Done ImposeFault) (world : V) (rest : Rest V O) (written : Option (List ℕ)) → ((text : List ℕ) × IsSpec r.layout text) → outcome ≡ Err f → rest ≡ World world
+pub spec_stops : {V O : Type 0} (r : ImposeRequest) (input : List ℕ) (tells : Edge V O) (f : ImposeFault) (outcome : Result Done ImposeFault) (world : V) (rest : Rest V O) (written : Option (List ℕ)) → ((text : List ℕ) × IsSpec r.layout text) → outcome ≡ Err f → rest ≡ World world
     → RefusesTask r input f → Runs r input tells outcome world rest written
 spec_stops r input tells f outcome world rest written named is none why =
     comes_refused (RefusesImposing r.layout r input) (IsImposed r input) _ tells f outcome world rest written is none (by_spec r.layout named.0 r input f named.1 (inl why))
@@ -98,7 +98,7 @@ abbrev pub about_spec : Task → (told : Told) → About
 about_spec t told = record { page_paper = t.options.paper; origin = t.origin; cut = None; reach = t.counted.reach; behind = t.counted.behind; told = told }
 
 -- what comes of its run comes of the request
-pub spec_runs : {V O : Type 0} (r : ImposeRequest) (input : List ℕ) (t : Task) (told : Told) (tells : Edge V) (outcome : Result Done ImposeFault) (left : Result Report ImposeFault) (world : V) (rest : Rest V O) (name written : Option (List ℕ))
+pub spec_runs : {V O : Type 0} (r : ImposeRequest) (input : List ℕ) (t : Task) (told : Told) (tells : Edge V O) (outcome : Result Done ImposeFault) (left : Result Report ImposeFault) (world : V) (rest : Rest V O) (name written : Option (List ℕ))
     → ((text : List ℕ) × IsSpec r.layout text) → IsTask r input t → IsToldBy r input told → outcome ≡ reported_by (about_spec t told) left → name ≡ option_map string_bytes r.outfile
     → Comes (RefusesTaskRun t) (WritesTask t) name tells left world rest written → Runs r input tells outcome world rest written
 spec_runs r input t told tells outcome left world rest name written text is tells_it reports named h =
@@ -123,7 +123,7 @@ plan_refused t spec us n e f error is named sides options takes document count w
     (of_plan e, is ∙ ap fault.Run named, said.0, said.1)
 
 -- what comes of its sheets comes of the task
-pub job_comes : {V O : Type 0} (t : Task) (spec : Spec) (us : List NestedUnit) (plan : Plan) (n : ℕ) (job : JobView) (name : Option (List ℕ)) (tells : Edge V) (outcome : Result Report ImposeFault) (world : V) (rest : Rest V O) (written : Option (List ℕ))
+pub job_comes : {V O : Type 0} (t : Task) (spec : Spec) (us : List NestedUnit) (plan : Plan) (n : ℕ) (job : JobView) (name : Option (List ℕ)) (tells : Edge V O) (outcome : Result Report ImposeFault) (world : V) (rest : Rest V O) (written : Option (List ℕ))
     → t.options.sides ≡ None → AreOptions t.options → Takes most_slots (string_bytes t.spec) spec → document_of t.text.items ≡ Ok us → n ≡ length (pages us)
     → plan ≡ planned spec n → plan_in None spec n ≡ Ok (sheets_in None spec n) → job ≡ of_frame plan us (frame_of t.options)
     → Comes (λ f. ⊥) (WritesJob job) name tells outcome world rest written → Comes (RefusesTaskRun t) (WritesTask t) name tells outcome world rest written

@@ -1,11 +1,11 @@
 -- What comes of a request.
-use Rattle.std.proofs.Common.{◌≡◌, ap, ℕ, ◌<◌, List, [], length, take, Bool, true, false, Option, Some, None, Result, Ok, Err, inl, inr, refl, subst, sym}
+use Rattle.std.proofs.Common.{◌≡◌, ◌∙◌, ap, arith, ℕ, ◌+◌, ◌<◌, List, [], length, take, Bool, true, false, Option, Some, None, Result, Ok, Err, inl, inr, refl, subst, sym}
 use Rattle.clap.specs.Words.{Row, Text}
 use Rattle.std.specs.Prelude.{⊤, ◌⊎◌, option_map, string_bytes}
 use Rattle.std.specs.Io.KnownBytes.{Appends}
-use Rattle.world.specs.Outputs.{told_if}
-use Rattle.impose_cli.specs.Endings.{Edge, AfterWrite, HasFirst, IsUncreated, Runs, has_output}
-use Rattle.impose_cli.proofs.Coming.{after_as}
+use Rattle.world.specs.Outputs.{OutputView, fresh_output, told_if}
+use Rattle.impose_cli.specs.Endings.{AfterWrite, Edge, IsSaidOf, IsUncreated, Runs, has_output, shown}
+use Rattle.planned_runs.specs.declared.outcome.RunError.TheVariants as run
 use Rattle.world.specs.Input.{IsFirst, most_bytes}
 use Rattle.world.specs.Worlds.{WorldView}
 use Rattle.impose_cli.specs.Looks.{MayBeMade, TellsRow}
@@ -19,7 +19,7 @@ use Rattle.impose_cli.specs.Refusals.{HasNoFault}
 use Rattle.impose_cli.specs.Unread.{MayBeRead, RefusesRequest}
 use Rattle.impose_cli.specs.Tasks.{IsTask}
 use Rattle.world.specs.declared.rest.Rest.{Rest}
-use Rattle.world.specs.declared.rest.Rest.TheVariants.{World}
+use Rattle.world.specs.declared.rest.Rest.TheVariants.{Output, World}
 use Rattle.impose_said.specs.declared.fault.ImposeFault.{ImposeFault}
 use Rattle.impose_said.specs.declared.fault.ImposeFault.TheVariants as fault
 use Rattle.impose_said.specs.declared.finished.Done.{Done}
@@ -33,14 +33,14 @@ use Rattle.impose_words.specs.declared.request.ImposeRequest.{ImposeRequest}
 use Rattle.impose_cli.specs.declared.task.Task.{Task}
 
 -- nothing was created: the request is refused unread, or the input can't be read
-pub stopped_before : {V O : Type 0} (seen : V → WorldView) (r : ImposeRequest) (gives : Gives) (tells : Edge V) (f : ImposeFault) (outcome : Result Done ImposeFault)
+pub stopped_before : {V O : Type 0} (seen : V → WorldView) (r : ImposeRequest) (gives : Gives) (tells : Edge V O) (f : ImposeFault) (outcome : Result Done ImposeFault)
     (world left : V) (rest : Rest V O) (written : Option (List ℕ)) → outcome ≡ Err f → rest ≡ World left
     → (RefusesRequest r f × (left ≡ world)) ⊎ (MayBeRead r × IsReading (option_map string_bytes r.infile) (seen world) (seen left) f)
     → CarriesOut seen r gives tells outcome world rest written
 stopped_before seen r gives tells f outcome world left rest written told none why = inl (f, left, told, none, why)
 
 -- the input was read, and what is asked for was made of it
-pub took : {V O : Type 0} (seen : V → WorldView) (r : ImposeRequest) (gives : Gives) (tells told : Edge V) (input : List ℕ) (name : Option (List ℕ))
+pub took : {V O : Type 0} (seen : V → WorldView) (r : ImposeRequest) (gives : Gives) (tells told : Edge V O) (input : List ℕ) (name : Option (List ℕ))
     (outcome : Result Done ImposeFault) (world read : V) (rest : Rest V O) (written : Option (List ℕ))
     → name ≡ option_map string_bytes r.infile → IsFirst most_bytes (gives name) input → HasGiven name (seen world) (seen read)
     → MayBeRead r → told ≡ tells → Makes r.product r input told outcome read rest written
@@ -56,38 +56,46 @@ took seen r gives tells told input name outcome world read rest written named fi
     )
 
 -- the request was carried out in the world that was asked for the paper at home, which is as it was else
-pub at_home : {V O : Type 0} (seen : V → WorldView) (r : ImposeRequest) (gives given : Gives) (tells told : Edge V) (outcome : Result Done ImposeFault)
+pub at_home : {V O : Type 0} (seen : V → WorldView) (r : ImposeRequest) (gives given : Gives) (tells told : Edge V O) (outcome : Result Done ImposeFault)
     (world : V) (rest : Rest V O) (written : Option (List ℕ)) → given ≡ gives → told ≡ tells
     → CarriesOut seen r given told outcome world rest written → CarriesOut seen r gives tells outcome world rest written
 at_home seen r gives given tells told outcome world rest written same_gives same_tells h =
     subst (λ t. CarriesOut seen r gives t outcome world rest written) same_tells (subst (λ g. CarriesOut seen r g told outcome world rest written) same_gives h)
 
 -- a text was written
-pub wrote_text : (name : Option (List ℕ)) (text : List ℕ) (tells : Bool) (start written : Option (List ℕ))
-    → start ≡ told_if tells name [] → Appends start written text → Appends (told_if tells name []) written text
-wrote_text name text tells start written began wrote = subst (λ s. Appends s written text) began wrote
+pub wrote_text : {V O : Type 0} (name : Option (List ℕ)) (text : List ℕ) (what : Done) (e : Edge V O) (world : V) (output : O) (rest : Rest V O) (start : OutputView)
+    → start ≡ fresh_output (told_if e.tells name []) → Appends start.bytes (e.shows output).bytes text → (e.shows output).failures ≡ start.failures
+    → rest ≡ Output output → Writes name text what e (Ok what) world rest (shown e.shows rest)
+wrote_text name text what e world output rest start began wrote steady is =
+    subst (λ x. Writes name text what e (Ok what) world x (shown e.shows x)) (sym is)
+    (refl, subst (λ (s : OutputView). Appends s.bytes (e.shows output).bytes text) began wrote, (output, refl, steady ∙ ap (λ (s : OutputView). s.failures) began))
 
 -- a first part of it was
-pub wrote_part : (name : Option (List ℕ)) (text : List ℕ) (tells : Bool) (start written : Option (List ℕ)) (f : ImposeFault)
-    → start ≡ told_if tells name [] → BreaksAt start written text f → BreaksAt (told_if tells name []) written text f
-wrote_part name text tells start written f began broke = subst (λ s. BreaksAt s written text f) began broke
+pub wrote_part : {V O : Type 0} (name : Option (List ℕ)) (text : List ℕ) (what : Done) (e : Edge V O) (world : V) (output : O) (rest : Rest V O) (start : OutputView) (n : ℕ) (f : ImposeFault) (outcome : Result Done ImposeFault)
+    → start ≡ fresh_output (told_if e.tells name []) → n < length text → Appends start.bytes (e.shows output).bytes (take n text) → (e.shows output).failures ≡ start.failures + 1
+    → rest ≡ Output output → f ≡ fault.Write n (e.shows output).cause → outcome ≡ Err f → Writes name text what e outcome world rest (shown e.shows rest)
+wrote_part name text what e world output rest start n f outcome began within wrote failed is named told =
+    let appended = subst (λ (s : OutputView). Appends s.bytes (e.shows output).bytes (take n text)) began wrote in
+    let fails : (e.shows output).failures ≡ start.failures + 1 = failed in
+    subst (λ o. Writes name text what e o world rest (shown e.shows rest)) (sym (told ∙ ap Err named))
+    (subst (λ x. Writes name text what e (Err (fault.Write n (e.shows output).cause)) world x (shown e.shows x)) (sym is) (inr (within, appended, (output, refl, omega (arith, fails), refl))))
 
 -- no output could be created
-pub uncreated : {V O : Type 0} (name : Option (List ℕ)) (text : List ℕ) (what : Done) (tells : Edge V) (f : ImposeFault) (outcome : Result Done ImposeFault)
-    (world : V) (rest : Rest V O) (written : Option (List ℕ)) → outcome ≡ Err f → IsUncreated tells name world f rest
+pub uncreated : {V O : Type 0} (name : Option (List ℕ)) (text : List ℕ) (what : Done) (tells : Edge V O) (f : ImposeFault) (outcome : Result Done ImposeFault)
+    (world : V) (rest : Rest V O) (written : Option (List ℕ)) → outcome ≡ Err f → IsUncreated tells name (tells.seen world) f rest
     → Writes name text what tells outcome world rest written
 uncreated name text what tells f outcome world rest written told none =
     subst (λ o. Writes name text what tells o world rest written) (sym told) (inl none)
 
 -- the specification was printed to standard output
-printed_whole : {V O : Type 0} (r : ImposeRequest) (input : List ℕ) (tells : Edge V) (task : Task) (outcome : Result Done ImposeFault) (world : V) (rest : Rest V O)
+printed_whole : {V O : Type 0} (r : ImposeRequest) (input : List ℕ) (tells : Edge V O) (task : Task) (outcome : Result Done ImposeFault) (world : V) (rest : Rest V O)
     (written : Option (List ℕ)) → IsTask r input task → HasNoFault r input
     → Writes None (printed_text r task) done.Printed tells outcome world rest written → Prints r input tells outcome world rest written
 printed_whole r input tells task (Ok what) world rest written is_task none h =
-    subst (λ d. Prints r input tells (Ok d) world rest written) (sym h.0) (task, is_task, none, h.1)
+    subst (λ d. Prints r input tells (Ok d) world rest written) (sym h.0) (task, is_task, none, h.1, h.2)
 printed_whole r input tells task (Err f) world rest written is_task none h = inr (task, is_task, none, h)
 
-pub printed : {V O : Type 0} (r : ImposeRequest) (input : List ℕ) (tells : Edge V) (task : Task) (lines : List ℕ) (outcome : Result Done ImposeFault)
+pub printed : {V O : Type 0} (r : ImposeRequest) (input : List ℕ) (tells : Edge V O) (task : Task) (lines : List ℕ) (outcome : Result Done ImposeFault)
     (world : V) (rest : Rest V O) (written : Option (List ℕ)) → lines ≡ printed_text r task → IsTask r input task → HasNoFault r input
     → Writes None lines done.Printed tells outcome world rest written → Prints r input tells outcome world rest written
 printed r input tells task lines outcome world rest written is is_task none h =
@@ -95,11 +103,11 @@ printed r input tells task lines outcome world rest written is is_task none h =
     (subst (λ l. Writes None l done.Printed tells outcome world rest written) is h)
 
 -- the plan or the picture was written to the output of that name
-pub shown_whole : {V O : Type 0} (l : Overview) (name : Option (List ℕ)) (r : ImposeRequest) (input : List ℕ) (tells : Edge V) (text : List ℕ)
+pub shown_whole : {V O : Type 0} (l : Overview) (name : Option (List ℕ)) (r : ImposeRequest) (input : List ℕ) (tells : Edge V O) (text : List ℕ)
     (outcome : Result Done ImposeFault) (world : V) (rest : Rest V O) (written : Option (List ℕ)) → TellsRow r input l text
     → Writes name text done.Shown tells outcome world rest written → Shows l name r input tells outcome world rest written
 shown_whole l name r input tells text (Ok what) world rest written told h =
-    subst (λ d. Shows l name r input tells (Ok d) world rest written) (sym h.0) (text, told, h.1)
+    subst (λ d. Shows l name r input tells (Ok d) world rest written) (sym h.0) (text, told, h.1, h.2)
 shown_whole l name r input tells text (Err f) world rest written told h = inr (text, told, h)
 
 lays : (l : Layout) → lays_rows l ≡ true → LaysRows l
@@ -125,32 +133,38 @@ may_be_made_at_home words r given home e h = subst (λ (q : ImposeRequest). MayB
 
 -- ---- an output that exists
 
-after_any : (f : ImposeFault) (P Q : ℕ → Type 0) → AfterWrite f P Q → AfterWrite f (λ n. ⊤) (λ n. ⊤)
-after_any f P Q h = after_as f P Q (λ n. ⊤) (λ n. ⊤) (λ n e. tt) (λ n e. tt) h
+uncreated_after : {V O : Type 0} (e : Edge V O) (name : Option (List ℕ)) (before : WorldView) (f : ImposeFault) (rest : Rest V O) → IsUncreated e name before f rest → AfterWrite f (λ n. ⊤) (λ n. ⊤)
+uncreated_after e name before (fault.Write n (Some cause)) rest h = tt
+uncreated_after e name before other rest h = absurd h
 
-uncreated_after : {V O : Type 0} (e : Edge V) (name : Option (List ℕ)) (world : V) (f : ImposeFault) (rest : Rest V O) → IsUncreated e name world f rest → AfterWrite f (λ n. ⊤) (λ n. ⊤)
-uncreated_after e name world (fault.Write n (Some cause)) rest h = tt
-uncreated_after e name world other rest h = absurd h
+breaks_after : {V O : Type 0} (old new : Option (List ℕ)) (text : List ℕ) (e : Edge V O) (f : ImposeFault) (rest : Rest V O) → BreaksAt old new text e f rest → AfterWrite f (λ n. ⊤) (λ n. ⊤)
+breaks_after old new text e (fault.Write n cause) rest h = tt
+breaks_after old new text e other rest h = absurd h
 
-text_created : {V O : Type 0} (name : Option (List ℕ)) (text : List ℕ) (tells : Edge V) (f : ImposeFault) (world : V) (rest : Rest V O) (written : Option (List ℕ)) → FailsToWrite name text tells f world rest written → IsCreatedFor (Err f) rest
+said_after : (view : OutputView) (n : ℕ) (f : ImposeFault) → IsSaidOf view n f → AfterWrite f (λ n. ⊤) (λ n. ⊤)
+said_after view n (fault.Write m cause) h = tt
+said_after view n (fault.Run (run.NoMemory m)) h = tt
+said_after view n other h = absurd h
+
+text_created : {V O : Type 0} (name : Option (List ℕ)) (text : List ℕ) (tells : Edge V O) (f : ImposeFault) (world : V) (rest : Rest V O) (written : Option (List ℕ)) → FailsToWrite name text tells f world rest written → IsCreatedFor (Err f) rest
 text_created name text tells f world rest written h = elim h [
-  | inl absent ↦ inr (uncreated_after tells name world f rest absent)
-  | inr broke ↦ inr (after_any f (λ n. (n < length text) × Appends (told_if tells.tells name []) written (take n text)) (λ n. ⊥) broke)
+  | inl absent ↦ inr (uncreated_after tells name (tells.seen world) f rest absent)
+  | inr broke ↦ inr (breaks_after (told_if tells.tells name []) written text tells f rest broke)
 ]
 
-run_created : {V O : Type 0} (r : ImposeRequest) (input : List ℕ) (tells : Edge V) (f : ImposeFault) (world : V) (rest : Rest V O) (written : Option (List ℕ)) → Runs r input tells (Err f) world rest written → IsCreatedFor (Err f) rest
+run_created : {V O : Type 0} (r : ImposeRequest) (input : List ℕ) (tells : Edge V O) (f : ImposeFault) (world : V) (rest : Rest V O) (written : Option (List ℕ)) → Runs r input tells (Err f) world rest written → IsCreatedFor (Err f) rest
 run_created r input tells f world rest written h = elim h [
   | inl stopped ↦ inl (ap has_output stopped.1)
   | inr some ↦ elim some.3 [
     | inl absent ↦ elim absent [
       | inl spent ↦ inr (subst (λ e. AfterWrite e (λ n. ⊤) (λ n. ⊤)) (sym spent.0) tt)
-      | inr refused ↦ inr (uncreated_after tells (option_map string_bytes r.outfile) world f rest refused)
+      | inr refused ↦ inr (uncreated_after tells (option_map string_bytes r.outfile) (tells.seen world) f rest refused)
     ]
-    | inr front ↦ let first = HasFirst (told_if tells.tells (option_map string_bytes r.outfile) []) written some.0 in inr (after_any f first first front)
+    | inr broke ↦ inr (said_after (tells.shows broke.0) broke.2 f broke.3)
   ]
 ]
 
-made_created : {V O : Type 0} (p : Product) (r : ImposeRequest) (input : List ℕ) (tells : Edge V) (f : ImposeFault) (world : V) (rest : Rest V O) (written : Option (List ℕ)) → Makes p r input tells (Err f) world rest written → IsCreatedFor (Err f) rest
+made_created : {V O : Type 0} (p : Product) (r : ImposeRequest) (input : List ℕ) (tells : Edge V O) (f : ImposeFault) (world : V) (rest : Rest V O) (written : Option (List ℕ)) → Makes p r input tells (Err f) world rest written → IsCreatedFor (Err f) rest
 made_created product.Sheets r input tells f world rest written h = run_created r input tells f world rest written h
 made_created product.Specification r input tells f world rest written h = elim h [
   | inl stopped ↦ inl (ap has_output stopped.1)
@@ -165,7 +179,7 @@ made_created (product.Picture file) r input tells f world rest written h = elim 
   | inr some ↦ text_created (option_map string_bytes file) some.0 tells f world rest written some.2
 ]
 
-pub created_for : {V O : Type 0} (seen : V → WorldView) (r : ImposeRequest) (gives : Gives) (tells : Edge V) (outcome : Result Done ImposeFault) (world : V) (rest : Rest V O) (written : Option (List ℕ)) → CarriesOut seen r gives tells outcome world rest written → IsCreatedFor outcome rest
+pub created_for : {V O : Type 0} (seen : V → WorldView) (r : ImposeRequest) (gives : Gives) (tells : Edge V O) (outcome : Result Done ImposeFault) (world : V) (rest : Rest V O) (written : Option (List ℕ)) → CarriesOut seen r gives tells outcome world rest written → IsCreatedFor outcome rest
 created_for seen r gives tells (Ok what) world rest written h = tt
 created_for seen r gives tells (Err f) world rest written h = elim h [
   | inl stopped ↦ inl (ap has_output stopped.3)

@@ -151,7 +151,7 @@ on_row (layout.SpecRow specs signing) r input f rows h = absurd rows
 on_row other r input f rows h = h
 
 -- there is no task
-pub row_stops : {V O : Type 0} (r : ImposeRequest) (input : List ℕ) (tells : Edge V) (f : ImposeFault) (outcome : Result Done ImposeFault) (world : V) (rest : Rest V O) (written : Option (List ℕ)) → LaysRows r.layout → outcome ≡ Err f → rest ≡ World world
+pub row_stops : {V O : Type 0} (r : ImposeRequest) (input : List ℕ) (tells : Edge V O) (f : ImposeFault) (outcome : Result Done ImposeFault) (world : V) (rest : Rest V O) (written : Option (List ℕ)) → LaysRows r.layout → outcome ≡ Err f → rest ≡ World world
     → RefusesRowTask r input f → Runs r input tells outcome world rest written
 row_stops r input tells f outcome world rest written rows is none why =
     comes_refused (RefusesImposing r.layout r input) (IsImposed r input) _ tells f outcome world rest written is none (on_row r.layout r input f rows (inl why))
@@ -161,7 +161,7 @@ abbrev pub about_row : RowTask → (told : Told) → About
 about_row t told = record { page_paper = t.page_paper; origin = t.origin; cut = t.cut; reach = t.reach; behind = t.behind; told = told }
 
 -- what comes of its run comes of the request
-pub row_runs : {V O : Type 0} (r : ImposeRequest) (input : List ℕ) (t : RowTask) (told : Told) (tells : Edge V) (outcome : Result Done ImposeFault) (left : Result Report ImposeFault) (world : V) (rest : Rest V O) (written : Option (List ℕ))
+pub row_runs : {V O : Type 0} (r : ImposeRequest) (input : List ℕ) (t : RowTask) (told : Told) (tells : Edge V O) (outcome : Result Done ImposeFault) (left : Result Report ImposeFault) (world : V) (rest : Rest V O) (written : Option (List ℕ))
     → LaysRows r.layout → IsRowTask r input t → IsToldBy r input told → outcome ≡ reported_by (about_row t told) left
     → Comes (RefusesRowTaskRun r t) (ImposesTask r t) (option_map string_bytes r.outfile) tells left world rest written → Runs r input tells outcome world rest written
 row_runs r input t told tells outcome left world rest written rows is tells_it reports h =
@@ -171,7 +171,7 @@ row_runs r input t told tells outcome left world rest written rows is tells_it r
     (λ old new report done. inr (inl (finishes_row r input t told old new report is tells_it done))) h)
 
 -- what comes of its job comes of a task
-pub task_comes : {V O : Type 0} (r : ImposeRequest) (t : RowTask) (job : RowJob) (name other : Option (List ℕ)) (tells : Edge V) (outcome : Result Report ImposeFault) (world : V) (rest : Rest V O) (written : Option (List ℕ))
+pub task_comes : {V O : Type 0} (r : ImposeRequest) (t : RowTask) (job : RowJob) (name other : Option (List ℕ)) (tells : Edge V O) (outcome : Result Report ImposeFault) (world : V) (rest : Rest V O) (written : Option (List ℕ))
     → Comes (RefusesRowJob job) (Imposes job) name tells outcome world rest written → name ≡ other → IsJobOf r t job → Comes (RefusesRowTaskRun r t) (ImposesTask r t) other tells outcome world rest written
 task_comes r t job name other tells outcome world rest written h named is =
     subst (λ n. Comes (RefusesRowTaskRun r t) (ImposesTask r t) n tells outcome world rest written) named

@@ -51,7 +51,7 @@ on_spec_row (layout.SpecRow specs signing) r input f rows h = h
 on_spec_row other r input f rows h = absurd rows
 
 -- there is no task
-pub spec_row_stops : {V O : Type 0} (r : ImposeRequest) (input : List ℕ) (tells : Edge V) (f : ImposeFault) (outcome : Result Done ImposeFault) (world : V) (rest : Rest V O) (written : Option (List ℕ)) → LaysSpecRow r.layout → outcome ≡ Err f → rest ≡ World world
+pub spec_row_stops : {V O : Type 0} (r : ImposeRequest) (input : List ℕ) (tells : Edge V O) (f : ImposeFault) (outcome : Result Done ImposeFault) (world : V) (rest : Rest V O) (written : Option (List ℕ)) → LaysSpecRow r.layout → outcome ≡ Err f → rest ≡ World world
     → RefusesSpecRowTask r input f → Runs r input tells outcome world rest written
 spec_row_stops r input tells f outcome world rest written rows is none why =
     comes_refused (RefusesImposing r.layout r input) (IsImposed r input) _ tells f outcome world rest written is none (on_spec_row r.layout r input f rows (inl why))
@@ -61,7 +61,7 @@ abbrev pub about_spec_row : SpecRowTask → (told : Told) → About
 about_spec_row t told = record { page_paper = t.page_paper; origin = t.origin; cut = None; reach = t.counted.reach; behind = t.counted.behind; told = told }
 
 -- what comes of its run comes of the request
-pub spec_row_runs : {V O : Type 0} (r : ImposeRequest) (input : List ℕ) (t : SpecRowTask) (told : Told) (tells : Edge V) (outcome : Result Done ImposeFault) (left : Result Report ImposeFault) (world : V) (rest : Rest V O) (written : Option (List ℕ))
+pub spec_row_runs : {V O : Type 0} (r : ImposeRequest) (input : List ℕ) (t : SpecRowTask) (told : Told) (tells : Edge V O) (outcome : Result Done ImposeFault) (left : Result Report ImposeFault) (world : V) (rest : Rest V O) (written : Option (List ℕ))
     → LaysSpecRow r.layout → IsSpecRowTask r input t → IsToldBy r input told → outcome ≡ reported_by (about_spec_row t told) left
     → Comes (RefusesSpecTaskRun r t) (ImposesSpecTask r t) (option_map string_bytes r.outfile) tells left world rest written → Runs r input tells outcome world rest written
 spec_row_runs r input t told tells outcome left world rest written rows is tells_it reports h =
@@ -71,7 +71,7 @@ spec_row_runs r input t told tells outcome left world rest written rows is tells
     (λ old new report done. inr (inr (finishes_spec_row r input t told old new report is tells_it done))) h)
 
 -- what comes of its job comes of a task
-pub spec_task_comes : {V O : Type 0} (r : ImposeRequest) (t : SpecRowTask) (job : SpecJob) (name other : Option (List ℕ)) (tells : Edge V) (outcome : Result Report ImposeFault) (world : V) (rest : Rest V O) (written : Option (List ℕ))
+pub spec_task_comes : {V O : Type 0} (r : ImposeRequest) (t : SpecRowTask) (job : SpecJob) (name other : Option (List ℕ)) (tells : Edge V O) (outcome : Result Report ImposeFault) (world : V) (rest : Rest V O) (written : Option (List ℕ))
     → Comes (RefusesSpecRowJob job) (ImposesBySpec job) name tells outcome world rest written → name ≡ other → IsSpecJobOf r t job → Comes (RefusesSpecTaskRun r t) (ImposesSpecTask r t) other tells outcome world rest written
 spec_task_comes r t job name other tells outcome world rest written h named is =
     subst (λ n. Comes (RefusesSpecTaskRun r t) (ImposesSpecTask r t) n tells outcome world rest written) named

@@ -1,13 +1,15 @@
 -- How a request ends that is to be imposed: it is refused, and the world is back; or there is something to write, and it was
 -- written, or its first bytes were, or no output could be created.
-use Rattle.std.specs.Prelude.{◌≡◌, ◌⊎◌, ℕ, ◌≤◌, ◌++◌, List, [], length, take, Bool, Option, Some, Result, Ok, Err, IfSome, option_map, string_bytes}
-use Rattle.std.specs.Io.KnownBytes.{Appends}
+use Rattle.std.specs.Prelude.{◌≡◌, ◌⊎◌, ℕ, ◌-◌, ◌<◌, ◌≤◌, ◌++◌, List, [], length, take, Bool, true, Option, Some, Result, Ok, Err, IfSome, option_map, string_bytes}
+use Rattle.std.specs.Io.KnownBytes.{Appends, Keeps, append_known}
 use Rattle.std.specs.IoError.{error_kind}
 use Rattle.std.specs.declared.io.ErrorKind.{ErrorKind}
+use Rattle.std.below.std_io.specs.declared.io.error.Error.{Error}
 use Rattle.std.specs.declared.io.ErrorKind.TheVariants.{OutOfMemory}
 use Rattle.rules.specs.Output.{output}
 use Rattle.sheet_text.specs.Jobs.{JobView, output_of}
-use Rattle.world.specs.Outputs.{told_if}
+use Rattle.sheet_writer.specs.Sinks.{SinkView}
+use Rattle.world.specs.Outputs.{OutputView, named, told_if}
 use Rattle.world.specs.Worlds.{HasRefused, WorldView, creating}
 pub use Rattle.world.specs.Rests.{has_output, shown}
 use Rattle.planned_runs.specs.Gathering.{ReportsOf}
@@ -25,7 +27,7 @@ use Rattle.impose_cli.specs.RowTasks.{FinishesRow, IsJobOf, IsRowTask}
 use Rattle.impose_cli.specs.SpecRows.{FinishesSpecRow, RefusesSpecRowRun}
 use Rattle.impose_cli.specs.Refusals.{RefusesRowTask, RefusesTask, RefusesText}
 use Rattle.world.specs.declared.rest.Rest.{Rest}
-use Rattle.world.specs.declared.rest.Rest.TheVariants.{World}
+use Rattle.world.specs.declared.rest.Rest.TheVariants.{Output, World}
 use Rattle.impose_cli.specs.declared.row_task.RowTask.{RowTask}
 use Rattle.impose_cli.specs.declared.task.Task.{Task}
 use Rattle.impose_words.specs.declared.request.Layout.{Layout}
@@ -45,57 +47,83 @@ AfterWrite (fault.Write n cause) failed spent = failed n
 AfterWrite (fault.Run (run.NoMemory n)) failed spent = spent n
 AfterWrite other failed spent = ⊥
 
--- what clauses see of a world: whether its outputs report what they have, and what it was asked for
-pub record Edge (W : Type 0) : Type 0 where
+-- what clauses see of a world and its outputs: whether these report what they have, what it was asked for, and how they failed
+pub record Edge (W O : Type 0) : Type 0 where
   pub tells : Bool
   pub seen : W → WorldView
+  pub shows : O → OutputView
 
-abbrev pub edge : {W : Type 0} → Bool → (W → WorldView) → Edge W
-edge tells seen = record { tells = tells; seen = seen }
+abbrev pub edge : {W O : Type 0} → Bool → (W → WorldView) → (O → OutputView) → Edge W O
+edge tells seen shows = record { tells = tells; seen = seen; shows = shows }
 
 -- the world is back, and has refused an output of this name with an error of this kind
-abbrev pub Refused : {W O : Type 0} → Edge W → (name : Option (List ℕ)) → ErrorKind → (world : W) → Rest W O → Type 0
-Refused {W} edge name cause world rest = (left : W) × (rest ≡ World left) × HasRefused (creating name) cause (edge.seen world) (edge.seen left)
+abbrev pub Refused : {W O : Type 0} → Edge W O → (name : Option (List ℕ)) → ErrorKind → (before : WorldView) → Rest W O → Type 0
+Refused {W} edge name cause before rest = (left : W) × (rest ≡ World left) × HasRefused (creating name) cause before (edge.seen left)
+
+-- the world is back, and the same is seen of it: it was asked for nothing
+abbrev pub IsBack : {W O : Type 0} → Edge W O → (before : WorldView) → Rest W O → Type 0
+IsBack {W} edge before rest = (left : W) × (rest ≡ World left) × (edge.seen left ≡ before)
 
 -- no output of this name could be created: the fault says so, with the world's cause
-abbrev pub IsUncreated : {W O : Type 0} → Edge W → (name : Option (List ℕ)) → (world : W) → ImposeFault → Rest W O → Type 0
-IsUncreated edge name world (fault.Write n (Some cause)) rest = (n ≡ 0) × Refused edge name (error_kind cause) world rest
-IsUncreated edge name world other rest = ⊥
+abbrev pub IsUncreated : {W O : Type 0} → Edge W O → (name : Option (List ℕ)) → (before : WorldView) → ImposeFault → Rest W O → Type 0
+IsUncreated edge name before (fault.Write n (Some cause)) rest = (n ≡ 0) × Refused edge name (error_kind cause) before rest
+IsUncreated edge name before other rest = ⊥
 
--- nor was there memory for its buffer: then the very world is back, or it has refused for want of memory
-abbrev pub IsNotCreated : {T W O : Type 0} → Edge W → (name : Option (List ℕ)) → (world : W) → Result T ImposeFault → Rest W O → Type 0
-IsNotCreated edge name world (Ok x) rest = ⊥
-IsNotCreated edge name world (Err f) rest =
-    ((f ≡ without_memory) × ((rest ≡ World world) ⊎ Refused edge name OutOfMemory world rest)) ⊎ IsUncreated edge name world f rest
+-- or memory ran out before there was a byte to write: then the world was asked for nothing, or has refused for want of memory
+abbrev pub IsNotCreated : {W O : Type 0} → Edge W O → (name : Option (List ℕ)) → (before : WorldView) → ImposeFault → Rest W O → Type 0
+IsNotCreated edge name before f rest =
+    ((f ≡ without_memory) × (IsBack edge before rest ⊎ Refused edge name OutOfMemory before rest)) ⊎ IsUncreated edge name before f rest
+
+-- the output is there, and hasn't failed
+abbrev pub IsUnfailed : {W O : Type 0} → Edge W O → Rest W O → Type 0
+IsUnfailed {W} {O} edge rest = (output : O) × (rest ≡ Output output) × ((edge.shows output).failures ≡ 0)
+
+-- the output is there, and has failed, for this cause
+abbrev pub HasFailed : {W O : Type 0} → Edge W O → Option Error → Rest W O → Type 0
+HasFailed {W} {O} edge cause rest =
+    (output : O) × (rest ≡ Output output) × (0 < (edge.shows output).failures) × (cause ≡ (edge.shows output).cause)
+
+-- what is said of an output after so many bytes: its failure, or if it hasn't failed and has taken a byte, that memory ran out
+abbrev pub IsSaidOf : OutputView → (n : ℕ) → ImposeFault → Type 0
+IsSaidOf view n (fault.Write m cause) = (m ≡ n) × (0 < view.failures) × (cause ≡ view.cause)
+IsSaidOf view n (fault.Run (run.NoMemory m)) = (m ≡ n) × (view.failures ≡ 0) × (view.has_taken ≡ true)
+IsSaidOf view n other = ⊥
 
 -- the output has the first bytes of this text, so many, if it reports what it has
 abbrev pub HasFirst : (old new : Option (List ℕ)) → (text : List ℕ) → (n : ℕ) → Type 0
 HasFirst old new text n = IfSome old (λ start. (n ≤ length text) × (new ≡ Some (start ++ take n text)))
 
--- memory ran out, or a write failed: it has as many as the fault says
-abbrev pub HasFront : (old new : Option (List ℕ)) → (text : List ℕ) → ImposeFault → Type 0
-HasFront old new text f = AfterWrite f (HasFirst old new text) (HasFirst old new text)
+-- an output of this name is there, with as many of the first bytes of this text as the fault says
+abbrev pub IsBroken : {W O : Type 0} → Edge W O → (name : Option (List ℕ)) → (text : List ℕ) → ImposeFault → Rest W O → Type 0
+IsBroken {W} {O} edge name text f rest =
+    (output : O) × (rest ≡ Output output) × (n : ℕ) × IsSaidOf (edge.shows output) n f
+    × HasFirst (told_if edge.tells name []) (edge.shows output).bytes text n
 
--- the fault says that memory ran out or a write failed after so many bytes
-abbrev pub TellsCount : {T : Type 0} → (n : ℕ) → Result T ImposeFault → Type 0
-TellsCount n (Ok x) = ⊥
-TellsCount n (Err f) = AfterWrite f (λ m. m ≡ n) (λ m. m ≡ n)
+-- the output is there, with all that its sink told, and failed as often
+abbrev pub Holds : {W O : Type 0} → Edge W O → SinkView → Rest W O → Type 0
+Holds {W} {O} edge sink rest =
+    (output : O) × (rest ≡ Output output) × Keeps sink.bytes (edge.shows output).bytes × ((edge.shows output).failures ≡ sink.failures)
 
--- what is said of an error of a run, after so many bytes: that memory ran out, or that a write failed
-abbrev pub IsSaidOf : RunError → (n : ℕ) → ImposeFault → Type 0
-IsSaidOf (run.NoMemory k) n f = AfterWrite f (λ m. ⊥) (λ m. m ≡ n)
-IsSaidOf other n f = AfterWrite f (λ m. m ≡ n) (λ m. ⊥)
+-- Memory ran out or a write failed, when the sink had taken so many bytes and told these: none was created, or an output of
+-- this name is there, with all of them but some that wait.
+abbrev pub BreaksOff : {W O : Type 0} → Edge W O → (name : Option (List ℕ)) → (before : WorldView) → (taken : ℕ)
+    → (told : Option (List ℕ)) → ImposeFault → Rest W O → Type 0
+BreaksOff {W} {O} edge name before taken told f rest =
+    IsNotCreated edge name before f rest
+    ⊎ ((output : O) × (rest ≡ Output output) × (waiting : List ℕ) × IsSaidOf (edge.shows output) (taken - length waiting) f
+    × (told ≡ append_known (named (edge.shows output).bytes) waiting))
 
--- What comes of what is to be written to the output of this name. It was written whole; or it is refused, and this very world is
--- back; or a whole output would have this text, and none could be created, or one has its front. `Refuses` says why it is
+-- What comes of what is to be written to the output of this name. It was written whole, without a failure; or it is refused, and
+-- this very world is back; or a whole output would have this text, and none was created, or one has its front. `Refuses` says why it is
 -- refused, and `Wrote` what a whole output was before and is now.
 abbrev pub Comes : {T W O : Type 0} → (Refuses : ImposeFault → Type 0) → (Wrote : (old new : Option (List ℕ)) → T → Type 0)
-    → (name : Option (List ℕ)) → (edge : Edge W) → Result T ImposeFault → (world : W) → (rest : Rest W O) → (written : Option (List ℕ)) → Type 0
-Comes {T} Refuses Wrote name edge (Ok what) world rest written = Wrote (told_if edge.tells name []) written what
+    → (name : Option (List ℕ)) → (edge : Edge W O) → Result T ImposeFault → (world : W) → (rest : Rest W O) → (written : Option (List ℕ)) → Type 0
+Comes {T} Refuses Wrote name edge (Ok what) world rest written =
+    Wrote (told_if edge.tells name []) written what × IsUnfailed edge rest
 Comes {T} Refuses Wrote name edge (Err f) world rest written =
     (Refuses f × (rest ≡ World world))
     ⊎ ((text : List ℕ) × (what : T) × Wrote (Some []) (Some text) what
-    × (IsNotCreated {T = T} edge name world (Err f) rest ⊎ HasFront (told_if edge.tells name []) written text f))
+    × (IsNotCreated edge name (edge.seen world) f rest ⊎ IsBroken edge name text f rest))
 
 -- ---- the sheets of a job
 
@@ -160,7 +188,7 @@ RefusesImposing (layout.SpecRow specs signing) r input f = RefusesSpecRowRun r i
 RefusesImposing other r input f = RefusesRow r input f
 
 -- what comes of a request to impose this input
-abbrev pub Runs : {W O : Type 0} → ImposeRequest → (input : List ℕ) → (edge : Edge W) → Result Done ImposeFault
+abbrev pub Runs : {W O : Type 0} → ImposeRequest → (input : List ℕ) → (edge : Edge W O) → Result Done ImposeFault
     → (world : W) → (rest : Rest W O) → (written : Option (List ℕ)) → Type 0
 Runs r input edge outcome world rest written =
     Comes (RefusesImposing r.layout r input) (IsImposed r input) (option_map string_bytes r.outfile) edge outcome world rest written

@@ -11,7 +11,7 @@ use Rattle.world.specs.Rests.{has_output}
 use Rattle.world.specs.Worlds.{HasGranted, WasAsked, WorldView, opening}
 use Rattle.rules.specs.Papers.{Paper}
 use Rattle.papers.specs.Home.{home_paper}
-use Rattle.impose_cli.specs.Endings.{AfterWrite, Edge, IsUncreated, RefusesRow, Runs}
+use Rattle.impose_cli.specs.Endings.{AfterWrite, Edge, HasFailed, IsUncreated, IsUnfailed, RefusesRow, Runs}
 use Rattle.impose_said.specs.Faults.{without_memory}
 use Rattle.impose_cli.specs.Looks.{TellsRow}
 use Rattle.impose_cli.specs.Printed.{printed_text}
@@ -87,32 +87,34 @@ HasGiven name old new = HasGranted (opening name) old new
 
 -- ---- texts
 
--- a write failed, and the fault says after how many bytes of the text: these were written
-abbrev pub BreaksAt : (old new : Option (List ℕ)) → (text : List ℕ) → ImposeFault → Type 0
-BreaksAt old new text f = AfterWrite f (λ n. (n < length text) × Appends old new (take n text)) (λ n. ⊥)
+-- a write failed, and the fault says after how many bytes of the text, and why: these were written
+abbrev pub BreaksAt : {W O : Type 0} → (old new : Option (List ℕ)) → (text : List ℕ) → (edge : Edge W O) → ImposeFault → (rest : Rest W O) → Type 0
+BreaksAt old new text edge (fault.Write n cause) rest = (n < length text) × Appends old new (take n text) × HasFailed edge cause rest
+BreaksAt old new text edge other rest = ⊥
 
 -- a text wasn't written whole to the output of this name
-abbrev pub FailsToWrite : {W O : Type 0} → (name : Option (List ℕ)) → (text : List ℕ) → (edge : Edge W) → ImposeFault
+abbrev pub FailsToWrite : {W O : Type 0} → (name : Option (List ℕ)) → (text : List ℕ) → (edge : Edge W O) → ImposeFault
     → (world : W) → (rest : Rest W O) → (written : Option (List ℕ)) → Type 0
 FailsToWrite name text edge f world rest written =
-    IsUncreated edge name world f rest ⊎ BreaksAt (told_if edge.tells name []) written text f
+    IsUncreated edge name (edge.seen world) f rest ⊎ BreaksAt (told_if edge.tells name []) written text edge f rest
 
--- What comes of a text that is written to the output of this name: the output tells its name and exactly the text; or a
--- write failed.
-abbrev pub Writes : {W O : Type 0} → (name : Option (List ℕ)) → (text : List ℕ) → Done → (edge : Edge W) → Result Done ImposeFault
+-- What comes of a text that is written to the output of this name: the output tells its name and exactly the text, and hasn't
+-- failed; or a write failed.
+abbrev pub Writes : {W O : Type 0} → (name : Option (List ℕ)) → (text : List ℕ) → Done → (edge : Edge W O) → Result Done ImposeFault
     → (world : W) → (rest : Rest W O) → (written : Option (List ℕ)) → Type 0
-Writes name text what edge (Ok said) world rest written = (said ≡ what) × Appends (told_if edge.tells name []) written text
+Writes name text what edge (Ok said) world rest written =
+    (said ≡ what) × Appends (told_if edge.tells name []) written text × IsUnfailed edge rest
 Writes name text what edge (Err f) world rest written = FailsToWrite name text edge f world rest written
 
 -- What comes of a request to print the specification for this input: there is a task, which nothing refuses, and standard
 -- output has what was printed of it; or there is none, or no memory, and the world is back; or there is such a task, and a
 -- write failed.
-abbrev pub Prints : {W O : Type 0} → ImposeRequest → (input : List ℕ) → (edge : Edge W) → Result Done ImposeFault
+abbrev pub Prints : {W O : Type 0} → ImposeRequest → (input : List ℕ) → (edge : Edge W O) → Result Done ImposeFault
     → (world : W) → (rest : Rest W O) → (written : Option (List ℕ)) → Type 0
 Prints r input edge (Ok (done.Imposed finished)) world rest written = ⊥
 Prints r input edge (Ok done.Printed) world rest written =
     (task : Task) × IsTask r input task × HasNoFault r input
-    × Appends (told_if edge.tells None []) written (printed_text r task)
+    × Appends (told_if edge.tells None []) written (printed_text r task) × IsUnfailed edge rest
 Prints r input edge (Ok done.Shown) world rest written = ⊥
 Prints r input edge (Err f) world rest written =
     ((RefusesTask r input f ⊎ (f ≡ without_memory)) × (rest ≡ World world))
@@ -122,12 +124,12 @@ Prints r input edge (Err f) world rest written =
 -- What comes of a request to show the sheets for this input: the output of this name has exactly the text that reports on the
 -- sheets that would be imposed; or the request is refused as its run would be, and the world is back; or there is such a
 -- text, and a write failed.
-abbrev pub Shows : {W O : Type 0} → Overview → (name : Option (List ℕ)) → ImposeRequest → (input : List ℕ) → (edge : Edge W) → Result Done ImposeFault
+abbrev pub Shows : {W O : Type 0} → Overview → (name : Option (List ℕ)) → ImposeRequest → (input : List ℕ) → (edge : Edge W O) → Result Done ImposeFault
     → (world : W) → (rest : Rest W O) → (written : Option (List ℕ)) → Type 0
 Shows l name r input edge (Ok (done.Imposed finished)) world rest written = ⊥
 Shows l name r input edge (Ok done.Printed) world rest written = ⊥
 Shows l name r input edge (Ok done.Shown) world rest written =
-    (text : List ℕ) × TellsRow r input l text × Appends (told_if edge.tells name []) written text
+    (text : List ℕ) × TellsRow r input l text × Appends (told_if edge.tells name []) written text × IsUnfailed edge rest
 Shows l name r input edge (Err f) world rest written =
     (RefusesRow r input f × (rest ≡ World world))
     ⊎ ((text : List ℕ) × TellsRow r input l text × FailsToWrite name text edge f world rest written)
@@ -136,7 +138,7 @@ Shows l name r input edge (Err f) world rest written =
 
 -- this is made of what the input gives: the sheets in OUTFILE, a specification or a plan on standard output, or a picture in
 -- its own file
-abbrev pub Makes : {W O : Type 0} → Product → ImposeRequest → (input : List ℕ) → (edge : Edge W) → Result Done ImposeFault
+abbrev pub Makes : {W O : Type 0} → Product → ImposeRequest → (input : List ℕ) → (edge : Edge W O) → Result Done ImposeFault
     → (world : W) → (rest : Rest W O) → (written : Option (List ℕ)) → Type 0
 Makes product.Sheets r input edge outcome world rest written = Runs r input edge outcome world rest written
 Makes product.Specification r input edge outcome world rest written = Prints r input edge outcome world rest written
@@ -147,7 +149,7 @@ Makes (product.Picture file) r input edge outcome world rest written =
 
 -- What comes of a request: it is refused before its input is read; or it isn't, and its input can't be read, and the world is
 -- back; or the input was read, and what is asked for is made of it (RULES, 16)
-abbrev pub CarriesOut : {W O : Type 0} → (seen : W → WorldView) → ImposeRequest → Gives → (edge : Edge W) → Result Done ImposeFault
+abbrev pub CarriesOut : {W O : Type 0} → (seen : W → WorldView) → ImposeRequest → Gives → (edge : Edge W O) → Result Done ImposeFault
     → (world : W) → (rest : Rest W O) → (written : Option (List ℕ)) → Type 0
 CarriesOut {W} seen r gives edge outcome world rest written =
     ((f : ImposeFault) × (left : W) × (outcome ≡ Err f) × (rest ≡ World left)
@@ -165,7 +167,7 @@ IsCreatedFor (Err f) rest = (has_output rest ≡ false) ⊎ AfterWrite f (λ n. 
 -- How the program ends: the words are refused, and the world is back; or they make a request, with the paper at home,
 -- and this comes of it.
 abbrev pub EndsProgram : {W O : Type 0} → (seen : W → WorldView) → (words : List Text) → (variable : List ℕ) → Gives
-    → (regular : List ℕ → Option Bool) → (edge : Edge W) → Option ImposeRequest → Result Done ImposeFault → (world : W)
+    → (regular : List ℕ → Option Bool) → (edge : Edge W O) → Option ImposeRequest → Result Done ImposeFault → (world : W)
     → (rest : Rest W O) → (written : Option (List ℕ)) → Type 0
 EndsProgram seen words variable gives regular edge None (Ok what) world rest written = ⊥
 EndsProgram seen words variable gives regular edge None (Err (fault.Command f)) world rest written =

@@ -5,7 +5,7 @@ ghost use Rattle.std.specs.Io.KnownBytes.{Appends};
 ghost use Rattle.world.specs.Input.{IsFirst, most_bytes};
 ghost use Rattle.impose_cli.specs.Endings.{edge, shown};
 ghost use Rattle.impose_cli.specs.Looks.{MayBeMade};
-ghost use Rattle.impose_cli.specs.Programs.{BreaksAt, CarriesOut, EndsProgram, FindsHome, HasGiven, IsCreatedFor, IsReading, IsUnread, Makes};
+ghost use Rattle.impose_cli.specs.Programs.{CarriesOut, EndsProgram, FindsHome, HasGiven, IsCreatedFor, IsReading, IsUnread, Makes};
 ghost use Rattle.impose_cli.specs.Programs.{Prints, Shows, Writes, status_of};
 ghost use Rattle.impose_cli.specs.RowTasks.{LaysRows};
 ghost use Rattle.impose_said.specs.declared.fault.ImposeFault.TheVariants as faults;
@@ -24,10 +24,10 @@ use lengths::Paper;
 use papers::home_paper;
 use std::alloc::Global;
 use std::io;
-use std::io::{ErrorKind, Write};
+use std::io::ErrorKind;
 use std::sync::Wait;
 use std::thread::Threads;
-use world::{ReadFault, ReadSource, Rest, World, read_front, read_input_behind};
+use world::{Output, ReadFault, ReadSource, Rest, World, read_front, read_input_behind, write_all};
 
 /// How the program ended.
 #[derive(Drop)]
@@ -67,7 +67,7 @@ pub fn impose<R: Threads + Wait + Sync, W: World>(
 ) -> Ended<W>
     requires countable { (W.seen world).failures + 1 < u64.MAX }
     ensures ended { EndsProgram W.seen (map string_bytes words.now) paper_size.now (W.gives world) (W.regular world)
-        (edge (W.tells world) W.seen) result.request result.outcome world result.rest (shown W.Output.contents result.rest) }
+        (edge (W.tells world) W.seen W.Output.seen) result.request result.outcome world result.rest (shown W.Output.seen result.rest) }
     // What is refused has created no output, and has the world back. An output that exists has all that was to be
     // written, or a write failed or memory ran out.
     ensures created { IsCreatedFor result.outcome result.rest }
@@ -139,8 +139,8 @@ fn carry_out<R: Threads + Wait + Sync, W: World>(
 ) -> Left<W, Done>
     requires product { MayBeMade request.now.product request.now.layout }
     requires countable { (W.seen world).failures < u64.MAX }
-    ensures { CarriesOut W.seen request.now (W.gives world) (edge (W.tells world) W.seen) result.outcome world result.rest
-        (shown W.Output.contents result.rest) }
+    ensures { CarriesOut W.seen request.now (W.gives world) (edge (W.tells world) W.seen W.Output.seen) result.outcome world result.rest
+        (shown W.Output.seen result.rest) }
 {
     match check_request(alloc, request) {
         Ok(()) => {}
@@ -162,8 +162,8 @@ fn make<R: Threads + Wait + Sync, W: World>(
 ) -> Left<W, Done>
     requires product { MayBeMade request.now.product request.now.layout }
     requires countable { (W.seen world).failures < u64.MAX }
-    ensures { Makes request.now.product request.now input.items (edge (W.tells world) W.seen) result.outcome world result.rest
-        (shown W.Output.contents result.rest) }
+    ensures { Makes request.now.product request.now input.items (edge (W.tells world) W.seen W.Output.seen) result.outcome world result.rest
+        (shown W.Output.seen result.rest) }
 {
     match &request.product {
         Product::Sheets => run_request(rt, alloc, request, input, world),
@@ -236,8 +236,8 @@ fn print_input<W: World>(
     world: W,
 ) -> Left<W, Done>
     requires countable { (W.seen world).failures < u64.MAX }
-    ensures { Prints request.now input.items (edge (W.tells world) W.seen) result.outcome world result.rest
-        (shown W.Output.contents result.rest) }
+    ensures { Prints request.now input.items (edge (W.tells world) W.seen W.Output.seen) result.outcome world result.rest
+        (shown W.Output.seen result.rest) }
 {
     let (task, _) = match task_for(alloc, request, input) {
         Ok(found) => found,
@@ -261,8 +261,8 @@ fn show_input<W: World>(
 ) -> Left<W, Done>
     requires rows { LaysRows request.now.layout }
     requires countable { (W.seen world).failures < u64.MAX }
-    ensures { Shows look (option_map (λ n. n.now) name.entry) request.now input.items (edge (W.tells world) W.seen) result.outcome
-        world result.rest (shown W.Output.contents result.rest) }
+    ensures { Shows look (option_map (λ n. n.now) name.entry) request.now input.items (edge (W.tells world) W.seen W.Output.seen) result.outcome
+        world result.rest (shown W.Output.seen result.rest) }
 {
     match look_text(alloc, request, input, look) {
         Ok(text) => write_text(name, text.as_slice(), Done::Shown, world),
@@ -273,47 +273,34 @@ fn show_input<W: World>(
 /// Writes a text to the output of that name, which is created for it.
 fn write_text<W: World>(name: Option<&str>, text: &[u8], done: Done, world: W) -> Left<W, Done>
     requires countable { (W.seen world).failures < u64.MAX }
-    ensures { Writes (option_map (λ n. n.now) name.entry) text.now done (edge (W.tells world) W.seen) result.outcome world result.rest
-        (shown W.Output.contents result.rest) }
+    ensures { Writes (option_map (λ n. n.now) name.entry) text.now done (edge (W.tells world) W.seen W.Output.seen) result.outcome world result.rest
+        (shown W.Output.seen result.rest) }
 {
     let mut output = match world.create(name) {
         Ok(output) => output,
-        Err(refused) => return stopped(failed_at(0, refused.cause), refused.world),
+        Err(refused) => return stopped(failed_at(0, Some(refused.cause)), refused.world),
     };
-    match write_whole(&mut output, text) {
+    match write_all(&mut output, text) {
         Ok(()) => Left {
             outcome: Ok(done),
-            rest: Rest::Output(Some(output)),
+            rest: Rest::Output(output),
         },
-        Err(fault) => Left {
-            outcome: Err(fault),
-            rest: Rest::Output(Some(output)),
-        },
-    }
-}
-
-/// Writes all of a text, or says after how many of its bytes a write failed.
-fn write_whole<O: Write>(output: &mut O, text: &[u8]) -> Result<(), ImposeFault>
-    ensures whole { OnOk result (Appends (O.contents output.old) (O.contents output.new) text.now) }
-    ensures part { IfErr result (BreaksAt (O.contents output.old) (O.contents output.new) text.now) }
-{
-    let mut written = 0;
-    while written < text.len() {
-        match output.write(&text[written..]) {
-            Ok(count) if count > 0 => written += count,
-            Ok(_) => return Err(failed_at(written, io::Error::from(ErrorKind::WriteZero))),
-            Err(cause) => return Err(failed_at(written, cause)),
+        Err(broken) => {
+            let fault = failed_at(broken.written, output.cause());
+            Left {
+                outcome: Err(fault),
+                rest: Rest::Output(output),
+            }
         }
     }
-    Ok(())
 }
 
 /// A write failed after so many bytes.
-fn failed_at(written: usize, cause: io::Error) -> ImposeFault
-    ensures { result ≡ faults.Write written (Some cause) }
+fn failed_at(written: usize, cause: Option<io::Error>) -> ImposeFault
+    ensures { result ≡ faults.Write written cause }
 {
     ImposeFault::Write {
         written: written as u64,
-        cause: Some(cause),
+        cause,
     }
 }

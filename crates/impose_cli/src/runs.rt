@@ -1,5 +1,5 @@
 //! Runs of requests, into outputs that are created once nothing is left to refuse.
-ghost use Rattle.std.specs.Prelude.{◌≡◌, ◌<◌, ◌⊎◌, ℕ, List, IfErr, IfOk, IfSome, IsTrue, MatchResult, OnOk, None, Some, Ok, Err, option_map, string_bytes};
+ghost use Rattle.std.specs.Prelude.{◌≡◌, ◌<◌, ◌⊎◌, [], ℕ, List, IfErr, IfOk, IfSome, IsTrue, MatchResult, OnOk, None, Some, Ok, Err, option_map, string_bytes, true};
 ghost use Rattle.std.specs.IoError.{error_kind};
 ghost use Rattle.std.specs.declared.io.ErrorKind.TheVariants.{OutOfMemory};
 ghost use Rattle.impose_said.specs.Faults.{without_memory};
@@ -7,7 +7,7 @@ ghost use Rattle.rules.specs.Admissible.{Takes, most_slots};
 ghost use Rattle.rules.specs.Run.{document_of};
 ghost use Rattle.rows.specs.Sewing.{MayBeSewn};
 ghost use Rattle.sheet_text.specs.Jobs.{is_border};
-ghost use Rattle.planned_runs.specs.Outcomes.{IsNoRefusal};
+ghost use Rattle.planned_runs.specs.Outcomes.{AfterError, IsNoRefusal};
 ghost use Rattle.imposer.specs.Runs.{IsRefusal, IsUnwritten};
 ghost use Rattle.imposer.specs.Options.{AreOptions};
 ghost use Rattle.planned_runs.specs.Workers.{AreWorkers};
@@ -18,7 +18,7 @@ ghost use Rattle.impose_cli.specs.RowRuns.{Imposes, ImposesBySpec};
 ghost use Rattle.impose_cli.specs.RowTasks.{LaysRows};
 ghost use Rattle.impose_cli.specs.SpecRows.{LaysSpecRow, RefusesSpecRowJob};
 ghost use Rattle.impose_cli.specs.Endings.{Comes, RefusesRowJob, RefusesTaskRun, Runs, edge, shown};
-ghost use Rattle.impose_cli.specs.Endings.{IsSaidOf, WritesJob, WritesTask};
+ghost use Rattle.impose_cli.specs.Endings.{BreaksOff, Holds, IsNotCreated, IsSaidOf, WritesJob, WritesTask};
 ghost use Rattle.impose_cli.specs.Abouts.{reported_by};
 ghost use Rattle.impose_said.specs.declared.fault.ImposeFault.TheVariants as faults;
 ghost use Rattle.world.specs.declared.rest.Rest.TheVariants as rests;
@@ -34,7 +34,7 @@ use dsc::{Document, Parts};
 use guard::RoomyText;
 use impose_said::{Done, Finished, ImposeFault, PaperOrigin, Told};
 use impose_words::{ImposeRequest, Layout};
-use imposer::{Job, Nobody, Open, Report, RunError, run_plan};
+use imposer::{Job, Nobody, Open, Report, RunError, Sink, run_plan};
 use lengths::{Grains, Paper};
 use pagespec::{Spec, read_spec};
 use papers::{Cut, Reach};
@@ -42,9 +42,10 @@ use row_runs::{RowJob, SpecJob, plan_error};
 use sheet_plan::Plan;
 use std::alloc::Global;
 use std::io::ErrorKind;
+use std::marker::Brand;
 use std::sync::Wait;
 use std::thread::Threads;
-use world::{Created, Refused, Rest, World, abandon, created, write_out};
+use world::{Asked, Before, Buffered, Fate, Late, Output, Refused, Rest, World};
 
 /// Carries a request out for this document: a document that is refused is refused first, then a layout that there isn't, then
 /// what its run refuses. The output that the request names is created once all of it is checked: what is refused has none.
@@ -56,8 +57,8 @@ pub(crate) fn run_request<R: Threads + Wait + Sync, W: World>(
     world: W,
 ) -> Left<W, Done>
     requires countable { (W.seen world).failures < u64.MAX }
-    ensures { Runs request.now input.items (edge (W.tells world) W.seen) result.outcome
-        world result.rest (shown W.Output.contents result.rest) }
+    ensures { Runs request.now input.items (edge (W.tells world) W.seen W.Output.seen) result.outcome
+        world result.rest (shown W.Output.seen result.rest) }
 {
     match &request.layout {
         Layout::Spec(_) => run_spec(rt, alloc, request, input, world),
@@ -78,8 +79,8 @@ fn run_row<R: Threads + Wait + Sync, W: World>(
 ) -> Left<W, Done>
     requires countable { (W.seen world).failures < u64.MAX }
     requires rows { LaysRows request.now.layout }
-    ensures { Runs request.now input.items (edge (W.tells world) W.seen) result.outcome
-        world result.rest (shown W.Output.contents result.rest) }
+    ensures { Runs request.now input.items (edge (W.tells world) W.seen W.Output.seen) result.outcome
+        world result.rest (shown W.Output.seen result.rest) }
 {
     let told = told_by(alloc, request, input.as_slice());
     let (task, parts) = match row_task(alloc, request, input) {
@@ -112,8 +113,8 @@ pub(crate) fn impose_job<R: Threads + Wait + Sync, W: World>(
     requires countable { (W.seen world).failures < u64.MAX }
     requires asked { MayBeAsked job.now.asked }
     requires border { IsTrue (is_border job.now.border) }
-    ensures { Comes (RefusesRowJob job.now) (Imposes job.now) (option_map (λ n. n.now) name.entry) (edge (W.tells world) W.seen) result.outcome
-        world result.rest (shown W.Output.contents result.rest) }
+    ensures { Comes (RefusesRowJob job.now) (Imposes job.now) (option_map (λ n. n.now) name.entry) (edge (W.tells world) W.seen W.Output.seen) result.outcome
+        world result.rest (shown W.Output.seen result.rest) }
 {
     let pages = job.document.pages();
     let (sheets, dress) = match job.lay(alloc) {
@@ -140,8 +141,8 @@ fn run_spec_row<R: Threads + Wait + Sync, W: World>(
 ) -> Left<W, Done>
     requires countable { (W.seen world).failures < u64.MAX }
     requires rows { LaysSpecRow request.now.layout }
-    ensures { Runs request.now input.items (edge (W.tells world) W.seen) result.outcome
-        world result.rest (shown W.Output.contents result.rest) }
+    ensures { Runs request.now input.items (edge (W.tells world) W.seen W.Output.seen) result.outcome
+        world result.rest (shown W.Output.seen result.rest) }
 {
     let told = told_by(alloc, request, input.as_slice());
     let (task, parts) = match spec_row_task(alloc, request, input) {
@@ -174,8 +175,8 @@ pub(crate) fn impose_spec_job<R: Threads + Wait + Sync, W: World>(
     requires countable { (W.seen world).failures < u64.MAX }
     requires sewn { IfSome job.now.signing MayBeSewn }
     requires border { IsTrue (is_border job.now.border) }
-    ensures { Comes (RefusesSpecRowJob job.now) (ImposesBySpec job.now) (option_map (λ n. n.now) name.entry) (edge (W.tells world) W.seen) result.outcome
-        world result.rest (shown W.Output.contents result.rest) }
+    ensures { Comes (RefusesSpecRowJob job.now) (ImposesBySpec job.now) (option_map (λ n. n.now) name.entry) (edge (W.tells world) W.seen W.Output.seen) result.outcome
+        world result.rest (shown W.Output.seen result.rest) }
 {
     let document = job.document;
     let pages = document.pages();
@@ -203,8 +204,8 @@ fn run_spec<R: Threads + Wait + Sync, W: World>(
 ) -> Left<W, Done>
     requires countable { (W.seen world).failures < u64.MAX }
     requires spec { (text : List ℕ) × IsSpec request.now.layout text }
-    ensures { Runs request.now input.items (edge (W.tells world) W.seen) result.outcome
-        world result.rest (shown W.Output.contents result.rest) }
+    ensures { Runs request.now input.items (edge (W.tells world) W.seen W.Output.seen) result.outcome
+        world result.rest (shown W.Output.seen result.rest) }
 {
     let told = told_by(alloc, request, input.as_slice());
     let (task, parts) = match task_for(alloc, request, input) {
@@ -239,8 +240,8 @@ fn impose_by_spec<R: Threads + Wait + Sync, W: World>(
     requires sides { task.now.options.sides ≡ None }
     requires workers { AreWorkers task.now.options.workers }
     requires parts { Serve parts task.now.text.items }
-    ensures { Comes (RefusesTaskRun task.now) (WritesTask task.now) (option_map (λ n. n.now) name.entry) (edge (W.tells world) W.seen) result.outcome
-        world result.rest (shown W.Output.contents result.rest) }
+    ensures { Comes (RefusesTaskRun task.now) (WritesTask task.now) (option_map (λ n. n.now) name.entry) (edge (W.tells world) W.seen W.Output.seen) result.outcome
+        world result.rest (shown W.Output.seen result.rest) }
 {
     let (spec, document) = match read_task(alloc, task, parts) {
         Ok(read) => read,
@@ -311,7 +312,8 @@ fn reported(outcome: Result<Report, ImposeFault>, about: About) -> Result<Done, 
 /// How much of the output is written at once, in bytes, if sheets are smaller.
 const WRITTEN_AT_ONCE: usize = 16_384;
 
-/// Creates the output of this name, and writes the sheets of a job into it. Nothing is refused.
+/// Writes the sheets of a job into the output of this name, which is created when their first byte is to be written. Nothing
+/// is refused.
 fn write_job<R: Threads + Wait + Sync, W: World>(
     rt: &R,
     alloc: Global,
@@ -320,30 +322,98 @@ fn write_job<R: Threads + Wait + Sync, W: World>(
     world: W,
 ) -> Left<W, Report>
     requires countable { (W.seen world).failures < u64.MAX }
-    ensures { Comes (λ fault. ⊥) (WritesJob job.now) (option_map (λ n. n.now) name.entry) (edge (W.tells world) W.seen) result.outcome
-        world result.rest (shown W.Output.contents result.rest) }
+    ensures { Comes (λ fault. ⊥) (WritesJob job.now) (option_map (λ n. n.now) name.entry) (edge (W.tells world) W.seen W.Output.seen) result.outcome
+        world result.rest (shown W.Output.seen result.rest) }
 {
-    let mut sink = match created(alloc, WRITTEN_AT_ONCE, name, world) {
-        Ok(sink) => sink,
-        Err(refused) => return uncreated(refused),
+    write_asked::<Brand, R, W>(rt, alloc, job, Asked { name, world })
+}
+
+/// `write_job`, with what is seen of the world chosen.
+fn write_asked<B: Before, R: Threads + Wait + Sync, W: World>(
+    rt: &R,
+    alloc: Global,
+    job: &Job<'_, '_>,
+    asked: Asked<'_, W>,
+) -> Left<W, Report>
+    requires named { option_map (λ n. n.now) asked.name ≡ B.name }
+    requires seen { W.seen asked.world ≡ B.seen }
+    requires countable { B.seen.failures < u64.MAX }
+    ensures { Comes (λ fault. ⊥) (WritesJob job.now) B.name (edge (W.tells asked.entry.world) W.seen W.Output.seen)
+        result.outcome asked.entry.world result.rest (shown W.Output.seen result.rest) }
+{
+    let name = asked.name;
+    let buffer = match Vec::with_capacity(alloc, WRITTEN_AT_ONCE) {
+        Ok(buffer) => buffer,
+        Err(_) => return stopped(ImposeFault::no_memory(), asked.world),
     };
+    let mut sink: Buffered<Late<'_, W, B>> = Buffered::new(buffer, Late::new(asked));
     match run_plan(rt, alloc, job, WORKERS, &Open, &mut sink, &mut Nobody) {
-        Ok(report) => {
-            let (is_whole, written) = write_out(sink);
-            if is_whole {
-                Left {
-                    outcome: Ok(report),
-                    rest: Rest::Output(written.output),
-                }
-            } else {
-                failed_write(written)
-            }
-        }
-        Err(error) => broken_off(error, abandon(sink)),
+        Ok(report) => match sink.write_out() {
+            Ok(()) => written_out(report, name, sink),
+            Err(_) => broken_off(report.bytes, sink),
+        },
+        Err(error) => broken_off(taken_before(&error), sink),
     }
 }
 
-/// No output could be created, or there was no memory for its buffer.
+/// All was written out. If there was nothing to write, the output is created now.
+fn written_out<'n, B: Before, W: World>(
+    report: Report,
+    name: Option<&str>,
+    sink: Buffered<Late<'n, W, B>>,
+) -> Left<W, Report>
+    requires named { option_map (λ n. n.now) name ≡ B.name }
+    requires countable { B.seen.failures < u64.MAX }
+    requires empty { sink.buffer.items ≡ [] }
+    ensures { MatchResult result.outcome
+        (λ r. (r ≡ report) × Holds (edge true W.seen W.Output.seen) (⟦<Buffered<Late<'n, W, B>> as Sink>⟧.seen sink.entry) result.rest)
+        (λ f. IsNotCreated (edge true W.seen W.Output.seen) B.name B.seen f result.rest) }
+{
+    match sink.into_output().fate() {
+        Fate::Created(output) => Left {
+            outcome: Ok(report),
+            rest: Rest::Output(output),
+        },
+        Fate::Unasked(world) => match world.create(name) {
+            Ok(output) => Left {
+                outcome: Ok(report),
+                rest: Rest::Output(output),
+            },
+            Err(refused) => uncreated(refused),
+        },
+        Fate::Refused(refused) => uncreated(refused),
+    }
+}
+
+/// Memory ran out or a write failed, when the sink had taken so many bytes.
+fn broken_off<'n, B: Before, W: World>(
+    taken: u64,
+    sink: Buffered<Late<'n, W, B>>,
+) -> Left<W, Report>
+    ensures { MatchResult result.outcome (λ r. ⊥) (λ f. BreaksOff (edge true W.seen W.Output.seen) B.name B.seen taken
+        (⟦<Buffered<Late<'n, W, B>> as Sink>⟧.seen sink.entry).bytes f result.rest) }
+{
+    let written = taken.saturating_sub(sink.waiting() as u64);
+    match sink.into_output().fate() {
+        // Only an output that was asked for fails.
+        Fate::Unasked(world) => stopped(ImposeFault::no_memory(), world),
+        Fate::Refused(refused) => uncreated(refused),
+        Fate::Created(output) => failed(written, output),
+    }
+}
+
+/// As many bytes as the sink had taken before an error.
+fn taken_before(error: &RunError) -> u64
+    requires { IsNoRefusal error.now }
+    ensures { AfterError error.now ⊥ (λ n. result ≡ n) (λ n. result ≡ n) }
+{
+    match error {
+        RunError::NoMemory { written } | RunError::Write { written } => *written,
+        _ => 0,
+    }
+}
+
+/// No output could be created.
 fn uncreated<W: World>(refused: Refused<W>) -> Left<W, Report>
     ensures fault { ((error_kind refused.cause ≡ OutOfMemory) × (result.outcome ≡ Err without_memory))
         ⊎ (¬ (error_kind refused.cause ≡ OutOfMemory) × (result.outcome ≡ Err (faults.Write 0 (Some refused.cause)))) }
@@ -359,34 +429,22 @@ fn uncreated<W: World>(refused: Refused<W>) -> Left<W, Report>
     stopped(fault, refused.world)
 }
 
-/// Memory ran out, or a write failed.
-fn broken_off<W: World>(error: RunError, output: Created<W::Output>) -> Left<W, Report>
-    requires { IsNoRefusal error }
-    ensures fault { MatchResult result.outcome (λ report. ⊥) (IsSaidOf error output.written) }
-    ensures rest { result.rest ≡ rests.Output output.output }
+/// The output is there with so many bytes. If it failed, that is told; else memory ran out.
+fn failed<W: World>(written: u64, output: W::Output) -> Left<W, Report>
+    requires begun { (W.Output.seen output).failures ≡ 0 → (W.Output.seen output).has_taken ≡ true }
+    ensures fault { MatchResult result.outcome (λ report. ⊥) (IsSaidOf (W.Output.seen output) written) }
+    ensures rest { result.rest ≡ rests.Output output }
 {
-    match error {
-        RunError::NoMemory { .. } => {
-            let written = output.written;
-            Left {
-                outcome: Err(ImposeFault::Run(RunError::NoMemory { written })),
-                rest: Rest::Output(output.output),
-            }
+    let fault = if output.failures() == 0 {
+        ImposeFault::Run(RunError::NoMemory { written })
+    } else {
+        ImposeFault::Write {
+            written,
+            cause: output.cause(),
         }
-        _ => failed_write(output),
-    }
-}
-
-fn failed_write<W: World>(output: Created<W::Output>) -> Left<W, Report>
-    ensures outcome { result.outcome ≡ Err (faults.Write output.written output.cause) }
-    ensures rest { result.rest ≡ rests.Output output.output }
-{
-    let fault = ImposeFault::Write {
-        written: output.written,
-        cause: output.cause,
     };
     Left {
         outcome: Err(fault),
-        rest: Rest::Output(output.output),
+        rest: Rest::Output(output),
     }
 }

@@ -100,8 +100,8 @@ pub(crate) fn impose_spec_task<R: Threads + Wait + Sync, W: World>(
     requires border { IsTrue (is_border request.now.border) }
     requires parts { Serve parts task.now.text.items }
     ensures { Comes (RefusesSpecTaskRun request.now task.now) (ImposesSpecTask request.now task.now)
-        (option_map string_bytes request.now.outfile) (edge (W.tells world) W.seen) result.outcome
-        world result.rest (shown W.Output.contents result.rest) }
+        (option_map string_bytes request.now.outfile) (edge (W.tells world) W.seen W.Output.seen) result.outcome
+        world result.rest (shown W.Output.seen result.rest) }
 {
     let document = match Document::from_parts(task.text.as_slice(), parts) {
         Ok(document) => document,

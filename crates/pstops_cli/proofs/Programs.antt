@@ -1,6 +1,6 @@
 -- What the whole program's ending says.
 use Rattle.std.proofs.Common.{◌≡◌, ◌∙◌, ℕ, List, [], Bool, Option, Result, Ok, Err, arith, inl, inr, refl, subst, sym, ap}
-use Rattle.std.specs.Prelude.{◌⊎◌, IsOk, option_map, string_bytes}
+use Rattle.std.specs.Prelude.{◌⊎◌, ◌+◌, ◌<◌, ◌≤◌, IfErr, IsOk, OnOk, option_map, string_bytes}
 use Rattle.std.specs.Io.KnownBytes.{Appends, Keeps}
 use Rattle.std.proofs.KnownBytes.{Appends-kept}
 use Rattle.rules.specs.Output.{output}
@@ -8,8 +8,9 @@ use Rattle.imposer.specs.Runs.{Accepted, frame_of}
 use Rattle.planned_runs.specs.declared.outcome.Report.{Report}
 use Rattle.planned_runs.specs.declared.outcome.RunError.{RunError}
 use Rattle.planned_runs.specs.declared.outcome.RunError.TheVariants as run
-use Rattle.world.specs.Outputs.{IsFrontOf, counted, told_if}
-use Rattle.world.proofs.Counting.{uncounted_front, uncounted_kept}
+use Rattle.world.specs.Outputs.{IsFrontOf, told_if}
+use Rattle.planned_runs.specs.Outcomes.{FailedIn}
+use Rattle.imposer.specs.Runs as runs
 use Rattle.pstops_cli.specs.Messages.{fault_status}
 use Rattle.sheet_writer.specs.Sinks.{SinkView}
 use Rattle.pstops_cli.specs.RequestRuns.{Ends, IsSaidOf, asked_by, outcome_status}
@@ -62,59 +63,79 @@ ok_at_zero : (ended : Result Report RunError) → outcome_status ended ≡ 0 →
 ok_at_zero (Ok report) zero = refl
 ok_at_zero (Err e) zero = let above = run_status-above e in absurd (omega (arith, above, zero))
 
--- the run ended, and its output, whose bytes are counted, has what was written out
-pub ran : (r : Request) (input : List ℕ) (tells : Bool) (start sink : SinkView) (n : ℕ) (written : Option (List ℕ))
+-- a run fails once at most
+once_in : (e : RunError) (old new : SinkView) → FailedIn e old new → new.failures ≤ old.failures + 1
+once_in (run.NoMemory n) old new (inl same) = omega (arith, same)
+once_in (run.NoMemory n) old new (inr more) = omega (arith, more)
+once_in (run.Write n) old new more = omega (arith, more)
+once_in run.Options old new same = omega (arith, same)
+once_in (run.Spec e) old new same = omega (arith, same)
+once_in (run.Document e) old new same = omega (arith, same)
+once_in (run.Plan e) old new same = omega (arith, same)
+
+once : (ended : Result Report RunError) (old new : SinkView) → OnOk ended (new.failures ≡ old.failures) → IfErr ended (λ e. FailedIn e old new) → new.failures ≤ old.failures + 1
+once (Ok report) old new steady failed = omega (arith, steady)
+once (Err e) old new steady failed = once_in e old new failed
+
+pub few_failures : (a : runs.Request) (old new : SinkView) (ended : Result Report RunError) → Ends a old new ended → old.failures ≡ 0 → new.failures ≤ 1
+few_failures a old new ended ends fresh = let few = once ended old new ends.steady ends.failed in omega (arith, few, fresh)
+
+-- the run ended, and its output has what was written out
+pub ran : (r : Request) (input : List ℕ) (tells : Bool) (start sink : SinkView) (failures : ℕ) (written : Option (List ℕ))
     (ended : Result Report RunError) (status : ℕ) (line : List ℕ)
     → start.bytes ≡ told_if tells (option_map string_bytes r.outfile) [] → start.failures ≡ 0
-    → Ends (asked_by r input) start sink ended → IsFrontOf (counted n written) sink.bytes
-    → (status ≡ 0 → Keeps sink.bytes (counted n written))
-    → IsSaidOf r.quiet ended status line ⊎ (IsOk ended × IsSaid (fault.Run (run.Write 0)) status line)
-    → Ran r input tells written status line
-ran r input tells start sink n written ended status line began fresh ends part whole said = record {
+    → Ends (asked_by r input) start sink ended → IsFrontOf written sink.bytes
+    → (status ≡ 0 → Keeps sink.bytes written) → (status ≡ 0 → failures ≡ sink.failures) → sink.failures ≤ failures
+    → IsSaidOf r.quiet ended status line ⊎ (IsOk ended × (0 < failures) × IsSaid (fault.Run (run.Write 0)) status line)
+    → Ran r input tells written failures status line
+ran r input tells start sink failures written ended status line began fresh ends part whole steady counted said = record {
   ended = ended;
   sink = sink;
   ends = subst (λ (s : SinkView). Ends (asked_by r input) s sink ended) (λ i. record { bytes = began i; failures = fresh i }) ends;
-  part = uncounted_front n sink.bytes written part;
-  whole = λ zero. uncounted_kept n sink.bytes written (whole zero);
+  part = part;
+  whole = whole;
+  steady = steady;
+  counted = counted;
   said = said;
 }
 
 -- the run finished, and the output's last bytes couldn't be written
-pub cut : (r : Request) (input : List ℕ) (tells : Bool) (start sink : SinkView) (n : ℕ) (written : Option (List ℕ))
+pub cut : (r : Request) (input : List ℕ) (tells : Bool) (start sink : SinkView) (failures : ℕ) (written : Option (List ℕ))
     (ended : Result Report RunError) (answered status : ℕ) (line line' : List ℕ)
     → start.bytes ≡ told_if tells (option_map string_bytes r.outfile) [] → start.failures ≡ 0
     → Ends (asked_by r input) start sink ended → IsSaidOf r.quiet ended answered line → answered ≡ 0
-    → IsFrontOf (counted n written) sink.bytes → IsSaid (fault.Run (run.Write 0)) status line'
-    → Ran r input tells written status line'
-cut r input tells start sink n written ended answered status line line' began fresh ends of_run zero part said =
-    ran r input tells start sink n written ended status line' began fresh ends part
-    (λ none. absurd (not_zero status (three_is_said (fault.Run (run.Write 0)) status line' refl said) none))
-    (inr (ok_at_zero ended (said_zero r.quiet ended answered line zero of_run), said))
+    → IsFrontOf written sink.bytes → failures ≡ sink.failures + 1 → IsSaid (fault.Run (run.Write 0)) status line'
+    → Ran r input tells written failures status line'
+cut r input tells start sink failures written ended answered status line line' began fresh ends of_run zero part failed said =
+    let not_finished : status ≡ 0 → ⊥ = not_zero status (three_is_said (fault.Run (run.Write 0)) status line' refl said) in
+    ran r input tells start sink failures written ended status line' began fresh ends part
+    (λ none. absurd (not_finished none)) (λ none. absurd (not_finished none)) (omega (arith, failed))
+    (inr (ok_at_zero ended (said_zero r.quiet ended answered line zero of_run), omega (arith, failed), said))
 
-carried : (r : Request) (input : List ℕ) (tells : Bool) (written : Option (List ℕ)) (status : ℕ) (line : List ℕ)
-    → status ≡ 0 → (h : Ran r input tells written status line)
+carried : (r : Request) (input : List ℕ) (tells : Bool) (written : Option (List ℕ)) (failures status : ℕ) (line : List ℕ)
+    → status ≡ 0 → (h : Ran r input tells written failures status line)
     → IsSaidOf r.quiet h.ended status line
     → Accepted (asked_by r input) (λ spec us. Appends (told_if tells (option_map string_bytes r.outfile) []) written
     (output (frame_of r.options) r.options.sides spec us))
-carried r input tells written status line zero h of_run =
+carried r input tells written failures status line zero h of_run =
     let at = finished_at_zero (asked_by r input) _ h.sink.bytes h.ended (said_zero r.quiet h.ended status line zero of_run) h.ends.finished in
     (at.0, at.1, at.2, Appends-kept _ h.sink.bytes written _ at.3 (h.whole zero))
 
-ran_carried : (r : Request) (input : List ℕ) (tells : Bool) (written : Option (List ℕ)) (status : ℕ) (line : List ℕ)
-    → status ≡ 0 → (h : Ran r input tells written status line)
-    → IsSaidOf r.quiet h.ended status line ⊎ (IsOk h.ended × IsSaid (fault.Run (run.Write 0)) status line)
+ran_carried : (r : Request) (input : List ℕ) (tells : Bool) (written : Option (List ℕ)) (failures status : ℕ) (line : List ℕ)
+    → status ≡ 0 → (h : Ran r input tells written failures status line)
+    → IsSaidOf r.quiet h.ended status line ⊎ (IsOk h.ended × (0 < failures) × IsSaid (fault.Run (run.Write 0)) status line)
     → Accepted (asked_by r input) (λ spec us. Appends (told_if tells (option_map string_bytes r.outfile) []) written
     (output (frame_of r.options) r.options.sides spec us))
-ran_carried r input tells written status line zero h (inl of_run) = carried r input tells written status line zero h of_run
-ran_carried r input tells written status line zero h (inr cut_off) =
-    absurd (not_zero status (three_is_said (fault.Run (run.Write 0)) status line refl cut_off.1) zero)
+ran_carried r input tells written failures status line zero h (inl of_run) = carried r input tells written failures status line zero h of_run
+ran_carried r input tells written failures status line zero h (inr cut_off) =
+    absurd (not_zero status (three_is_said (fault.Run (run.Write 0)) status line refl cut_off.2) zero)
 
 -- at status 0 the request was carried out
 pub carries_out : {W O : Type 0} (seen : W → WorldView) (r : Request) (input : List ℕ) (tells : Bool) (world : W) (rest : Rest W O) (written : Option (List ℕ))
-    (status : ℕ) (line : List ℕ) → status ≡ 0
-    → CreatesAndRuns seen r input tells world rest written status line
+    (failures status : ℕ) (line : List ℕ) → status ≡ 0
+    → CreatesAndRuns seen r input tells world rest written failures status line
     → Accepted (asked_by r input) (λ spec us. Appends (told_if tells (option_map string_bytes r.outfile) []) written
     (output (frame_of r.options) r.options.sides spec us))
-carries_out seen r input tells world rest written status line zero (inl h) =
+carries_out seen r input tells world rest written failures status line zero (inl h) =
     absurd (not_zero status (three_is_said h.0 status line (creating_is_three seen (option_map string_bytes r.outfile) world h.1 h.0 h.2) h.3) zero)
-carries_out seen r input tells world rest written status line zero (inr h) = ran_carried r input tells written status line zero h.1 h.1.said
+carries_out seen r input tells world rest written failures status line zero (inr h) = ran_carried r input tells written failures status line zero h.1 h.1.said

@@ -1,5 +1,5 @@
 -- The whole program: what its words ask for, what it reads, what it creates and writes, and what it says.
-use Rattle.std.specs.Prelude.{◌≡◌, ◌⊎◌, ◌+◌, ℕ, List, [], Bool, true, Option, Some, Result, IsOk, option_map}
+use Rattle.std.specs.Prelude.{◌≡◌, ◌⊎◌, ◌+◌, ◌<◌, ◌≤◌, ℕ, List, [], Bool, true, Option, Some, Result, IsOk, option_map}
 use Rattle.std.specs.Prelude.{string_bytes}
 use Rattle.std.specs.Io.KnownBytes.{Appends, Keeps}
 use Rattle.std.specs.declared.io.ErrorKind.{ErrorKind}
@@ -78,36 +78,39 @@ IsCreating seen name old new other = ⊥
 
 -- ---- the run
 
--- The run of a request into an output that was just created, which now reports `written`: it ended in some way, with all
--- that a run promises, and that way has this status and this line; or it finished and its last bytes couldn't be
--- written, which is said. The output has a first part of what the run handed on, and at status 0 all of it.
-pub record Ran (r : Request) (input : List ℕ) (tells : Bool) (written : Option (List ℕ)) (status : ℕ)
+-- The run of a request into an output that was just created, which now reports `written` and has failed so often: it ended
+-- in some way, with all that a run promises, and that way has this status and this line; or it finished and its last bytes
+-- couldn't be written, which is said. The output has a first part of what the run handed on, and at status 0 all of it.
+-- The failures of the run's sink are the output's.
+pub record Ran (r : Request) (input : List ℕ) (tells : Bool) (written : Option (List ℕ)) (failures status : ℕ)
     (line : List ℕ) : Type 0 where
   pub ended : Result Report RunError
   pub sink : SinkView
   pub ends : Ends (asked_by r input) (fresh_sink (told_if tells (option_map string_bytes r.outfile) [])) sink ended
   pub part : IsFrontOf written sink.bytes
   pub whole : status ≡ 0 → Keeps sink.bytes written
+  pub steady : status ≡ 0 → failures ≡ sink.failures
+  pub counted : sink.failures ≤ failures
   pub said : IsSaidOf r.quiet ended status line
-      ⊎ (IsOk ended × IsSaid (fault.Run (run.Write 0)) status line)
+      ⊎ (IsOk ended × (0 < failures) × IsSaid (fault.Run (run.Write 0)) status line)
 
 -- no output could be created, with its buffer; or one was, and the request was run into it
 abbrev pub CreatesAndRuns : {W O : Type 0} → (seen : W → WorldView) → Request → (input : List ℕ) → (tells : Bool) → (world : W) → (rest : Rest W O)
-    → (written : Option (List ℕ)) → (status : ℕ) → (line : List ℕ) → Type 0
-CreatesAndRuns {W} seen r input tells world rest written status line =
+    → (written : Option (List ℕ)) → (failures status : ℕ) → (line : List ℕ) → Type 0
+CreatesAndRuns {W} seen r input tells world rest written failures status line =
     ((f : Fault) × (left : W) × IsCreating seen (option_map string_bytes r.outfile) world left f × IsSaid f status line × (rest ≡ World left))
-    ⊎ ((has_output rest ≡ true) × Ran r input tells written status line)
+    ⊎ ((has_output rest ≡ true) × Ran r input tells written failures status line)
 
 -- ---- all of it
 
 -- How the program ends. It stopped before anything was created, and the world is back; or it read a request and its
 -- input, and either its output couldn't be created, or one was and the request was run.
 abbrev pub EndsProgram : {W O : Type 0} → (seen : W → WorldView) → (words : List Text) → Gives → (tells : Bool) → (world : W) → (rest : Rest W O)
-    → (written : Option (List ℕ)) → (status : ℕ) → (line : List ℕ) → Type 0
-EndsProgram {W} seen words gives tells world rest written status line =
+    → (written : Option (List ℕ)) → (failures status : ℕ) → (line : List ℕ) → Type 0
+EndsProgram {W} seen words gives tells world rest written failures status line =
     ((f : Fault) × (left : W) × StopsBefore seen words world left f × IsSaid f status line × (rest ≡ World left))
     ⊎ ((r : Request) × (input : List ℕ) × HasRead words gives r input × (read : W) × HasGiven seen r world read
-    × CreatesAndRuns seen r input tells read rest written status line)
+    × CreatesAndRuns seen r input tells read rest written failures status line)
 
 -- The request that the words make was carried out: the output reports its name and exactly the output defined for the
 -- input.

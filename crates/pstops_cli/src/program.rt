@@ -7,7 +7,7 @@ ghost use Rattle.pstops_cli.specs.declared.messages.Fault.TheVariants as faults;
 ghost use Rattle.pstops_cli.specs.Programs.{CarriesOut, CreatesAndRuns, EndsProgram, HasGiven, HasRead, IsSaid};
 ghost use Rattle.pstops_cli.specs.Programs.{IsUnread, StopsBefore};
 ghost use Rattle.world.specs.Input.{IsFirst, most_bytes};
-ghost use Rattle.world.specs.Rests.{shown};
+ghost use Rattle.world.specs.Rests.{failures_in, shown};
 ghost use Rattle.world.specs.Worlds.{HasGranted, WasAsked, opening};
 
 use crate::command::{Request, read_command};
@@ -20,7 +20,7 @@ use std::io;
 use std::io::ErrorKind;
 use std::sync::Wait;
 use std::thread::Threads;
-use world::{ReadFault, ReadSource, Rest, World, created, read_input, write_out};
+use world::{ReadFault, ReadSource, Rest, World, created, read_input};
 
 /// How the program ended.
 #[derive(Drop)]
@@ -46,10 +46,10 @@ pub fn pstops<R: Threads + Wait + Sync, W: World>(
     requires countable { (W.seen world).failures < u64.MAX }
     // It stopped before anything was created; or one output was created, and the request that the words make was run.
     ensures ended { EndsProgram W.seen (map string_bytes words.now) (W.gives world) (W.tells world) world result.rest
-        (shown W.Output.contents result.rest) result.status result.line.items }
+        (shown W.Output.seen result.rest) (failures_in W.Output.seen result.rest) result.status result.line.items }
     // Status 0 comes only if exactly the output was written.
     ensures finished { result.status ≡ 0 → CarriesOut (map string_bytes words.now) (W.gives world) (W.tells world)
-        (shown W.Output.contents result.rest) }
+        (shown W.Output.seen result.rest) }
 {
     match read(alloc, words, &mut world) {
         Ok((request, input)) => run_in(rt, alloc, &request, input.as_slice(), world),
@@ -130,8 +130,8 @@ fn run_in<R: Threads + Wait + Sync, W: World>(
     world: W,
 ) -> ExitReport<W>
     requires countable { (W.seen world).failures < u64.MAX }
-    ensures { CreatesAndRuns W.seen request.now input.now (W.tells world) world result.rest (shown W.Output.contents result.rest)
-        result.status result.line.items }
+    ensures { CreatesAndRuns W.seen request.now input.now (W.tells world) world result.rest (shown W.Output.seen result.rest)
+        (failures_in W.Output.seen result.rest) result.status result.line.items }
 {
     let name = name_of(&request.outfile);
     let mut sink = match created(alloc, WRITTEN_AT_ONCE, name, world) {
@@ -142,8 +142,8 @@ fn run_in<R: Threads + Wait + Sync, W: World>(
         }
     };
     let (status, line) = run_request(rt, alloc, request, input, &mut sink);
-    let (is_whole, written) = write_out(sink);
-    let rest = Rest::Output(written.output);
+    let (is_whole, output) = sink.finish();
+    let rest = Rest::Output(output);
     if status == 0 && !is_whole {
         // A failed flush is a failed write, whose line doesn't say how much was written.
         let fault = Fault::Run(RunError::Write { written: 0 });

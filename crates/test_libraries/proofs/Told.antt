@@ -4,9 +4,10 @@ use Rattle.std.specs.Prelude.{if◌then◌else◌}
 use Rattle.std.proofs.lemmas.Bool.{ne_eqb}
 use Rattle.rules.specs.Output.{output}
 use Rattle.imposer.specs.Runs.{Accepted, frame_of}
-use Rattle.world.specs.Outputs.{bytes_in, spelled, told_if}
+use Rattle.world.specs.Outputs.{OutputView, bytes_in, spelled, told_if}
 use Rattle.world.specs.Rests.{shown}
-use Rattle.world.proofs.Counting.{spelled_bytes}
+use Rattle.world.proofs.Naming.{spelled_bytes}
+use Rattle.world.specs.declared.output.WriteOutput.{WriteOutput}
 use Rattle.world.specs.declared.rest.Rest.{Rest}
 use Rattle.world.specs.declared.rest.Rest.TheVariants as rest
 use Rattle.pstops_cli.specs.Programs.{CarriesOut}
@@ -55,17 +56,21 @@ same_bytes name name' bytes bytes' e =
 
 -- ---- the run
 
-abbrev pub told_by : Written → Option (List ℕ)
-told_by file = told_if true (option_map string_bytes file.name) file.bytes.items
+abbrev pub told_by : WriteOutput Written → OutputView
+told_by file = record {
+  bytes = told_if true (option_map string_bytes file.writer.name) file.writer.bytes.items;
+  has_taken = file.has_taken;
+  failures = file.failures;
+  cause = file.cause;
+}
 
 told_again : (name : Option (List ℕ)) (text told : List ℕ) → told ≡ (spelled name ++ []) ++ text → told ≡ spelled name ++ text
 told_again name text told e = e ∙ ap (λ xs. xs ++ text) (append-nil (spelled name))
 
-pub in_memory : {W : Type 0} (words : List (List ℕ)) (files : List GivenFile) (rest : Rest W Written)
+pub in_memory : {W : Type 0} (words : List (List ℕ)) (files : List GivenFile) (rest : Rest W (WriteOutput Written))
     → CarriesOut words (λ name. Some (read_by files name)) true (shown told_by rest) → HasWritten words files rest
 in_memory words files (rest.World world) h = absurd h.3.3
-in_memory words files (rest.Output None) h = absurd h.3.3
-in_memory words files (rest.Output (Some file)) h =
+in_memory words files (rest.Output file) h =
     let r = h.0 in
     let name = option_map string_bytes r.outfile in
     let a = h.3 in
@@ -75,7 +80,7 @@ in_memory words files (rest.Output (Some file)) h =
       file,
       h.2.0,
       refl,
-      same_name (option_map string_bytes file.name) name file.bytes.items text told,
-      subst (λ i. Accepted (asked_by r i) (λ spec us. file.bytes.items ≡ output (frame_of r.options) r.options.sides spec us)) h.2.1
-          (a.0, a.1, a.2, same_bytes (option_map string_bytes file.name) name file.bytes.items text told),
+      same_name (option_map string_bytes file.writer.name) name file.writer.bytes.items text told,
+      subst (λ i. Accepted (asked_by r i) (λ spec us. file.writer.bytes.items ≡ output (frame_of r.options) r.options.sides spec us)) h.2.1
+          (a.0, a.1, a.2, same_bytes (option_map string_bytes file.writer.name) name file.writer.bytes.items text told),
     )

@@ -11,7 +11,7 @@ use crate::trace::Trace;
 use std::alloc::Global;
 use std::io;
 use std::io::ErrorKind;
-use world::{Failures, ReadSource, Refused, World};
+use world::{Failures, ReadSource, Refused, World, WriteOutput};
 
 /// A world of files that can be read. Standard input is the one named `-`, and empty if there is none.
 #[derive(Drop)]
@@ -57,7 +57,7 @@ impl<'a> Folder<'a> {
 impl<'a> World for Folder<'a> {
     type Input = &'a [u8];
 
-    type Output = Written;
+    type Output = WriteOutput<Written>;
 
     ghost gives = { λ folder name. Some (read_by folder.files.now name) };
 
@@ -104,10 +104,10 @@ impl<'a> World for Folder<'a> {
             .any(|file| file.is_regular && file.name == name)
     }
 
-    fn create(self, name: Option<&str>) -> Result<Written, Refused<Folder<'a>>> {
+    fn create(self, name: Option<&str>) -> Result<WriteOutput<Written>, Refused<Folder<'a>>> {
         let alloc = self.alloc;
         match Written::new(alloc, name, self.takes) {
-            Ok(output) => Ok(output),
+            Ok(output) => Ok(WriteOutput::new(output)),
             Err(cause) => {
                 let mut world = self;
                 world.trace.add(alloc, true, name);

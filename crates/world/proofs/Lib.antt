@@ -1,3 +1,5 @@
 pub mod Reading
-pub mod Counting
+pub mod Naming
 pub mod Examples
+pub mod Asking
+pub mod Lates

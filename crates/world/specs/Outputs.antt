@@ -1,6 +1,7 @@
--- What an output reports: its name, and then the bytes that were written to it.
-use Rattle.std.specs.Prelude.{⊤, ◌≡◌, ◌+◌, ◌++◌, ◌∷◌, ◌==◌, ℕ, Bool, false, if◌then◌else◌, List, [], length}
-use Rattle.std.specs.Prelude.{Option, Some, None, map}
+-- What is seen of an output: its name with the bytes that were written to it, whether it took any, and how often it failed.
+use Rattle.std.specs.Prelude.{⊤, ◌≡◌, ◌+◌, ◌++◌, ◌∷◌, ◌==◌, ℕ, Bool, false, true, if◌then◌else◌, List, []}
+use Rattle.std.specs.Prelude.{Option, Some, None, Result, Ok, Err, is_some, map, option_and_then}
+use Rattle.std.below.std_io.specs.declared.io.error.Error.{Error}
 
 -- A file's name, or none for standard output, as a list that no other name's list begins: so name and bytes can be
 -- in one list, and whoever appends bytes to it keeps the name.
@@ -26,11 +27,40 @@ abbrev pub bytes_in : (told : List ℕ) → Option (List ℕ)
 bytes_in [] = None
 bytes_in (b ∷ bs) = if b == 0 then Some bs else bytes_in bs
 
-abbrev pub are_many : (count : ℕ) → Option (List ℕ) → Bool
-are_many count None = false
-are_many count (Some bytes) = length bytes == count
+-- what is reported, if it begins with a name
+abbrev pub named : (told : Option (List ℕ)) → Option (List ℕ)
+named told = option_and_then (λ all. if is_some (bytes_in all) then Some all else None) told
 
--- what an output reports, if these are a name and so many bytes
-abbrev pub counted : (count : ℕ) → (told : Option (List ℕ)) → Option (List ℕ)
-counted count None = None
-counted count (Some told) = if are_many count (bytes_in told) then Some told else None
+-- ---- what is seen of it
+
+pub record OutputView : Type 0 where
+  -- its name and the bytes that were written to it, if it reports them
+  pub bytes : Option (List ℕ)
+  -- whether it has taken a byte
+  pub has_taken : Bool
+  -- how often it failed
+  pub failures : ℕ
+  -- why it failed last, if it did
+  pub cause : Option Error
+
+-- one to which nothing was written
+abbrev pub fresh_output : (told : Option (List ℕ)) → OutputView
+fresh_output told = record { bytes = told; has_taken = false; failures = 0; cause = None }
+
+-- it didn't fail
+abbrev pub IsSteady : (old new : OutputView) → Type 0
+IsSteady old new = (new.failures ≡ old.failures) × (new.cause ≡ old.cause)
+
+-- it failed once, with this error, and took nothing
+abbrev pub HasFailed : Error → (old new : OutputView) → Type 0
+HasFailed error old new = (new.failures ≡ old.failures + 1) × (new.cause ≡ Some error) × (new.has_taken ≡ old.has_taken)
+
+-- a write: it took a byte at least, or failed
+abbrev pub CountsWrite : (old new : OutputView) → Result ℕ Error → Type 0
+CountsWrite old new (Ok count) = IsSteady old new × (new.has_taken ≡ true)
+CountsWrite old new (Err error) = HasFailed error old new
+
+-- another call, which writes nothing
+abbrev pub CountsCall : {T : Type 0} → (old new : OutputView) → Result T Error → Type 0
+CountsCall old new (Ok x) = IsSteady old new × (new.has_taken ≡ old.has_taken)
+CountsCall old new (Err error) = HasFailed error old new

@@ -1,5 +1,5 @@
 -- What is seen of a world: what it was asked for, and how often it failed.
-use Rattle.std.specs.Prelude.{◌≡◌, ◌+◌, ◌∷◌, ◌++◌, [], ℕ, Bool, true, false, List, Option, Some, IfSome}
+use Rattle.std.specs.Prelude.{◌≡◌, ◌+◌, ◌∷◌, ◌++◌, [], ℕ, Bool, true, false, List, Option, Some, None, IfSome}
 use Rattle.std.below.std_io.specs.declared.io.error.Error.{Error}
 use Rattle.std.below.std_io.specs.declared.io.kind.ErrorKind.{ErrorKind}
 use Rattle.world.specs.declared.source.ReadSource.{ReadSource}
@@ -22,6 +22,10 @@ pub record WorldView : Type 0 where
   pub failures : ℕ
   -- of which kind its last failure was, if there was one
   pub cause : Option ErrorKind
+
+-- one that was asked for nothing, as far as it remembers
+abbrev pub fresh_world : WorldView
+fresh_world = record { asked = None; failures = 0; cause = None }
 
 -- how often a source has failed
 abbrev pub failures_of : {T : Type 0} → ReadSource T → ℕ

@@ -4,6 +4,7 @@ ghost use Rattle.std.specs.IoError.{error_kind};
 ghost use Rattle.world.specs.Worlds.{cause_of, failures_of};
 
 use crate::failures::Failures;
+use crate::output::WriteOutput;
 use crate::source::ReadSource;
 use crate::world::{Refused, World};
 use std::fs::{File, Files};
@@ -50,7 +51,7 @@ impl<'a, R: Files> Host<'a, R> {
 impl<'a, R: Files> World for Host<'a, R> {
     type Input = HostInput<R::File>;
 
-    type Output = HostOutput<R::File>;
+    type Output = WriteOutput<HostOutput<R::File>>;
 
     // It doesn't remember what it was asked for.
     ghost seen = { λ host. record { asked = None; failures = host.failures.count; cause = host.failures.last } };
@@ -87,17 +88,20 @@ impl<'a, R: Files> World for Host<'a, R> {
         }
     }
 
-    fn create(self, name: Option<&str>) -> Result<HostOutput<R::File>, Refused<Host<'a, R>>> {
+    fn create(
+        self,
+        name: Option<&str>,
+    ) -> Result<WriteOutput<HostOutput<R::File>>, Refused<Host<'a, R>>> {
         match name {
             Some(path) => match File::create(self.files, path) {
-                Ok(file) => Ok(HostOutput::File(file)),
+                Ok(file) => Ok(WriteOutput::new(HostOutput::File(file))),
                 Err(cause) => {
                     let mut world = self;
                     world.failures.add(&cause);
                     Err(Refused { world, cause })
                 }
             },
-            None => Ok(HostOutput::Standard(self.stdout)),
+            None => Ok(WriteOutput::new(HostOutput::Standard(self.stdout))),
         }
     }
 }

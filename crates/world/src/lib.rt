@@ -1,9 +1,11 @@
 //! What a program sees of its surroundings: files and streams, and how input is read whole.
 #![tactic(auto)]
 
+mod buffered;
 mod failures;
 mod front;
 mod host;
+mod late;
 mod output;
 mod read;
 mod rest;
@@ -12,13 +14,15 @@ mod source;
 mod told;
 mod world;
 
+pub use buffered::{Broken, Buffered, write_all};
 pub use failures::Failures;
 pub use front::read_front;
 pub use host::{Host, HostInput, HostOutput};
-pub use output::Created;
+pub use late::{Asked, Before, Fate, Late};
+pub use output::{Output, WriteOutput};
 pub use read::{MOST_BYTES, ReadFault, read_input, read_input_behind};
 pub use rest::Rest;
-pub use sink::{Buffered, abandon, created, write_out};
+pub use sink::created;
 pub use source::{ReadSource, Source, SourceFault};
 pub use told::tell;
 pub use world::{Refused, World};

@@ -1,91 +1,103 @@
-//! An output whose bytes are counted.
-ghost use Rattle.std.specs.Prelude.{◌≡◌, ◌+◌, option_and_then, option_map, None, Some, IfOk, IfErr, OnErr};
-ghost use Rattle.std.specs.IoError.{error_kind};
-ghost use Rattle.std.specs.Io.{WritesAtMost};
-ghost use Rattle.std.specs.Io.KnownBytes.{WriteAppends};
-ghost use Rattle.world.specs.Outputs.{counted};
+//! What bytes are written to.
+ghost use Rattle.std.specs.Prelude.{◌≡◌, ◌<◌, ◌≤◌, IfOk, false, is_some, length, true};
+ghost use Rattle.std.specs.Io.KnownBytes.{Keeps, WriteAppends};
 
 use std::io;
 use std::io::{ErrorKind, Write};
 
-/// An output as a writer, once it is there. It counts what was written, and keeps why the last write failed.
-#[derive(Drop)]
-pub struct Created<O> {
-    /// The output. Before it is put in, writes are refused.
-    pub output: Option<O>,
-    /// How many bytes were written.
-    pub written: u64,
-    /// Why the last write failed, if it did.
-    pub cause: Option<io::Error>,
+/// What bytes are written to. It counts its failures.
+pub trait Output {
+    ghost use Rattle.world.specs.Outputs.{CountsCall, CountsWrite, OutputView};
+
+    // What it reports, whether it has taken a byte, and how often and why it failed.
+    ghost seen: { Self → OutputView };
+
+    /// Writes the first of the bytes, one at least, and answers how many.
+    fn write(&mut self, bytes: &[u8]) -> io::Result<usize>
+        requires some { 0 < length bytes.now }
+        requires countable { (seen self.old).failures < u64.MAX }
+        ensures within { IfOk result (λ k. (0 < k) × (k ≤ length bytes.now)) }
+        ensures written { WriteAppends (seen self.old).bytes (seen self.new).bytes result bytes.now }
+        ensures counted { CountsWrite (seen self.old) (seen self.new) result };
+
+    /// Hands on what was written, if it is still held back.
+    fn flush(&mut self) -> io::Result<()>
+        requires countable { (seen self.old).failures < u64.MAX }
+        ensures kept { Keeps (seen self.old).bytes (seen self.new).bytes }
+        ensures counted { CountsCall (seen self.old) (seen self.new) result };
+
+    /// How often it failed.
+    fn failures(&self) -> u64
+        ensures { result ≡ (seen self.now).failures };
+
+    /// Why it failed last, if it did.
+    fn cause(&self) -> Option<io::Error>
+        ensures { result ≡ (seen self.now).cause };
 }
 
-impl<O> Created<O> {
-    /// An output that is still to be put in.
-    pub fn new() -> Created<O>
-        ensures { result ≡ record { output = None; written = 0; cause = None } }
+/// A writer as an output. Each of its errors is a failure, and each write of bytes that takes none.
+#[derive(Drop)]
+pub struct WriteOutput<T> {
+    pub writer: T,
+    has_taken: bool,
+    failures: u64,
+    cause: Option<io::Error>,
+}
+
+impl<T: Write> WriteOutput<T> {
+    ghost use Rattle.world.specs.Outputs.{fresh_output};
+
+    /// An output of what is written to the writer from now on.
+    pub fn new(writer: T) -> WriteOutput<T>
+        ensures { ⟦<WriteOutput<T> as Output>⟧.seen result ≡ fresh_output (T.contents writer) }
     {
-        Created {
-            output: None,
-            written: 0,
+        WriteOutput {
+            writer,
+            has_taken: false,
+            failures: 0,
             cause: None,
         }
     }
 }
 
-impl<O: Write> Write for Created<O> {
-    // What the output reports, if it is a name and as many bytes as are counted. Else nothing is known.
-    ghost contents = { λ created. counted created.written (option_and_then O.contents created.output) };
+impl<T: Write> Output for WriteOutput<T> {
+    ghost seen = { λ output. record {
+      bytes = T.contents output.writer;
+      has_taken = output.has_taken;
+      failures = output.failures;
+      cause = output.cause;
+    } };
 
-    fn write(&mut self, bytes: &[u8]) -> io::Result<usize>
-        ensures bound { WritesAtMost result bytes.now }
-        ensures bytes { WriteAppends (⟦<Created<O> as Write>⟧.contents self.old) (⟦<Created<O> as Write>⟧.contents self.new)
-            result bytes.now }
-        // It counts what was taken, and nothing else.
-        ensures counted { IfOk result (λ count. self.new.written ≡ self.old.written + count) }
-        ensures uncounted { OnErr result (self.new.written ≡ self.old.written) }
-        // The cause that it keeps is of the kind of the error that it answers.
-        ensures cause { IfErr result (λ error. option_map error_kind self.new.cause ≡ Some (error_kind error)) }
-    {
-        let Some(output) = &mut self.output else {
-            let error = io::Error::from(ErrorKind::NotFound);
-            return Err(kept(&mut self.cause, error));
-        };
-        // Nobody writes more than can be counted.
-        if bytes.len() as u64 > u64::MAX - self.written {
-            let error = io::Error::from(ErrorKind::FileTooLarge);
-            return Err(kept(&mut self.cause, error));
-        }
-        match output.write(bytes) {
-            Ok(0) => {
-                self.cause = Some(io::Error::from(ErrorKind::WriteZero));
-                Ok(0)
-            }
+    fn write(&mut self, bytes: &[u8]) -> io::Result<usize> {
+        let error = match self.writer.write(bytes) {
+            Ok(0) => io::Error::from(ErrorKind::WriteZero),
             Ok(count) => {
-                self.written += count as u64;
-                self.cause = None;
-                Ok(count)
+                self.has_taken = true;
+                return Ok(count);
             }
-            Err(error) => Err(kept(&mut self.cause, error)),
-        }
+            Err(error) => error,
+        };
+        self.failures += 1;
+        self.cause = Some(error);
+        Err(error)
     }
 
     fn flush(&mut self) -> io::Result<()> {
-        match &mut self.output {
-            Some(output) => match output.flush() {
-                Ok(()) => Ok(()),
-                Err(error) => Err(kept(&mut self.cause, error)),
-            },
-            None => Ok(()),
+        match self.writer.flush() {
+            Ok(()) => Ok(()),
+            Err(error) => {
+                self.failures += 1;
+                self.cause = Some(error);
+                Err(error)
+            }
         }
     }
-}
 
-/// Keeps an error as the cause, and gives another of its kind.
-fn kept(cause: &mut Option<io::Error>, error: io::Error) -> io::Error
-    ensures cause { cause.new ≡ Some error }
-    ensures kind { error_kind result ≡ error_kind error }
-{
-    let kind = error.kind();
-    *cause = Some(error);
-    io::Error::from(kind)
+    fn failures(&self) -> u64 {
+        self.failures
+    }
+
+    fn cause(&self) -> Option<io::Error> {
+        self.cause
+    }
 }

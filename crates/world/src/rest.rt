@@ -5,6 +5,6 @@
 pub enum Rest<W, O> {
     /// No output was created: the world is there again.
     World(W),
-    /// An output was created, which is there. By its type alone it may not: a buffer is made before its output.
-    Output(Option<O>),
+    /// An output was created, which is there.
+    Output(O),
 }

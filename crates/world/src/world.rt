@@ -2,12 +2,13 @@
 ghost use Rattle.std.specs.Prelude.{◌≡◌, ◌+◌, ◌<◌, ◌≤◌, Bool, false, true, List, ℕ, None, Option, [], option_map, is_some};
 ghost use Rattle.std.specs.Prelude.{IfOk, IfErr, IfSome, MatchResult};
 ghost use Rattle.std.specs.IoError.{error_kind};
-ghost use Rattle.world.specs.Outputs.{told_if};
+ghost use Rattle.world.specs.Outputs.{fresh_output, told_if};
 ghost use Rattle.world.specs.Worlds.{HasGranted, HasRefused, WorldView, cause_of, creating, failures_of, opening};
 
+use crate::output::Output;
 use crate::source::ReadSource;
 use std::io;
-use std::io::{Read, Write};
+use std::io::Read;
 
 /// What a program may do to the files and standard streams around it.
 ///
@@ -19,7 +20,7 @@ use std::io::{Read, Write};
 pub trait World: Sized + Drop {
     type Input: Read + Drop;
 
-    type Output: Write + Drop;
+    type Output: Output + Drop;
 
     // The bytes that an input of this name gives, where they are known.
     ghost gives: { Self → Option (List ℕ) → Option (List ℕ) } = { λ _ _. None };
@@ -61,7 +62,7 @@ pub trait World: Sized + Drop {
     /// Creates, or empties, the file of this name; or takes standard output. Nothing was written to it yet.
     fn create(self, name: Option<&str>) -> Result<Self::Output, Refused<Self>>
         requires countable { (seen self).failures < u64.MAX }
-        ensures created { IfOk result (λ output. Self.Output.contents output ≡ told_if (tells self) (option_map (λ n. n.now) name.entry) []) }
+        ensures created { IfOk result (λ output. Self.Output.seen output ≡ fresh_output (told_if (tells self) (option_map (λ n. n.now) name.entry) [])) }
         ensures kept { IfErr result (λ refused. tells refused.world ≡ tells self) }
         ensures refused { IfErr result (λ refused.
             HasRefused (creating (option_map (λ n. n.now) name.entry)) (error_kind refused.cause) (seen self) (seen refused.world)) };

@@ -124,8 +124,7 @@ pub fn ran<R: Threads + Wait + Sync>(rt: &R, out: &mut Answer, words: &[String])
     out.lossy(ended.line.as_slice());
     match &ended.rest {
         Rest::World(folder) => asked_for(out, folder),
-        Rest::Output(Some(output)) => out.lossy(output.bytes.as_slice()),
-        Rest::Output(None) => {}
+        Rest::Output(output) => out.lossy(output.writer.bytes.as_slice()),
     }
     Some(())
 }

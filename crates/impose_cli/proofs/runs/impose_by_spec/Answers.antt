@@ -7,15 +7,15 @@ use Rattle.impose_cli.proofs.runs.impose_by_spec.Goals as goal
 
 pub returns-in-Err : goal.returns-in-Err
 returns-in-Err g c =
-    comes_refused (RefusesTaskRun c.args.task.now) (WritesTask c.args.task.now) _ (edge (g.W.World.tells c.args.world) g.W.World.seen) (fault.Run c.in-Err.error)
-    c.stopped.result.outcome c.args.world c.stopped.result.rest (shown g.W.Output.Write.contents c.stopped.result.rest) c.stopped.ensures.outcome c.stopped.ensures.rest
+    comes_refused (RefusesTaskRun c.args.task.now) (WritesTask c.args.task.now) _ (edge (g.W.World.tells c.args.world) g.W.World.seen g.W.Output.Output.seen) (fault.Run c.in-Err.error)
+    c.stopped.result.outcome c.args.world c.stopped.result.rest (shown g.W.Output.Output.seen c.stopped.result.rest) c.stopped.ensures.outcome c.stopped.ensures.rest
     (c.in-Err.error, refl, c.in-Err.ensures.refused, c.in-Err.ensures.unwritten)
 
 pub returns-in-Err-new : goal.returns-in-Err-new
 returns-in-Err-new g c =
     let left = c.stopped-in-Err-new in
-    comes_refused (RefusesTaskRun c.args.task.now) (WritesTask c.args.task.now) _ (edge (g.W.World.tells c.args.world) g.W.World.seen) (fault.Run c.from.result)
-    left.result.outcome c.args.world left.result.rest (shown g.W.Output.Write.contents left.result.rest) left.ensures.outcome left.ensures.rest
+    comes_refused (RefusesTaskRun c.args.task.now) (WritesTask c.args.task.now) _ (edge (g.W.World.tells c.args.world) g.W.World.seen g.W.Output.Output.seen) (fault.Run c.from.result)
+    left.result.outcome c.args.world left.result.rest (shown g.W.Output.Output.seen left.result.rest) left.ensures.outcome left.ensures.rest
     (plan_refused c.args.task.now c.in-Ok.read.0 c.in-Ok.read.1 c.pages.result c.in-Err-new.error (fault.Run c.from.result) c.from.result refl c.from.ensures c.requires.sides
     c.in-Ok.ensures.options c.in-Ok.ensures.spec c.in-Ok.ensures.document c.pages.ensures.count c.in-Err-new.ensures.refused)
 
@@ -24,6 +24,6 @@ new-job-requires-clause-border g c = c.in-Ok.ensures.options.1
 
 pub returns : goal.returns
 returns g c =
-    job_comes c.args.task.now c.in-Ok.read.0 c.in-Ok.read.1 c.in-Ok-new.plan c.pages.result c.new-job.result (option_map (λ n. n.now) c.args.name) (edge (g.W.World.tells c.args.world) g.W.World.seen)
-    c.write_job.result.outcome c.args.world c.write_job.result.rest (shown g.W.Output.Write.contents c.write_job.result.rest) c.requires.sides
+    job_comes c.args.task.now c.in-Ok.read.0 c.in-Ok.read.1 c.in-Ok-new.plan c.pages.result c.new-job.result (option_map (λ n. n.now) c.args.name) (edge (g.W.World.tells c.args.world) g.W.World.seen g.W.Output.Output.seen)
+    c.write_job.result.outcome c.args.world c.write_job.result.rest (shown g.W.Output.Output.seen c.write_job.result.rest) c.requires.sides
     c.in-Ok.ensures.options c.in-Ok.ensures.spec c.in-Ok.ensures.document c.pages.ensures.count c.in-Ok-new.ensures.planned c.in-Ok-new.ensures.accepted c.new-job.ensures.value c.write_job.ensures

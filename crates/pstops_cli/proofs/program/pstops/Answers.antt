@@ -18,5 +18,5 @@ returns-in-Ok-clause-finished g c zero = (
   c.in-Ok.request,
   c.in-Ok.input.items,
   c.in-Ok.ensures.read,
-  carries_out g.W.World.seen c.in-Ok.request c.in-Ok.input.items _ c.read.new.world _ _ _ _ zero (rw c.as_slice.ensures.value at rw c.read.ensures.tells at c.run_in.ensures),
+  carries_out g.W.World.seen c.in-Ok.request c.in-Ok.input.items _ c.read.new.world _ _ _ _ _ zero (rw c.as_slice.ensures.value at rw c.read.ensures.tells at c.run_in.ensures),
 )

@@ -1,21 +1,23 @@
-use Rattle.std.proofs.Common.{◌∙◌, [], ap, inl, inr, refl, rules, subst, sym}
+use Rattle.std.proofs.Common.{◌≡◌, ◌≤◌, ◌∙◌, [], ap, arith, inl, inr, refl, rules, subst, sym}
 use Rattle.world.specs.Outputs.{told_if}
-use Rattle.world.specs.Rests.{shown}
+use Rattle.world.specs.Rests.{failures_in, shown}
 use Rattle.pstops_cli.specs.Programs.{CreatesAndRuns}
-use Rattle.pstops_cli.proofs.Programs.{cut, ran}
+use Rattle.pstops_cli.proofs.Programs.{cut, few_failures, ran}
 use Rattle.pstops_cli.proofs.program.run_in.Goals as goal
 
 pub returns-then-not-is_whole : goal.returns-then-not-is_whole
 returns-then-not-is_whole g c =
     let h = c.run_request-status.ensures.ended in
     let tells = g.W.World.tells c.args.world in
-    subst (λ o. CreatesAndRuns g.W.World.seen c.args.request.now c.args.input.now tells c.args.world o (shown g.W.Output.Write.contents o) c.stop-then-not-is_whole.result.status c.stop-then-not-is_whole.result.line.items)
+    let seen = g.W.Output.Output.seen in
+    subst (λ o. CreatesAndRuns g.W.World.seen c.args.request.now c.args.input.now tells c.args.world o (shown seen o) (failures_in seen o)
+    c.stop-then-not-is_whole.result.status c.stop-then-not-is_whole.result.line.items)
     (sym c.stop-then-not-is_whole.ensures.rest)
     (inr (
       refl,
-      cut c.args.request.now c.args.input.now tells _ _ c.write_out-is_whole.result.1.written _ h.0 _ _ _ _
+      cut c.args.request.now c.args.input.now tells _ _ _ _ h.0 _ _ _ _
           (c.in-Ok.ensures.told ∙ ap (λ n. told_if tells n []) c.name_of-name.ensures) c.in-Ok.ensures.fresh
-          h.1 h.2 c.if-status-eq0.true c.write_out-is_whole.ensures.part c.stop-then-not-is_whole.ensures.said,
+          h.1 h.2 c.if-status-eq0.true c.finish-is_whole.ensures.part (c.finish-is_whole.ensures.failed (search rules)) c.stop-then-not-is_whole.ensures.said,
     ))
 
 pub returns : goal.returns
@@ -24,7 +26,7 @@ returns g c =
     let tells = g.W.World.tells c.args.world in
     inr (
       refl,
-      ran c.args.request.now c.args.input.now tells _ _ c.write_out-is_whole.result.1.written _ h.0 _ _
+      ran c.args.request.now c.args.input.now tells _ _ _ _ h.0 _ _
           (c.in-Ok.ensures.told ∙ ap (λ n. told_if tells n []) c.name_of-name.ensures) c.in-Ok.ensures.fresh
-          h.1 c.write_out-is_whole.ensures.part (search rules) (inl h.2),
+          h.1 c.finish-is_whole.ensures.part (search rules) (search rules) c.finish-is_whole.ensures.counted (inl h.2),
     )

@@ -1,9 +1,10 @@
 use Rattle.std.proofs.Common.{rules}
+use Rattle.world.proofs.buffered.write_all.Goals as goal
 use Rattle.sheet_writer.proofs.Appending.{appends_more}
-use Rattle.impose_cli.proofs.program.write_whole.Goals as goal
 
 pub loop-written-preserved : goal.loop-written-preserved
 loop-written-preserved g c = record {
   within = search rules;
-  taken = appends_more _ _ _ _ _ _ c.loop-written.invariant.taken c.in-Ok.ensures.bytes;
+  taken = appends_more _ _ _ _ _ _ c.loop-written.invariant.taken c.in-Ok.ensures.written;
+  steady = search rules;
 }
