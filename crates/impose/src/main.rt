@@ -1,7 +1,11 @@
 //! The program: it reads a document and writes its pages on sheets, as its command line says.
 #![tactic(auto)]
 
-use impose_cli::{Ended, ImposeFault, RequestFault, fault_status, impose, text_said};
+ghost use Rattle.std.specs.Prelude.{◌≡◌, []};
+
+use impose_cli::{
+    Ended, ImposeFault, ReportText, RequestFault, fault_status, impose, text_of_fault, text_said,
+};
 use std::alloc::Global;
 use std::env;
 use std::env::Env;
@@ -10,6 +14,11 @@ use std::process::ExitCode;
 use world::{Host, World, tell};
 
 fn main(rt: HostRuntime) -> ExitCode {
+    // What is said of a run finds its room before the run.
+    let report = match ReportText::new(rt.alloc()) {
+        Ok(report) => report,
+        Err(_) => return stop(&rt, ImposeFault::no_memory()),
+    };
     let words = match words(&rt) {
         Ok(words) => words,
         Err(fault) => return stop(&rt, ImposeFault::Command(fault)),
@@ -32,14 +41,21 @@ fn main(rt: HostRuntime) -> ExitCode {
         };
         return stop(&rt, fault);
     }
-    let (text, status) = said(rt.alloc(), ended, words.as_slice());
-    ExitCode::from(tell(&mut rt.stderr(), text.as_str().as_bytes(), status))
+    let (text, status) = said(rt.alloc(), report, ended, words.as_slice());
+    ExitCode::from(tell(&mut rt.stderr(), text.as_slice(), status))
 }
 
 /// What is said of how the program ended, and its status. It takes the end by value, so the output is closed before
 /// anything is said: if standard error was closed, the output has its number.
-fn said<W: World>(alloc: Global, ended: Ended<W>, words: &[String]) -> (String, u8) {
-    let text = text_said(alloc, &ended.outcome, ended.request.as_ref(), words);
+fn said<W: World>(
+    alloc: Global,
+    report: ReportText,
+    ended: Ended<W>,
+    words: &[String],
+) -> (Vec<u8>, u8)
+    requires { report ≡ [] }
+{
+    let text = text_said(alloc, report, &ended.outcome, ended.request.as_ref(), words);
     (text, ended.status())
 }
 
@@ -63,6 +79,6 @@ fn paper_size(rt: &(impl Env + AllocGlobal)) -> String {
 /// Ends with a fault before the words are read, or after the help.
 fn stop(rt: &HostRuntime, fault: ImposeFault) -> ExitCode {
     let status = fault_status(&fault);
-    let text = text_said(rt.alloc(), &Err(fault), None, &[]);
+    let text = text_of_fault(rt.alloc(), &fault, None, &[]);
     ExitCode::from(tell(&mut rt.stderr(), text.as_str().as_bytes(), status))
 }

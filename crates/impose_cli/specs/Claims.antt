@@ -1,12 +1,13 @@
 -- What a document says of itself, as far as it is reported: how many pages it has, and a paper by a name that isn't known
 -- (DSC 2.1, %%DocumentPaperSizes).
-use Rattle.std.specs.Prelude.{◌≡◌, ◌⊎◌, ℕ, Bool, true, false, if◌then◌else◌, List, Option, Some, None, codes, option_and_then, option_map}
+use Rattle.std.specs.Prelude.{◌≡◌, ℕ, Bool, true, false, if◌then◌else◌, List, Option, Some, None, codes, option_and_then, option_map}
 use Rattle.rules.specs.Papers.{Paper}
 use Rattle.papers.specs.Comments.{first_name}
 use Rattle.papers.specs.Media.{comment_value, document_paper, header}
 use Rattle.papers.specs.declared.media.Comment.{Comment}
 use Rattle.papers.specs.declared.media.Comment.TheVariants.{BoundingBox}
 use Rattle.impose_words.specs.declared.request.ImposeRequest.{ImposeRequest}
+use Rattle.impose_said.specs.Said.{shown_name}
 use Rattle.impose_said.specs.declared.finished.Told.{Told}
 use Rattle.row_runs.specs.ToldPages.{told_pages}
 
@@ -30,10 +31,6 @@ abbrev pub unknown_paper : (named : Option Paper) → (usual : Paper) → (text 
 unknown_paper (Some named) usual text = None
 unknown_paper None usual text = unknown_name usual text
 
--- this is kept of it: all, or nothing without memory for it
-abbrev pub IsKept : (name kept : Option (List ℕ)) → Type 0
-IsKept name kept = (kept ≡ None) ⊎ (kept ≡ name)
-
 pub record IsToldBy (r : ImposeRequest) (input : List ℕ) (told : Told) : Type 0 where
   pub pages : told.pages ≡ told_pages input
-  pub unknown : IsKept (unknown_paper r.page_paper r.home_paper input) (option_map (λ name. name.items) told.unknown)
+  pub unknown : told.unknown ≡ option_map shown_name (unknown_paper r.page_paper r.home_paper input)

@@ -1,31 +1,32 @@
 //! What a document says of itself.
 ghost use Rattle.std.specs.Prelude.{◌≡◌, codes, option_map};
 ghost use Rattle.papers.specs.Media.{comment_value, contents};
+ghost use Rattle.impose_said.specs.Said.{shown_name};
 ghost use Rattle.impose_cli.specs.Claims as meaning;
 
 use dsc::header_len;
-use impose_said::Told;
+use impose_said::{ShownName, Told};
 use impose_words::ImposeRequest;
 use lengths::Paper;
 use papers::{Comment, document_paper, first_comment, first_name};
 use row_runs::told_pages;
-use std::alloc::Global;
 
-/// What a document says of itself, as far as it is reported. Without memory for a name it has none.
-pub(crate) fn told_by(alloc: Global, request: &ImposeRequest, input: &[u8]) -> Told
+/// What a document says of itself, as far as it is reported. It needs no memory.
+pub(crate) fn told_by(request: &ImposeRequest, input: &[u8]) -> Told
     ensures { meaning.IsToldBy request.now input.now result }
 {
     let pages = told_pages(input);
-    let unknown = kept(alloc, unknown_paper(request, input));
+    let unknown = shown(unknown_paper(request, input));
     Told { pages, unknown }
 }
 
-fn kept(alloc: Global, name: Option<&[u8]>) -> Option<Vec<u8>>
-    ensures { meaning.IsKept (option_map (λ n. n.now) name.entry) (option_map (λ n. n.items) result) }
+/// A name as it is shown.
+fn shown(name: Option<&[u8]>) -> Option<ShownName>
+    ensures { result ≡ option_map shown_name (option_map (λ n. n.now) name.entry) }
 {
-    match Vec::from_slice(alloc, name?) {
-        Ok(kept) => Some(kept),
-        Err(_) => None,
+    match name {
+        Some(name) => Some(ShownName::of(name)),
+        None => None,
     }
 }
 

@@ -18,8 +18,8 @@ mod unread;
 
 pub use guard::RoomyText;
 pub use impose_said::{
-    Done, Finished, IdleOption, ImposeFault, Packing, PaperOrigin, Told, behind_text, command_text,
-    cut_text, fault_status, fault_text, note_text, report_text, text_said, told_text, words_text,
+    Done, Finished, IdleOption, ImposeFault, Packing, PaperOrigin, ReportText, Told, command_text,
+    fault_status, fault_text, text_of_fault, text_said, words_text,
 };
 pub use impose_words::{
     GridCommand, ImposeRequest, Layout, Opt, PageChoice, Product, ProductOption, RequestFault,

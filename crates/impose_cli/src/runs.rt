@@ -82,7 +82,7 @@ fn run_row<R: Threads + Wait + Sync, W: World>(
     ensures { Runs request.now input.items (edge (W.tells world) W.seen W.Output.seen) result.outcome
         world result.rest (shown W.Output.seen result.rest) }
 {
-    let told = told_by(alloc, request, input.as_slice());
+    let told = told_by(request, input.as_slice());
     let (task, parts) = match row_task(alloc, request, input) {
         Ok(found) => found,
         Err(fault) => return stopped(fault, world),
@@ -144,7 +144,7 @@ fn run_spec_row<R: Threads + Wait + Sync, W: World>(
     ensures { Runs request.now input.items (edge (W.tells world) W.seen W.Output.seen) result.outcome
         world result.rest (shown W.Output.seen result.rest) }
 {
-    let told = told_by(alloc, request, input.as_slice());
+    let told = told_by(request, input.as_slice());
     let (task, parts) = match spec_row_task(alloc, request, input) {
         Ok(found) => found,
         Err(fault) => return stopped(fault, world),
@@ -207,7 +207,7 @@ fn run_spec<R: Threads + Wait + Sync, W: World>(
     ensures { Runs request.now input.items (edge (W.tells world) W.seen W.Output.seen) result.outcome
         world result.rest (shown W.Output.seen result.rest) }
 {
-    let told = told_by(alloc, request, input.as_slice());
+    let told = told_by(request, input.as_slice());
     let (task, parts) = match task_for(alloc, request, input) {
         Ok(found) => found,
         Err(fault) => return stopped(fault, world),

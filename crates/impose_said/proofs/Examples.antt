@@ -10,7 +10,7 @@ use Rattle.impose_said.specs.declared.fault.Packing.TheVariants.{Gzip}
 use Rattle.impose_said.specs.declared.fault.IdleOption.TheVariants.{CutMarks}
 use Rattle.impose_words.specs.declared.fault.RequestFault.TheVariants as command
 use Rattle.impose_said.specs.Statuses.{fault_status, words_status}
-use Rattle.impose_said.specs.Said.{behind_text, blanks_text, cut_pages_text, edges_text, is_pdf_name, leaves_text, size_text, told_text, unknown_text}
+use Rattle.impose_said.specs.Said.{behind_text, blanks_text, cut_pages_text, edges_text, is_pdf_name, leaves_text, shown_name, size_text, told_text, unknown_text}
 use Rattle.rules.specs.Papers.{points}
 
 -- Exit statuses.
@@ -78,11 +78,11 @@ two_behind = refl
 none_unknown : unknown_text None ≡ None
 none_unknown = refl
 
-unknown_name : unknown_text (Some (codes "quux")) ≡ Some (codes "the document names an unknown paper, quux")
+unknown_name : unknown_text (Some (shown_name (codes "quux"))) ≡ Some (codes "the document names an unknown paper, quux")
 unknown_name = refl
 
 -- what a terminal might take for more than letters isn't shown
-unknown_bytes : unknown_text (Some (27 ∷ 91 ∷ 127 ∷ 200 ∷ [])) ≡ Some (codes "the document names an unknown paper, ?[??")
+unknown_bytes : unknown_text (Some (shown_name (27 ∷ 91 ∷ 127 ∷ 200 ∷ []))) ≡ Some (codes "the document names an unknown paper, ?[??")
 unknown_bytes = refl
 
 none_told : told_text None 3 ≡ None

@@ -1,4 +1,6 @@
-pub mod Lines
+mod Short
+mod Pieces
+mod Noted
 mod NoRoom
 pub mod Examples
 mod InputExamples

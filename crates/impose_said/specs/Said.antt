@@ -93,11 +93,14 @@ counts_text report r = codes "pages " ++ (decimal report.pages ++ (blanks_text (
 abbrev pub is_same : Paper → Paper → Bool
 is_same a b = int_eq a.width b.width && int_eq a.height b.height
 
--- the size of the sheets, if another paper is named for them than the pages have
+-- the size of the sheets
+abbrev pub sheet_text : (sheet : Paper) → List ℕ
+sheet_text sheet = codes "; sheets of " ++ (size_text sheet ++ codes " pt")
+
+-- if another paper is named for them than the pages have
 abbrev pub sheets_text : (named : Option Paper) → (page_paper : Paper) → List ℕ
 sheets_text None page_paper = []
-sheets_text (Some sheet) page_paper =
-    if is_same sheet page_paper then [] else codes "; sheets of " ++ (size_text sheet ++ codes " pt")
+sheets_text (Some sheet) page_paper = if is_same sheet page_paper then [] else sheet_text sheet
 
 -- the report: the counts, the size of the pages' paper with where it was found, and that of the sheets (RULES, 17)
 abbrev pub report_text : Finished → ImposeRequest → List ℕ
@@ -116,10 +119,14 @@ front_of name = take (min (length name) 100) name
 abbrev pub shown_name : (name : List ℕ) → List ℕ
 shown_name name = if nat_lt 100 (length name) then map shown_byte (front_of name) ++ codes ".." else map shown_byte (front_of name)
 
--- of a document whose paper has a name that isn't known
-abbrev pub unknown_text : (name : Option (List ℕ)) → Option (List ℕ)
+-- of a document whose paper has a name that isn't known, by this name as it is shown
+abbrev pub unknown_message : (shown : List ℕ) → List ℕ
+unknown_message shown = codes "the document names an unknown paper, " ++ shown
+
+-- if it has one
+abbrev pub unknown_text : (shown : Option (List ℕ)) → Option (List ℕ)
 unknown_text None = None
-unknown_text (Some name) = Some (codes "the document names an unknown paper, " ++ shown_name name)
+unknown_text (Some shown) = Some (unknown_message shown)
 
 abbrev pub some_pages_text : (pages first last : ℕ) → List ℕ
 some_pages_text pages first last = decimal pages ++ (codes " pages from " ++ (decimal first ++ (codes " to " ++ decimal last)))
@@ -135,50 +142,71 @@ cut_pages_text cut = if cut.pages == 1 then codes "page " ++ decimal (cut.first 
 abbrev pub cut_size_text : Cut → List ℕ
 cut_size_text cut = if cut.pages == 1 then size_text cut.paper else codes "up to " ++ size_text cut.paper
 
--- of pages that the paper cuts which is named for them, if there are some: which pages, and both sizes
+-- of pages that the paper cuts which is named for them: which pages, and both sizes
+abbrev pub cut_message : Cut → (named : Paper) → List ℕ
+cut_message cut named =
+    codes "--paper cuts " ++ (cut_pages_text cut ++ (codes ": " ++ (cut_size_text cut ++ (codes " on " ++ size_text named))))
+
+-- if there are some
 abbrev pub cut_text : Option Cut → (named : Paper) → Option (List ℕ)
 cut_text None named = None
-cut_text (Some cut) named =
-    Some (codes "--paper cuts " ++ (cut_pages_text cut ++ (codes ": " ++ (cut_size_text cut ++ (codes " on " ++ size_text named)))))
+cut_text (Some cut) named = Some (cut_message cut named)
 
 -- how many more pages reach beyond their papers
 abbrev pub others_text : (pages : ℕ) → List ℕ
 others_text pages = if pages == 0 then []
     else counted pages (codes ", and 1 other page beyond its own") (codes ", and ") (codes " other pages beyond theirs")
 
--- how far a page reaches: to its upper right corner, and from its lower left one if that is before 0
-abbrev pub edges_text : Edges → List ℕ
-edges_text e = if int_le (pos 0) e.left && int_le (pos 0) e.bottom then codes "to " ++ sides_text e.right e.top
-    else codes "from " ++ (sides_text e.left e.bottom ++ (codes " to " ++ sides_text e.right e.top))
+-- both corners of a page
+abbrev pub corners_text : Edges → List ℕ
+corners_text e = codes "from " ++ (sides_text e.left e.bottom ++ (codes " to " ++ sides_text e.right e.top))
 
--- of pages that reach beyond their papers, if there are some: the first one, how far it reaches, and its paper
+-- how far it reaches: to its upper right corner, and from its lower left one if that is before 0
+abbrev pub edges_text : Edges → List ℕ
+edges_text e = if int_le (pos 0) e.left && int_le (pos 0) e.bottom then codes "to " ++ sides_text e.right e.top else corners_text e
+
+-- of pages that reach beyond their papers: the first one, how far it reaches, and its paper
+abbrev pub reach_message : Reach → List ℕ
+reach_message reach = codes "page " ++ (decimal (reach.first + 1) ++ (codes " reaches " ++ (edges_text reach.edges
+    ++ (codes " on " ++ (size_text reach.paper ++ others_text (reach.pages - 1))))))
+
+-- if there are some
 abbrev pub reach_text : Option Reach → Option (List ℕ)
 reach_text None = None
-reach_text (Some reach) = Some (codes "page " ++ (decimal (reach.first + 1) ++ (codes " reaches " ++ (edges_text reach.edges
-    ++ (codes " on " ++ (size_text reach.paper ++ others_text (reach.pages - 1)))))))
+reach_text (Some reach) = Some (reach_message reach)
 
--- of pages that follow the document's trailer, if there are some
+-- of pages that follow the document's trailer
+abbrev pub behind_message : (pages : ℕ) → List ℕ
+behind_message pages = counted pages (codes "1 page follows %%Trailer or %%EOF and is not imposed") (codes "")
+    (codes " pages follow %%Trailer or %%EOF and are not imposed")
+
+-- if there are some
 abbrev pub behind_text : (pages : ℕ) → Option (List ℕ)
-behind_text pages = if pages == 0 then None
-    else Some (counted pages (codes "1 page follows %%Trailer or %%EOF and is not imposed") (codes "")
-    (codes " pages follow %%Trailer or %%EOF and are not imposed"))
+behind_text pages = if pages == 0 then None else Some (behind_message pages)
 
--- of a document that says another number of its pages than were found
+-- of a document that says another number of its pages than were found: both
+abbrev pub told_message : (told found : ℕ) → List ℕ
+told_message told found = codes "the document says "
+    ++ (counted told (codes "1 page") (codes "") (codes " pages") ++ (codes ", "
+    ++ (counted found (codes "1 was found") (codes "") (codes " were found") ++ codes ": is it complete?")))
+
+-- if it says one
 abbrev pub told_text : (told : Option ℕ) → (found : ℕ) → Option (List ℕ)
 told_text None found = None
-told_text (Some told) found = if told == found then None else Some (codes "the document says "
-    ++ (counted told (codes "1 page") (codes "") (codes " pages") ++ (codes ", "
-    ++ (counted found (codes "1 was found") (codes "") (codes " were found") ++ codes ": is it complete?"))))
+told_text (Some told) found = if told == found then None else Some (told_message told found)
 
 -- a file is named as a PDF
 abbrev pub is_pdf_name : (name : List ℕ) → Bool
 is_pdf_name name = ends_with nat_eq name (codes ".pdf") || ends_with nat_eq name (codes ".PDF")
 
 -- that a file named as a PDF isn't one, with what makes one of this name as it is shown
+abbrev pub note_text : (shown : List ℕ) → List ℕ
+note_text shown = shown
+    ++ (codes " holds PostScript, not a PDF; for a PDF use: impose .. | ps2pdf -dAutoRotatePages=/None - " ++ shown)
+
 abbrev pub IsNoteIf : (noted : Bool) → (message : Option (List ℕ)) → Type 0
 IsNoteIf false message = message ≡ None
-IsNoteIf true message = (shown : List ℕ) × (message ≡ Some (shown
-    ++ (codes " holds PostScript, not a PDF; for a PDF use: impose .. | ps2pdf -dAutoRotatePages=/None - " ++ shown)))
+IsNoteIf true message = (shown : List ℕ) × (message ≡ Some (note_text shown))
 
 -- that the output isn't a PDF, if it is named as one
 abbrev pub IsNote : (outfile : Option (List ℕ)) → (message : Option (List ℕ)) → Type 0
@@ -244,22 +272,18 @@ Adds Holds before after = (text : List ℕ) × Holds text × (after ≡ before +
 -- cut, that pages reach beyond their papers, that pages follow the trailer, and that not as many were found as the document says
 abbrev pub run_lines : Finished → ImposeRequest → List ℕ
 run_lines finished r =
-    line_of (Some (report_text finished r)) ++ line_of (unknown_text (option_map (λ name. name.items) finished.told.unknown))
+    line_of (Some (report_text finished r)) ++ line_of (unknown_text finished.told.unknown)
     ++ line_of (cut_text finished.cut finished.page_paper) ++ line_of (reach_text finished.reach) ++ line_of (behind_text finished.behind)
     ++ line_of (told_text finished.told.pages finished.report.pages)
 
--- and behind them that the output is no PDF
-abbrev pub SaysLines : Finished → ImposeRequest → (text : List ℕ) → Type 0
-SaysLines finished r text = (note : Option (List ℕ)) × IsNote (option_map string_bytes r.outfile) note × (text ≡ run_lines finished r ++ line_of note)
+-- a line that the output is no PDF comes after what was said before, if the output is named as one
+abbrev pub AddsNote : (outfile : Option (List ℕ)) → (before after : List ℕ) → Type 0
+AddsNote outfile before after = (note : Option (List ℕ)) × IsNote outfile note × (after ≡ before ++ line_of note)
 
--- in place of all of them, without memory for one
-abbrev pub no_report : List ℕ
-no_report = codes "out of memory for the report"
-
--- a quiet request says nothing
+-- A quiet request says nothing. Of another nothing is left out.
 abbrev pub SaysUnless : (quiet : Bool) → Finished → ImposeRequest → (text : List ℕ) → Type 0
 SaysUnless true finished r text = text ≡ []
-SaysUnless false finished r text = SaysLines finished r text ⊎ IsLineOf (Some no_report) text
+SaysUnless false finished r text = AddsNote (option_map string_bytes r.outfile) (run_lines finished r) text
 
 abbrev pub SaysRun : Finished → ImposeRequest → (text : List ℕ) → Type 0
 SaysRun finished r text = SaysUnless r.is_quiet finished r text

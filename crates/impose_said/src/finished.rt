@@ -1,4 +1,5 @@
 //! What was done.
+use crate::shown::ShownName;
 use imposer::Report;
 use lengths::Paper;
 use papers::{Comment, Cut, Reach};
@@ -21,8 +22,8 @@ pub enum PaperOrigin {
 pub struct Told {
     /// How many pages it has, if it says so.
     pub pages: Option<usize>,
-    /// The name of its paper, if that isn't known.
-    pub unknown: Option<Vec<u8>>,
+    /// The name of its paper as it is shown, if that isn't known.
+    pub unknown: Option<ShownName>,
 }
 
 /// How a request was carried out.

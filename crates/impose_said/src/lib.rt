@@ -6,8 +6,10 @@ mod finished;
 mod inputs;
 mod messages;
 mod mistakes;
+mod report_text;
 mod reports;
 mod rooms;
+mod run_lines;
 mod said;
 mod shown;
 mod statuses;
@@ -18,8 +20,7 @@ pub use finished::{Done, Finished, PaperOrigin, Told};
 pub use inputs::of_document;
 pub use messages::{command_text, fault_text};
 pub use mistakes::words_text;
-pub use reports::{
-    behind_text, cut_text, note_text, reach_text, report_text, told_text, unknown_text,
-};
-pub use said::text_said;
+pub use report_text::ReportText;
+pub use said::{text_of_fault, text_said};
+pub use shown::ShownName;
 pub use statuses::fault_status;

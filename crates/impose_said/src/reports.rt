@@ -1,56 +1,54 @@
 //! What is said of a finished run.
-ghost use Rattle.std.specs.Prelude.{◌≡◌, ◌+◌, ◌/◌, IfOk, IsUtf8, OnErr, if◌then◌else◌, [], map, option_map, string_bytes};
-ghost use Rattle.rules.specs.Numbers.{points_text as text_of_points};
-ghost use Rattle.impose_said.specs.Said.{IsNote, behind_text as text_of_behind};
-ghost use Rattle.impose_said.specs.Said.{blanks_of as blanks_in, blanks_text as text_of_blanks, counts_text as text_of_counts};
-ghost use Rattle.impose_said.specs.Said.{are_sides as are_sides_of, leaves_text as text_of_leaves, places_on as places_in};
-ghost use Rattle.impose_said.specs.Said.{cut_pages_text as text_of_cut_pages, cut_size_text as text_of_cut_size, cut_text as text_of_cut};
-ghost use Rattle.impose_said.specs.Said.{some_pages_text as text_of_some_pages};
-ghost use Rattle.impose_said.specs.Said.{edges_text as text_of_edges, others_text as text_of_others, reach_text as text_of_reach};
-ghost use Rattle.impose_said.specs.Said.{is_same as are_same, report_text as text_of_report, sheets_text as text_of_sheets};
-ghost use Rattle.impose_said.specs.Said.{sides_text as text_of_sides, size_text as text_of_size};
-ghost use Rattle.impose_said.specs.Said.{counted as text_of_counted, told_text as text_of_told};
-ghost use Rattle.impose_said.specs.Said.{is_pdf_name as names_pdf, origin_text as text_of_origin};
-ghost use Rattle.impose_said.specs.Said.{shown_byte as byte_shown, shown_name as text_of_name, unknown_text as text_of_unknown};
+ghost use Rattle.std.specs.Prelude.{◌≡◌, ◌+◌, ◌/◌, ◌≤◌, ◌++◌, if◌then◌else◌, [], length};
+ghost use Rattle.impose_said.specs.Rooms.{most_said};
+ghost use Rattle.impose_said.specs.Said.{are_sides as are_sides_of, behind_message, blanks_of as blanks_in, blanks_text, counted, counts_text};
+ghost use Rattle.impose_said.specs.Said.{corners_text, cut_message, cut_pages_text, cut_size_text, edges_text, is_same as are_same, leaves_text, note_text};
+ghost use Rattle.impose_said.specs.Said.{origin_text as text_of_origin, others_text, places_on as places_in, reach_message, report_text};
+ghost use Rattle.impose_said.specs.Said.{sheet_text, sheets_text, sides_text, size_text, some_pages_text, told_message, unknown_message};
 
 use crate::finished::{Finished, PaperOrigin};
-use crate::shown::shown_word;
+use crate::report_text::ReportText;
+use crate::shown::ShownName;
 use impose_words::{ImposeRequest, Layout};
 use imposer::Report;
-use lengths::{Grains, Paper, print_points};
-use papers::{Comment, Cut, Edges};
-use std::alloc::{AllocError, Global};
+use lengths::{Grains, Paper};
+use papers::{Comment, Cut, Edges, Reach};
 
-/// What is said of a finished run.
-pub fn report_text(
-    alloc: Global,
-    done: &Finished,
-    request: &ImposeRequest,
-) -> Result<String, AllocError>
-    ensures { IfOk result (λ text. string_bytes text ≡ text_of_report done.now request.now) }
+/// The report.
+pub(crate) fn push_report(said: &mut ReportText, done: &Finished, request: &ImposeRequest)
+    requires room { length said.old + 649 ≤ most_said }
+    ensures text { said.new ≡ said.old ++ report_text done.now request.now }
+    ensures short { length said.new ≤ length said.old + 649 }
 {
-    let counts = counts_text(alloc, &done.report, request)?;
-    let size = size_text(alloc, &done.page_paper)?;
-    let origin = origin_text(done.origin);
-    let sheets = sheets_text(alloc, &request.sheet_paper, &done.page_paper)?;
-    format!(in alloc; "{counts}; pages of {size} pt, {origin}{sheets}")
+    push_counts(said, &done.report, request);
+    said.push(b"; pages of ");
+    push_size(said, &done.page_paper);
+    said.push(b" pt, ");
+    said.push(origin_text(done.origin));
+    push_sheets(said, &request.sheet_paper, &done.page_paper);
 }
 
 /// The size of the sheets, if another paper is named for them than the pages have.
-fn sheets_text(
-    alloc: Global,
-    named: &Option<Paper>,
-    page_paper: &Paper,
-) -> Result<String, AllocError>
-    ensures { IfOk result (λ text. string_bytes text ≡ text_of_sheets named.now page_paper.now) }
+fn push_sheets(said: &mut ReportText, named: &Option<Paper>, page_paper: &Paper)
+    requires room { length said.old + 118 ≤ most_said }
+    ensures text { said.new ≡ said.old ++ sheets_text named.now page_paper.now }
+    ensures short { length said.new ≤ length said.old + 118 }
 {
     match named {
-        Some(sheet) if !is_same(sheet, page_paper) => {
-            let size = size_text(alloc, sheet)?;
-            format!(in alloc; "; sheets of {size} pt")
-        }
-        _ => Ok(String::new(alloc)),
+        Some(sheet) if !is_same(sheet, page_paper) => push_sheet(said, sheet),
+        _ => {}
     }
+}
+
+/// The size of the sheets.
+fn push_sheet(said: &mut ReportText, sheet: &Paper)
+    requires room { length said.old + 118 ≤ most_said }
+    ensures text { said.new ≡ said.old ++ sheet_text sheet.now }
+    ensures short { length said.new ≤ length said.old + 118 }
+{
+    said.push(b"; sheets of ");
+    push_size(said, sheet);
+    said.push(b" pt");
 }
 
 fn is_same(one: &Paper, other: &Paper) -> bool
@@ -60,19 +58,19 @@ fn is_same(one: &Paper, other: &Paper) -> bool
 }
 
 /// How many pages, blanks, sheets and leaves there are, and how many bytes.
-fn counts_text(
-    alloc: Global,
-    report: &Report,
-    request: &ImposeRequest,
-) -> Result<String, AllocError>
-    ensures { IfOk result (λ text. string_bytes text ≡ text_of_counts report.now request.now) }
+fn push_counts(said: &mut ReportText, report: &Report, request: &ImposeRequest)
+    requires room { length said.old + 352 ≤ most_said }
+    ensures text { said.new ≡ said.old ++ counts_text report.now request.now }
+    ensures short { length said.new ≤ length said.old + 352 }
 {
-    let pages = report.pages;
-    let sheets = report.sheets;
-    let bytes = report.bytes;
-    let blanks = blanks_text(alloc, blanks_of(request, report))?;
-    let leaves = leaves_text(alloc, request, sheets)?;
-    format!(in alloc; "pages {pages}{blanks}, sheets {sheets}{leaves}, bytes {bytes}")
+    said.push(b"pages ");
+    said.push_number(u128::from(report.pages));
+    push_blanks(said, blanks_of(request, report));
+    said.push(b", sheets ");
+    said.push_number(u128::from(report.sheets));
+    push_leaves(said, request, report.sheets);
+    said.push(b", bytes ");
+    said.push_number(u128::from(report.bytes));
 }
 
 /// How many places of the sheets have no page, where all sheets have equally many and each page has one.
@@ -100,40 +98,46 @@ fn places_on(layout: &Layout) -> u64
     }
 }
 
-fn blanks_text(alloc: Global, blanks: u128) -> Result<String, AllocError>
-    ensures { IfOk result (λ text. string_bytes text ≡ text_of_blanks blanks) }
+fn push_blanks(said: &mut ReportText, blanks: u128)
+    requires room { length said.old + 49 ≤ most_said }
+    ensures text { said.new ≡ said.old ++ blanks_text blanks }
+    ensures short { length said.new ≤ length said.old + 49 }
 {
-    match blanks {
-        0 => Ok(String::new(alloc)),
-        _ => format!(in alloc; ", blanks {blanks}"),
+    if blanks == 0 {
+        return;
     }
+    said.push(b", blanks ");
+    said.push_number(blanks);
 }
 
 /// How many leaves of paper it takes, where sheets are printed on both sides.
-fn leaves_text(alloc: Global, request: &ImposeRequest, sheets: u32) -> Result<String, AllocError>
-    ensures { IfOk result (λ text. string_bytes text ≡ (if are_sides_of request.now.layout request.now.spacing
-        then text_of_leaves ((sheets + 1) / 2) else [])) }
+fn push_leaves(said: &mut ReportText, request: &ImposeRequest, sheets: u32)
+    requires room { length said.old + 160 ≤ most_said }
+    ensures text { said.new ≡ said.old ++ (if are_sides_of request.now.layout request.now.spacing
+        then leaves_text ((sheets + 1) / 2) else []) }
+    ensures short { length said.new ≤ length said.old + 160 }
 {
     if !are_sides(request) {
-        return Ok(String::new(alloc));
+        return;
     }
     let leaves = (u64::from(sheets) + 1) / 2;
-    counted_text(alloc, leaves, " (1 leaf)", " (", " leaves)")
+    push_counted(said, u128::from(leaves), b" (1 leaf)", b" (", b" leaves)");
 }
 
 /// So many of something: a text of its own for one, or else the number with these texts before and after it.
-fn counted_text(
-    alloc: Global,
-    count: u64,
-    one: &str,
-    before: &str,
-    behind: &str,
-) -> Result<String, AllocError>
-    ensures { IfOk result (λ text. string_bytes text ≡ text_of_counted count one.now before.now behind.now) }
+fn push_counted(said: &mut ReportText, count: u128, one: &[u8], before: &[u8], behind: &[u8])
+    requires few { length one.now + length before.now + length behind.now ≤ 120 }
+    requires room { length said.old + 160 ≤ most_said }
+    ensures text { said.new ≡ said.old ++ counted count one.now before.now behind.now }
+    ensures short { length said.new ≤ length said.old + 160 }
 {
     match count {
-        1 => String::from_str(alloc, one),
-        _ => format!(in alloc; "{before}{count}{behind}"),
+        1 => said.push(one),
+        _ => {
+            said.push(before);
+            said.push_number(count);
+            said.push(behind);
+        }
     }
 }
 
@@ -151,123 +155,80 @@ fn are_sides(request: &ImposeRequest) -> bool
 }
 
 /// Both sides of a paper, in points.
-pub(crate) fn size_text(alloc: Global, paper: &Paper) -> Result<String, AllocError>
-    ensures { IfOk result (λ text. string_bytes text ≡ text_of_size paper.now) }
+fn push_size(said: &mut ReportText, paper: &Paper)
+    requires room { length said.old + 103 ≤ most_said }
+    ensures text { said.new ≡ said.old ++ size_text paper.now }
+    ensures short { length said.new ≤ length said.old + 103 }
 {
-    sides_text(alloc, paper.width(), paper.height())
+    push_sides(said, paper.width(), paper.height());
 }
 
-pub(crate) fn sides_text(alloc: Global, width: Grains, height: Grains) -> Result<String, AllocError>
-    ensures { IfOk result (λ text. string_bytes text ≡ text_of_sides width height) }
+fn push_sides(said: &mut ReportText, width: Grains, height: Grains)
+    requires room { length said.old + 103 ≤ most_said }
+    ensures text { said.new ≡ said.old ++ sides_text width height }
+    ensures short { length said.new ≤ length said.old + 103 }
 {
-    let width = points_text(alloc, width)?;
-    let height = points_text(alloc, height)?;
-    format!(in alloc; "{width} x {height}")
+    said.push_points(width);
+    said.push(b" x ");
+    said.push_points(height);
 }
 
-fn points_text(alloc: Global, length: Grains) -> Result<String, AllocError>
-    ensures { IfOk result (λ text. string_bytes text ≡ text_of_points length) }
+/// That the document's paper has a name that isn't known.
+pub(crate) fn push_unknown(said: &mut ReportText, name: &ShownName)
+    requires room { length said.old + 141 ≤ most_said }
+    ensures text { said.new ≡ said.old ++ unknown_message name.now }
+    ensures short { length said.new ≤ length said.old + 141 }
 {
-    let mut text = Vec::new(alloc);
-    print_points(length, &mut text)?;
-    ascii_text(text)
+    said.push(b"the document names an unknown paper, ");
+    said.push(name.as_slice());
 }
 
-/// These bytes as a text. They are ASCII: of others nothing is said, as without memory.
-fn ascii_text(bytes: Vec<u8>) -> Result<String, AllocError>
-    ensures value { IfOk result (λ text. string_bytes text ≡ bytes.items) }
-    ensures other { OnErr result (¬ (IsUtf8 bytes.items)) }
+/// Which pages the paper cuts that is named for them.
+pub(crate) fn push_cut(said: &mut ReportText, cut: &Cut, named: &Paper)
+    requires room { length said.old + 367 ≤ most_said }
+    ensures text { said.new ≡ said.old ++ cut_message cut.now named.now }
+    ensures short { length said.new ≤ length said.old + 367 }
 {
-    match String::from_utf8(bytes) {
-        Ok(text) => Ok(text),
-        Err(_) => Err(AllocError),
-    }
-}
-
-/// What is said of a document whose paper has a name that isn't known.
-pub fn unknown_text(alloc: Global, done: &Finished) -> Result<Option<String>, AllocError>
-    ensures { IfOk result (λ text. option_map string_bytes text
-        ≡ text_of_unknown (option_map (λ name. name.items) done.now.told.unknown)) }
-{
-    let Some(name) = &done.told.unknown else {
-        return Ok(None);
-    };
-    let name = shown_name(alloc, name.as_slice())?;
-    Ok(Some(format!(in alloc; "the document names an unknown paper, {name}")?))
-}
-
-/// How many bytes of a name are shown.
-const MOST_OF_A_NAME: usize = 100;
-
-/// A name as it is shown: its front, and two dots if there is more.
-fn shown_name(alloc: Global, name: &[u8]) -> Result<String, AllocError>
-    ensures { IfOk result (λ text. string_bytes text ≡ text_of_name name.now) }
-{
-    let (front, _) = name.split_at(name.len().min(MOST_OF_A_NAME));
-    let shown = printable_text(alloc, front)?;
-    if name.len() > MOST_OF_A_NAME {
-        format!(in alloc; "{shown}..")
-    } else {
-        Ok(shown)
-    }
-}
-
-/// These bytes, with a question mark for each that isn't a printable one of ASCII.
-fn printable_text(alloc: Global, bytes: &[u8]) -> Result<String, AllocError>
-    ensures { IfOk result (λ text. string_bytes text ≡ map byte_shown bytes.now) }
-{
-    let mut shown = Vec::new(alloc);
-    for b in bytes {
-        shown.push(shown_byte(*b))?;
-    }
-    ascii_text(shown)
-}
-
-/// A byte of a name: what isn't a printable one of ASCII is a question mark.
-fn shown_byte(b: u8) -> u8
-    ensures { result ≡ byte_shown b }
-{
-    if 32 <= b && b <= 126 { b } else { b'?' }
-}
-
-/// What is said of pages that the paper cuts which is named for them.
-pub fn cut_text(alloc: Global, done: &Finished) -> Result<Option<String>, AllocError>
-    ensures { IfOk result (λ text. option_map string_bytes text ≡ text_of_cut done.now.cut done.now.page_paper) }
-{
-    let Some(cut) = done.cut else {
-        return Ok(None);
-    };
-    let pages = cut_pages_text(alloc, &cut)?;
-    let own = cut_size_text(alloc, &cut)?;
-    let named = size_text(alloc, &done.page_paper)?;
-    Ok(Some(format!(in alloc; "--paper cuts {pages}: {own} on {named}")?))
+    said.push(b"--paper cuts ");
+    push_cut_pages(said, cut);
+    said.push(b": ");
+    push_cut_size(said, cut);
+    said.push(b" on ");
+    push_size(said, named);
 }
 
 /// The pages that are cut, counted from 1.
-fn cut_pages_text(alloc: Global, cut: &Cut) -> Result<String, AllocError>
-    ensures { IfOk result (λ text. string_bytes text ≡ text_of_cut_pages cut.now) }
+fn push_cut_pages(said: &mut ReportText, cut: &Cut)
+    requires room { length said.old + 136 ≤ most_said }
+    ensures text { said.new ≡ said.old ++ cut_pages_text cut.now }
+    ensures short { length said.new ≤ length said.old + 136 }
 {
     let first = page_number(cut.first);
     let last = page_number(cut.last);
     if cut.pages == 1 {
-        format!(in alloc; "page {first}")
+        said.push(b"page ");
+        said.push_number(first);
     } else if cut.first as u128 + cut.pages as u128 == last {
-        format!(in alloc; "pages {first}-{last}")
+        said.push(b"pages ");
+        said.push_number(first);
+        said.push(b"-");
+        said.push_number(last);
     } else {
-        some_pages_text(alloc, cut.pages, first, last)
+        push_some_pages(said, cut.pages, first, last);
     }
 }
 
 /// So many of the pages from the first to the last.
-fn some_pages_text(
-    alloc: Global,
-    pages: usize,
-    first: u128,
-    last: u128,
-) -> Result<String, AllocError>
-    ensures { IfOk result (λ text. string_bytes text ≡ text_of_some_pages pages first last) }
+fn push_some_pages(said: &mut ReportText, pages: usize, first: u128, last: u128)
+    requires room { length said.old + 136 ≤ most_said }
+    ensures text { said.new ≡ said.old ++ some_pages_text pages first last }
+    ensures short { length said.new ≤ length said.old + 136 }
 {
-    format!(in alloc; "{pages} pages from {first} to {last}")
+    said.push_number(pages as u128);
+    said.push(b" pages from ");
+    said.push_number(first);
+    said.push(b" to ");
+    said.push_number(last);
 }
 
 /// A page that is counted from 0, counted from 1.
@@ -278,122 +239,129 @@ fn page_number(page: usize) -> u128
 }
 
 /// The size of a page that is cut; of several, so far they reach.
-fn cut_size_text(alloc: Global, cut: &Cut) -> Result<String, AllocError>
-    ensures { IfOk result (λ text. string_bytes text ≡ text_of_cut_size cut.now) }
+fn push_cut_size(said: &mut ReportText, cut: &Cut)
+    requires room { length said.old + 109 ≤ most_said }
+    ensures text { said.new ≡ said.old ++ cut_size_text cut.now }
+    ensures short { length said.new ≤ length said.old + 109 }
 {
-    let size = size_text(alloc, &cut.paper)?;
-    if cut.pages == 1 {
-        return Ok(size);
+    if cut.pages != 1 {
+        said.push(b"up to ");
     }
-    format!(in alloc; "up to {size}")
+    push_size(said, &cut.paper);
 }
 
-/// What is said of pages that reach beyond the papers by which they are placed: the first of them, and how many more there are.
-pub fn reach_text(alloc: Global, done: &Finished) -> Result<Option<String>, AllocError>
-    ensures { IfOk result (λ text. option_map string_bytes text ≡ text_of_reach done.now.reach) }
+/// The first page that reaches beyond the paper by which it is placed, and how many more there are.
+pub(crate) fn push_reach(said: &mut ReportText, reach: &Reach)
+    requires room { length said.old + 536 ≤ most_said }
+    ensures text { said.new ≡ said.old ++ reach_message reach.now }
+    ensures short { length said.new ≤ length said.old + 536 }
 {
-    let Some(reach) = done.reach else {
-        return Ok(None);
-    };
-    let page = page_number(reach.first);
-    let edges = edges_text(alloc, &reach.edges)?;
-    let placed = size_text(alloc, &reach.paper)?;
-    let others = others_text(alloc, reach.pages.saturating_sub(1))?;
-    Ok(Some(format!(in alloc; "page {page} reaches {edges} on {placed}{others}")?))
+    said.push(b"page ");
+    said.push_number(page_number(reach.first));
+    said.push(b" reaches ");
+    push_edges(said, &reach.edges);
+    said.push(b" on ");
+    push_size(said, &reach.paper);
+    push_others(said, reach.pages.saturating_sub(1));
 }
 
 /// How far a page reaches: to the upper right corner, and from the lower left one if that is before 0.
-fn edges_text(alloc: Global, edges: &Edges) -> Result<String, AllocError>
-    ensures { IfOk result (λ text. string_bytes text ≡ text_of_edges edges.now) }
+fn push_edges(said: &mut ReportText, edges: &Edges)
+    requires room { length said.old + 215 ≤ most_said }
+    ensures text { said.new ≡ said.old ++ edges_text edges.now }
+    ensures short { length said.new ≤ length said.old + 215 }
 {
-    let upper = sides_text(alloc, edges.right, edges.top)?;
     if edges.left.get() >= 0 && edges.bottom.get() >= 0 {
-        return format!(in alloc; "to {upper}");
+        said.push(b"to ");
+        push_sides(said, edges.right, edges.top);
+    } else {
+        push_corners(said, edges);
     }
-    let lower = sides_text(alloc, edges.left, edges.bottom)?;
-    format!(in alloc; "from {lower} to {upper}")
+}
+
+/// How far a page reaches: from the lower left corner to the upper right one.
+fn push_corners(said: &mut ReportText, edges: &Edges)
+    requires room { length said.old + 215 ≤ most_said }
+    ensures text { said.new ≡ said.old ++ corners_text edges.now }
+    ensures short { length said.new ≤ length said.old + 215 }
+{
+    said.push(b"from ");
+    push_sides(said, edges.left, edges.bottom);
+    said.push(b" to ");
+    push_sides(said, edges.right, edges.top);
 }
 
 /// How many more pages reach beyond their papers.
-fn others_text(alloc: Global, pages: usize) -> Result<String, AllocError>
-    ensures { IfOk result (λ text. string_bytes text ≡ text_of_others pages) }
+fn push_others(said: &mut ReportText, pages: usize)
+    requires room { length said.old + 160 ≤ most_said }
+    ensures text { said.new ≡ said.old ++ others_text pages }
+    ensures short { length said.new ≤ length said.old + 160 }
 {
-    match pages {
-        0 => Ok(String::new(alloc)),
-        _ => counted_text(
-            alloc,
-            pages as u64,
-            ", and 1 other page beyond its own",
-            ", and ",
-            " other pages beyond theirs",
-        ),
+    if pages == 0 {
+        return;
     }
+    push_counted(
+        said,
+        pages as u128,
+        b", and 1 other page beyond its own",
+        b", and ",
+        b" other pages beyond theirs",
+    );
 }
 
-/// What is said of pages that follow the document's trailer.
-pub fn behind_text(alloc: Global, done: &Finished) -> Result<Option<String>, AllocError>
-    ensures { IfOk result (λ text. option_map string_bytes text ≡ text_of_behind done.now.behind) }
+/// How many pages follow the document's trailer.
+pub(crate) fn push_behind(said: &mut ReportText, pages: usize)
+    requires room { length said.old + 160 ≤ most_said }
+    ensures text { said.new ≡ said.old ++ behind_message pages }
+    ensures short { length said.new ≤ length said.old + 160 }
 {
-    match done.behind {
-        0 => Ok(None),
-        pages => Ok(Some(counted_text(
-            alloc,
-            pages as u64,
-            "1 page follows %%Trailer or %%EOF and is not imposed",
-            "",
-            " pages follow %%Trailer or %%EOF and are not imposed",
-        )?)),
-    }
+    push_counted(
+        said,
+        pages as u128,
+        b"1 page follows %%Trailer or %%EOF and is not imposed",
+        b"",
+        b" pages follow %%Trailer or %%EOF and are not imposed",
+    );
 }
 
-/// What is said if the document says another number of its pages than were found.
-pub fn told_text(alloc: Global, done: &Finished) -> Result<Option<String>, AllocError>
-    ensures { IfOk result (λ text. option_map string_bytes text ≡ text_of_told done.now.told.pages done.now.report.pages) }
+/// How many pages the document says that it has, and how many were found.
+pub(crate) fn push_told(said: &mut ReportText, told: usize, found: usize)
+    requires room { length said.old + 357 ≤ most_said }
+    ensures text { said.new ≡ said.old ++ told_message told found }
+    ensures short { length said.new ≤ length said.old + 357 }
 {
-    let Some(told) = done.told.pages else {
-        return Ok(None);
-    };
-    let found = done.report.pages as usize;
-    if told == found {
-        return Ok(None);
-    }
-    let told = counted_text(alloc, told as u64, "1 page", "", " pages")?;
-    let found = counted_text(alloc, found as u64, "1 was found", "", " were found")?;
-    Ok(Some(format!(in alloc; "the document says {told}, {found}: is it complete?")?))
+    said.push(b"the document says ");
+    push_counted(said, told as u128, b"1 page", b"", b" pages");
+    said.push(b", ");
+    push_counted(said, found as u128, b"1 was found", b"", b" were found");
+    said.push(b": is it complete?");
 }
 
-/// What else is said of a finished run, if there is something: that a file named as a PDF isn't one.
-pub fn note_text(alloc: Global, request: &ImposeRequest) -> Result<Option<String>, AllocError>
-    ensures { IfOk result (λ text. IsNote (option_map string_bytes request.now.outfile) (option_map string_bytes text)) }
+/// That a file of this name, as it is shown, isn't a PDF.
+pub(crate) fn push_note(said: &mut ReportText, name: &str)
+    requires few { length name.now ≤ 1_002 }
+    requires room { length said.old + 2_191 ≤ most_said }
+    ensures text { said.new ≡ said.old ++ note_text name.now }
+    ensures short { length said.new ≤ length said.old + 2_191 }
 {
-    match &request.outfile {
-        Some(name) if is_pdf_name(name.as_str()) => {
-            let name = shown_word(alloc, name.as_str())?;
-            let name = name.as_str();
-            Ok(Some(format!(in alloc;
-                "{name} holds PostScript, not a PDF; for a PDF use: impose .. | ps2pdf -dAutoRotatePages=/None - {name}"
-            )?))
-        }
-        _ => Ok(None),
-    }
+    said.push(name.as_bytes());
+    said.push(
+        b" holds PostScript, not a PDF; for a PDF use: impose .. | ps2pdf -dAutoRotatePages=/None - ",
+    );
+    said.push(name.as_bytes());
 }
 
-fn is_pdf_name(name: &str) -> bool
-    ensures { result ≡ names_pdf name.now }
-{
-    let name = name.as_bytes();
-    name.ends_with(b".pdf") || name.ends_with(b".PDF")
-}
-
-fn origin_text(origin: PaperOrigin) -> &'static str
-    ensures { result.now ≡ text_of_origin origin }
+/// Where the paper of the pages was found.
+fn origin_text(origin: PaperOrigin) -> &'static [u8]
+    ensures value { result.now ≡ text_of_origin origin }
+    ensures short { length result.now ≤ 60 }
 {
     match origin {
-        PaperOrigin::Named => "as named",
-        PaperOrigin::ByComment(Comment::DocumentMedia) => "by its %%DocumentMedia",
-        PaperOrigin::ByComment(Comment::DocumentPaperSizes) => "by its %%DocumentPaperSizes",
-        PaperOrigin::ByComment(Comment::BoundingBox) => "by its %%BoundingBox",
-        PaperOrigin::AtHome => "the usual one here, as the document names none",
-        PaperOrigin::FirstPage => "that of the first page taken, as none has the document's",
+        PaperOrigin::Named => b"as named",
+        PaperOrigin::ByComment(Comment::DocumentMedia) => b"by its %%DocumentMedia",
+        PaperOrigin::ByComment(Comment::DocumentPaperSizes) => b"by its %%DocumentPaperSizes",
+        PaperOrigin::ByComment(Comment::BoundingBox) => b"by its %%BoundingBox",
+        PaperOrigin::AtHome => b"the usual one here, as the document names none",
+        PaperOrigin::FirstPage => b"that of the first page taken, as none has the document's",
     }
 }

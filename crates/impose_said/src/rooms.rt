@@ -1,12 +1,12 @@
 //! What is said of sheets that have no room for pages.
-ghost use Rattle.std.specs.Prelude.{◌≡◌, ◌*◌, ◌≤◌, IfOk, IsTrue, pos, string_bytes};
+ghost use Rattle.std.specs.Prelude.{◌≡◌, ◌*◌, ◌≤◌, IfOk, IsTrue, IsUtf8, OnErr, pos, string_bytes};
+ghost use Rattle.rules.specs.Numbers.{points_text as text_of_points};
 ghost use Rattle.rules.specs.Papers.{is_side};
 ghost use Rattle.impose_said.specs.Said.{gaps_text as text_of_gaps, leaves_some as leaves_some_of, left_of as left_of_side, lengths_text as text_of_lengths};
-ghost use Rattle.impose_said.specs.Said.{no_room_text as text_of_no_room};
+ghost use Rattle.impose_said.specs.Said.{no_room_text as text_of_no_room, sides_text as text_of_sides, size_text as text_of_size};
 
-use crate::reports::{sides_text, size_text};
 use layouts::{Room, side};
-use lengths::Grains;
+use lengths::{Grains, Paper, print_points};
 use std::alloc::{AllocError, Global};
 
 /// How much margins and gaps are that leave no room for pages, of which sheet, and how much of it margins leave.
@@ -75,5 +75,39 @@ fn grains(count: u64) -> Grains
     match Grains::new(1_270_000 * i128::from(count)) {
         Some(length) => length,
         None => unreachable!(),
+    }
+}
+
+/// Both sides of a paper, in points.
+fn size_text(alloc: Global, paper: &Paper) -> Result<String, AllocError>
+    ensures { IfOk result (λ text. string_bytes text ≡ text_of_size paper.now) }
+{
+    sides_text(alloc, paper.width(), paper.height())
+}
+
+fn sides_text(alloc: Global, width: Grains, height: Grains) -> Result<String, AllocError>
+    ensures { IfOk result (λ text. string_bytes text ≡ text_of_sides width height) }
+{
+    let width = points_text(alloc, width)?;
+    let height = points_text(alloc, height)?;
+    format!(in alloc; "{width} x {height}")
+}
+
+fn points_text(alloc: Global, length: Grains) -> Result<String, AllocError>
+    ensures { IfOk result (λ text. string_bytes text ≡ text_of_points length) }
+{
+    let mut text = Vec::new(alloc);
+    print_points(length, &mut text)?;
+    ascii_text(text)
+}
+
+/// These bytes as a text. They are ASCII: of others nothing is said, as without memory.
+fn ascii_text(bytes: Vec<u8>) -> Result<String, AllocError>
+    ensures value { IfOk result (λ text. string_bytes text ≡ bytes.items) }
+    ensures other { OnErr result (¬ (IsUtf8 bytes.items)) }
+{
+    match String::from_utf8(bytes) {
+        Ok(text) => Ok(text),
+        Err(_) => Err(AllocError),
     }
 }

@@ -1,14 +1,13 @@
 //! What is said on standard error of how the program ended.
-ghost use Rattle.std.specs.Prelude.{◌≡◌, ◌++◌, IfOk, OnOk, Some, option_map, string_bytes};
-ghost use Rattle.impose_said.specs.Said.{Adds, IsLineOf, IsMadeLine, Says, SaysFault, SaysLines, SaysRun, SaysWords, is_broken_pipe, line_of, no_report};
+ghost use Rattle.std.specs.Prelude.{◌≡◌, ◌++◌, [], option_map, string_bytes};
+ghost use Rattle.impose_said.specs.Said.{Adds, IsMadeLine, Says, SaysFault, SaysRun, SaysWords, is_broken_pipe};
 
 use crate::fault::ImposeFault;
 use crate::finished::{Done, Finished};
 use crate::messages::fault_text;
 use crate::mistakes::words_text;
-use crate::reports::{
-    behind_text, cut_text, note_text, reach_text, report_text, told_text, unknown_text,
-};
+use crate::report_text::ReportText;
+use crate::run_lines::{push_lines, push_note_line};
 use clap::Error as WordsError;
 use impose_words::{ImposeRequest, RequestFault};
 use std::alloc::{AllocError, Global};
@@ -18,87 +17,43 @@ use std::io::ErrorKind;
 /// there is to say of them, unless the request is quiet; of a fault its message, unless whoever reads the output has
 /// closed it; and nothing of anything else. Help and the version, which go to standard output, aren't said here.
 ///
-/// What is done is done: without memory for its lines one says so in their place.
+/// The report comes into a text that was made before the run, and so it is whole.
 pub fn text_said(
     alloc: Global,
+    report: ReportText,
     outcome: &Result<Done, ImposeFault>,
     request: Option<&ImposeRequest>,
     words: &[String],
-) -> String
-    ensures { Says outcome.now (option_map (λ r. r.now) request.entry) (string_bytes result) }
+) -> Vec<u8>
+    requires empty { report ≡ [] }
+    ensures { Says outcome.now (option_map (λ r. r.now) request.entry) result.items }
 {
     match outcome {
         Ok(Done::Imposed(done)) => match request {
-            Some(request) => text_of_run(alloc, done, request),
-            None => String::new(alloc),
+            Some(request) => text_of_run(report, done, request),
+            None => report.into_bytes(),
         },
-        Ok(Done::Printed) | Ok(Done::Shown) => String::new(alloc),
-        Err(fault) => text_of_fault(alloc, fault, request, words),
+        Ok(Done::Printed) | Ok(Done::Shown) => report.into_bytes(),
+        Err(fault) => text_of_fault(alloc, fault, request, words).into_bytes(),
     }
 }
 
-/// What is said of a finished run: all its lines, or that there is no memory for them.
-fn text_of_run(alloc: Global, done: &Finished, request: &ImposeRequest) -> String
-    ensures { SaysRun done.now request.now (string_bytes result) }
+/// What is said of a finished run: all its lines.
+fn text_of_run(report: ReportText, done: &Finished, request: &ImposeRequest) -> Vec<u8>
+    requires empty { report ≡ [] }
+    ensures { SaysRun done.now request.now result.items }
 {
+    let mut said = report;
     if request.is_quiet {
-        return String::new(alloc);
+        return said.into_bytes();
     }
-    match lines_text(alloc, done, request) {
-        Ok(text) => text,
-        Err(_) => no_report_text(alloc),
-    }
+    push_lines(&mut said, done, request);
+    push_note_line(&mut said, request);
+    said.into_bytes()
 }
 
-/// That there is no memory for the lines of a finished run; nothing if there is none for that either.
-fn no_report_text(alloc: Global) -> String
-    ensures { IsLineOf (Some no_report) (string_bytes result) }
-{
-    let mut said = String::new(alloc);
-    add_line(
-        alloc,
-        &mut said,
-        String::from_str(alloc, "out of memory for the report"),
-    );
-    said
-}
-
-/// The lines of a finished run.
-fn lines_text(alloc: Global, done: &Finished, request: &ImposeRequest) -> Result<String, AllocError>
-    ensures { IfOk result (λ text. SaysLines done.now request.now (string_bytes text)) }
-{
-    let mut said = String::new(alloc);
-    let report = report_text(alloc, done, request)?;
-    push_line(alloc, &mut said, &Some(report))?;
-    let unknown = unknown_text(alloc, done)?;
-    push_line(alloc, &mut said, &unknown)?;
-    let cut = cut_text(alloc, done)?;
-    push_line(alloc, &mut said, &cut)?;
-    let reach = reach_text(alloc, done)?;
-    push_line(alloc, &mut said, &reach)?;
-    let behind = behind_text(alloc, done)?;
-    push_line(alloc, &mut said, &behind)?;
-    let told = told_text(alloc, done)?;
-    push_line(alloc, &mut said, &told)?;
-    let note = note_text(alloc, request)?;
-    push_line(alloc, &mut said, &note)?;
-    Ok(said)
-}
-
-/// Adds the line of a message, if there is one.
-fn push_line(alloc: Global, said: &mut String, message: &Option<String>) -> Result<(), AllocError>
-    ensures { OnOk result (string_bytes said.new
-        ≡ string_bytes said.old ++ line_of (option_map string_bytes message.now)) }
-{
-    let Some(message) = message else {
-        return Ok(());
-    };
-    let line = format!(in alloc; "impose: {message}\n")?;
-    said.push_str(line.as_str())
-}
-
-/// What is said of a fault.
-fn text_of_fault(
+/// What is said of a fault. Without memory for it that is nothing.
+pub fn text_of_fault(
     alloc: Global,
     fault: &ImposeFault,
     request: Option<&ImposeRequest>,

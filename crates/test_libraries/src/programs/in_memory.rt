@@ -1,7 +1,7 @@
 //! Runs of impose over files in memory.
 use crate::answer::Answer;
 use crate::programs::in_folder::asked_for;
-use impose_cli::{Rest, impose, text_said};
+use impose_cli::{ReportText, Rest, impose, text_said};
 use std::alloc::{AllocError, Global};
 use std::sync::Wait;
 use std::thread::Threads;
@@ -57,17 +57,21 @@ fn report<R: Threads + Wait + Sync>(
     let Ok(words) = command(alloc) else {
         return out.note(false);
     };
+    let Ok(report) = ReportText::new(alloc) else {
+        return out.note(false);
+    };
     let world = Folder::new(alloc, files, takes);
     let ended = impose(rt, alloc, words.as_slice(), paper_size.as_bytes(), world);
     let said = text_said(
         alloc,
+        report,
         &ended.outcome,
         ended.request.as_ref(),
         words.as_slice(),
     );
-    // The report is left out where memory runs out for it.
+    // What is said of a fault is left out where memory runs out for it.
     out.note(!said.is_empty());
-    out.text(said.as_str());
+    out.add_bytes(said.as_slice());
     if let Rest::World(folder) = &ended.rest {
         asked_for(out, folder);
     }

@@ -1,9 +1,10 @@
-use Rattle.std.proofs.Common.{option_map, subst}
-use Rattle.impose_cli.specs.Claims.{IsKept}
+use Rattle.std.proofs.Common.{◌∙◌, ap}
+use Rattle.std.specs.Prelude.{option_map}
+use Rattle.impose_said.specs.Said.{shown_name}
 use Rattle.impose_cli.proofs.claims.told_by.Goals as goal
 
 pub returns : goal.returns
 returns c = record {
   pages = c.told_pages-pages.ensures;
-  unknown = subst (λ n. IsKept n (option_map (λ name. name.items) c.kept-unknown.result)) c.unknown_paper.ensures c.kept-unknown.ensures;
+  unknown = c.shown-unknown.ensures ∙ ap (option_map shown_name) c.unknown_paper.ensures;
 }
