@@ -1,6 +1,6 @@
 -- Worked examples.
 use Rattle.std.proofs.Common.{◌≡◌, [], ◌∷◌, refl, map}
-use Rattle.std.specs.Prelude.{codes, ℤ, pos, negsuc, true, false, None, Some, Option}
+use Rattle.std.specs.Prelude.{codes, ℕ, ℤ, pos, negsuc, true, false, None, Some, Option}
 use Rattle.std.specs.Fmt.{digits}
 use Rattle.rules.specs.Papers.{Paper, points}
 use Rattle.rules.specs.Specification.{canonical}
@@ -11,7 +11,9 @@ use Rattle.layouts.specs.declared.arrangement.Run.TheVariants.{Rows, Columns}
 use Rattle.layouts.specs.declared.arrangement.Turned.TheVariants as sideways
 use Rattle.layouts.specs.declared.arrangement.Order.{Order}
 use Rattle.layouts.specs.declared.error.ArrangementError.TheVariants as why
-use Rattle.layouts.specs.Placed.{bare}
+use Rattle.layouts.specs.Placed.{Room, bare}
+use Rattle.layouts.specs.Cells.{along_width, cells_across, gap_at}
+use Rattle.layouts.specs.Laws.{cell_at}
 use Rattle.layouts.specs.Grids.{best_grid, best_formed, arranged, bound, nothing_free, plain, plain_binding, plain_order}
 use Rattle.layouts.specs.Refusals.{is_count, is_reached, is_scale, is_length, leaves_room, why_no_scale, why_not_arranged, why_not_bound}
 
@@ -267,3 +269,36 @@ count_before_sides = refl
 
 side_too_long : why_not_arranged (points 1 1) (points 1 100_000) (plain (AtLeast 1)) ≡ Some why.SideTooLong
 side_too_long = refl
+
+-- a sheet of 100 by 200 points with margins of 10 points and gaps of 4, of whose pages so much is trimmed
+abbrev with_gaps : (trim : ℕ) → Room
+with_gaps trim = record {
+  paper = points 100 200;
+  left = 1_000_000;
+  right = 1_000_000;
+  bottom = 1_000_000;
+  top = 1_000_000;
+  gap_across = 400_000;
+  gap_up = 400_000;
+  trim = trim;
+}
+
+-- in two columns the gap between them is in the middle of the sheet, and half a gap outside of them there are 8 points to its edges
+gaps_are_in_the_middle : map (gap_at (along_width (with_gaps 0)) 12_700_000_000_000 2) (0 ∷ 1 ∷ 2 ∷ [])
+    ≡ 1_016_000_000_000 ∷ 6_350_000_000_000 ∷ 11_684_000_000_000 ∷ []
+gaps_are_in_the_middle = refl
+
+-- if pages are trimmed, margins and gaps are kept with 10^-5 of a point more
+trimmed_gap : gap_at (along_width (with_gaps 1)) 12_700_000_000_000 2 1 ≡ 6_349_999_365_000
+trimmed_gap = refl
+
+-- the second cell of the first row: on the right, or above the other one if the sheet is held on its side
+second_cells : map (λ turned. cell_at (with_gaps 0) (record { rows = 1; columns = 2; turned = turned }) 0 1) (false ∷ true ∷ [])
+    ≡ record { left = 5_200_000; bottom = 1_000_000; width = 3_800_000; height = 18_000_000 }
+    ∷ record { left = 1_000_000; bottom = 10_200_000; width = 8_000_000; height = 8_800_000 }
+    ∷ []
+second_cells = refl
+
+-- such a grid has two cells side by side, or one above the other
+cells_as_the_sheet_lies : map (λ turned. cells_across (record { rows = 1; columns = 2; turned = turned })) (false ∷ true ∷ []) ≡ 2 ∷ 1 ∷ []
+cells_as_the_sheet_lies = refl

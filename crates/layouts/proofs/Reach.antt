@@ -1,5 +1,5 @@
 -- How far pages are moved can be printed.
-use Rattle.std.proofs.Common.{arith, ◌≡◌, ℕ, ◌+◌, ◌-◌, ◌*◌, ◌<◌, ◌≤◌, Bool, true, false, ap, sym, ◌∙◌}
+use Rattle.std.proofs.Common.{arith, ◌≡◌, ℕ, ◌+◌, ◌-◌, ◌<◌, ◌≤◌, Bool, true, false, ap, ◌∙◌}
 use Rattle.std.specs.Prelude.{ℤ, pos, ◌+ℤ◌, ◌-ℤ◌, nat_abs, IsTrue, nat_lt, if◌then◌else◌}
 use Rattle.std.proofs.lemmas.Bool.{ltb-true}
 use Rattle.std.proofs.lemmas.Int.{ints}
@@ -7,26 +7,12 @@ use Rattle.rules.specs.Papers.{Paper}
 use Rattle.rules.specs.Specification.{Item, Measure, Turn}
 use Rattle.layouts.specs.declared.arrangement.Order.{Order}
 use Rattle.layouts.specs.Placed.{Room}
-use Rattle.layouts.specs.Cells.{Grid, along_height, along_width, counted, kept, step_across, step_down, high, slack_x, slack_y, size, corner_x, corner_y, to_right, to_top, trimmed, whole, row_of, column_of}
+use Rattle.layouts.specs.Cells.{Grid, along_height, along_width, counted, size, corner_x, corner_y, to_right, to_top, trimmed, whole, row_of, column_of}
 use Rattle.layouts.specs.Refusals.{is_near}
 use Rattle.layouts.specs.Laws.{HasPlace}
 use Rattle.layouts.proofs.AlongSide.{in_side, in_side_back}
 use Rattle.layouts.proofs.InGrid.{cells, fits, both_true}
 use Rattle.layouts.proofs.InOrder.{place_fits}
-
--- where a corner stands if pages are turned, and if they aren't
-module _ (page : Paper) (room : Room) (g : Grid) (s row column : ℕ) where
-  pub turned_x : g.turned ≡ true → kept room.trim room.left + row * step_down room g + (high room g - slack_y page room g s) ≡ corner_x page room g s row column
-  turned_x is = sym (ap (λ b. if b then kept room.trim room.left + row * step_down room g + (high room g - slack_y page room g s) else kept room.trim room.left + column * step_across room g + slack_x page room g s) is)
-
-  pub turned_y : {start : ℕ} → start ≡ room.bottom → g.turned ≡ true → kept room.trim start + column * step_across room g + slack_x page room g s ≡ corner_y page room g s row column
-  turned_y from is = ap (λ n. kept room.trim n + column * step_across room g + slack_x page room g s) from ∙ sym (ap (λ b. if b then kept room.trim room.bottom + column * step_across room g + slack_x page room g s else kept room.trim room.bottom + (g.rows - (row + 1)) * step_down room g + slack_y page room g s) is)
-
-  pub upright_x : {start : ℕ} → start ≡ room.left → g.turned ≡ false → kept room.trim start + column * step_across room g + slack_x page room g s ≡ corner_x page room g s row column
-  upright_x from is = ap (λ n. kept room.trim n + column * step_across room g + slack_x page room g s) from ∙ sym (ap (λ b. if b then kept room.trim room.left + row * step_down room g + (high room g - slack_y page room g s) else kept room.trim room.left + column * step_across room g + slack_x page room g s) is)
-
-  pub upright_y : g.turned ≡ false → kept room.trim room.bottom + (g.rows - (row + 1)) * step_down room g + slack_y page room g s ≡ corner_y page room g s row column
-  upright_y is = sym (ap (λ b. if b then kept room.trim room.bottom + column * step_across room g + slack_x page room g s else kept room.trim room.bottom + (g.rows - (row + 1)) * step_down room g + slack_y page room g s) is)
 
 -- the corners of what counts of pages lie on the sheet
 pub record CornerFits (page : Paper) (room : Room) (g : Grid) (s row column : ℕ) : Type 0 where

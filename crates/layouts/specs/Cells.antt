@@ -94,6 +94,25 @@ wide room g = cell (held_across g.turned room) (held_width g.turned room.paper) 
 abbrev pub high : Room → Grid → ℕ
 high room g = cell (held_down g.turned room) (held_height g.turned room.paper) g.rows
 
+-- ---- the gaps between cells
+
+-- so many 10^-5 of a point, in grains
+abbrev pub grains_in : ℕ → ℕ
+grains_in n = 1_270_000 * n
+
+-- how far the middle of the gap before part k of a side lies, in grains; after the last part it is as if one more came
+-- (RULES, 15)
+abbrev pub gap_at : Along → (side parts k : ℕ) → ℕ
+gap_at a side parts k = grains_in (kept a.trim a.before + k * step a side parts) - 635_000 * kept a.trim a.gap
+
+-- how many cells are side by side as the sheet lies, and how many one above another: a grid lies on its side if its
+-- pages do
+abbrev pub cells_across : Grid → ℕ
+cells_across g = if g.turned then g.rows else g.columns
+
+abbrev pub cells_up : Grid → ℕ
+cells_up g = if g.turned then g.columns else g.rows
+
 -- ---- pages in cells
 
 -- what counts of a page's side, in grains (RULES, 13.3)

@@ -1,5 +1,5 @@
 //! What a sheet looks like: cells, margins, gaps, order, scale.
-ghost use Rattle.std.specs.Prelude.{◌≡◌, pos};
+ghost use Rattle.std.specs.Prelude.{◌≡◌};
 ghost use Rattle.layouts.specs.Grids.{count_of, nothing_free, plain as plain_of, plain_binding};
 
 use super::arranging::leaf_order;
@@ -102,13 +102,13 @@ impl Free {
         ensures { result ≡ nothing_free }
     {
         Free {
-            left: no_length(),
-            right: no_length(),
-            bottom: no_length(),
-            top: no_length(),
-            across: no_length(),
-            up: no_length(),
-            trim: no_length(),
+            left: Grains::ZERO,
+            right: Grains::ZERO,
+            bottom: Grains::ZERO,
+            top: Grains::ZERO,
+            across: Grains::ZERO,
+            up: Grains::ZERO,
+            trim: Grains::ZERO,
         }
     }
 }
@@ -137,14 +137,5 @@ impl Binding {
             right_to_left: false,
             long_edge,
         }
-    }
-}
-
-fn no_length() -> Grains
-    ensures { result ≡ pos 0 }
-{
-    match Grains::new(0) {
-        Some(length) => length,
-        None => unreachable!(),
     }
 }

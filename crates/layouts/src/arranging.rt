@@ -17,7 +17,7 @@ use super::error::ArrangementError;
 use super::grid::Grid;
 use super::item::is_near;
 use super::room::{Room, are_lengths};
-use super::scale::{is_scale, left_free, scale_in, side};
+use super::scale::{OUT_OF_REACH, is_scale, left_free, scale_in, side};
 use super::setting::Setting;
 use lengths::{Number, Paper};
 use pagespec::{Item, Spec};
@@ -291,7 +291,7 @@ pub fn is_reached_across(paper: &Paper) -> bool
     ensures in_range { IsTrue (is_paper paper.now.width paper.now.height) }
 {
     let (width, height) = (side(paper.width()), side(paper.height()));
-    width < 12_700_000_000_000_000 && height < 12_700_000_000_000_000
+    width < OUT_OF_REACH && height < OUT_OF_REACH
 }
 
 /// Whether the papers have the same sides.

@@ -1,6 +1,6 @@
 //! Which grid takes the largest pages.
 ghost use Rattle.std.specs.Prelude.{◌≡◌, ◌<◌, ◌≤◌, IsTrue};
-ghost use Rattle.layouts.specs.Refusals.{is_shown, is_count};
+ghost use Rattle.layouts.specs.Refusals.{is_shown, is_count, most_on_sheet};
 ghost use Rattle.layouts.specs.Grids.{best_of as best_of_turn, better as better_of, best_grid as best_grid_of};
 ghost use Rattle.layouts.specs.Grids.{grid_of as grid_for, count_of};
 
@@ -31,7 +31,7 @@ pub fn grid_of(page: &Paper, room: &Room, reading: Turned, cells: Cells) -> Grid
 /// cells, then upright, then with the fewest columns.
 fn best_grid(page: &Paper, room: &Room, n: u32) -> Grid
     requires shown { IsTrue (is_shown page.now room.now) }
-    requires cells { (0 < n) × (n ≤ 1_024) }
+    requires cells { (0 < n) × (n ≤ most_on_sheet) }
     ensures { result ≡ best_grid_of page.now room.now n }
 {
     better(
@@ -45,7 +45,7 @@ fn best_grid(page: &Paper, room: &Room, n: u32) -> Grid
 /// Of the grids of n cells or more with pages of this turn the best, and of the best the first.
 fn best_of(page: &Paper, room: &Room, turned: bool, n: u32) -> Grid
     requires shown { IsTrue (is_shown page.now room.now) }
-    requires cells { (0 < n) × (n ≤ 1_024) }
+    requires cells { (0 < n) × (n ≤ most_on_sheet) }
     ensures { result ≡ best_of_turn page.now room.now turned n n }
 {
     let mut best = Grid::of(turned, n, 1);

@@ -1,6 +1,7 @@
 //! Rows and columns.
 ghost use Rattle.std.specs.Prelude.{◌≡◌, ◌*◌, ◌<◌, ◌≤◌};
 ghost use Rattle.layouts.specs.Cells.{size as size_of};
+ghost use Rattle.layouts.specs.Refusals.{most_on_sheet};
 ghost use Rattle.layouts.specs.Grids.{grid, formed as formed_of, beside as beside_of};
 
 use super::arrangement::Turned;
@@ -33,7 +34,7 @@ impl Grid {
     pub fn of(turned: bool, n: u32, columns: u32) -> Grid
         requires some { 0 < columns }
         requires cells { 0 < n }
-        requires most { (columns ≤ 1_024) × (n ≤ 1_024) }
+        requires most { (columns ≤ most_on_sheet) × (n ≤ most_on_sheet) }
         ensures { result ≡ grid turned n columns }
     {
         Grid {

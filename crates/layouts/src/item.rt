@@ -1,11 +1,12 @@
 //! Pages in the cells of a grid.
-ghost use Rattle.std.specs.Prelude.{◌≡◌, ◌+◌, ◌-◌, ◌*◌, pos, ◌<◌, ◌≤◌, ◌+ℤ◌, ◌-ℤ◌, if◌then◌else◌, nat_abs, IsTrue};
+ghost use Rattle.std.specs.Prelude.{◌≡◌, ◌+◌, ◌*◌, ◌^◌, pos, ◌<◌, ◌≤◌, ◌+ℤ◌, ◌-ℤ◌, if◌then◌else◌, nat_abs, IsTrue};
+ghost use Rattle.lengths.specs.Ranges.{FitsGrains};
 ghost use Rattle.rules.specs.Numbers.{greatest_number};
 ghost use Rattle.rules.specs.Papers.{is_side};
 ghost use Rattle.pagespec.specs.Items.{item_of, measure_of};
 ghost use Rattle.layouts.specs.Grids.{alone as alone_of};
-ghost use Rattle.layouts.specs.Cells.{size, in_points, slack as slack_of, slack_x, slack_y, kept as kept_of, high};
-ghost use Rattle.layouts.specs.Cells.{step_across, step_down, trimmed as trimmed_of, whole as whole_of};
+ghost use Rattle.layouts.specs.Cells.{size, in_points, slack as slack_of, slack_x, slack_y};
+ghost use Rattle.layouts.specs.Cells.{trimmed as trimmed_of, whole as whole_of};
 ghost use Rattle.layouts.specs.Cells.{corner_x, corner_y, to_right as to_right_of, to_top as to_top_of};
 ghost use Rattle.layouts.specs.Cells.{read_columns as read_columns_of, read_rows as read_rows_of, read_row, read_column};
 ghost use Rattle.layouts.specs.Cells.{row_of, column_of, item_in as item_of_grid, back_in as back_of_grid};
@@ -15,7 +16,7 @@ ghost use Rattle.layouts.specs.Laws.{HasPlace};
 use super::arrangement::{Order, Run, Turned};
 use super::grid::Grid;
 use super::room::Room;
-use super::scale::{cells, counted, kept, side, steps};
+use super::scale::{HUNDRED_THOUSANDTH, cells, counted, side};
 use lengths::{Grains, Number, Paper, Unit};
 use pagespec::{Item, Measure, Turn};
 
@@ -44,7 +45,7 @@ pub fn points(n: i64) -> Measure
 }
 
 /// From one place to another, in whole numbers of 10^-5 of a point.
-fn distance(from: i64, to: i64) -> Measure
+pub fn distance(from: i64, to: i64) -> Measure
     requires { nat_abs (to -ℤ from) ≤ 9_999_999_999 }
     ensures { measure_of result ≡ in_points (to -ℤ from) }
 {
@@ -53,7 +54,8 @@ fn distance(from: i64, to: i64) -> Measure
 
 /// Half of what a scaled side leaves of its cell, in 10^-5 of a point.
 pub fn slack(cell: u64, side: u64, scale: u64) -> u128
-    ensures { result ≡ slack_of cell side scale }
+    ensures value { result ≡ slack_of cell side scale }
+    ensures most { result ≤ cell }
 {
     (1_270_000_000_000_000 * u128::from(cell)).saturating_sub(u128::from(scale) * u128::from(side))
         / 2_540_000_000_000_000
@@ -110,48 +112,8 @@ fn place_of(order: &Order, grid: Grid, k: u32) -> (u32, u32)
 }
 
 impl GridLayout {
-    /// How far along its row the page in this column begins, if so much is kept free before it.
-    fn along_row(&self, start: u64, column: u32) -> u128
-        requires { start ≤ 10_000_000_000 }
-        ensures { result ≡ kept_of self.now.room.trim start + column * step_across self.now.room self.now.grid
-            + slack_x self.now.page self.now.room self.now.grid self.now.scale }
-    {
-        let (across, _) = steps(&self.room, self.grid);
-        let (width, _) = cells(&self.room, self.grid);
-        u128::from(kept(self.room.trim, start))
-            + u128::from(column) * u128::from(across)
-            + slack(width, counted(&self.room, self.page.width()), self.scale)
-    }
-
-    /// How far above the foot of the sheet, as one holds it upright, the page in this row begins.
-    fn above_foot(&self, row: u32) -> u128
-        requires { row < self.now.grid.rows }
-        ensures { result ≡ kept_of self.now.room.trim self.now.room.bottom
-            + (self.now.grid.rows - (row + 1)) * step_down self.now.room self.now.grid
-            + slack_y self.now.page self.now.room self.now.grid self.now.scale }
-    {
-        let (_, down) = steps(&self.room, self.grid);
-        let (_, height) = cells(&self.room, self.grid);
-        u128::from(kept(self.room.trim, self.room.bottom))
-            + u128::from(self.grid.rows - (row + 1)) * u128::from(down)
-            + slack(height, counted(&self.room, self.page.height()), self.scale)
-    }
-
-    /// How far from the left edge of the sheet the page in this row ends if it is turned.
-    fn below_head(&self, row: u32) -> u128
-        ensures { result ≡ kept_of self.now.room.trim self.now.room.left + row * step_down self.now.room self.now.grid
-            + (high self.now.room self.now.grid - slack_y self.now.page self.now.room self.now.grid self.now.scale) }
-    {
-        let (_, down) = steps(&self.room, self.grid);
-        let (_, height) = cells(&self.room, self.grid);
-        let slack = slack(height, counted(&self.room, self.page.height()), self.scale);
-        u128::from(kept(self.room.trim, self.room.left))
-            + u128::from(row) * u128::from(down)
-            + u128::from(height).saturating_sub(slack)
-    }
-
     /// Where the corner of what counts of the page in this row and column is.
-    fn corner(&self, row: u32, column: u32) -> (u128, u128)
+    fn corner(&self, row: u32, column: u32) -> (u64, u64)
         requires place { HasPlace self.now.page self.now.room self.now.grid self.now.scale }
         requires in_rows { row < self.now.grid.rows }
         requires in_columns { column < self.now.grid.columns }
@@ -160,15 +122,29 @@ impl GridLayout {
         ensures across { result.0 ≤ whole_of (nat_abs self.now.room.paper.width) }
         ensures up { result.1 ≤ whole_of (nat_abs self.now.room.paper.height) }
     {
-        let turned = self.grid.turned;
-        if turned {
+        let cell = self.room.cell(self.grid, row, column);
+        let (beside, above) = self.slacks();
+        if self.grid.turned {
             (
-                self.below_head(row),
-                self.along_row(self.room.bottom, column),
+                cell.left + cell.width.saturating_sub(above),
+                cell.bottom + beside,
             )
         } else {
-            (self.along_row(self.room.left, column), self.above_foot(row))
+            (cell.left + beside, cell.bottom + above)
         }
+    }
+
+    /// Half of what a page leaves of the width and of the height of its cell, as one holds the sheet for it to be upright.
+    fn slacks(&self) -> (u64, u64)
+        ensures across { result.0 ≡ slack_x self.now.page self.now.room self.now.grid self.now.scale }
+        ensures down { result.1 ≡ slack_y self.now.page self.now.room self.now.grid self.now.scale }
+        ensures in_range { (result.0 ≤ 10 ^ 12) × (result.1 ≤ 10 ^ 12) }
+    {
+        let (width, height) = cells(&self.room, self.grid);
+        (
+            slack(width, counted(&self.room, self.page.width()), self.scale) as u64,
+            slack(height, counted(&self.room, self.page.height()), self.scale) as u64,
+        )
     }
 
     /// How far to the right, and how far up, page k is moved, in 10^-5 of a point.
@@ -188,7 +164,7 @@ impl GridLayout {
         let (row, column) = place_of(&self.order, self.grid, k);
         let (x, y) = self.corner(row, column);
         let back = trimmed(&self.room, self.scale);
-        moved_by(self.grid.turned, x as u64, y as u64, back)
+        moved_by(self.grid.turned, x, y, back)
     }
 
     /// Page k in its cell.
@@ -268,7 +244,7 @@ fn whole(length: Grains) -> i64
     requires { IsTrue (is_side length) }
     ensures { result ≡ pos (whole_of (nat_abs length)) }
 {
-    (side(length) / 1_270_000) as i64
+    (side(length) / HUNDRED_THOUSANDTH) as i64
 }
 
 /// Whether the corners of pages of which so much is trimmed are within reach.
@@ -277,8 +253,8 @@ pub fn is_near(room: &Room, scale: u128) -> bool
     ensures { result ≡ are_near room.now scale }
 {
     let back = scale * u128::from(room.trim) / 1_000_000_000;
-    let width = u128::from(side(room.paper.width()) / 1_270_000);
-    let height = u128::from(side(room.paper.height()) / 1_270_000);
+    let width = u128::from(side(room.paper.width()) / HUNDRED_THOUSANDTH);
+    let height = u128::from(side(room.paper.height()) / HUNDRED_THOUSANDTH);
     width + back < 10_000_000_000 && height + back < 10_000_000_000
 }
 
@@ -289,6 +265,17 @@ pub fn number(billionths: u64) -> Number
 {
     match Number::new(billionths as i64) {
         Some(number) => number,
+        None => unreachable!(),
+    }
+}
+
+/// So many grains, which are known to be in range.
+pub fn grains(count: i128) -> Grains
+    requires { FitsGrains count }
+    ensures { result ≡ count }
+{
+    match Grains::new(count) {
+        Some(length) => length,
         None => unreachable!(),
     }
 }

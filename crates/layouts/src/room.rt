@@ -5,6 +5,7 @@ ghost use Rattle.layouts.specs.Cells.{along_height, along_width, held_across as 
 ghost use Rattle.layouts.specs.Grids.{has_bare_edges as have_nothing, room_of, rounded_up as rounded_up_of, rounded_down as rounded_down_of};
 
 use super::arrangement::Free;
+use super::scale::{HUNDRED_THOUSANDTH, OUT_OF_REACH};
 use lengths::{Grains, Paper};
 use std::marker::Model;
 
@@ -161,27 +162,27 @@ pub fn are_lengths(free: &Free) -> bool
 }
 
 /// Whether a length is from 0 to 99,999 points and five nines after the dot.
-fn is_length(length: Grains) -> bool
+pub fn is_length(length: Grains) -> bool
     ensures { result ≡ may_be_length length }
 {
     let grains = length.get();
-    0 <= grains && grains < 12_700_000_000_000_000
+    0 <= grains && grains < i128::from(OUT_OF_REACH)
 }
 
 /// A length in whole 10^-5 of a point, of which none is lost.
-fn rounded_up(length: Grains) -> u64
+pub fn rounded_up(length: Grains) -> u64
     requires { IsTrue (may_be_length length) }
     ensures value { result ≡ rounded_up_of length }
     ensures in_range { result ≤ 10_000_000_000 }
 {
-    (length.get() as u64 + 1_269_999) / 1_270_000
+    (length.get() as u64 + (HUNDRED_THOUSANDTH - 1)) / HUNDRED_THOUSANDTH
 }
 
 /// A length in whole 10^-5 of a point, to which none is added.
-fn rounded_down(length: Grains) -> u64
+pub fn rounded_down(length: Grains) -> u64
     requires { IsTrue (may_be_length length) }
     ensures value { result ≡ rounded_down_of length }
     ensures in_range { result ≤ 10_000_000_000 }
 {
-    length.get() as u64 / 1_270_000
+    length.get() as u64 / HUNDRED_THOUSANDTH
 }

@@ -1,5 +1,5 @@
 //! How large pages in a grid are.
-ghost use Rattle.std.specs.Prelude.{◌≡◌, ◌-◌, ◌*◌, ◌<◌, ◌≤◌, nat_abs, IsTrue};
+ghost use Rattle.std.specs.Prelude.{◌≡◌, ◌-◌, ◌*◌, ◌^◌, ◌<◌, ◌≤◌, nat_abs, IsTrue};
 ghost use Rattle.rules.specs.Papers.{is_side, longest_side};
 ghost use Rattle.layouts.specs.Refusals.{is_scale as may_be_scale, is_shown};
 ghost use Rattle.layouts.specs.Cells.{kept as kept_of, left_free as left_free_of, step as step_of};
@@ -10,6 +10,12 @@ ghost use Rattle.layouts.specs.Cells.{exact_along as along_exactly, exact_scale 
 use super::grid::Grid;
 use super::room::{Along, Room};
 use lengths::{Grains, Paper};
+
+/// The grains of 10^-5 of a point.
+pub const HUNDRED_THOUSANDTH: u64 = 1_270_000;
+
+/// The least length that offsets don't reach, in grains: 100,000 points.
+pub const OUT_OF_REACH: u64 = 12_700_000_000_000_000;
 
 /// A side of a paper, in grains.
 pub fn side(side: Grains) -> u64
@@ -38,18 +44,19 @@ pub fn left_free(along: &Along, side: u64) -> u64
     ensures in_range { result ≤ longest_side }
 {
     side.saturating_sub(
-        1_270_000 * (kept(along.trim, along.before) + kept(along.trim, along.after)),
+        HUNDRED_THOUSANDTH * (kept(along.trim, along.before) + kept(along.trim, along.after)),
     )
 }
 
 /// From where a cell begins to where the next one begins, if a side is cut into so many.
-fn step(along: &Along, side: u64, parts: u32) -> u64
+pub fn step(along: &Along, side: u64, parts: u32) -> u64
     requires some { 0 < parts }
     requires in_range { side ≤ longest_side }
-    ensures { result ≡ step_of along.now side parts }
+    ensures value { result ≡ step_of along.now side parts }
+    ensures within { parts * result ≤ 10 ^ 12 }
 {
-    let free = left_free(along, side) + 1_270_000 * kept(along.trim, along.gap);
-    free / (1_270_000 * u64::from(parts))
+    let free = left_free(along, side) + HUNDRED_THOUSANDTH * kept(along.trim, along.gap);
+    free / (HUNDRED_THOUSANDTH * u64::from(parts))
 }
 
 /// From where a cell begins to where the next one begins, across and down, as one holds the sheet for its pages to be
@@ -58,6 +65,8 @@ pub fn steps(room: &Room, grid: Grid) -> (u64, u64)
     ensures across { result.0 ≡ step_across room.now grid }
     ensures down { result.1 ≡ step_down room.now grid }
     ensures some { (0 < grid.rows) × (0 < grid.columns) }
+    ensures columns { grid.columns * result.0 ≤ 10 ^ 12 }
+    ensures rows { grid.rows * result.1 ≤ 10 ^ 12 }
 {
     let (width, height) = (side(room.paper.width()), side(room.paper.height()));
     let (across, down) = room.held(grid.turned);
@@ -78,6 +87,7 @@ pub fn steps(room: &Room, grid: Grid) -> (u64, u64)
 pub fn cells(room: &Room, grid: Grid) -> (u64, u64)
     ensures width { result.0 ≡ wide room.now grid }
     ensures height { result.1 ≡ high room.now grid }
+    ensures in_range { (result.0 ≤ 10 ^ 12) × (result.1 ≤ 10 ^ 12) }
 {
     let (across, down) = steps(room, grid);
     let (beside, above) = room.held(grid.turned);
@@ -97,7 +107,7 @@ pub fn counted(room: &Room, length: Grains) -> u64
 }
 
 /// The largest scale, in 10^-9, that brings a side into a cell.
-fn fitting(cell: u64, side: u64) -> u128
+pub fn largest_scale(cell: u64, side: u64) -> u128
     requires { 0 < side }
     ensures { result ≡ fits cell side }
 {
@@ -110,7 +120,10 @@ pub fn scale_in(page: &Paper, room: &Room, grid: Grid) -> u128
     ensures { result ≡ scale_of page.now room.now grid }
 {
     let (width, height) = cells(room, grid);
-    fitting(width, counted(room, page.width())).min(fitting(height, counted(room, page.height())))
+    largest_scale(width, counted(room, page.width())).min(largest_scale(
+        height,
+        counted(room, page.height()),
+    ))
 }
 
 /// The largest scale, in 10^-9, that so many equal parts of what the margins and the gaps leave of a side allow.

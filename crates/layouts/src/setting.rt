@@ -3,7 +3,7 @@ ghost use Rattle.std.specs.Prelude.{◌≡◌, ◌<◌, ◌≤◌, pos, IfOk, If
 ghost use Rattle.pagespec.specs.Items.{item_of};
 ghost use Rattle.layouts.specs.Cells.{size, scale_in as scale_of, slack_x};
 ghost use Rattle.layouts.specs.Grids.{count_of};
-ghost use Rattle.layouts.specs.Refusals.{why_not_arranged, why_not_bound};
+ghost use Rattle.layouts.specs.Refusals.{most_on_sheet, why_not_arranged, why_not_bound};
 ghost use Rattle.layouts.specs.Fitted.{is_whole as is_whole_on, scale_on, fitted, fitted_back, setting_of, binding_setting_of};
 ghost use Rattle.layouts.specs.Fitted.{why_no_scale_on, why_not_fitted, IsFitted, HaveOneFold};
 ghost use Rattle.layouts.specs.Placed.{IsEven, IsInside};
@@ -40,7 +40,7 @@ impl Setting {
         ensures sheet { IsPaper papers.now.sheet }
         ensures made { IfOk result (λ t. t ≡ setting_of papers.now.page papers.now.sheet arrangement.now) }
         ensures cells { IfOk result (λ t. count_of arrangement.now.cells ≤ size t.grid) }
-        ensures few { OnOk result (count_of arrangement.now.cells ≤ 1_024) }
+        ensures few { OnOk result (count_of arrangement.now.cells ≤ most_on_sheet) }
         ensures chosen { IfOk result (λ t. IsChosen papers.now.page t.room arrangement.now.order.turned
             arrangement.now.cells (scale_of papers.now.page t.room t.grid) t.grid) }
         ensures possible { OnOk result (why_not_arranged papers.now.page papers.now.sheet arrangement.now ≡ None) }
