@@ -7,7 +7,7 @@ use Rattle.rules.specs.Specification.{Item, Upright}
 use Rattle.rules.specs.Placement.{Point}
 use Rattle.layouts.specs.Placed.{fine, stands, IsOfPage}
 use Rattle.layouts.specs.Cells.{fitting, slack, in_points, whole}
-use Rattle.layouts.specs.Refusals.{are_reached, is_scale}
+use Rattle.layouts.specs.Refusals.{are_reached, is_scale, most_on_sheet}
 use Rattle.layouts.specs.Laws.{Cell, IsInMiddle, IsPaper}
 use Rattle.rules.specs.Signatures.{entry_of}
 use Rattle.made_sheets.specs.Made.{MadeSheet, Blank, Placed}
@@ -65,9 +65,9 @@ poster_sheets page p k = map (λ n. record {
   slots = Placed k (tile_item page p (n % p.columns) (p.rows - (n / p.columns + 1))) page ∷ [];
 }) (range_with_len 0 (p.rows * p.columns))
 
--- how many sheets a poster has at most
+-- how many sheets a poster has at most: as many as a sheet has cells
 abbrev pub most_tiles : ℕ
-most_tiles = 1_024
+most_tiles = most_on_sheet
 
 -- the first reason why there is no such poster, if there is one (RULES, 16, steps 9 and 12)
 abbrev pub why_no_poster : (page : Paper) → Poster → Option PosterError

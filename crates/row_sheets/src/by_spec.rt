@@ -120,7 +120,7 @@ fn slot_for(on: &SpecOnRow<'_>, block: u32, item: &Item) -> MadeSlot
     requires block { block < blocks_of on.now.spec.now.modulo (length on.now.row.now) }
     ensures { slot_of result ≡ slot_by on.now.page on.now.row.now on.now.spec.now.modulo block (item_of item.now) }
 {
-    match entry_at(on.row, place_of(on, block, item)) {
+    match entry_at(on.row, place_of(on, block, item) as u128) {
         Some(page) => MadeSlot::Placed {
             page,
             item: *item,

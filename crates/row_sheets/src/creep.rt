@@ -14,11 +14,12 @@ ghost use Rattle.row_sheets.specs.Creep.{in_half, creeping, creeping_slot as cre
 ghost use Rattle.row_sheets.specs.Creep.{AreHalves, may_creep, why_no_half, why_not_creeping, IsRefusedCreeping};
 ghost use Rattle.row_sheets.specs.Standing.{AllFitOnLeaves, EntryCreeps, FitsIn, FitsOnLeaf, IsOfHalf, LeavesStand};
 
-use super::fill::{blocks_of, entry_at, same_item};
+use super::fill::{blocks_of, same_item};
 use super::selecting::paper_or;
 use layouts::{ArrangementError, Setting};
 use lengths::{Number, Paper, Unit};
 use pagespec::{Item, Measure};
+use rows::entry_at;
 use sheet_plan::{MadeSheets, MadeSlot, PlacedSlot};
 use std::alloc::Global;
 

@@ -2,7 +2,6 @@
 ghost use Rattle.std.specs.Prelude.{◌≡◌, ◌<◌, ◌≤◌, ◌*◌, ◌-◌, IfOk, IfErr, IfSome, OnOk, Some, false, length, map, slice_get, true, ℕ};
 ghost use Rattle.std.specs.List.{range_with_len};
 ghost use Rattle.rules.specs.Sheets.{blocks};
-ghost use Rattle.rules.specs.Signatures.{entry_of};
 ghost use Rattle.layouts.specs.Cells.{size};
 ghost use Rattle.layouts.specs.declared.error.ArrangementError.TheVariants as why;
 ghost use Rattle.made_sheets.specs.Made.{Placed};
@@ -21,6 +20,7 @@ use super::selecting::paper_or;
 use layouts::{ArrangementError, Run, Setting, read_sides};
 use lengths::Paper;
 use pagespec::Item;
+use rows::entry_at;
 use sheet_plan::{MadeSheets, MadeSlot, PlacedSlot};
 use std::alloc::Global;
 
@@ -416,16 +416,5 @@ fn behind(setting: &Setting, c: u32) -> u128
                 * u128::from(rows)
                 + u128::from(c % rows)
         }
-    }
-}
-
-/// An entry of the row; after its end all is blank.
-pub fn entry_at(row: &[Option<u32>], place: u128) -> Option<u32>
-    ensures { result ≡ entry_of row.now place }
-{
-    if place < row.len() as u128 {
-        row[place as usize]
-    } else {
-        None
     }
 }

@@ -1,21 +1,20 @@
 //! Posters: one page over several sheets.
-ghost use Rattle.std.specs.Prelude.{◌≡◌, ◌++◌, ◌+◌, ◌-◌, ◌*◌, ◌<◌, ◌≤◌, ◌-ℤ◌, pos, IfOk, IfErr, OnOk, Some, None};
-ghost use Rattle.pagespec.specs.Items.{item_of, measure_of};
+ghost use Rattle.std.specs.Prelude.{◌≡◌, ◌++◌, ◌+◌, ◌-◌, ◌*◌, ◌<◌, ◌≤◌, IfOk, IfErr, OnOk, Some, None};
+ghost use Rattle.pagespec.specs.Items.{item_of};
 ghost use Rattle.rules.specs.Numbers.{greatest_number};
-ghost use Rattle.layouts.specs.Cells.{in_points, fitting as fits, slack as slack_of};
 ghost use Rattle.layouts.specs.Laws.{IsPaper};
 ghost use Rattle.row_sheets.specs.Posters.{tile as tile_of, poster_sheets as sheets_of};
 ghost use Rattle.row_sheets.specs.Posters.{most_tiles, why_no_poster, IsNoPoster, MayBePoster, laid_of, laid_item, IsNear};
 
-use layouts::{is_scale, number, points, side};
+use layouts::{
+    HUNDRED_THOUSANDTH, MOST_ON_SHEET, distance, is_reached_across, is_scale, largest_scale,
+    number, side, slack,
+};
 use lengths::Paper;
-use pagespec::{Item, Measure, Turn};
+use pagespec::{Item, Turn};
 use sheet_plan::{MadeSheets, MadeSlot};
 use std::alloc::Global;
 use thiserror::Error;
-
-/// How many sheets a poster has at most.
-const MOST_TILES: u64 = 1_024;
 
 /// So many columns and rows of sheets of a paper.
 #[derive(Clone, Copy, Debug, PartialEq, Eq)]
@@ -127,13 +126,13 @@ fn laid_on(poster: &Poster, page_paper: &Paper) -> Result<Laid, PosterError>
     ensures refused { IfErr result (λ error. why_no_poster page_paper.now poster.now ≡ Some error) }
 {
     let tiles = u64::from(poster.rows) * u64::from(poster.columns);
-    if tiles < 1 || MOST_TILES < tiles {
+    if tiles < 1 || MOST_ON_SHEET < tiles {
         return Err(PosterError::TilesOutOfRange);
     }
-    let (width, height) = (side(poster.sheet.width()), side(poster.sheet.height()));
-    if !(width < 12_700_000_000_000_000 && height < 12_700_000_000_000_000) {
+    if !is_reached_across(&poster.sheet) {
         return Err(PosterError::SideTooLong);
     }
+    let (width, height) = (side(poster.sheet.width()), side(poster.sheet.height()));
     let (wide, high) = (tile(width, poster.edge), tile(height, poster.edge));
     if !(poster.overlap < wide && poster.overlap < high) {
         return Err(PosterError::NothingButOverlap);
@@ -144,15 +143,18 @@ fn laid_on(poster: &Poster, page_paper: &Paper) -> Result<Laid, PosterError>
     if !(whole_width < 10_000_000_000 && whole_height < 10_000_000_000) {
         return Err(PosterError::SideTooLong);
     }
+    let (whole_width, whole_height) = (whole_width as u64, whole_height as u64);
     let (page_width, page_height) = (side(page_paper.width()), side(page_paper.height()));
-    let scale = fitting(whole_width, page_width).min(fitting(whole_height, page_height));
-    if !is_scale(scale) {
+    let scale_across = largest_scale(whole_width, page_width);
+    let largest = scale_across.min(largest_scale(whole_height, page_height));
+    if !is_scale(largest) {
         return Err(PosterError::ScaleOutOfRange);
     }
+    let scale = largest as u64;
     Ok(Laid {
-        scale: scale as u64,
-        left: poster.edge + slack(whole_width, page_width, scale),
-        bottom: poster.edge + slack(whole_height, page_height, scale),
+        scale,
+        left: poster.edge + slack(whole_width, page_width, scale) as u64,
+        bottom: poster.edge + slack(whole_height, page_height, scale) as u64,
         across,
         down,
     })
@@ -162,7 +164,9 @@ fn laid_on(poster: &Poster, page_paper: &Paper) -> Result<Laid, PosterError>
 fn tile(side: u64, edge: u64) -> u64
     ensures { result ≡ tile_of side edge }
 {
-    (side / 1_270_000).saturating_sub(edge).saturating_sub(edge)
+    (side / HUNDRED_THOUSANDTH)
+        .saturating_sub(edge)
+        .saturating_sub(edge)
 }
 
 /// How long so many tiles are.
@@ -171,26 +175,6 @@ fn length(tile: u64, stride: u64, tiles: u32) -> u128
     ensures { result ≡ (tiles - 1) * stride + tile }
 {
     u128::from(tiles - 1) * u128::from(stride) + u128::from(tile)
-}
-
-/// The largest scale, in 10^-9, that brings a side of so many grains into a length of so many 10^-5 of a point.
-fn fitting(length: u128, side: u64) -> u128
-    requires some { 0 < side }
-    requires in_range { length < 10_000_000_000 }
-    ensures { result ≡ fits length side }
-{
-    1_270_000_000_000_000 * length / u128::from(side)
-}
-
-/// Half of what a scaled side leaves of a length, in 10^-5 of a point.
-fn slack(length: u128, side: u64, scale: u128) -> u64
-    requires in_range { length < 10_000_000_000 }
-    requires scale { scale ≤ 99_999_000_000_000 }
-    ensures value { result ≡ slack_of length side scale }
-    ensures most { result ≤ 5_000_000_000 }
-{
-    ((1_270_000_000_000_000 * length).saturating_sub(scale * u128::from(side))
-        / 2_540_000_000_000_000) as u64
 }
 
 /// The page on the tile in this column, and in this row from the foot. All pages of one paper have the same item, so that
@@ -206,17 +190,8 @@ fn tile_item(laid: &Laid, column: u32, row: u32) -> Item
         turn: Turn::None,
         scale: number(laid.scale),
         offset: (
-            distance(u64::from(column) * laid.across, laid.left),
-            distance(u64::from(row) * laid.down, laid.bottom),
+            distance((u64::from(column) * laid.across) as i64, laid.left as i64),
+            distance((u64::from(row) * laid.down) as i64, laid.bottom as i64),
         ),
     }
-}
-
-/// From one place to another, in 10^-5 of a point.
-fn distance(from: u64, to: u64) -> Measure
-    requires from { from < 10_000_000_000 }
-    requires to { to < 10_000_000_000 }
-    ensures { measure_of result ≡ in_points (pos to -ℤ pos from) }
-{
-    points(to as i64 - from as i64)
 }

@@ -3,8 +3,12 @@ ghost use Rattle.std.specs.Prelude.{◌≡◌};
 ghost use Rattle.rules.specs.Signatures.{entry_of};
 
 /// An entry of the row; after its end all is blank.
-pub fn entry_at(row: &[Option<u32>], entry: usize) -> Option<u32>
+pub fn entry_at(row: &[Option<u32>], entry: u128) -> Option<u32>
     ensures { result ≡ entry_of row.now entry }
 {
-    if entry < row.len() { row[entry] } else { None }
+    if entry < row.len() as u128 {
+        row[entry as usize]
+    } else {
+        None
+    }
 }

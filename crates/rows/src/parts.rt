@@ -41,7 +41,7 @@ fn every_other(
     let mut part = Vec::with_capacity(alloc, row.len().div_ceil(2))?;
     let mut at = first;
     while at < row.len() {
-        part.push(entry_at(row, at))?;
+        part.push(entry_at(row, at as u128))?;
         at += 2;
     }
     Ok(part)

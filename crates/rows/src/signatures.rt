@@ -38,7 +38,7 @@ fn append_signature(
 {
     for position in 0..sides {
         let entry = first + page_in_signature(sides, position) as usize;
-        printed.push(entry_at(row, entry))?;
+        printed.push(entry_at(row, entry as u128))?;
     }
     Ok(())
 }
