@@ -4,12 +4,9 @@ ghost use Rattle.impose_words.specs.Arranging as meaning;
 
 use crate::sizes::length_with_unit;
 use dressing::Marks;
-use layouts::{Cells, Run, Turned};
+use layouts::{Cells, MOST_ON_SHEET, Run, Turned};
 use lengths::{Grains, read_digits};
 use pagespec::Turn;
-
-/// How many cells a sheet has at most.
-const MOST_CELLS: u64 = 1_024;
 
 /// The cells that the text means: a number of them, or columns and rows with an `x` between them.
 pub fn cells_named(text: &str) -> Option<Cells>
@@ -27,7 +24,7 @@ pub fn cells_named(text: &str) -> Option<Cells>
 fn at_least(count: u32) -> Option<Cells>
     ensures { result ≡ meaning.at_least count }
 {
-    if 1 <= count && u64::from(count) <= MOST_CELLS {
+    if 1 <= count && u64::from(count) <= MOST_ON_SHEET {
         Some(Cells::AtLeast(count))
     } else {
         None
@@ -48,7 +45,7 @@ fn exactly(columns: u32, rows: u32) -> Option<Cells>
     ensures { result ≡ meaning.exactly columns rows }
 {
     let count = u64::from(columns) * u64::from(rows);
-    if 1 <= count && count <= MOST_CELLS {
+    if 1 <= count && count <= MOST_ON_SHEET {
         Some(Cells::Exactly { columns, rows })
     } else {
         None
@@ -79,7 +76,7 @@ fn with_notes(pages: u32) -> Option<Cells>
     ensures { result ≡ meaning.with_notes pages }
 {
     let cells = 2 * u64::from(pages);
-    if 1 <= cells && cells <= MOST_CELLS {
+    if 1 <= cells && cells <= MOST_ON_SHEET {
         Some(Cells::AtLeast(pages))
     } else {
         None

@@ -5,12 +5,10 @@ ghost use Rattle.impose_words.specs.Choices.{choice_in, is_whole};
 ghost use Rattle.impose_words.specs.Products.{lays_rows};
 ghost use Rattle.impose_words.specs.Spacings.{arrangement_in, binding_in, keeps_room, notes_in, nothing_kept, some_gap as some_gap_of, zine_in};
 ghost use Rattle.impose_words.specs.Spacings.{at_fold as free_at_fold, fold_gap as gap_at_fold, on_fronts as free_on_fronts, is_mirrored};
-ghost use Rattle.layouts.specs.Refusals.{is_length as may_be_length};
-ghost use Rattle.lengths.specs.Ranges.{FitsGrains};
 ghost use Rattle.impose_words.specs.Words.{has_numbers};
 
 use dressing::Marks;
-use layouts::{Arrangement, Binding, Cells, Free, Order, Run, Turned};
+use layouts::{Arrangement, Binding, Cells, Free, Order, Run, Turned, grains, is_length};
 use lengths::{Grains, Number, Paper};
 use pagespec::Turn;
 use rows::{Choice, Part, Signing};
@@ -229,25 +227,6 @@ fn fold_gap(gap: Grains, inner: Grains) -> Grains
         grains(gap.get() + inner.get() + inner.get())
     } else {
         grains(-1)
-    }
-}
-
-/// Whether it is a length that layouts keep free.
-fn is_length(length: Grains) -> bool
-    ensures { result ≡ may_be_length length }
-{
-    let grains = length.get();
-    0 <= grains && grains < 12_700_000_000_000_000
-}
-
-/// So many grains.
-fn grains(count: i128) -> Grains
-    requires { FitsGrains count }
-    ensures { result ≡ count }
-{
-    match Grains::new(count) {
-        Some(length) => length,
-        None => unreachable!(),
     }
 }
 
