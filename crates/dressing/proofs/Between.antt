@@ -4,10 +4,9 @@ use Rattle.std.specs.Prelude.{ℤ, pos, ◌≤ℤ◌, ◌+ℤ◌, ◌-ℤ◌, na
 use Rattle.std.specs.List.{AllByRecursion, range_with_len}
 use Rattle.std.proofs.lemmas.Int.{ints}
 use Rattle.layouts.specs.Placed.{Room}
-use Rattle.layouts.specs.Cells.{Along, Grid, along_height, along_width, cell, high, kept, step, wide}
+use Rattle.layouts.specs.Cells.{Along, Grid, along_height, along_width, cell, high, kept, step, wide, gap_at, grains_in, cells_across, cells_up}
 use Rattle.layouts.proofs.InGrid.{both_true}
-use Rattle.dressing.specs.Places.{gap_at, grains_in}
-use Rattle.dressing.specs.Strokes.{cells_across, cells_up, far_end, has_room, has_room_round, level_at, longest, marks_round, near_end, upright_at}
+use Rattle.dressing.specs.Strokes.{far_end, has_room, has_room_round, level_at, longest, marks_round, near_end, upright_at}
 use Rattle.dressing.specs.Between.{AreMarksOf, IsLevel, IsUpright, MarksAreBetween, MarksLevel, MarksUpright, half_gap, lines_between}
 use Rattle.dressing.proofs.Outside.{half, not_zero}
 

@@ -2,7 +2,7 @@
 use Rattle.std.proofs.Common.{arith, ◌≡◌, ℕ, ◌+◌, ◌-◌, ◌*◌, ◌<◌, Bool, true, false, refl, ap, None}
 use Rattle.std.specs.Prelude.{pos, nat_abs, ◌==◌, if◌then◌else◌}
 use Rattle.rules.specs.Papers.{Paper}
-use Rattle.layouts.specs.Cells.{Along, along_height, kept, step}
+use Rattle.layouts.specs.Cells.{Along, along_height, kept, step, gap_at}
 use Rattle.layouts.specs.Fitted.{binding_setting_of, fitted, fitted_back, scale_on, why_no_scale_on}
 use Rattle.layouts.specs.Grids.{beside}
 use Rattle.layouts.specs.Laws.{HasPlace, IsHalfTurnOf, IsPaper}
@@ -10,7 +10,6 @@ use Rattle.layouts.proofs.Fitting.{halves_fit, has_scale, leaves_even, stands_ba
 use Rattle.layouts.proofs.Folds.{fold, fold_on_sheet, in_middle, lies_before, lies_behind, turned_before, turned_behind}
 use Rattle.layouts.proofs.InGrid.{fits}
 use Rattle.dressing.specs.Between.{FoldMarksAreOnFold}
-use Rattle.dressing.specs.Places.{gap_at}
 
 -- the middle of the gap
 middle_at : (untrimmed : Bool) (edge part gap : ℕ)

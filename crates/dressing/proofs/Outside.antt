@@ -6,11 +6,10 @@ use Rattle.std.proofs.Math.Nat.{mul-le-mul_right}
 use Rattle.std.proofs.lemmas.Bool.{cases_lt}
 use Rattle.std.proofs.lemmas.Int.{ints}
 use Rattle.layouts.specs.Placed.{Room}
-use Rattle.layouts.specs.Cells.{Along, Grid, along_height, along_width, cell, high, kept, step, wide}
+use Rattle.layouts.specs.Cells.{Along, Grid, along_height, along_width, cell, high, kept, step, wide, grains_in, cells_across, cells_up}
 use Rattle.layouts.specs.Laws.{Cell, cell_at}
-use Rattle.dressing.specs.Places.{PiecesAreLike, grains_in}
-use Rattle.dressing.specs.Strokes.{cells_across, cells_up, far_end, has_room_round, level_at, level_between, longest, near_end, upright_at, upright_between}
-use Rattle.dressing.specs.Laws.{IsInMargin, IsOutsideCell, MarksAreInMargin, MarksAreOutside, all_marks}
+use Rattle.dressing.specs.Strokes.{far_end, has_room_round, level_at, level_between, longest, near_end, upright_at, upright_between}
+use Rattle.dressing.specs.Laws.{IsInMargin, IsOutsideCell, MarksAreInMargin, MarksAreOutside, all_marks, PiecesAreLike}
 use Rattle.dressing.specs.declared.strokes.Stroke.{Stroke}
 
 -- ---- pieces

@@ -7,12 +7,11 @@ use Rattle.rules.specs.Papers.{Paper}
 use Rattle.rules.specs.Placement.{Point}
 use Rattle.rules.specs.Specification.{Item}
 use Rattle.layouts.specs.Placed.{Room, fine, stands}
-use Rattle.layouts.specs.Cells.{item_in, row_of, column_of}
+use Rattle.layouts.specs.Cells.{item_in, row_of, column_of, grains_in}
 use Rattle.layouts.specs.Laws.{Cell, LiesInCell, IsInCell as HoldsPage, cell_at}
 use Rattle.layouts.proofs.InCell.{grid_in_cell}
 use Rattle.layouts.proofs.InGrid.{fits}
 use Rattle.layouts.proofs.InOrder.{place_fits}
-use Rattle.dressing.specs.Places.{grains_in}
 use Rattle.dressing.specs.Laws.{GoesPast, IsOutsideCell, IsPast, MarksMissPages, all_marks, in_billionths}
 use Rattle.dressing.specs.declared.strokes.Stroke.{Stroke}
 use Rattle.dressing.proofs.Outside.{marks_are_outside}

@@ -4,13 +4,12 @@ use Rattle.std.specs.List.{AllByRecursion, range_with_len}
 use Rattle.rules.specs.Papers.{Paper}
 use Rattle.layouts.specs.declared.arrangement.Binding.{Binding}
 use Rattle.layouts.specs.Placed.{Room}
-use Rattle.layouts.specs.Cells.{Along, Grid, along_height, along_width, high, kept, wide}
+use Rattle.layouts.specs.Cells.{Along, Grid, along_height, along_width, high, kept, wide, grains_in, cells_across, cells_up}
 use Rattle.layouts.specs.Fitted.{HaveOneFold, binding_setting_of}
 use Rattle.layouts.specs.Grids.{beside, room_of}
 use Rattle.layouts.specs.Laws.{Cell, IsPaper, cell_at}
 use Rattle.layouts.specs.Refusals.{why_not_bound}
-use Rattle.dressing.specs.Places.{grains_in}
-use Rattle.dressing.specs.Strokes.{cells_across, cells_up, cut_marks, far_end, fold_marks, has_room_round, longest, outer_cut_marks}
+use Rattle.dressing.specs.Strokes.{cut_marks, far_end, fold_marks, has_room_round, longest, outer_cut_marks}
 use Rattle.dressing.specs.declared.strokes.Stroke.{Stroke}
 
 -- the cell that has so many cells on its left, and so many below it, as the sheet lies

@@ -1,5 +1,5 @@
 -- What holds of marks and numbers.
-use Rattle.std.specs.Prelude.{◌≡◌, ◌⊎◌, ℕ, ◌+◌, ◌<◌, ℤ, pos, ◌-ℤ◌, ◌*ℤ◌, ◌≤ℤ◌, List, ◌++◌}
+use Rattle.std.specs.Prelude.{◌≡◌, ◌⊎◌, ℕ, ◌+◌, ◌*◌, ◌<◌, ◌≤◌, ℤ, pos, ◌-ℤ◌, ◌*ℤ◌, ◌≤ℤ◌, List, ◌++◌}
 use Rattle.std.specs.List.{AllByRecursion}
 use Rattle.made_sheets.specs.Dress.{Dress}
 use Rattle.imposed_again.specs.MadeAgain.{IsTameDress}
@@ -7,14 +7,18 @@ use Rattle.rules.specs.Papers.{Paper}
 use Rattle.rules.specs.Placement.{Point}
 use Rattle.rules.specs.Specification.{Item}
 use Rattle.layouts.specs.Placed.{Room, IsOfPage, stands}
-use Rattle.layouts.specs.Cells.{Grid, high, item_in, size, wide}
+use Rattle.layouts.specs.Cells.{Along, Grid, gap_at, grains_in, high, item_in, size, step, wide}
 use Rattle.layouts.specs.Laws.{Cell, HasPlace, IsPaper, cell_at}
 use Rattle.layouts.specs.declared.arrangement.Order.{Order}
-use Rattle.dressing.specs.Places.{grains_in}
 use Rattle.dressing.specs.Strokes.{cut_marks, fold_marks, outer_cut_marks}
 use Rattle.dressing.specs.Ruled.{note_cell, note_lines, row_lines}
 use Rattle.dressing.specs.Numbered.{Drawn, drawn_on}
 use Rattle.dressing.specs.declared.strokes.Stroke.{Stroke}
+
+-- if the margin has room for half a gap, all pieces of a side that is cut in the middle of its gaps are as wide
+abbrev pub PiecesAreLike : Type 0
+PiecesAreLike = (a : Along) (side parts k : ℕ) → a.gap ≤ 2 * a.before
+    → gap_at a side parts (k + 1) ≡ gap_at a side parts k + grains_in (step a side parts)
 
 -- both ends of a stroke, measured in one direction, are at most so much, or at least
 abbrev pub AreAtMost : (one other : ℤ) → (most : ℤ) → Type 0

@@ -2,9 +2,8 @@
 use Rattle.std.specs.Prelude.{ℕ, ◌+◌, ◌-◌, ◌*◌, ◌/◌, pos, Bool, true, false, List, map, flat_map}
 use Rattle.std.specs.List.{range_with_len}
 use Rattle.layouts.specs.Placed.{Room}
-use Rattle.layouts.specs.Cells.{Grid, high}
+use Rattle.layouts.specs.Cells.{Grid, high, grains_in}
 use Rattle.layouts.specs.Laws.{Cell, cell_at}
-use Rattle.dressing.specs.Places.{grains_in}
 use Rattle.dressing.specs.declared.strokes.Stroke.{Stroke}
 
 -- lines are 24 points apart; in 10^-5 of a point (RULES, 15)

@@ -3,8 +3,7 @@ use Rattle.std.specs.Prelude.{ℕ, ◌-◌, ◌*◌, ◌==◌, nat_le, nat_abs, 
 use Rattle.std.specs.Prelude.{List, [], ◌∷◌, ◌++◌, flat_map}
 use Rattle.std.specs.List.{range_with_len}
 use Rattle.layouts.specs.Placed.{Room}
-use Rattle.layouts.specs.Cells.{Grid, along_height, along_width}
-use Rattle.dressing.specs.Places.{gap_at, grains_in}
+use Rattle.layouts.specs.Cells.{Grid, along_height, along_width, cells_across, cells_up, gap_at, grains_in}
 use Rattle.dressing.specs.declared.strokes.Stroke.{Stroke}
 
 -- the longest stroke has 18 points; in 10^-5 of a point (RULES, 15)
@@ -45,13 +44,6 @@ upright_at room parts k = upright_strokes room (gap_at (along_width room) (nat_a
 
 abbrev pub level_at : Room → (parts k : ℕ) → List Stroke
 level_at room parts k = level_strokes room (gap_at (along_height room) (nat_abs room.paper.height) parts k)
-
--- how many cells are side by side, and how many one above another: a grid lies on its side if its pages do
-abbrev pub cells_across : Grid → ℕ
-cells_across g = if g.turned then g.rows else g.columns
-
-abbrev pub cells_up : Grid → ℕ
-cells_up g = if g.turned then g.columns else g.rows
 
 -- between all cells
 abbrev pub upright_between : Room → (parts : ℕ) → List Stroke

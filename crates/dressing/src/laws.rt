@@ -1,7 +1,6 @@
 //! Laws of the definitions. The functions do nothing.
-ghost use Rattle.dressing.specs.Places.{PiecesAreLike};
 ghost use Rattle.dressing.specs.Between.{FoldMarksAreOnFold, MarksAreBetween};
-ghost use Rattle.dressing.specs.Laws.{DrawnIsTame, LinesAreBeside, LinesAreInCell, MarksAreInMargin, MarksAreOutside, MarksMissPages};
+ghost use Rattle.dressing.specs.Laws.{DrawnIsTame, LinesAreBeside, LinesAreInCell, MarksAreInMargin, MarksAreOutside, MarksMissPages, PiecesAreLike};
 ghost use Rattle.dressing.specs.AtFoot.{NumbersAreAtFoot};
 ghost use Rattle.dressing.specs.Numbered.{NoMarksAreTelling};
 ghost use Rattle.dressing.specs.Quiet.{DrawnAreFound, DrawnIsQuiet};

@@ -1,15 +1,13 @@
 //! The strokes by which sheets are marked.
-ghost use Rattle.std.specs.Prelude.{◌≡◌, ◌<◌, ◌≤◌, ◌-ℤ◌, ◌++◌, pos, nat_abs, IfOk, IsTrue, OnOk};
-ghost use Rattle.rules.specs.Papers.{is_side};
-ghost use Rattle.dressing.specs.Strokes.{cells_across as across_of, cells_up as up_of, far_end as far_of, near_end as near_of};
-ghost use Rattle.dressing.specs.Strokes.{cut_marks as cut_of, fold_marks as fold_of, has_room as has_room_of, has_room_round as round_has_room, longest};
+ghost use Rattle.std.specs.Prelude.{◌≡◌, ◌<◌, ◌≤◌, ◌++◌, pos, nat_abs, IfOk, OnOk};
+ghost use Rattle.dressing.specs.Strokes.{far_end as far_of, near_end as near_of};
+ghost use Rattle.dressing.specs.Strokes.{cut_marks as cut_of, fold_marks as fold_of, has_room as has_room_of, has_room_round as round_has_room};
 ghost use Rattle.dressing.specs.Strokes.{outer_cut_marks as outer_cut_of};
-ghost use Rattle.dressing.specs.Strokes.{level_at, level_between, level_strokes, marks_between, marks_round};
-ghost use Rattle.dressing.specs.Strokes.{upright_at, upright_between, upright_strokes};
+ghost use Rattle.dressing.specs.Strokes.{level_at, level_between, marks_between, marks_round};
+ghost use Rattle.dressing.specs.Strokes.{upright_at, upright_between};
 
 use crate::numbers::Numbering;
-use crate::places::{gap_at, grains};
-use layouts::{Grid, Room};
+use layouts::{Grid, HUNDRED_THOUSANDTH, Room, from_far, gap_at, grains, in_grains};
 use lengths::Grains;
 use std::alloc::{AllocError, Global};
 
@@ -29,6 +27,9 @@ pub struct Stroke {
     pub start: (Grains, Grains),
     pub end: (Grains, Grains),
 }
+
+/// How long strokes are at most, in 10^-5 of a point.
+const LONGEST: u64 = 1_800_000;
 
 /// The marks along which a sheet is cut between its cells, and round them if the margins have room for it.
 pub fn cut_marks(alloc: Global, room: &Room, grid: Grid) -> Result<Vec<Stroke>, AllocError>
@@ -62,8 +63,8 @@ pub fn fold_marks(alloc: Global, room: &Room, grid: Grid) -> Result<Vec<Stroke>,
 fn push_between(room: &Room, grid: Grid, strokes: &mut Vec<Stroke>) -> Result<(), AllocError>
     ensures { OnOk result (strokes.new.items ≡ strokes.old.items ++ marks_between room.now grid) }
 {
-    push_upright_between(room, cells_across(grid), strokes)?;
-    push_level_between(room, cells_up(grid), strokes)?;
+    push_upright_between(room, grid.across(), strokes)?;
+    push_level_between(room, grid.up(), strokes)?;
     Ok(())
 }
 
@@ -81,8 +82,8 @@ fn push_round_if_room(room: &Room, grid: Grid, strokes: &mut Vec<Stroke>) -> Res
 fn push_round(room: &Room, grid: Grid, strokes: &mut Vec<Stroke>) -> Result<(), AllocError>
     ensures { OnOk result (strokes.new.items ≡ strokes.old.items ++ marks_round room.now grid) }
 {
-    push_upright_round(room, cells_across(grid), strokes)?;
-    push_level_round(room, cells_up(grid), strokes)?;
+    push_upright_round(room, grid.across(), strokes)?;
+    push_level_round(room, grid.up(), strokes)?;
     Ok(())
 }
 
@@ -104,22 +105,6 @@ fn push_level_round(room: &Room, parts: u32, strokes: &mut Vec<Stroke>) -> Resul
     push_level(room, parts, 0, strokes)?;
     push_level(room, parts, parts, strokes)?;
     Ok(())
-}
-
-/// How many cells are side by side, as one holds the sheet.
-fn cells_across(grid: Grid) -> u32
-    ensures value { result ≡ across_of grid }
-    ensures some { 0 < result }
-{
-    if grid.turned { grid.rows } else { grid.columns }
-}
-
-/// And how many one above another.
-fn cells_up(grid: Grid) -> u32
-    ensures value { result ≡ up_of grid }
-    ensures some { 0 < result }
-{
-    if grid.turned { grid.columns } else { grid.rows }
 }
 
 /// Whether there are margins along all edges that have room for half a gap.
@@ -213,9 +198,9 @@ fn far_end(edge: u64) -> Grains
     ensures few { nat_abs result ≤ 12_700_000_000_000_000 }
 {
     if edge == 0 {
-        grains(2_286_000_000_000)
+        in_grains(LONGEST)
     } else {
-        grains(i128::from(edge) * 1_270_000)
+        in_grains(edge)
     }
 }
 
@@ -226,14 +211,5 @@ fn near_end(edge: u64) -> Grains
     ensures few { nat_abs result ≤ 12_700_000_000_000_000 }
 {
     let far = far_end(edge).get().unsigned_abs();
-    grains(far.saturating_sub(2_286_000_000_000) as i128)
-}
-
-/// As far from the other edge.
-fn from_far(side: Grains, length: Grains) -> Grains
-    requires side { IsTrue (is_side side) }
-    requires few { nat_abs length ≤ 12_700_000_000_000_000 }
-    ensures { result ≡ side -ℤ length }
-{
-    grains(side.get() - length.get())
+    grains(far.saturating_sub(u128::from(HUNDRED_THOUSANDTH * LONGEST)) as i128)
 }

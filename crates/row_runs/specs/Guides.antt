@@ -1,10 +1,9 @@
 -- Lines that are drawn on the sheets of a setting: its margins, lines between its cells, and lines for notes.
-use Rattle.std.specs.Prelude.{ℕ, ◌-◌, ℤ, pos, ◌-ℤ◌, nat_abs, if◌then◌else◌, List, [], ◌∷◌, ◌++◌, map}
+use Rattle.std.specs.Prelude.{ℕ, ◌-◌, ℤ, pos, ◌-ℤ◌, nat_abs, List, [], ◌∷◌, ◌++◌, map}
 use Rattle.std.specs.List.{range_with_len}
 use Rattle.rules.specs.Papers.{Paper}
 use Rattle.layouts.specs.Placed.{Room}
-use Rattle.layouts.specs.Cells.{Grid, along_height, along_width}
-use Rattle.dressing.specs.Places.{gap_at, grains_in}
+use Rattle.layouts.specs.Cells.{Grid, along_height, along_width, cells_across, cells_up, gap_at, grains_in}
 use Rattle.layouts.specs.declared.setting.Setting.{Setting}
 use Rattle.row_sheets.specs.declared.poster.Poster.{Poster}
 use Rattle.preview.specs.declared.guides.Guide.{Guide}
@@ -57,7 +56,7 @@ level_lines kind room parts = map (level_line kind room parts) (range_with_len 1
 -- between all cells of a grid, which lies on its side if its pages do
 abbrev pub lines_between : GuideKind → Room → Grid → List Guide
 lines_between kind room g =
-    upright_lines kind room (if g.turned then g.rows else g.columns) ++ level_lines kind room (if g.turned then g.columns else g.rows)
+    upright_lines kind room (cells_across g) ++ level_lines kind room (cells_up g)
 
 -- the lines of a setting, of this kind between its cells
 abbrev pub lines_in : GuideKind → Setting → List Guide

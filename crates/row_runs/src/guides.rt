@@ -1,8 +1,6 @@
 //! Lines that are drawn on sheets: margins, lines between cells, and lines for notes.
-ghost use Rattle.std.specs.Prelude.{◌≡◌, ◌-ℤ◌, ◌<◌, ◌≤◌, ◌++◌, IfOk, IsTrue, OnOk, map};
-ghost use Rattle.lengths.specs.Ranges.{FitsGrains};
-ghost use Rattle.rules.specs.Papers.{is_side};
-ghost use Rattle.row_runs.specs.Guides.{edge_of, guides_in, level as level_of, level_line as level_line_of};
+ghost use Rattle.std.specs.Prelude.{◌≡◌, ◌<◌, ◌≤◌, ◌++◌, IfOk, OnOk, map};
+ghost use Rattle.row_runs.specs.Guides.{guides_in, level as level_of, level_line as level_line_of};
 ghost use Rattle.row_runs.specs.Guides.{level_lines, level_margin, lines_between, lines_in, margin_lines};
 ghost use Rattle.row_runs.specs.Guides.{upright as upright_of, upright_line as upright_line_of, upright_lines, upright_margin};
 ghost use Rattle.row_runs.specs.Guides.{guides_with, note_guide as note_guide_of, notes_in, tile_room as tile_room_of};
@@ -10,8 +8,8 @@ ghost use Rattle.row_runs.specs.Sheets.{MayBeLaid};
 
 use crate::asked::{Laying, Scheme};
 use crate::marked::ruled_if;
-use dressing::{Marks, Stroke, gap_at};
-use layouts::{Grid, Room, Setting};
+use dressing::{Marks, Stroke};
+use layouts::{Grid, Room, Setting, from_far, gap_at, in_grains};
 use lengths::{Grains, Paper};
 use preview::{Guide, GuideKind};
 use row_sheets::Poster;
@@ -129,8 +127,8 @@ fn push_margin(room: &Room, guides: &mut Vec<Guide>) -> Result<(), AllocError>
 fn push_upright_margin(room: &Room, guides: &mut Vec<Guide>) -> Result<(), AllocError>
     ensures { OnOk result (guides.new.items ≡ guides.old.items ++ upright_margin room.now) }
 {
-    let right = far_edge(room.right, room.paper.width());
-    guides.push(upright(GuideKind::Margin, &room.paper, near_edge(room.left)))?;
+    let right = from_far(room.paper.width(), in_grains(room.right));
+    guides.push(upright(GuideKind::Margin, &room.paper, in_grains(room.left)))?;
     guides.push(upright(GuideKind::Margin, &room.paper, right))?;
     Ok(())
 }
@@ -139,27 +137,10 @@ fn push_upright_margin(room: &Room, guides: &mut Vec<Guide>) -> Result<(), Alloc
 fn push_level_margin(room: &Room, guides: &mut Vec<Guide>) -> Result<(), AllocError>
     ensures { OnOk result (guides.new.items ≡ guides.old.items ++ level_margin room.now) }
 {
-    let top = far_edge(room.top, room.paper.height());
-    guides.push(level(GuideKind::Margin, &room.paper, near_edge(room.bottom)))?;
+    let top = from_far(room.paper.height(), in_grains(room.top));
+    guides.push(level(GuideKind::Margin, &room.paper, in_grains(room.bottom)))?;
     guides.push(level(GuideKind::Margin, &room.paper, top))?;
     Ok(())
-}
-
-/// How far a margin reaches from a left or a lower edge.
-fn near_edge(edge: u64) -> Grains
-    requires { edge ≤ 10_000_000_000 }
-    ensures { result ≡ edge_of edge }
-{
-    grains(i128::from(edge) * 1_270_000)
-}
-
-/// And to where it leaves a side free.
-fn far_edge(edge: u64, side: Grains) -> Grains
-    requires margin { edge ≤ 10_000_000_000 }
-    requires side { IsTrue (is_side side) }
-    ensures { result ≡ side -ℤ edge_of edge }
-{
-    grains(side.get() - i128::from(edge) * 1_270_000)
 }
 
 /// Adds the lines between all cells of a grid.
@@ -171,13 +152,8 @@ fn push_between(
 ) -> Result<(), AllocError>
     ensures { OnOk result (guides.new.items ≡ guides.old.items ++ lines_between kind room.now grid) }
 {
-    if grid.turned {
-        push_upright(kind, room, grid.rows, guides)?;
-        push_level(kind, room, grid.columns, guides)?;
-        return Ok(());
-    }
-    push_upright(kind, room, grid.columns, guides)?;
-    push_level(kind, room, grid.rows, guides)?;
+    push_upright(kind, room, grid.across(), guides)?;
+    push_level(kind, room, grid.up(), guides)?;
     Ok(())
 }
 
@@ -237,7 +213,7 @@ fn upright(kind: GuideKind, paper: &Paper, x: Grains) -> Guide
 {
     Guide {
         kind,
-        start: (x, grains(0)),
+        start: (x, Grains::ZERO),
         end: (x, paper.height()),
     }
 }
@@ -248,18 +224,7 @@ fn level(kind: GuideKind, paper: &Paper, y: Grains) -> Guide
 {
     Guide {
         kind,
-        start: (grains(0), y),
+        start: (Grains::ZERO, y),
         end: (paper.width(), y),
-    }
-}
-
-/// So many grains, which are known to be in range.
-pub(crate) fn grains(count: i128) -> Grains
-    requires { FitsGrains count }
-    ensures { result ≡ count }
-{
-    match Grains::new(count) {
-        Some(grains) => grains,
-        None => unreachable!(),
     }
 }

@@ -8,11 +8,10 @@ ghost use Rattle.row_runs.specs.Sheets.{MayBeAsked, row_chosen};
 use crate::asked::{Asked, Laying, laid, leaves_in};
 use crate::error::AskedError;
 use crate::evened::evened_if;
-use crate::guides::grains;
 use crate::mirrored::mirrored_sheets;
 use crate::reaching::check_reach;
-use dressing::{Numbering, cell_height};
-use layouts::Room;
+use dressing::Numbering;
+use layouts::{Room, cells, grains};
 use lengths::{Grains, Paper};
 use pagespec::Turn;
 use rows::{chosen_row, signed_row};
@@ -149,5 +148,6 @@ fn below_middle(laying: &Laying) -> Option<Grains>
     let Laying::InCells { setting, .. } = laying else {
         return None;
     };
-    Some(grains((635_000 * cell_height(&setting.room, setting.grid)) as i128))
+    let (_, height) = cells(&setting.room, setting.grid);
+    Some(grains(635_000 * i128::from(height)))
 }

@@ -1,6 +1,5 @@
 //! How the sheets of a laying are read.
-ghost use Rattle.std.specs.Prelude.{◌≡◌, IsTrue, if◌then◌else◌, nat_abs};
-ghost use Rattle.rules.specs.Papers.{is_side};
+ghost use Rattle.std.specs.Prelude.{◌≡◌, if◌then◌else◌};
 ghost use Rattle.layouts.specs.Cells.{held_height, held_width};
 ghost use Rattle.layouts.specs.Grids.{plain_order as order_of_one};
 ghost use Rattle.preview.specs.declared.naming.Edge.TheVariants.{Long, Short};
@@ -9,8 +8,8 @@ ghost use Rattle.row_runs.specs.Readings.{edge_at_side as edge_of, height_read, 
 ghost use Rattle.row_runs.specs.Readings.{edge_as_printed as edge_printed, tiles_in, width_read};
 
 use crate::asked::{Laying, Scheme};
-use layouts::{Grid, Order, Room, Run, Setting, Turned};
-use lengths::{Grains, Paper};
+use layouts::{Grid, Order, Room, Run, Setting, Turned, side};
+use lengths::Paper;
 use preview::{Edge, Places, Reading, Sides};
 use row_sheets::Poster;
 
@@ -107,14 +106,6 @@ fn sides_held(turned: bool, paper: &Paper) -> (u64, u64)
     } else {
         (width, height)
     }
-}
-
-/// A side of a paper, in grains.
-fn side(side: Grains) -> u64
-    requires { IsTrue (is_side side) }
-    ensures { result ≡ nat_abs side }
-{
-    side.get() as u64
 }
 
 /// The cells in which places are; or the tiles of a poster.
