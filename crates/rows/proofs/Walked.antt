@@ -1,12 +1,13 @@
 -- A walk over the pieces of a text.
-use Rattle.std.proofs.Common.{ℕ, ◌+◌, ◌-◌, ◌≡◌, ◌≤◌, ◌∙◌, Option, Some, None, List, ◌∷◌, Bor, arith, ap, sym, refl, length}
+use Rattle.std.proofs.Common.{ℕ, ◌+◌, ◌-◌, ◌≡◌, ◌≤◌, ◌∙◌, Option, Some, None, List, ◌∷◌, ◌++◌, Bor, arith, ap, sym, refl, length}
 use Rattle.std.specs.Prelude.{◌==◌, Result, Ok, flat_map, IfSome, option_map}
 use Rattle.std.specs.List.{slice_split}
+use Rattle.std.proofs.lemmas.List.{length-append}
 use Rattle.rules.specs.Units.{◌>>=◌}
 use Rattle.rows.specs.declared.found_ranges.Found.{Found}
 use Rattle.rows.specs.declared.tallies.Tally.{Tally}
 use Rattle.made_sheets.specs.Rows.{Row}
-use Rattle.rows.specs.Found.{parts_left, piece_found, found_in}
+use Rattle.rows.specs.Found.{parts_left, piece_found, entries_if, found_in}
 use Rattle.made_sheets.specs.Ranges.{Range, range_at}
 use Rattle.rows.specs.Tallies.{tally_from, tally_piece, counted}
 
@@ -48,3 +49,14 @@ tally_step most pages whole rest piece behind range t u parts len within found i
     ∙ ap (λ v. tally_from most pages (at + length piece + 1) (parts_left 44 behind) v) is
     ∙ sym (ap (λ x. x >>= λ v. tally_from most pages (at + length piece + 1) (parts_left 44 behind) v) (piece_step most pages at range t (range_at piece) found))
     ∙ sym (ap (λ ps. tally_from most pages at ps t) parts)
+
+-- a row with room for all entries has room for those of the next piece
+pub room_for_piece : (pages room : ℕ) (old row found : Row) (rest piece : List ℕ) (behind : Option (Bor (List ℕ))) (range : Option Found)
+    → row ++ flat_map (piece_found pages) (slice_split (λ b. b == 44) rest) ≡ old ++ found
+    → slice_split (λ b. b == 44) rest ≡ piece ∷ parts_left 44 behind → range ≡ option_map (found_in pages) (range_at piece)
+    → length old + length found ≤ room → length row + length (entries_if range) ≤ room
+room_for_piece pages room old row found rest piece behind range same parts read enough =
+    let left : Row = flat_map (piece_found pages) (slice_split (λ b. b == 44) rest) in
+    let behind_it : Row = row_left pages behind in
+    let split : left ≡ entries_if range ++ behind_it = ap (flat_map (piece_found pages)) parts ∙ ap (λ r. entries_if r ++ behind_it) (sym read) in
+    omega (arith, length-append row left, length-append old found, ap length same, ap length split, length-append (entries_if range) behind_it, enough)

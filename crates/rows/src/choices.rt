@@ -81,6 +81,7 @@ fn made_row(
     choice: &Choice<'_>,
     entries: usize,
 ) -> Result<Vec<Option<u32>>, AllocError>
+    requires { entries ≡ length (named_found pages choice.now.ranges) }
     ensures { IfOk result (λ row. row.items
         ≡ reversed_if choice.now.backwards
         (part_of (part_named choice.now.part) (named_found pages choice.now.ranges))) }
@@ -93,13 +94,14 @@ fn made_row(
     Ok(row)
 }
 
-/// The row before a part is taken.
+/// The row before a part is taken, which has this many entries.
 fn found_row(
     alloc: Global,
     pages: u32,
     ranges: Option<&[u8]>,
     entries: usize,
 ) -> Result<Vec<Option<u32>>, AllocError>
+    requires { entries ≡ length (named_found pages ranges) }
     ensures { IfOk result (λ row. row.items ≡ named_found pages ranges.entry) }
 {
     match ranges {
