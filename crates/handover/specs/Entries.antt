@@ -1,5 +1,5 @@
 -- What a shelf holds: pages, each with whether it was put as one of the document's own.
-use Rattle.std.specs.Prelude.{◌≡◌, ℕ, List, [], IsTrue, slice_index_or}
+use Rattle.std.specs.Prelude.{◌≡◌, ℕ, Bool, List, [], IsTrue, slice_index_or}
 use Rattle.boxcar.specs.Table.{Where}
 use Rattle.handover.specs.Pages.{PreparedPage}
 use Rattle.handover.specs.Naming.{pages_in}
@@ -13,6 +13,22 @@ IsNamed row page = page.raw ≡ slice_index_or (pages_in row) page.page []
 abbrev pub IsToldTruly : List ℕ → Entry → Type 0
 IsToldTruly row entry = IsTrue entry.is_own → IsNamed row entry.page
 
--- the token of an entry, as that of its page
-abbrev pub of_page : Where Entry → Where PreparedPage
-of_page token = record { index = token.index; value = token.value.page; bucket = token.bucket; row = token.row; item = token.item }
+-- what a clause sees of the token of an entry: the index, the page, whether it was put as one of the document's own, and where the
+-- shelf keeps it
+pub record EntryToken : Type 0 where
+  pub index : ℕ
+  pub value : PreparedPage
+  pub is_own : Bool
+  pub bucket : ℕ
+  pub row : ℕ
+  pub item : ℕ
+
+abbrev pub entry_token : Where Entry → EntryToken
+entry_token token = record {
+  index = token.index;
+  value = token.value.page;
+  is_own = token.value.is_own;
+  bucket = token.bucket;
+  row = token.row;
+  item = token.item;
+}

@@ -16,13 +16,11 @@ pub struct Receipt<'d> {
 
 impl<'d> Model for Receipt<'d> {
     ghost use Rattle.std.specs.Prelude.{◌<◌};
-    ghost use Rattle.boxcar.specs.Table.{Where};
-    ghost use Rattle.handover.specs.Pages.{PreparedPage};
-    ghost use Rattle.handover.specs.Entries.{of_page};
+    ghost use Rattle.handover.specs.Entries.{EntryToken, entry_token};
 
-    ghost Value = { Where PreparedPage };
+    ghost Value = { EntryToken };
 
-    ghost view = { λ r. of_page r.token };
+    ghost view = { λ r. entry_token r.token };
 
     ghost invariant = { λ r. r.token.index < 4_294_967_296 };
 }
@@ -45,13 +43,11 @@ pub struct Overflow<'d> {
 
 impl<'d> Model for Overflow<'d> {
     ghost use Rattle.std.specs.Prelude.{◌<◌};
-    ghost use Rattle.boxcar.specs.Table.{Where};
-    ghost use Rattle.handover.specs.Pages.{PreparedPage};
-    ghost use Rattle.handover.specs.Entries.{of_page};
+    ghost use Rattle.handover.specs.Entries.{EntryToken, entry_token};
 
-    ghost Value = { Where PreparedPage };
+    ghost Value = { EntryToken };
 
-    ghost view = { λ o. of_page o.token };
+    ghost view = { λ o. entry_token o.token };
 
     ghost invariant = { λ o. 4_294_967_295 < o.token.index };
 }

@@ -1,5 +1,5 @@
 //! The shelf of prepared pages.
-ghost use Rattle.std.specs.Prelude.{◌≡◌, IfOk, IfErr, IfSome, IsTrue};
+ghost use Rattle.std.specs.Prelude.{◌≡◌, IfOk, IfErr, IfSome, IsTrue, false};
 ghost use Rattle.handover.specs.Pages.{IsPrepared};
 ghost use Rattle.handover.specs.Shelves.{IsOn, GivesNoReceipt, IsShelfOf, IsOwn};
 
@@ -56,6 +56,7 @@ impl<'d> Shelf<'d> {
     /// bits.
     pub fn put<R: Wait>(&self, rt: &R, prepared: Prepared<'d>) -> Result<Receipt<'d>, PutError<'d>>
         ensures put { IfOk result (λ receipt. IsOn self.now receipt × (receipt.value ≡ prepared.entry)) }
+        ensures mark { IfOk result (λ receipt. receipt.is_own ≡ false) }
         ensures refused { IfErr result (GivesNoReceipt self.now prepared.entry) }
     {
         self.put_as(rt, prepared, false)
@@ -70,6 +71,7 @@ impl<'d> Shelf<'d> {
     ) -> Result<Receipt<'d>, PutError<'d>>
         requires own { IsTrue is_own → IsOwn self.now prepared }
         ensures put { IfOk result (λ receipt. IsOn self.now receipt × (receipt.value ≡ prepared.entry)) }
+        ensures mark { IfOk result (λ receipt. receipt.is_own ≡ is_own) }
         ensures refused { IfErr result (GivesNoReceipt self.now prepared.entry) }
     {
         let entry = Entry {
@@ -111,6 +113,7 @@ impl<'d> Shelf<'d> {
         ensures shown { IfSome result (λ found. IsOn self.now found.receipt × (found.receipt.index ≡ index)
             × (found.receipt.value ≡ found.page.now)) }
         ensures prepared { IfSome result (λ found. IsPrepared found.page.now) }
+        ensures mark { IfSome result (λ found. found.is_own ≡ found.receipt.is_own) }
         ensures own { IfSome result (λ found. IsTrue found.is_own → IsOwn self.now found.page.now) }
     {
         let token = self.list.witness(index as usize)?;
@@ -125,13 +128,14 @@ impl<'d> Shelf<'d> {
         })
     }
 
-    /// An index has one page: two receipts of this shelf with the same index are of the same page, whoever got
-    /// them. It does nothing.
+    /// An index has one page: two receipts of this shelf with the same index are of the same page, put in the same way,
+    /// whoever got them. It does nothing.
     pub fn agree(&self, one: &Receipt<'d>, two: &Receipt<'d>)
         requires one { IsOn self.now one.now }
         requires two { IsOn self.now two.now }
         requires same { one.now.index ≡ two.now.index }
         ensures page { one.now.value ≡ two.now.value }
+        ensures mark { one.now.is_own ≡ two.now.is_own }
     {
         self.list.agrees(&one.token, &two.token);
     }

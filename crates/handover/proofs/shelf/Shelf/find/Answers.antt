@@ -8,3 +8,6 @@ returns-clause-shown c = (
   c.in_ok-token.ensures.1,
   ap (λ (entry : Entry). entry.page) (sym (c.in_ok-entry.ensures.found (sym c.in_ok-token.ensures.1))),
 )
+
+pub returns-clause-mark : goal.returns-clause-mark
+returns-clause-mark c = ap (λ (entry : Entry). entry.is_own) (c.in_ok-entry.ensures.found (sym c.in_ok-token.ensures.1))
