@@ -1,6 +1,6 @@
 //! Sheets that are made in any way, and how they are kept.
-ghost use Rattle.std.specs.Prelude.{◌≡◌, ◌+◌, ◌<◌, ◌≤◌, ◌++◌, ◌∷◌, [], length, map, sum_by, All, OnOk, OnErr, IfOk};
-ghost use Rattle.std.specs.Prelude.{IfSome, Some, slice_get, true};
+ghost use Rattle.std.specs.Prelude.{◌≡◌, ◌≢◌, ◌+◌, ◌<◌, ◌≤◌, ◌++◌, ◌∷◌, [], length, map, sum_by, All, OnOk, OnErr, IfOk};
+ghost use Rattle.std.specs.Prelude.{ℕ, ◌↔◌, IfSome, IsNone, IsTrue, Some, slice_get};
 ghost use Rattle.made_sheets.specs.MadePlans.{slot_count};
 ghost use Rattle.pagespec.specs.Items.{item_of};
 ghost use Rattle.sheet_plan.specs.Nothing.{nothing as no_item};
@@ -41,7 +41,7 @@ pub struct PlacedSlot<'m> {
 }
 
 /// How a page is placed on a sheet. Sheets repeat placings, so each is kept once.
-#[derive(Clone, Copy)]
+#[derive(Clone, Copy, PartialEq, Eq)]
 pub struct Placing {
     pub item: Item,
     pub paper: Paper,
@@ -119,8 +119,11 @@ impl MadeSheets {
     {
         let start = last_end(self.sheets.as_slice());
         self.slots.truncate(start as usize);
-        let nothing = self.nothing;
-        let paper = keep(&mut self.placings, 0, &nothing, paper)?;
+        let placing = Placing {
+            item: self.nothing,
+            paper: *paper,
+        };
+        let paper = keep(&mut self.placings, 0, &placing)?;
         keep_slots(&mut self.placings, &mut self.slots, slots)?;
         let end = count_of(self.slots.len())?;
         self.sheets.push(KeptSheet { end, paper })?;
@@ -286,7 +289,11 @@ fn keep_slot(
         },
         MadeSlot::Placed { page, item, paper } => {
             let near = number_behind(slots.as_slice());
-            let place = keep(placings, near, item, paper)?;
+            let placing = Placing {
+                item: *item,
+                paper: *paper,
+            };
+            let place = keep(placings, near, &placing)?;
             KeptSlot {
                 page: *page,
                 placing: count_of(place as usize + 1)?,
@@ -305,74 +312,51 @@ fn number_behind(slots: &[KeptSlot]) -> u32 {
     }
 }
 
-/// The place of a placing, which is added if it isn't found nearby.
-fn keep(
-    placings: &mut Vec<Placing>,
-    near: u32,
-    item: &Item,
-    paper: &Paper,
-) -> Result<u32, AllocError>
+/// The place of a placing, which is added if it isn't found nearby. One of the first is found.
+fn keep(placings: &mut Vec<Placing>, near: u32, placing: &Placing) -> Result<u32, AllocError>
     ensures begins { Begins placings.old.items placings.new.items }
-    ensures there { IfOk result (λ k.
-        slice_get placings.new.items k ≡ Some (record { item = item.now; paper = paper.now })) }
+    ensures there { IfOk result (λ k. slice_get placings.new.items k ≡ Some placing.now) }
+    ensures once { (k : ℕ) → k < 64 → slice_get placings.old.items k ≡ Some placing.now
+        → placings.new.items ≡ placings.old.items }
 {
-    if let Some(place) = find(placings.as_slice(), near, item, paper) {
+    if let Some(place) = find(placings.as_slice(), near, placing) {
         return Ok(place);
     }
     let place = count_of(placings.len())?;
-    placings.push(Placing {
-        item: *item,
-        paper: *paper,
-    })?;
+    placings.push(*placing)?;
     Ok(place)
 }
 
 /// The place of a placing, if it is near or among the first.
-fn find(placings: &[Placing], near: u32, item: &Item, paper: &Paper) -> Option<u32>
-    ensures { IfSome result (λ k. slice_get placings.now k ≡ Some (record { item = item.now; paper = paper.now })) }
+fn find(placings: &[Placing], near: u32, placing: &Placing) -> Option<u32>
+    ensures found { IfSome result (λ k. slice_get placings.now k ≡ Some placing.now) }
+    ensures not_near { IsNone result → slice_get placings.now near ≢ Some placing.now }
+    ensures not_first { IsNone result → (k : ℕ) → k < 64 → slice_get placings.now k ≢ Some placing.now }
 {
-    if let Some(place) = find_at(placings, near, item, paper) {
-        return Some(place);
+    if is_at(placings, near, placing) {
+        return Some(near);
     }
     for place in 0..FEW {
-        if let Some(place) = find_at(placings, place, item, paper) {
+        if is_at(placings, place, placing) {
             return Some(place);
         }
     }
     None
 }
 
-/// This place, if it has the placing.
-fn find_at(placings: &[Placing], place: u32, item: &Item, paper: &Paper) -> Option<u32>
-    ensures { IfSome result (λ k. slice_get placings.now k ≡ Some (record { item = item.now; paper = paper.now })) }
+/// Whether this place has the placing.
+fn is_at(placings: &[Placing], place: u32, placing: &Placing) -> bool
+    ensures { IsTrue result ↔ slice_get placings.now place ≡ Some placing.now }
 {
     if place as usize >= placings.len() {
-        return None;
+        return false;
     }
-    let placing = placing_at(placings, place);
-    if is_same_page(&placing.item, item)
-        && placing.item.turn == item.turn
-        && placing.item.scale == item.scale
-        && is_same(placing.item.offset.0, item.offset.0)
-        && is_same(placing.item.offset.1, item.offset.1)
-        && placing.paper == *paper
-    {
-        Some(place)
-    } else {
-        None
-    }
+    is_same(placing_at(placings, place), placing)
 }
 
-/// Whether both items name the same page in the same way.
-fn is_same_page(one: &Item, other: &Item) -> bool
-    ensures { result ≡ true → (one.now.page ≡ other.now.page) × (one.now.from_end ≡ other.now.from_end) }
+/// Whether both have the same parts.
+fn is_same(one: &Placing, other: &Placing) -> bool
+    ensures { IsTrue result ↔ one.now ≡ other.now }
 {
-    one.page == other.page && one.from_end == other.from_end
-}
-
-/// Whether both are the same number of the same unit.
-fn is_same(one: Measure, other: Measure) -> bool
-    ensures { result ≡ true → one ≡ other }
-{
-    one == other
+    *one == *other
 }

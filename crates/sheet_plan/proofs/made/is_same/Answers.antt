@@ -1,5 +1,5 @@
-use Rattle.sheet_plan.proofs.Placings.{measure_same}
+use Rattle.sheet_plan.proofs.Placings.{placings}
 use Rattle.sheet_plan.proofs.made.is_same.Goals as goal
 
 pub returns : goal.returns
-returns c is = measure_same c.args.one c.args.other _ c.eq.ensures is
+returns c = placings c.args.one.now c.args.other.now c.eq.result c.eq.ensures

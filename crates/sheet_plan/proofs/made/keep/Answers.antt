@@ -7,7 +7,7 @@ pub returns-in-Some-clause-begins : goal.returns-in-Some-clause-begins
 returns-in-Some-clause-begins c = begins_self c.args.placings.now.items
 
 pub returns-in-Some-clause-there : goal.returns-in-Some-clause-there
-returns-in-Some-clause-there c = ap (λ ps. slice_get ps c.in-Some.place) (sym c.as_slice.ensures.value) ∙ c.in-Some.ensures
+returns-in-Some-clause-there c = ap (λ ps. slice_get ps c.in-Some.place) (sym c.as_slice.ensures.value) ∙ c.in-Some.ensures.found
 
 pub returns-in_err-place-clause-begins : goal.returns-in_err-place-clause-begins
 returns-in_err-place-clause-begins c = begins_self c.args.placings.now.items
