@@ -2,7 +2,7 @@
 
 # The words that can stand in a place; `checks/options` compares them with `impose --help`.
 _impose_commands='nup booklet zine cards stack notes poster select spec help'
-_impose_papers='a0 a1 a2 a3 a4 a5 a6 b0 b1 b2 b3 b4 b5 b6 c4 c5 c6 dl letter legal tabloid ledger statement executive folio quarto 10x14'
+_impose_papers='a0 a1 a2 a3 a4 a5 a6 a7 b0 b1 b2 b3 b4 b5 b6 c4 c5 c6 dl jisb4 jisb5 ra3 ra4 sra3 sra4 letter legal tabloid ledger statement executive folio quarto 10x14'
 _impose_options_of() {
     local all='--paper --sheet --border --unguarded --print-spec --quiet --help -p -q -h'
     local parts='--odd --even --reverse'

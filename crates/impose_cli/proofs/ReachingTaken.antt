@@ -3,7 +3,7 @@ use Rattle.std.proofs.Common.{Bool, ◌≡◌, ℕ, ◌+◌, ◌<◌, List, [], 
 use Rattle.std.specs.Prelude.{Option, None, if◌then◌else◌, get_or, unwrap_or}
 use Rattle.rules.specs.Papers.{Paper}
 use Rattle.rules.specs.Parts.{NestedUnit}
-use Rattle.papers.specs.Names.{paper_named}
+use Rattle.paper_names.specs.Names.{paper_named}
 use Rattle.papers.specs.Own.{own_papers}
 use Rattle.papers.specs.Reach.{Placing, extent_of, if_beyond, reach_of, reaching, told_reach}
 use Rattle.papers.specs.declared.boxes.Edges.{Edges}

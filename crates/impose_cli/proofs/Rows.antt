@@ -20,7 +20,7 @@ use Rattle.impose_cli.specs.declared.runs.About.{About}
 use Rattle.impose_cli.proofs.Coming.{comes_as, comes_refused, comes_reported}
 use Rattle.papers.specs.AsOne.{kinds, most_kinds, paper_among}
 use Rattle.papers.specs.declared.cuts.Cut.{Cut}
-use Rattle.papers.specs.Names.{paper_named}
+use Rattle.paper_names.specs.Names.{paper_named}
 use Rattle.impose_said.specs.Faults.{without_memory}
 use Rattle.dsc.specs.PagesBehind.{pages_behind}
 use Rattle.dsc.specs.Serving.{ArePartsOf, Serve}

@@ -5,7 +5,7 @@ use Rattle.rules.specs.Parts.{NestedUnit, pages}
 use Rattle.rules.specs.Run.{document_of}
 use Rattle.made_sheets.specs.Choice.{RowFault, imposed_row}
 use Rattle.made_sheets.specs.Rows.{Row}
-use Rattle.papers.specs.Names.{paper_named}
+use Rattle.paper_names.specs.Names.{paper_named}
 use Rattle.papers.specs.Own.{own_papers}
 use Rattle.papers.specs.Reach.{page_boxes, reach_of}
 use Rattle.papers.specs.declared.boxes.Edges.{Edges}

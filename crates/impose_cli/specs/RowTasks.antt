@@ -17,7 +17,7 @@ use Rattle.layouts.specs.Refusals.{first_of, is_length, why_not_arranged, why_no
 use Rattle.layouts.specs.declared.arrangement.Free.{Free}
 use Rattle.layouts.specs.declared.arrangement.Arrangement.{Arrangement}
 use Rattle.layouts.specs.declared.error.ArrangementError.TheVariants as why
-use Rattle.papers.specs.Names.{paper_named}
+use Rattle.paper_names.specs.Names.{paper_named}
 use Rattle.papers.specs.Own.{own_papers}
 use Rattle.papers.specs.AsOne.{as_one, first_instead_of, kinds, most_kinds, paper_among}
 use Rattle.papers.specs.Cuts.{cut_of}

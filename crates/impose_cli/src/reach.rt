@@ -1,7 +1,7 @@
 //! Pages that reach beyond the papers by which they are placed.
 ghost use Rattle.std.specs.Prelude.{◌≡◌, IfOk, Ok, true};
 ghost use Rattle.rules.specs.Parts.{bytes_of};
-ghost use Rattle.papers.specs.Names.{paper_named};
+ghost use Rattle.paper_names.specs.Names.{paper_named};
 ghost use Rattle.papers.specs.Own.{own_papers};
 ghost use Rattle.papers.specs.Reach.{page_boxes};
 ghost use Rattle.impose_cli.specs.Reaches as meaning;

@@ -6,7 +6,7 @@ mod finished;
 mod inputs;
 mod messages;
 mod mistakes;
-mod report_text;
+mod nearest;
 mod reports;
 mod rooms;
 mod run_lines;

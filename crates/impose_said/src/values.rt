@@ -1,8 +1,9 @@
 //! What is said of values that options and arguments don't take.
 use crate::mistakes::looks_like_file;
+use crate::nearest::{begins_as_size, nearest_names};
 use crate::shown::{joined, push_all, shown_word};
 use impose_words::{GridCommand, Opt, lacks_unit, number_in};
-use papers::{PaperError, name_list, read_paper};
+use papers::{PaperError, read_paper};
 use std::alloc::{AllocError, Global};
 
 /// What is said of a text that is no value of the option or argument.
@@ -154,10 +155,15 @@ fn unknown_paper_text(alloc: Global, option: Opt, text: &str) -> Result<String, 
     let shown = shown_word(alloc, text)?;
     let shown = shown.as_str();
     let option = option.id();
-    let names = name_list();
+    if begins_as_size(text) {
+        return format!(in alloc;
+            "unknown paper '{shown}' after --{option}: name a size such as 210x297mm, or a paper such as a4"
+        );
+    }
+    let names = nearest_names(alloc, text)?;
     format!(in alloc;
-        "unknown paper '{shown}' after --{option}: name one of {names}, or a size as 210x297mm; \
-        a name with -landscape after it is the paper on its side"
+        "unknown paper '{shown}' after --{option}: name {names}, another paper of impose --help, \
+        or a size such as 210x297mm"
     )
 }
 

@@ -7,7 +7,7 @@ use Rattle.clap.specs.Words.{Row, Text, first_of}
 use Rattle.clap.proofs.OnLiterals.{clap_on_literals}
 use Rattle.lengths.specs.Lengths.{a4}
 use Rattle.lengths.specs.Reading.{number_at}
-use Rattle.papers.specs.Names.{papers}
+use Rattle.paper_names.specs.Names.{papers}
 use Rattle.rules.specs.Papers.{points}
 use Rattle.layouts.specs.Grids.{nothing_free, plain_order}
 use Rattle.layouts.specs.declared.arrangement.Cells.TheVariants.{AtLeast, Exactly}

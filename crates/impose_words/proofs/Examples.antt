@@ -11,7 +11,7 @@ use Rattle.layouts.specs.declared.arrangement.Run.TheVariants.{Rows, Columns}
 use Rattle.layouts.specs.declared.arrangement.Turned.TheVariants.{Upright, Left, Right}
 use Rattle.rows.specs.declared.choices.Part.TheVariants.{All, Odd, Even}
 use Rattle.rows.specs.declared.sewing.Signing.TheVariants.{OfSides, Auto}
-use Rattle.papers.specs.Names.{papers}
+use Rattle.paper_names.specs.Names.{papers}
 use Rattle.impose_words.specs.Edges.{gaps_named, margins_in, margins_named}
 use Rattle.impose_words.specs.Signatures.{signing_named}
 use Rattle.impose_words.specs.Sizes.{border_with_unit, length_with_unit, number_alone, size_named}

@@ -4,7 +4,7 @@ use Rattle.std.specs.Prelude.{Option, Some, None, option_map, codes}
 use Rattle.std.specs.Str.{bytes_eq}
 use Rattle.rules.specs.Numbers.{number_of}
 use Rattle.lengths.specs.Reading.{digits, is_empty, past_digits}
-use Rattle.papers.specs.Sizes.{letter_x}
+use Rattle.paper_names.specs.Sizes.{letter_x}
 use Rattle.layouts.specs.Refusals.{is_count}
 use Rattle.dressing.specs.declared.numbers.Numbering.{Numbering}
 use Rattle.dressing.specs.declared.strokes.Marks.{Marks}

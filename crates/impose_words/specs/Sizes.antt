@@ -7,7 +7,7 @@ use Rattle.rules.specs.Papers.{Paper}
 use Rattle.lengths.specs.Lengths.{a4, length_named}
 use Rattle.lengths.specs.Reading.{is_empty, number_at}
 use Rattle.command_words.specs.Borders.{border_named}
-use Rattle.papers.specs.Sizes.{paper_of}
+use Rattle.paper_names.specs.Sizes.{paper_of}
 
 -- the paper that a text means, by its name or its size
 abbrev pub size_named : List ℕ → Option Paper

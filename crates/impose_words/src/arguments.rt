@@ -11,9 +11,9 @@ use std::alloc::{AllocError, Global};
 
 /// What help ends in.
 const PAPERS_AND_EXAMPLES: &str = "Papers:
-  a0, a1, a2, a3, a4, a5, a6, b0, b1, b2, b3, b4, b5, b6, c4, c5, c6, dl, letter, legal, tabloid, ledger,
-  statement, executive, folio, quarto, 10x14; each with -landscape after it lies on its side; or a size,
-  as 210x297mm or 8.5x11in
+  a0, a1, a2, a3, a4, a5, a6, a7, b0, b1, b2, b3, b4, b5, b6, c4, c5, c6, dl, jisb4, jisb5, ra3, ra4, sra3,
+  sra4, letter, legal, tabloid, ledger, statement, executive, folio, quarto, 10x14; or a size, such as
+  210x297mm or 8.5x11in; -landscape after any of them exchanges the sides
 
 Examples:
   impose nup 2 in.ps out.ps           two pages on each sheet

@@ -6,7 +6,7 @@ use Rattle.papers.specs.declared.media.Comment.{Comment}
 use Rattle.papers.specs.declared.media.Comment.TheVariants.{DocumentMedia, DocumentPaperSizes, BoundingBox}
 use Rattle.lengths.specs.Lengths.{a4}
 use Rattle.lengths.specs.Reading.{number_at}
-use Rattle.papers.specs.Names.{papers}
+use Rattle.paper_names.specs.Names.{papers}
 use Rattle.papers.specs.Media.{points_of, is_zero, name_and_rest, name_in, comment_fields, media_paper, box_paper, document_paper}
 
 -- What a field names.

@@ -6,7 +6,7 @@ use Rattle.rules.specs.Parts.{NestedUnit, bytes_of, pages}
 use Rattle.dsc.specs.Header.{header_len}
 use Rattle.dsc.specs.Fields.{fields_in}
 use Rattle.dsc.specs.Units.{units_of}
-use Rattle.papers.specs.Names.{paper_named}
+use Rattle.paper_names.specs.Names.{paper_named}
 use Rattle.papers.specs.Media.{box_of, box_paper, comment_fields, comment_value, comment_values, contents, document_paper, else_take, header, lying_as, media_paper, name_in, or_box, or_named, paper_of_box, trailer_lines}
 use Rattle.papers.specs.Media as of_document
 use Rattle.papers.specs.declared.media.Comment.{Comment}

@@ -1,6 +1,3 @@
-pub mod Table
-pub mod Landscape
-pub mod Examples
 pub mod Contents
 pub mod DocumentExamples
 pub mod Tame

@@ -1,11 +1,7 @@
--- Read in this order: papers by their names; papers by their sizes; the paper at home.
 -- Read in this order: what comments say; a page's own paper, and what is said of two papers; how sheets report theirs;
 -- what is found of it.
 -- Read in this order: media that a document knows, as the code keeps them; papers that count as one; pages that a
 -- paper cuts; pages that reach beyond their papers.
-pub mod Names
-pub mod Sizes
-pub mod Home
 pub mod Media
 pub mod Comments
 pub mod Own

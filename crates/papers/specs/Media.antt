@@ -14,7 +14,7 @@ use Rattle.dsc.specs.Header.{header_len}
 use Rattle.dsc.specs.Units.{units_of}
 use Rattle.lengths.specs.Lengths.{a4}
 use Rattle.lengths.specs.Reading.{is_empty, number_at}
-use Rattle.papers.specs.Names.{paper_named, turned}
+use Rattle.paper_names.specs.Names.{paper_named, turned}
 use Rattle.papers.specs.declared.media.Comment.{Comment}
 use Rattle.papers.specs.declared.boxes.Edges.{Edges}
 use Rattle.papers.specs.declared.media.Comment.TheVariants.{DocumentMedia, DocumentPaperSizes, BoundingBox}

@@ -2,7 +2,7 @@
 ghost use Rattle.std.specs.Prelude.{◌≡◌, IfOk, None, map, length, replicate, codes, option_and_then};
 ghost use Rattle.rules.specs.Parts.{bytes_of, pages};
 ghost use Rattle.dsc.specs.Units.{units_of};
-ghost use Rattle.papers.specs.Names.{paper_named};
+ghost use Rattle.paper_names.specs.Names.{paper_named};
 ghost use Rattle.papers.specs.Media.{comment_fields, comment_value, contents, header, paper_of_box as paper_of_box_at, trailer_lines};
 ghost use Rattle.papers.specs.Comments.{head_of, named_medium, page_head, told_by_document, told_by_page as told};
 ghost use Rattle.papers.specs.Own.{medium_by, or_this, own_papers as papers_of_pages, page_or};

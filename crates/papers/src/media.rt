@@ -9,9 +9,9 @@ ghost use Rattle.papers.specs.Media as meaning;
 use crate::boxes::{box_paper, paper_of, paper_of_box};
 use crate::comments::{continuation, first_comment};
 use crate::fields::{name_and_rest, name_in, points_of};
-use crate::paper_by_name;
 use dsc::{header_len, next_field, trailer_box};
 use lengths::{Grains, Paper};
+use paper_names::paper_by_name;
 
 /// By so much, 15 points, programs' sizes of one paper may differ.
 const NEARNESS: u128 = 15 * 127_000_000_000;

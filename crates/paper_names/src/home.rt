@@ -1,0 +1,75 @@
+//! The paper at home.
+ghost use Rattle.std.specs.Prelude.{◌≡◌, ◌≤◌, false, length};
+ghost use Rattle.paper_names.specs.Home as meaning;
+
+use crate::names::paper_by_name;
+use lengths::{Paper, a4};
+
+/// The paper that is usual where the program runs: by the value of the variable `PAPERSIZE`, else by the first word of
+/// `/etc/papersize`, comments left out, else a4. Neither counts if it is no name of a paper, and each is empty if it isn't there.
+pub fn home_paper(variable: &[u8], file: &[u8]) -> Paper
+    ensures { result ≡ meaning.home_paper variable.now file.now }
+{
+    match paper_by_name(variable) {
+        Some(paper) => paper,
+        None => match paper_by_name(first_word(file)) {
+            Some(paper) => paper,
+            None => a4(),
+        },
+    }
+}
+
+/// The first word outside of comments; it may be empty.
+fn first_word(text: &[u8]) -> &[u8]
+    ensures { result.now ≡ meaning.first_word text.now }
+{
+    word_at(from_word(text))
+}
+
+/// The text from its first word on.
+fn from_word(text: &[u8]) -> &[u8]
+    ensures { result.now ≡ meaning.from_word false text.now }
+{
+    let mut rest = text;
+    let mut comment = false;
+    while let Some((first, others)) = rest.split_first() {
+        if !comment && is_of_word(*first) {
+            return rest;
+        }
+        comment = is_comment_after(comment, *first);
+        rest = others;
+    }
+    rest
+}
+
+/// Whether what follows a byte is in a comment.
+fn is_comment_after(comment: bool, byte: u8) -> bool
+    ensures { result ≡ meaning.is_comment_after comment byte }
+{
+    if comment { byte != b'\n' } else { byte == b'#' }
+}
+
+/// Whether a byte belongs to a word.
+fn is_of_word(byte: u8) -> bool
+    ensures { result ≡ meaning.is_of_word byte }
+{
+    !(byte.is_ascii_whitespace() || byte == b'#')
+}
+
+/// The word that the text begins with.
+fn word_at(text: &[u8]) -> &[u8]
+    ensures { result.now ≡ meaning.word_at text.now }
+{
+    let (word, _) = text.split_at(word_len(text));
+    word
+}
+
+/// How long it is.
+fn word_len(text: &[u8]) -> usize
+    ensures value { result ≡ meaning.word_len text.now }
+    ensures within { result ≤ length text.now }
+{
+    text.iter()
+        .take_while(|b| !(b.is_ascii_whitespace() || **b == b'#'))
+        .count()
+}

@@ -1,0 +1,204 @@
+//! Papers by their names and sizes.
+ghost use Rattle.std.specs.Prelude.{◌≡◌, ◌≤◌, length, option_and_then, option_map};
+ghost use Rattle.std.specs.List.{prefix_len};
+ghost use Rattle.rules.specs.Units.{is_blank};
+ghost use Rattle.lengths.specs.Units.{length_unit};
+ghost use Rattle.paper_names.specs.Names.{upright_named};
+ghost use Rattle.paper_names.specs.Sizes as meaning;
+
+use crate::error::PaperError;
+use crate::names::{is_named, upright_paper, upright_part};
+use lengths::{Grains, Number, Paper, Unit, a4, read_number, to_grains};
+
+/// A number, and the unit after it, if there is one.
+#[derive(Clone, Copy, Debug, PartialEq, Eq)]
+struct Side {
+    number: Number,
+    unit: Option<Unit>,
+}
+
+/// The paper that a text means: the one with this name (`paper_by_name`), or of the width and height at its end, with an `x`
+/// between them. `landscape` or `quer` after it exchanges the sides.
+///
+/// A side is a number up to 99,999.999999999 with `pt`, `cm`, `mm`, `in`, `inch` or `"` after it. A unit after the height alone
+/// holds for both, as in `210x297mm`. `X`, `*` and `×` may be written for the `x`, and before an underscore a name, which is
+/// passed over: `iso_a4_210x297mm`.
+pub fn read_paper(text: &[u8]) -> Result<Paper, PaperError>
+    ensures { result ≡ meaning.paper_of text.now }
+{
+    match upright_part(text) {
+        Some(front) => on_its_side(read_upright(front)),
+        None => read_upright(text),
+    }
+}
+
+/// The paper of a text without the word for one on its side.
+fn read_upright(text: &[u8]) -> Result<Paper, PaperError>
+    ensures { result ≡ meaning.upright_paper text.now }
+{
+    match upright_paper(text) {
+        Some(paper) => Ok(paper),
+        None => size_of(last_part(text)),
+    }
+}
+
+/// The paper on its side.
+fn on_its_side(paper: Result<Paper, PaperError>) -> Result<Paper, PaperError>
+    ensures { result ≡ meaning.on_its_side paper }
+{
+    match paper {
+        Ok(paper) => Ok(paper.turned()),
+        Err(error) => Err(error),
+    }
+}
+
+/// What follows the last underscore that isn't the end, or else the text.
+fn last_part(text: &[u8]) -> &[u8]
+    ensures { result.now ≡ meaning.last_part text.now text.now }
+{
+    let mut part = text;
+    let mut rest = text;
+    while let Some((first, others)) = rest.split_first() {
+        if *first == b'_' && !others.is_empty() {
+            part = others;
+        }
+        rest = others;
+    }
+    part
+}
+
+/// The paper of a width and a height, with a sign between them.
+fn size_of(text: &[u8]) -> Result<Paper, PaperError>
+    ensures { result ≡ meaning.size_of text.now }
+{
+    let (width, rest) = text.split_at(x_at(text));
+    size_of_both(side_of(width), side_behind(rest))
+}
+
+/// Where the first sign between two sides is, or the end.
+fn x_at(text: &[u8]) -> usize
+    ensures value { result ≡ meaning.x_at text.now }
+    ensures within { result ≤ length text.now }
+{
+    text.iter()
+        .take_while(|b| !(**b == b'x' || (**b == b'X' || (**b == b'*' || **b == 0xC3))))
+        .count()
+}
+
+/// The side after the sign that a text begins with.
+fn side_behind(text: &[u8]) -> Option<Side>
+    ensures { option_map (λ s. (s.number, option_map length_unit s.unit)) result
+        ≡ option_and_then meaning.side_of (meaning.behind_cross text.now) }
+{
+    side_of(behind_cross(text)?)
+}
+
+/// What follows the sign that a text begins with.
+fn behind_cross(text: &[u8]) -> Option<&[u8]>
+    ensures { option_map (λ rest. rest.now) result ≡ meaning.behind_cross text.now }
+{
+    let (first, rest) = text.split_first()?;
+    if *first == 0xC3 {
+        behind_second(rest)
+    } else {
+        Some(rest)
+    }
+}
+
+/// What follows the second byte of a multiplication sign, if a text begins with it.
+fn behind_second(text: &[u8]) -> Option<&[u8]>
+    ensures { option_map (λ rest. rest.now) result ≡ meaning.behind_second text.now }
+{
+    let (second, rest) = text.split_first()?;
+    if *second == 0x97 { Some(rest) } else { None }
+}
+
+/// The side that the text is.
+fn side_of(text: &[u8]) -> Option<Side>
+    ensures { option_map (λ s. (s.number, option_map length_unit s.unit)) result ≡ meaning.side_of text.now }
+{
+    let (_, text) = text.split_at(blanks_at(text));
+    let (number, len) = read_number(text).ok()?;
+    let (_, name) = text.split_at(len);
+    if is_named(name, b"") {
+        return Some(Side { number, unit: None });
+    }
+    let unit = unit_of(name)?;
+    Some(Side {
+        number,
+        unit: Some(unit),
+    })
+}
+
+/// The number of blanks at the front.
+fn blanks_at(text: &[u8]) -> usize
+    ensures value { result ≡ prefix_len is_blank text.now }
+    ensures within { result ≤ length text.now }
+{
+    text.iter()
+        .take_while(|b| **b == b' ' || **b == b'\t')
+        .count()
+}
+
+/// The unit of this name.
+fn unit_of(name: &[u8]) -> Option<Unit>
+    ensures { option_map length_unit result ≡ meaning.unit_of name.now }
+{
+    if is_named(name, b"pt") {
+        Some(Unit::Pt)
+    } else if is_named(name, b"cm") {
+        Some(Unit::Cm)
+    } else if is_named(name, b"mm") {
+        Some(Unit::Mm)
+    } else if is_inch(name) {
+        Some(Unit::In)
+    } else {
+        None
+    }
+}
+
+fn is_inch(name: &[u8]) -> bool
+    ensures { result ≡ meaning.is_inch name.now }
+{
+    is_named(name, b"in") || (is_named(name, b"inch") || is_named(name, b"\""))
+}
+
+/// The paper of two sides, if both are there.
+fn size_of_both(width: Option<Side>, height: Option<Side>) -> Result<Paper, PaperError>
+    ensures { result ≡ meaning.size_of_both
+        (option_map (λ s. (s.number, option_map length_unit s.unit)) width)
+        (option_map (λ s. (s.number, option_map length_unit s.unit)) height) }
+{
+    match (width, height) {
+        (Some(width), Some(height)) => size_of_sides(width, height),
+        _ => Err(PaperError::Unknown),
+    }
+}
+
+fn size_of_sides(width: Side, height: Side) -> Result<Paper, PaperError>
+    ensures { result ≡ meaning.size_of_sides
+        (width.number, option_map length_unit width.unit) (height.number, option_map length_unit height.unit) }
+{
+    match (width.unit, height.unit) {
+        (Some(u), Some(v)) => in_units(width.number, u, height.number, v),
+        (None, Some(v)) => in_units(width.number, v, height.number, v),
+        (_, None) => Err(PaperError::NoUnit),
+    }
+}
+
+/// The paper of these numbers of units, none of which asks for a paper.
+fn in_units(width: Number, u: Unit, height: Number, v: Unit) -> Result<Paper, PaperError>
+    ensures { result ≡ meaning.in_units width (length_unit u) height (length_unit v) }
+{
+    paper_of_sides(to_grains(width, u, &a4()), to_grains(height, v, &a4()))
+}
+
+/// The paper with these sides, if they may be a paper's.
+fn paper_of_sides(width: Grains, height: Grains) -> Result<Paper, PaperError>
+    ensures { result ≡ meaning.paper_of_sides width height }
+{
+    match Paper::new(width, height) {
+        Some(paper) => Ok(paper),
+        None => Err(PaperError::NoSuchSize),
+    }
+}

@@ -1,8 +1,0 @@
-use Rattle.std.proofs.Common.{◌≡◌, drop}
-use Rattle.std.specs.Prelude.{map}
-use Rattle.rules.specs.Papers.{paper_among}
-use Rattle.papers.specs.Names.{entry}
-use Rattle.papers.proofs.names.paper_in.Given as goal
-
-abbrev pub invariant-loop-row : goal.invariant-loop-row
-invariant-loop-row l = paper_among (map entry (drop l.row-index l.rows)) l.name ≡ paper_among (map entry l.rows) l.name
