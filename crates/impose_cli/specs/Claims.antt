@@ -5,7 +5,7 @@ use Rattle.rules.specs.Papers.{Paper}
 use Rattle.papers.specs.Comments.{first_name}
 use Rattle.papers.specs.Media.{comment_value, document_paper, header}
 use Rattle.papers.specs.declared.media.Comment.{Comment}
-use Rattle.papers.specs.declared.media.Comment.TheVariants.{BoundingBox}
+use Rattle.papers.specs.declared.media.Comment.TheVariants.{BoundingBox, DocumentMedia, DocumentPaperSizes, Setup}
 use Rattle.impose_words.specs.declared.request.ImposeRequest.{ImposeRequest}
 use Rattle.impose_said.specs.Said.{shown_name}
 use Rattle.impose_said.specs.declared.finished.Told.{Told}
@@ -13,8 +13,10 @@ use Rattle.row_runs.specs.ToldPages.{told_pages}
 
 -- a comment names papers or media
 abbrev pub is_name : Comment → Bool
+is_name DocumentMedia = true
+is_name DocumentPaperSizes = true
 is_name BoundingBox = false
-is_name other = true
+is_name Setup = false
 
 -- a paper was found by a name
 abbrev pub is_by_name : Option (Paper × Comment) → Bool

@@ -66,8 +66,8 @@ fn is_name(comment: Comment) -> bool
     ensures { result ≡ meaning.is_name comment }
 {
     match comment {
-        Comment::BoundingBox => false,
-        _ => true,
+        Comment::DocumentMedia | Comment::DocumentPaperSizes => true,
+        Comment::BoundingBox | Comment::Setup => false,
     }
 }
 

@@ -45,6 +45,7 @@ origin_text origin.Named = codes "as named"
 origin_text (origin.ByComment comment.DocumentMedia) = codes "by its %%DocumentMedia"
 origin_text (origin.ByComment comment.DocumentPaperSizes) = codes "by its %%DocumentPaperSizes"
 origin_text (origin.ByComment comment.BoundingBox) = codes "by its %%BoundingBox"
+origin_text (origin.ByComment comment.Setup) = codes "by its setup"
 origin_text origin.AtHome = codes "the usual one here, as the document names none"
 origin_text origin.FirstPage = codes "that of the first page taken, as none has the document's"
 

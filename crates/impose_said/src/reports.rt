@@ -357,11 +357,12 @@ fn origin_text(origin: PaperOrigin) -> &'static [u8]
     ensures short { length result.now ≤ 60 }
 {
     match origin {
-        PaperOrigin::Named => b"as named",
-        PaperOrigin::ByComment(Comment::DocumentMedia) => b"by its %%DocumentMedia",
-        PaperOrigin::ByComment(Comment::DocumentPaperSizes) => b"by its %%DocumentPaperSizes",
-        PaperOrigin::ByComment(Comment::BoundingBox) => b"by its %%BoundingBox",
-        PaperOrigin::AtHome => b"the usual one here, as the document names none",
-        PaperOrigin::FirstPage => b"that of the first page taken, as none has the document's",
+        PaperOrigin::Named => "as named",
+        PaperOrigin::ByComment(Comment::DocumentMedia) => "by its %%DocumentMedia",
+        PaperOrigin::ByComment(Comment::DocumentPaperSizes) => "by its %%DocumentPaperSizes",
+        PaperOrigin::ByComment(Comment::BoundingBox) => "by its %%BoundingBox",
+        PaperOrigin::ByComment(Comment::Setup) => "by its setup",
+        PaperOrigin::AtHome => "the usual one here, as the document names none",
+        PaperOrigin::FirstPage => "that of the first page taken, as none has the document's",
     }
 }

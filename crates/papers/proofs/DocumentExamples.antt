@@ -3,7 +3,7 @@ use Rattle.std.proofs.Common.{◌≡◌, ℕ, true, false, List, [], ◌∷◌, 
 use Rattle.std.specs.Prelude.{codes, Option, None, Some, pos, map}
 use Rattle.rules.specs.Papers.{Paper, points}
 use Rattle.papers.specs.declared.media.Comment.{Comment}
-use Rattle.papers.specs.declared.media.Comment.TheVariants.{DocumentMedia, DocumentPaperSizes, BoundingBox}
+use Rattle.papers.specs.declared.media.Comment.TheVariants.{DocumentMedia, DocumentPaperSizes, BoundingBox, Setup}
 use Rattle.lengths.specs.Lengths.{a4}
 use Rattle.lengths.specs.Reading.{number_at}
 use Rattle.paper_names.specs.Names.{papers}
@@ -294,3 +294,26 @@ too_low_to_lie_so = refl
 beside_the_corner : told (codes "%!\n%%BoundingBox: 1 0 842 595\n%%DocumentPaperSizes: a4\n") ≡ Some (points 595 842, DocumentPaperSizes)
 unfolding number_at papers
 beside_the_corner = refl
+
+-- Papers that the setup asks for.
+
+by_setup : told (codes "%!\n<< /PageSize [ 842 1191 ] >> setpagedevice\n%%Page: 1 1\nx\n") ≡ Some (points 842 1_191, Setup)
+unfolding number_at
+by_setup = refl
+
+setup_of_a_page : told (codes "%!\n%%Page: 1 1\n<< /PageSize [842 1191] >> setpagedevice\n") ≡ None
+setup_of_a_page = refl
+
+-- the first that has two numbers
+first_numbers : told (codes "%!\n/PageSize get\n/PageSize [w h]\n/PageSize [1 2 3]\n/PageSize[5 6]\n/PageSize [7 8]\n") ≡ Some (points 5 6, Setup)
+unfolding number_at
+first_numbers = refl
+
+comment_before_setup : told (codes "%!\n%%BoundingBox: 0 0 1 2\n/PageSize [5 6]\n") ≡ Some (points 1 2, BoundingBox)
+unfolding number_at
+comment_before_setup = refl
+
+-- a box passes the paper that the setup asks for, and not the usual one
+box_within_setup : told (codes "%!\n%%BoundingBox: 20 20 900 700\n/PageSize [1191 842]\n") ≡ Some (points 1_191 842, Setup)
+unfolding number_at
+box_within_setup = refl

@@ -7,7 +7,7 @@ use Rattle.dsc.specs.Header.{header_len}
 use Rattle.dsc.specs.Fields.{fields_in}
 use Rattle.dsc.specs.Units.{units_of}
 use Rattle.paper_names.specs.Names.{paper_named}
-use Rattle.papers.specs.Media.{box_of, box_paper, comment_fields, comment_value, comment_values, contents, document_paper, else_take, header, lying_as, media_paper, name_in, or_box, or_named, paper_of_box, trailer_lines}
+use Rattle.papers.specs.Media.{box_of, box_paper, comment_fields, comment_value, comment_values, contents, document_told, else_take, header, lying_as, media_paper, name_in, or_box, or_named, paper_of_box, trailer_lines, usual_in}
 use Rattle.papers.specs.Media as of_document
 use Rattle.papers.specs.declared.media.Comment.{Comment}
 use Rattle.papers.specs.declared.media.Comment.TheVariants.{BoundingBox}
@@ -48,15 +48,15 @@ by_media usual lines trailer None =
     ∙ ap (λ n. else_take (option_map (lying_as (option_and_then box_paper box)) n) (option_and_then (paper_of_box usual) box)) (same_names (names lines))
 
 pub document_tells : (usual : Paper) (text : List ℕ)
-    → option_map (λ p. p.0) (document_paper usual text) ≡ told_by_document paper_named usual (header text) (trailer_lines (units_of text))
+    → option_map (λ p. p.0) (document_told usual text) ≡ told_by_document paper_named usual (header text) (trailer_lines (units_of text))
 document_tells usual text = by_media usual (header text) (trailer_lines (units_of text)) (option_and_then media_paper (comment_value (codes "%%DocumentMedia") (header text)))
 
 -- and else this
-pub told_found : (text : List ℕ) (other : Paper) (r : Option (Paper × Comment)) (p : Paper × Comment) → r ≡ document_paper other text → r ≡ Some p
+pub told_found : (text : List ℕ) (other : Paper) (r : Option (Paper × Comment)) (p : Paper × Comment) → r ≡ document_told other text → r ≡ Some p
     → p.0 ≡ or_this (told_by_document paper_named other (header text) (trailer_lines (units_of text))) other
 told_found text other r p e s = ap (λ t. or_this (paper_told t) other) (sym s ∙ e) ∙ ap (λ o. or_this o other) (document_tells other text)
 
-pub none_found : (text : List ℕ) (other : Paper) (r : Option (Paper × Comment)) → r ≡ document_paper other text → r ≡ None
+pub none_found : (text : List ℕ) (other : Paper) (r : Option (Paper × Comment)) → r ≡ document_told other text → r ≡ None
     → other ≡ or_this (told_by_document paper_named other (header text) (trailer_lines (units_of text))) other
 none_found text other r e s = ap (λ t. or_this (paper_told t) other) (sym s ∙ e) ∙ ap (λ o. or_this o other) (document_tells other text)
 
@@ -84,15 +84,16 @@ same_pages f g other (p ∷ ps) same =
     ∙ ap (λ qs. page_or g (page_head p) other ∷ qs) (same_pages f g other ps (λ k less. same (suc k) (omega (arith, less))))
 
 -- what each page says, and else its document, is its own
-pub each_is_own : (us : List NestedUnit) (text head : List ℕ) (n : ℕ) (other home : Paper) → text ≡ bytes_of us → us ≡ units_of text → n ≡ header_len text → head ≡ take n text
-    → other ≡ or_this (told_by_document paper_named home (header text) (trailer_lines (units_of text))) home
+pub each_is_own : (us : List NestedUnit) (text head : List ℕ) (n : ℕ) (other home usual : Paper) → text ≡ bytes_of us → us ≡ units_of text → n ≡ header_len text → head ≡ take n text
+    → usual ≡ usual_in home text → other ≡ or_this (told_by_document paper_named usual (header text) (trailer_lines (units_of text))) usual
     → map (λ page. page_or (medium_by (contents head)) (page_head page) other) (pages us) ≡ own_papers None paper_named home (bytes_of us) us
-each_is_own us text head n other home whole units len front else_ =
+each_is_own us text head n other home usual whole units len front set else_ =
     let headed : contents head ≡ header text = ap contents (front ∙ ap (λ k. take k text) len) in
     ap (λ hs. map (λ page. page_or (medium_by hs) (page_head page) other) (pages us)) headed
-    ∙ ap (λ o. map (λ page. page_or (medium_by (header text)) (page_head page) o) (pages us)) else_
-    ∙ ap (λ vs. map (own_paper paper_named home (header text) (trailer_lines vs)) (pages us)) (sym units)
-    ∙ ap (λ t. map (own_paper paper_named home (header t) (trailer_lines us)) (pages us)) whole
+    ∙ ap (λ o. map (λ page. page_or (medium_by (header text)) (page_head page) o) (pages us))
+    (else_ ∙ ap (λ u. or_this (told_by_document paper_named u (header text) (trailer_lines (units_of text))) u) set)
+    ∙ ap (λ vs. map (own_paper paper_named (usual_in home text) (header text) (trailer_lines vs)) (pages us)) (sym units)
+    ∙ ap (λ t. map (own_paper paper_named (usual_in home t) (header t) (trailer_lines us)) (pages us)) whole
 
 -- one paper for all
 one_for_all : {A : Type 0} (paper : Paper) (xs : List A) → replicate (length xs) paper ≡ map (λ x. paper) xs

@@ -1,24 +1,26 @@
 -- Each sheet's paper is found in what was written.
-use Rattle.std.specs.Prelude.{codes, decimal, flat_map, fold, map, Option, Some, option_and_then, option_map, slice_get, nat_abs, ℤ, pos, if◌then◌else◌, ◌||◌, ◌*◌}
+use Rattle.std.specs.Prelude.{codes, decimal, flat_map, fold, map, Ok, Option, Some, option_and_then, option_map, slice_get, nat_abs, ℤ, pos, if◌then◌else◌, ◌||◌, ◌*◌}
 use Rattle.std.specs.List.{AllByRecursion, enumerate_from, list_any}
-use Rattle.std.proofs.Common.{◌≡◌, ℕ, zero, suc, ◌+◌, List, [], ◌∷◌, ◌++◌, Bool, true, false, true≢false, refl, sym, ap, subst, ◌∙◌, drop, append_assoc}
+use Rattle.std.proofs.Common.{◌≡◌, ℕ, zero, suc, ◌+◌, ◌<◌, ◌≤◌, length, List, [], ◌∷◌, ◌++◌, Bool, true, false, true≢false, refl, sym, ap, subst, ◌∙◌, drop, append_assoc}
 use Rattle.lengths.proofs.Numbers.{some_same}
 use Rattle.rules.specs.Bytes.{line}
 use Rattle.rules.specs.Output.{Border}
 use Rattle.rules.specs.Papers.{Paper}
-use Rattle.rules.specs.Parts.{pages}
+use Rattle.rules.specs.Parts.{NestedUnit, page_run, pages}
+use Rattle.rules.specs.Run.{document_of, most_input_bytes, most_pages}
 use Rattle.rules.specs.Units.{content_of, is_comment, line_len}
 use Rattle.dsc.specs.Units.{units_of}
 use Rattle.made_sheets.specs.Dress.{lines_text}
 use Rattle.made_sheets.specs.Made.{Blank, MadeSheet, MadeSlot, Placed}
 use Rattle.made_sheets.specs.MadeOutput.{made_output, made_sheet_text, made_slot_text}
+use Rattle.imposed_again.specs.Again.{depth_behind}
 use Rattle.imposed_again.specs.MadeAgain.{IsTameDress, made_texts}
 use Rattle.imposed_again.proofs.MadeAgain.{made_is_document}
 use Rattle.seams.specs.Seams.{no_ends}
 use Rattle.seams.proofs.Plainly.{no_ends_append, no_ends_decimal}
 use Rattle.papers.specs.Comments.{first_named_in, is_in_head, medium_in, page_head, paper_of_medium, told_by_document, told_by_page}
 use Rattle.papers.specs.Found.{AreQuiet, Finish, IsTellablePaper, PapersAreFound, as_printed, telling_and}
-use Rattle.papers.specs.Media.{box_of, box_paper, comment_fields, comment_value, comment_values, continued, else_take, header, lying_as, media_paper, paper_of_box, trailer_lines, value_of}
+use Rattle.papers.specs.Media.{box_of, box_paper, comment_fields, comment_value, comment_values, continued, else_take, header, lying_as, media_paper, paper_of_box, trailer_lines, usual_in, value_of}
 use Rattle.papers.specs.Own.{covering, medium_by, or_this, own_paper, page_or}
 use Rattle.papers.specs.Told.{box_line, box_lines, different_from, exact_box_line, in_print, is_told_alike, is_whole, medium_line, page_size_lines, papers_told, sheet_lines, size_name, telling_of, whole_paper}
 use Rattle.papers.proofs.Covered.{by_test}
@@ -249,8 +251,15 @@ tellable_at [] k sheet h e = cc
 tellable_at (x ∷ all) zero sheet h e = subst (λ it. IsTellablePaper it.paper) (some_same x sheet e) h.0
 tellable_at (x ∷ all) (suc k) sheet h e = tellable_at all k sheet h.1 e
 
-pub papers_are_found : PapersAreFound
-papers_are_found named home border finish all text us tellable quiet d shut some few l =
+-- whatever paper would be taken without what the sheets report
+found_in : (named : List ℕ → Option Paper) (home : Paper) (border : Option Border) (finish : Finish) (all : List MadeSheet) (text : List ℕ) (us : List NestedUnit)
+    → AllByRecursion (λ sheet. IsTellablePaper sheet.paper) all → AreQuiet finish
+    → document_of text ≡ Ok us → depth_behind (page_run us) ≡ 0 → 0 < length all → length all ≤ most_pages
+    → length (made_output border (telling_and finish all) all us) ≤ most_input_bytes
+    → map (own_paper named home (header (made_output border (telling_and finish all) all us)) (trailer_lines (units_of (made_output border (telling_and finish all) all us))))
+    (pages (units_of (made_output border (telling_and finish all) all us)))
+    ≡ map (λ sheet. as_printed sheet.paper) all
+found_in named home border finish all text us tellable quiet d shut some few l =
     let dress = telling_and finish all in
     let out : List ℕ = made_output border dress all us in
     let told : List Paper = papers_told (map (λ sheet. sheet.paper) all) in
@@ -264,3 +273,7 @@ papers_are_found named home border finish all text us tellable quiet d shut some
     ∙ one_by_one (own_paper named home lines last) (λ (s, sheet). made_sheet_text border dress (pages us) s sheet) 0 all
     (λ k sheet s is. each_found named home hs.first hs.count hs.more last border finish told (pages us) s sheet hs.no_first hs.no_count
     all_told (tellable_at all k sheet tellable is) quiet (is_told all k sheet is))
+
+pub papers_are_found : PapersAreFound
+papers_are_found named home border finish all text us =
+    found_in named (usual_in home (made_output border (telling_and finish all) all us)) border finish all text us

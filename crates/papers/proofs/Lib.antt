@@ -11,6 +11,7 @@ pub mod Heads
 pub mod KnownNames
 pub mod PageTells
 pub mod DocumentTells
+pub mod AskedSizes
 pub mod CutPages
 pub mod PageBoxes
 pub mod ReachingPages

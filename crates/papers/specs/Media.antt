@@ -1,6 +1,6 @@
 -- The paper that a document is made for, by its comments (DSC 3.0, %%DocumentMedia and %%BoundingBox, and
--- (atend); DSC 2.1, %%DocumentPaperSizes).
-use Rattle.std.specs.Prelude.{ℕ, zero, suc, ◌+◌, ◌*◌, ℤ, pos, ◌+ℤ◌, ◌-ℤ◌, nat_abs, nat_le, int_lt, Bool, false, not, ◌&&◌, ◌||◌, if◌then◌else◌, option_map, option_and_then}
+-- (atend); DSC 2.1, %%DocumentPaperSizes), or by its setup (PostScript Language Reference, page device parameter PageSize).
+use Rattle.std.specs.Prelude.{ℕ, zero, suc, ◌+◌, ◌*◌, ℤ, pos, ◌+ℤ◌, ◌-ℤ◌, nat_abs, nat_le, int_lt, Bool, false, not, ◌&&◌, ◌||◌, if◌then◌else◌, option_map, option_and_then, unwrap_or}
 use Rattle.std.specs.Prelude.{List, [], ◌∷◌, length, take, drop, map, filter, codes, Option, Some, None, nat_eq, ◌-◌, ◌==◌, slice_index, slice_range}
 use Rattle.std.specs.Ordering.{int_eq}
 use Rattle.std.specs.List.{prefix_len, starts_with}
@@ -17,7 +17,7 @@ use Rattle.lengths.specs.Reading.{is_empty, number_at}
 use Rattle.paper_names.specs.Names.{paper_named, turned}
 use Rattle.papers.specs.declared.media.Comment.{Comment}
 use Rattle.papers.specs.declared.boxes.Edges.{Edges}
-use Rattle.papers.specs.declared.media.Comment.TheVariants.{DocumentMedia, DocumentPaperSizes, BoundingBox}
+use Rattle.papers.specs.declared.media.Comment.TheVariants.{DocumentMedia, DocumentPaperSizes, BoundingBox, Setup}
 
 -- ---- fields
 
@@ -230,6 +230,52 @@ or_named usual lines trailer (Some paper) = Some (paper, DocumentMedia)
 or_named usual lines trailer None =
     or_box usual (box_of lines trailer) (first_named_in (comment_values (codes "%%DocumentPaperSizes") lines))
 
-abbrev pub document_paper : (usual : Paper) → List ℕ → Option (Paper × Comment)
-document_paper usual text = or_named usual (header text) (trailer_lines (units_of text))
+abbrev pub document_told : (usual : Paper) → List ℕ → Option (Paper × Comment)
+document_told usual text = or_named usual (header text) (trailer_lines (units_of text))
     (option_and_then media_paper (comment_value (codes "%%DocumentMedia") (header text)))
+
+-- ---- a paper that the setup asks for
+
+-- what follows the first /PageSize of a line
+abbrev pub behind_key : List ℕ → Option (List ℕ)
+behind_key [] = None
+behind_key (b ∷ rest) = if starts_with nat_eq (b ∷ rest) (codes "/PageSize") then Some (drop 9 (b ∷ rest)) else behind_key rest
+
+-- the length of what is before the first closing bracket
+abbrev pub open_len : List ℕ → ℕ
+open_len text = prefix_len (λ b. not (b == 93)) text
+
+-- what is in the brackets that a text begins with
+abbrev pub in_brackets : List ℕ → Option (List ℕ)
+in_brackets [] = None
+in_brackets (b ∷ rest) = if b == 91 then Some (take (open_len rest) rest) else None
+
+-- the paper whose sides are two numbers, and nothing else
+abbrev pub two_sides : List (List ℕ) → Option Paper
+two_sides (width ∷ height ∷ []) = paper_of (points_of width) (points_of height)
+two_sides other = None
+
+-- the paper that a line asks for: two numbers in brackets after the first /PageSize
+abbrev pub size_behind : List ℕ → Option Paper
+size_behind text = option_and_then (λ inside. two_sides (fields_in inside)) (in_brackets (drop (prefix_len is_blank text) text))
+
+abbrev pub size_asked : (content : List ℕ) → Option Paper
+size_asked content = option_and_then size_behind (behind_key content)
+
+-- that of the first line before the first page that asks for one
+abbrev pub set_size : List (List ℕ) → Option Paper
+set_size [] = None
+set_size (content ∷ rest) =
+    if is_comment (codes "%%Page") content then None else else_take (size_asked content) (set_size rest)
+
+-- the paper that is taken of a document without comments: the one that its setup asks for, or else this one
+abbrev pub usual_in : (home : Paper) → (text : List ℕ) → Paper
+usual_in home text = unwrap_or (set_size (contents text)) home
+
+-- what comments say, or else the setup
+abbrev pub or_setup : (set : Option Paper) → Option (Paper × Comment) → Option (Paper × Comment)
+or_setup set (Some told) = Some told
+or_setup set None = option_map (λ paper. (paper, Setup)) set
+
+abbrev pub document_paper : (home : Paper) → List ℕ → Option (Paper × Comment)
+document_paper home text = or_setup (set_size (contents text)) (document_told (usual_in home text) text)

@@ -3,7 +3,7 @@ use Rattle.std.specs.Prelude.{ℕ, ◌*◌, ℤ, ◌-ℤ◌, nat_abs, int_le, Bo
 use Rattle.std.specs.Prelude.{if◌then◌else◌, List, map, Option, Some, None}
 use Rattle.rules.specs.Papers.{Paper}
 use Rattle.rules.specs.Parts.{NestedUnit, pages}
-use Rattle.papers.specs.Media.{header, trailer_lines}
+use Rattle.papers.specs.Media.{header, trailer_lines, usual_in}
 use Rattle.papers.specs.Comments.{media, page_head, paper_of_medium, told_by_document, told_by_page}
 
 -- what is said, and else this
@@ -25,11 +25,12 @@ abbrev pub own_paper : (named : List ℕ → Option Paper) → (home : Paper) �
 own_paper named home header trailer page =
     page_or (medium_by header) (page_head page) (or_this (told_by_document named home header trailer) home)
 
--- the papers of a document's pages, in order: the one that was asked for, if one was, and else each page's own
+-- the papers of a document's pages, in order: the one that was asked for, if one was, and else each page's own, where the one that the document's
+-- setup asks for goes before the one at home
 abbrev pub own_papers : (asked : Option Paper) → (named : List ℕ → Option Paper) → (home : Paper) → (text : List ℕ)
     → List NestedUnit → List Paper
 own_papers (Some paper) named home text us = map (λ page. paper) (pages us)
-own_papers None named home text us = map (own_paper named home (header text) (trailer_lines us)) (pages us)
+own_papers None named home text us = map (own_paper named (usual_in home text) (header text) (trailer_lines us)) (pages us)
 
 -- ---- two papers
 

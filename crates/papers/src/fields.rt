@@ -29,7 +29,7 @@ pub fn name_and_rest(value: &[u8]) -> Option<(&[u8], &[u8])>
 }
 
 /// The number of blanks at the front.
-fn blanks_at(text: &[u8]) -> usize
+pub(crate) fn blanks_at(text: &[u8]) -> usize
     ensures value { result ≡ prefix_len is_blank text.now }
     ensures within { result ≤ length text.now }
 {

@@ -9,8 +9,10 @@ ghost use Rattle.papers.specs.Own.{medium_by, or_this, own_papers as papers_of_p
 ghost use Rattle.papers.specs.Named.{known_paper};
 
 use crate::known_media::KnownMedia;
+use crate::media::document_told;
 use crate::page_heads::{behind_first_line, medium_name, value_in_head};
-use crate::{document_paper, paper_of_box};
+use crate::paper_of_box;
+use crate::setup::usual_in;
 use dsc::{Document, header_len};
 use lengths::Paper;
 use std::alloc::{AllocError, Global};
@@ -52,15 +54,20 @@ fn told_papers(
 {
     let text = document.text();
     let (header, _) = text.split_at(header_len(text));
-    each_or(alloc, document, header, &document_or(text, home))
+    each_or(
+        alloc,
+        document,
+        header,
+        &document_or(text, &usual_in(text, home)),
+    )
 }
 
-/// The paper that a document names, and else this one.
+/// The paper that a document's comments name, and else this one.
 fn document_or(text: &[u8], other: &Paper) -> Paper
     ensures { result
         ≡ or_this (told_by_document paper_named other.now (header text.now) (trailer_lines (units_of text.now))) other.now }
 {
-    match document_paper(text, other) {
+    match document_told(text, other) {
         Some(told) => told.0,
         None => *other,
     }

@@ -12,6 +12,7 @@ pub mod laws;
 mod media;
 mod page_heads;
 mod reach;
+mod setup;
 mod two_papers;
 
 pub use boxes::{Edges, paper_of_box};

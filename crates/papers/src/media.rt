@@ -9,6 +9,7 @@ ghost use Rattle.papers.specs.Media as meaning;
 use crate::boxes::{box_paper, paper_of, paper_of_box};
 use crate::comments::{continuation, first_comment};
 use crate::fields::{name_and_rest, name_in, points_of};
+use crate::setup::set_size;
 use dsc::{header_len, next_field, trailer_box};
 use lengths::{Grains, Paper};
 use paper_names::paper_by_name;
@@ -16,7 +17,7 @@ use paper_names::paper_by_name;
 /// By so much, 15 points, programs' sizes of one paper may differ.
 const NEARNESS: u128 = 15 * 127_000_000_000;
 
-/// The comment that gives the paper.
+/// What gives the paper: a comment, or else the setup.
 #[derive(Clone, Copy, Debug, PartialEq, Eq)]
 pub enum Comment {
     /// The first `%%DocumentMedia:`.
@@ -25,14 +26,28 @@ pub enum Comment {
     DocumentPaperSizes,
     /// The first `%%BoundingBox:`.
     BoundingBox,
+    /// None: the setup asks for it, by the first `/PageSize [width height]` before the first page.
+    Setup,
 }
 
 /// The paper of a document for which this one is usual, by its header comments (DSC 3.0, 5.2): by the width and height
 /// of its first `%%DocumentMedia:`, else by the first known name in its `%%DocumentPaperSizes:` (on its side, if the box
-/// at 0 0 has its sides exchanged, to 15 points), else by its `%%BoundingBox:`, as `paper_of_box` has it. A box that is
-/// `(atend)` is the first `%%BoundingBox:` of the trailer; a text with a faulty data block has no trailer.
+/// at 0 0 has its sides exchanged, to 15 points), else by its `%%BoundingBox:`, as `paper_of_box` has it, else the paper that
+/// its setup asks for, which also goes before the usual one. A box that is `(atend)` is the first `%%BoundingBox:` of the trailer;
+/// a text with a faulty data block has no trailer.
 pub fn document_paper(text: &[u8], usual: &Paper) -> Option<(Paper, Comment)>
     ensures { result ≡ meaning.document_paper usual.now text.now }
+{
+    let set = set_size(text);
+    match document_told(text, &set.unwrap_or(*usual)) {
+        Some(told) => Some(told),
+        None => Some((set?, Comment::Setup)),
+    }
+}
+
+/// The same, by its comments alone.
+pub(crate) fn document_told(text: &[u8], usual: &Paper) -> Option<(Paper, Comment)>
+    ensures { result ≡ meaning.document_told usual.now text.now }
 {
     let (header, _) = text.split_at(header_len(text));
     match media_in(header) {

@@ -1,0 +1,104 @@
+//! The paper that a document's setup asks for.
+ghost use Rattle.std.specs.Prelude.{◌≡◌, ◌≤◌, codes, length, option_map};
+ghost use Rattle.rules.specs.Units.{is_comment};
+ghost use Rattle.dsc.specs.Fields.{fields_in};
+ghost use Rattle.papers.specs.Media as meaning;
+
+use crate::boxes::paper_of;
+use crate::fields::{blanks_at, points_of};
+use dsc::{comment_value, first_content, line_end_after, next_field};
+use lengths::Paper;
+
+/// The paper that is taken of a document without comments: the one that its setup asks for, or else the one at home.
+pub(crate) fn usual_in(text: &[u8], home: &Paper) -> Paper
+    ensures { result ≡ meaning.usual_in home.now text.now }
+{
+    set_size(text).unwrap_or(*home)
+}
+
+/// The paper of the first line before the first page that asks for one.
+pub(crate) fn set_size(text: &[u8]) -> Option<Paper>
+    ensures { result ≡ meaning.set_size (meaning.contents text.now) }
+{
+    let mut rest = text;
+    while !rest.is_empty() {
+        let content = first_content(rest);
+        if begins_page(content) {
+            return None;
+        }
+        if let Some(paper) = size_asked(content) {
+            return Some(paper);
+        }
+        let (_, others) = rest.split_at(line_end_after(rest, content.len()));
+        rest = others;
+    }
+    None
+}
+
+/// Whether a page begins with this line.
+fn begins_page(content: &[u8]) -> bool
+    ensures { result ≡ is_comment (codes "%%Page") content.now }
+{
+    comment_value(content, b"%%Page", b"%%Page:").is_some()
+}
+
+/// The paper that a line asks for: two numbers in brackets after the first `/PageSize`.
+fn size_asked(content: &[u8]) -> Option<Paper>
+    ensures { result ≡ meaning.size_asked content.now }
+{
+    size_behind(behind_key(content)?)
+}
+
+fn size_behind(text: &[u8]) -> Option<Paper>
+    ensures { result ≡ meaning.size_behind text.now }
+{
+    let (_, text) = text.split_at(blanks_at(text));
+    two_sides(in_brackets(text)?)
+}
+
+/// What follows the first `/PageSize` of a line.
+fn behind_key(content: &[u8]) -> Option<&[u8]>
+    ensures { option_map (λ text. text.now) result ≡ meaning.behind_key content.now }
+{
+    let mut rest = content;
+    while let Some((_, others)) = rest.split_first() {
+        if rest.starts_with(b"/PageSize") {
+            let (_, text) = rest.split_at(9);
+            return Some(text);
+        }
+        rest = others;
+    }
+    None
+}
+
+/// What is in the brackets that a text begins with.
+fn in_brackets(text: &[u8]) -> Option<&[u8]>
+    ensures { option_map (λ inside. inside.now) result ≡ meaning.in_brackets text.now }
+{
+    let (first, rest) = text.split_first()?;
+    if *first != b'[' {
+        return None;
+    }
+    let (inside, _) = rest.split_at(open_len(rest));
+    Some(inside)
+}
+
+/// The length of what is before the first closing bracket.
+fn open_len(text: &[u8]) -> usize
+    ensures value { result ≡ meaning.open_len text.now }
+    ensures within { result ≤ length text.now }
+{
+    text.iter().take_while(|b| **b != b']').count()
+}
+
+/// The paper whose sides are two numbers, and nothing else.
+fn two_sides(inside: &[u8]) -> Option<Paper>
+    ensures { result ≡ meaning.two_sides (fields_in inside.now) }
+{
+    let (width, rest) = next_field(inside)?;
+    let (height, rest) = next_field(rest)?;
+    match next_field(rest) {
+        Some(_) => None,
+        None => paper_of(points_of(width), points_of(height)),
+    }
+}
