@@ -317,3 +317,8 @@ comment_before_setup = refl
 box_within_setup : told (codes "%!\n%%BoundingBox: 20 20 900 700\n/PageSize [1191 842]\n") ≡ Some (points 1_191 842, Setup)
 unfolding number_at
 box_within_setup = refl
+
+-- a sum of 100,000 points is no side
+sum_of_a_box : told (codes "%!\n%%BoundingBox: 300 300 99999 700\n") ≡ None
+unfolding number_at
+sum_of_a_box = refl

@@ -160,6 +160,14 @@ edges_of other = None
 abbrev pub is_past : (side edge : ℤ) → Bool
 is_past side edge = int_lt (side +ℤ pos nearness) edge
 
+-- 100,000 points or longer, as no number of a box is
+abbrev pub is_long : ℤ → Bool
+is_long side = not (int_lt side (pos 12_700_000_000_000_000))
+
+-- the paper with these sides, if none is so long
+abbrev pub shorter_paper : (width height : ℤ) → Option Paper
+shorter_paper width height = if is_long width || is_long height then None else paper_of_sides width height
+
 -- it reaches over a paper to the right or above
 abbrev pub reaches_over : Paper → Edges → Bool
 reaches_over paper box = is_past paper.width box.right || is_past paper.height box.top
@@ -167,7 +175,7 @@ reaches_over paper box = is_past paper.width box.right || is_past paper.height b
 -- the paper of a box that reaches over this one, if it begins nowhere left of it or below it: it leaves as much room to
 -- the right of the box as to the left, and above as below
 abbrev pub paper_round : Edges → Option Paper
-paper_round box = paper_of_sides (box.left +ℤ box.right) (box.bottom +ℤ box.top)
+paper_round box = shorter_paper (box.left +ℤ box.right) (box.bottom +ℤ box.top)
 
 abbrev pub paper_beyond : Paper → Edges → Option Paper
 paper_beyond paper box = if int_lt box.left (pos 0) || int_lt box.bottom (pos 0) then None

@@ -13,6 +13,9 @@ const NEARNESS: i128 = 15 * 127_000_000_000;
 /// The grains of one point, the shortest side.
 const ONE_POINT: i128 = 127_000_000_000;
 
+/// The grains of 100,000 points, which no number of a box has.
+const TOO_LONG: i128 = 100_000 * ONE_POINT;
+
 /// The edges of a box.
 #[derive(Clone, Copy)]
 pub struct Edges {
@@ -87,7 +90,7 @@ fn is_past(side: Grains, edge: Grains) -> bool
 fn paper_round(edges: &Edges) -> Option<Paper>
     ensures { result ≡ meaning.paper_round edges.now }
 {
-    paper_of_sides(sum(edges.left, edges.right), sum(edges.bottom, edges.top))
+    shorter_paper(sum(edges.left, edges.right), sum(edges.bottom, edges.top))
 }
 
 /// So many grains are both lengths together.
@@ -144,4 +147,15 @@ fn paper_of_sides(width: i128, height: i128) -> Option<Paper>
         return None;
     }
     Paper::new(Grains::new(width)?, Grains::new(height)?)
+}
+
+/// The same, if no side is so long as no number of a box is.
+fn shorter_paper(width: i128, height: i128) -> Option<Paper>
+    ensures { result ≡ meaning.shorter_paper width height }
+{
+    if width < TOO_LONG && height < TOO_LONG {
+        paper_of_sides(width, height)
+    } else {
+        None
+    }
 }
