@@ -2,8 +2,9 @@
 -- (DSC 2.1, %%DocumentPaperSizes).
 use Rattle.std.specs.Prelude.{◌≡◌, ℕ, Bool, true, false, if◌then◌else◌, List, Option, Some, None, codes, option_and_then, option_map}
 use Rattle.rules.specs.Papers.{Paper}
+use Rattle.dsc.specs.Fields.{fields_in}
 use Rattle.papers.specs.Comments.{first_name}
-use Rattle.papers.specs.Media.{comment_value, document_paper, header}
+use Rattle.papers.specs.Media.{comment_value, document_paper, header, is_at_end}
 use Rattle.papers.specs.declared.media.Comment.{Comment}
 use Rattle.papers.specs.declared.media.Comment.TheVariants.{BoundingBox, DocumentMedia, DocumentPaperSizes, Setup}
 use Rattle.impose_words.specs.declared.request.ImposeRequest.{ImposeRequest}
@@ -23,10 +24,14 @@ abbrev pub is_by_name : Option (Paper × Comment) → Bool
 is_by_name None = false
 is_by_name (Some found) = is_name found.1
 
+-- the name that a value begins with, unless it is left for the trailer, which isn't read for names
+abbrev pub told_name : (value : List ℕ) → Option (List ℕ)
+told_name value = if is_at_end (fields_in value) then None else first_name value
+
 -- the first name in a document's %%DocumentPaperSizes, if none gives its paper
 abbrev pub unknown_name : (usual : Paper) → (text : List ℕ) → Option (List ℕ)
 unknown_name usual text = if is_by_name (document_paper usual text) then None
-    else option_and_then first_name (comment_value (codes "%%DocumentPaperSizes") (header text))
+    else option_and_then told_name (comment_value (codes "%%DocumentPaperSizes") (header text))
 
 -- the one that is reported: none, if a paper is named for the pages (RULES, 17)
 abbrev pub unknown_paper : (named : Option Paper) → (usual : Paper) → (text : List ℕ) → Option (List ℕ)

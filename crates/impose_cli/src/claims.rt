@@ -8,7 +8,7 @@ use dsc::header_len;
 use impose_said::{ShownName, Told};
 use impose_words::ImposeRequest;
 use lengths::Paper;
-use papers::{Comment, document_paper, first_comment, first_name};
+use papers::{Comment, document_paper, first_comment, first_name, is_at_end};
 use row_runs::told_pages;
 
 /// What a document says of itself, as far as it is reported. It needs no memory.
@@ -49,7 +49,18 @@ fn unknown_name<'t>(usual: &Paper, input: &'t [u8]) -> Option<&'t [u8]>
         return None;
     }
     let (header, _) = input.split_at(header_len(input));
-    first_name(names_value(header)?)
+    told_name(names_value(header)?)
+}
+
+/// The name that a value begins with, unless it is left for the trailer, which isn't read for names.
+fn told_name(value: &[u8]) -> Option<&[u8]>
+    ensures { option_map (λ name. name.now) result ≡ meaning.told_name value.now }
+{
+    if is_at_end(value) {
+        None
+    } else {
+        first_name(value)
+    }
 }
 
 fn is_by_name(found: Option<(Paper, Comment)>) -> bool

@@ -20,7 +20,7 @@ pub use comments::{continuation, first_comment};
 pub use cuts::{Cut, cut_by};
 pub use finding::own_papers;
 pub use kinds::{as_one, first_instead_of};
-pub use media::{Comment, document_paper, media_paper};
+pub use media::{Comment, document_paper, is_at_end, media_paper};
 pub use page_heads::first_name;
 pub use paper_names::{PaperError, home_paper, name_list, paper_by_name, read_paper};
 pub use reach::{PlacedPages, Reach, reach_beyond};

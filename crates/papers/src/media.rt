@@ -173,7 +173,7 @@ fn box_or_last<'t>(value: &'t [u8], text: &'t [u8]) -> Option<&'t [u8]>
 }
 
 /// Whether a comment in the header with this value is in the trailer.
-fn is_at_end(value: &[u8]) -> bool
+pub fn is_at_end(value: &[u8]) -> bool
     ensures { result ≡ meaning.is_at_end (fields_in value.now) }
 {
     match next_field(value) {
