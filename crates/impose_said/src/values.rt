@@ -95,7 +95,7 @@ fn refusal(option: Opt) -> (&'static str, &'static str) {
             "give it as 5mm, SIDES,ENDS, TOP,RIGHT,BOTTOM,LEFT, left=2cm,top=1cm or inner=2cm",
         ),
         Opt::Gap => ("bad length", "give it as 5mm, or 5mm,1cm"),
-        Opt::Numbers => ("bad length", "give it as 10pt or 4mm, up to 72pt"),
+        Opt::Numbers => ("bad length", "give it as 10pt or 4mm, from .1pt to 72pt"),
         Opt::Signature => (
             "bad signature",
             "give a multiple of four, as 16, up to 1000000, or auto",

@@ -108,13 +108,16 @@ cut_marks_named text = if bytes_eq text (codes "cut") then Some (record no_marks
 
 -- ---- with which numbers
 
--- they have up to 72 points, in grains (RULES, 15)
+-- they have from a tenth of a point to 72 points, in grains (RULES, 15)
+abbrev pub smallest_numbers : ℤ
+smallest_numbers = pos 12_700_000_000
+
 abbrev pub largest_numbers : ℤ
 largest_numbers = pos 9_144_000_000_000
 
 abbrev pub among_sizes : Option ℤ → Option ℤ
 among_sizes None = None
-among_sizes (Some size) = if int_le (pos 1) size && int_le size largest_numbers then Some size else None
+among_sizes (Some size) = if int_le smallest_numbers size && int_le size largest_numbers then Some size else None
 
 -- how large they are
 abbrev pub number_size_named : List ℕ → Option ℤ

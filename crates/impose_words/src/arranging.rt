@@ -163,6 +163,9 @@ pub fn cut_marks_named(text: &str) -> Option<Marks>
     }
 }
 
+/// How large numbers are at least, in grains: a tenth of a point.
+const SMALLEST_NUMBERS: i128 = 12_700_000_000;
+
 /// How large numbers are at most, in grains: 72 points.
 const LARGEST_NUMBERS: i128 = 9_144_000_000_000;
 
@@ -171,7 +174,7 @@ pub fn number_size_named(text: &str) -> Option<Grains>
     ensures { result ≡ meaning.number_size_named text.now }
 {
     let size = length_with_unit(text)?;
-    if 1 <= size.get() && size.get() <= LARGEST_NUMBERS {
+    if SMALLEST_NUMBERS <= size.get() && size.get() <= LARGEST_NUMBERS {
         Some(size)
     } else {
         None
