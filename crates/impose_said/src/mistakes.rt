@@ -190,6 +190,16 @@ fn begins_with_minus_and_number(word: &str) -> bool {
     }
 }
 
+pub(crate) fn begins_with_digit(word: &str) -> bool {
+    word.starts_with(|letter: char| letter.is_ascii_digit())
+}
+
+/// Whether a word is more likely a range of pages, or a number, than anything else.
+pub(crate) fn is_range(word: &str) -> bool {
+    word.chars().any(|letter| letter.is_ascii_digit())
+        && word.chars().all(|letter| letter.is_ascii_digit() || matches!(letter, '-' | ',' | '_'))
+}
+
 /// Whether a word is more likely the name of a file than anything else.
 pub(crate) fn looks_like_file(word: &str) -> bool {
     word.ends_with(".ps")

@@ -1,14 +1,22 @@
 //! What is said of values that options and arguments don't take.
-use crate::mistakes::looks_like_file;
+use crate::mistakes::{begins_with_digit, is_range, looks_like_file};
 use crate::nearest::{begins_as_size, nearest_names};
 use crate::shown::{joined, push_all, shown_word};
-use impose_words::{GridCommand, Opt, lacks_unit, number_in};
+use impose_words::{
+    GridCommand, Opt, gaps_named, lacks_unit, length_with_unit, margins_named, number_alone,
+    number_in, size_named,
+};
 use papers::{PaperError, read_paper};
 use std::alloc::{AllocError, Global};
 
 /// What is said of a text that is no value of the option or argument.
 pub(crate) fn value_text(alloc: Global, option: Opt, text: &str) -> Result<String, AllocError> {
+    let pointed = with_points(alloc, text)?;
+    if pointed.as_str() != text && is_value(option, pointed.as_str()) {
+        return decimals_text(alloc, option, text, pointed.as_str());
+    }
     match option {
+        Opt::Paper if is_range(text) && text.contains("-") => ranges_text(alloc, text),
         Opt::Paper | Opt::Sheet => paper_text(alloc, option, text),
         Opt::Margin => margin_text(alloc, text),
         Opt::Border | Opt::Trim | Opt::Creep | Opt::Overlap | Opt::Gap | Opt::Numbers => {
@@ -18,23 +26,117 @@ pub(crate) fn value_text(alloc: Global, option: Opt, text: &str) -> Result<Strin
         Opt::CutMarks => cut_marks_text(alloc, text),
         Opt::Outfile => outfile_text(alloc, text),
         Opt::Signature => signature_text(alloc, text),
+        Opt::NumbersFrom => first_number_text(alloc, text),
         Opt::Order | Opt::Turn | Opt::Turned | Opt::Scale => refused_text(alloc, option, text),
-        Opt::BookletMarks | Opt::NumbersFrom | Opt::Preview => refused_text(alloc, option, text),
+        Opt::BookletMarks | Opt::Preview => refused_text(alloc, option, text),
     }
 }
 
-/// What is said of a text that is no length. It may be one but for its unit.
-fn length_text(alloc: Global, option: Opt, text: &str) -> Result<String, AllocError> {
-    if is_number(text) {
-        no_unit_text(alloc, option, text)
+/// The text with a point for each comma between two digits.
+fn with_points(alloc: Global, text: &str) -> Result<String, AllocError> {
+    let mut pointed = String::new(alloc);
+    for (place, part) in text.split(',').enumerate() {
+        if place > 0 {
+            let is_decimal = ends_with_digit(pointed.as_str()) && begins_with_digit(part);
+            pointed.push(if is_decimal { '.' } else { ',' })?;
+        }
+        pointed.push_str(part)?;
+    }
+    Ok(pointed)
+}
+
+fn ends_with_digit(text: &str) -> bool {
+    text.ends_with(|letter: char| letter.is_ascii_digit())
+}
+
+/// Whether a text is a size, a length or a number that the option takes.
+fn is_value(option: Opt, text: &str) -> bool {
+    match option {
+        Opt::Paper | Opt::Sheet => size_named(text).is_some(),
+        Opt::Margin => margins_named(text).is_some(),
+        Opt::Gap => gaps_named(text).is_some(),
+        Opt::Border | Opt::Trim | Opt::Creep | Opt::Overlap | Opt::Numbers => {
+            length_with_unit(text).is_some()
+        }
+        Opt::Scale => number_alone(text).is_some(),
+        Opt::Count(_) | Opt::Signature | Opt::Order | Opt::Turn | Opt::Turned => false,
+        Opt::BookletMarks | Opt::CutMarks | Opt::NumbersFrom => false,
+        Opt::Outfile | Opt::Preview => false,
+    }
+}
+
+/// What is said of a text that is a value once its decimals come after points.
+fn decimals_text(
+    alloc: Global,
+    option: Opt,
+    text: &str,
+    pointed: &str,
+) -> Result<String, AllocError> {
+    let text = shown_word(alloc, text)?;
+    let pointed = shown_word(alloc, pointed)?;
+    let id = option.id();
+    let said = format!(in alloc;
+        "'{text}' after --{id}: decimals come after a point, so write {pointed}"
+    )?;
+    let listed = if matches!(option, Opt::Margin | Opt::Gap) {
+        UNITS_IN_LISTS
     } else {
-        refused_text(alloc, option, text)
+        ""
+    };
+    joined(alloc, &[said.as_str(), listed])
+}
+
+const UNITS_IN_LISTS: &str = "; in a list each length has its unit, 0 too";
+
+/// What is said of a text that is no length, or no list of lengths. It may be one but for a unit.
+fn length_text(alloc: Global, option: Opt, text: &str) -> Result<String, AllocError> {
+    if is_number(text, false) {
+        return no_unit_text(alloc, option, text);
+    }
+    match part_without_unit(text) {
+        Some(part) if matches!(option, Opt::Margin | Opt::Gap) => {
+            no_unit_in_list_text(alloc, option, text, part)
+        }
+        _ => refused_text(alloc, option, text),
     }
 }
 
 /// Whether a text is a length but for its unit.
-fn is_number(text: &str) -> bool {
-    lacks_unit(text) && !text.starts_with("-")
+fn is_number(text: &str, is_listed: bool) -> bool {
+    lacks_unit(text, is_listed) && !text.starts_with("-")
+}
+
+/// The first length in a list, alone or after the name of an edge, that is one but for its unit.
+fn part_without_unit(text: &str) -> Option<&str> {
+    for part in text.split(',') {
+        let length = match part.split_once('=') {
+            Some((_, length)) => length,
+            None => part,
+        };
+        if is_number(length, true) {
+            return Some(length);
+        }
+    }
+    None
+}
+
+fn no_unit_in_list_text(
+    alloc: Global,
+    option: Opt,
+    text: &str,
+    part: &str,
+) -> Result<String, AllocError> {
+    let is_list = text.contains(",");
+    let text = shown_word(alloc, text)?;
+    let part = shown_word(alloc, part)?;
+    let id = option.id();
+    let said = format!(in alloc;
+        "{part} in '{text}' after --{id} has no unit: write {part}cm, {part}mm, {part}in or {part}pt"
+    )?;
+    joined(
+        alloc,
+        &[said.as_str(), if is_list { UNITS_IN_LISTS } else { "" }],
+    )
 }
 
 /// What is said of a text that names no margins. An edge may be named twice.
@@ -45,6 +147,17 @@ fn margin_text(alloc: Global, text: &str) -> Result<String, AllocError> {
     let shown = shown_word(alloc, text)?;
     let edge = shown_word(alloc, edge)?;
     format!(in alloc; "'{shown}' after --margin names {edge} twice: name each edge once")
+}
+
+/// What is said of a text that is no first number, or one without numbers.
+fn first_number_text(alloc: Global, text: &str) -> Result<String, AllocError> {
+    if number_in(text).is_none() {
+        return refused_text(alloc, Opt::NumbersFrom, text);
+    }
+    let text = shown_word(alloc, text)?;
+    format!(in alloc;
+        "--numbers-from {text} is for numbers, which have a size: give --numbers 10pt --numbers-from {text}"
+    )
 }
 
 /// The first edge in a text that is named again after it.
@@ -92,9 +205,12 @@ fn refusal(option: Opt) -> (&'static str, &'static str) {
         Opt::Border => ("bad length", "give it as 1pt, .5mm or .02in"),
         Opt::Margin => (
             "bad length",
-            "give it as 5mm, SIDES,ENDS, TOP,RIGHT,BOTTOM,LEFT, left=2cm,top=1cm or inner=2cm",
+            "give it as 5mm, SIDES,ENDS, TOP,RIGHT,BOTTOM,LEFT, left=2cm,top=1cm or inner=2cm; units are cm, mm, in and pt",
         ),
-        Opt::Gap => ("bad length", "give it as 5mm, or 5mm,1cm"),
+        Opt::Gap => (
+            "bad length",
+            "give it as 5mm, or 5mm,1cm; units are cm, mm, in and pt",
+        ),
         Opt::Numbers => ("bad length", "give it as 10pt or 4mm, from .1pt to 72pt"),
         Opt::Signature => (
             "bad signature",
@@ -104,12 +220,12 @@ fn refusal(option: Opt) -> (&'static str, &'static str) {
             "unknown order",
             "give right-down, down-right, left-down or down-left",
         ),
-        Opt::Turn => ("unknown turn", "give left, right or half"),
+        Opt::Turn => ("unknown turn", "give left (by 90 degrees), right or half"),
         Opt::Turned => ("unknown side", "give left or right"),
         Opt::Scale => ("bad scale", "give a number as 0.7"),
         Opt::NumbersFrom => (
             "bad number",
-            "give a whole one, and the size too, as --numbers 10pt --numbers-from 3",
+            "give a whole one without a sign, and the size too, as --numbers 10pt --numbers-from 3",
         ),
         Opt::Preview => (
             "bad file",
@@ -120,6 +236,14 @@ fn refusal(option: Opt) -> (&'static str, &'static str) {
         Opt::Trim | Opt::Creep | Opt::Overlap => ("bad length", "give it as 5mm, .2in or 14pt"),
         Opt::Count(_) | Opt::Outfile => ("bad value", "see impose --help"),
     }
+}
+
+/// What is said of pages after `-p`, which names them for psselect.
+fn ranges_text(alloc: Global, text: &str) -> Result<String, AllocError> {
+    let text = shown_word(alloc, text)?;
+    format!(in alloc;
+        "'{text}' after --paper is no paper: pages come after select, as in: impose select {text} in.ps out.ps"
+    )
 }
 
 /// What is said of a size without a unit.

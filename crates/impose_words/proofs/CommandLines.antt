@@ -85,7 +85,7 @@ makes words name found r enters layout spacing choice sizes marks guarded produc
 
 -- columns of three, from the right, with the content of pages lying on its left side; margins clockwise from the upper one
 nup : (document output : String Global) → string_bytes document ≡ codes "in.ps" → string_bytes output ≡ codes "out.ps"
-    → Makes (codes "nup" ∷ codes "2x3" ∷ codes "--order" ∷ codes "down-left" ∷ codes "--turned" ∷ codes "left" ∷ codes "--margin" ∷ codes "1in,2in,3in,0" ∷ codes "--gap" ∷ codes "4in,5in" ∷ codes "--trim" ∷ codes "6in" ∷ codes "--scale" ∷ codes "0.5" ∷ codes "--same-scale" ∷ codes "in.ps" ∷ codes "out.ps" ∷ [])
+    → Makes (codes "nup" ∷ codes "2x3" ∷ codes "--order" ∷ codes "down-left" ∷ codes "--turned" ∷ codes "left" ∷ codes "--margin" ∷ codes "1in,2in,3in,0in" ∷ codes "--gap" ∷ codes "4in,5in" ∷ codes "--trim" ∷ codes "6in" ∷ codes "--scale" ∷ codes "0.5" ∷ codes "--same-scale" ∷ codes "in.ps" ∷ codes "out.ps" ∷ [])
     (record (plain (layout.NUp (Exactly 2 3))) {
       spacing = record nothing_kept {
         free = record nothing_free { left = pos 0; right = pos 18_288_000_000_000; bottom = pos 27_432_000_000_000; top = pos 9_144_000_000_000; across = pos 36_576_000_000_000; up = pos 45_720_000_000_000; trim = pos 54_864_000_000_000 };

@@ -54,7 +54,7 @@ two_margins : margins_named (codes "1in,2in") ≡ Some (margins_in (record nothi
 unfolding number_at
 two_margins = refl
 
-four_margins : margins_named (codes "1in,2in,3in,0") ≡ Some (margins_in (record nothing_free { left = pos 0; right = pos 18_288_000_000_000; bottom = pos 27_432_000_000_000; top = pos 9_144_000_000_000 }))
+four_margins : margins_named (codes "1in,2in,3in,0in") ≡ Some (margins_in (record nothing_free { left = pos 0; right = pos 18_288_000_000_000; bottom = pos 27_432_000_000_000; top = pos 9_144_000_000_000 }))
 unfolding number_at
 four_margins = refl
 
@@ -62,7 +62,7 @@ some_edges : margins_named (codes "left=1in,top=2in") ≡ Some (margins_in (reco
 unfolding number_at
 some_edges = refl
 
-all_edges : margins_named (codes "bottom=1in,left=0,right=2in,top=3in") ≡ Some (margins_in (record nothing_free { left = pos 0; right = pos 18_288_000_000_000; bottom = pos 9_144_000_000_000; top = pos 27_432_000_000_000 }))
+all_edges : margins_named (codes "bottom=1in,left=0in,right=2in,top=3in") ≡ Some (margins_in (record nothing_free { left = pos 0; right = pos 18_288_000_000_000; bottom = pos 9_144_000_000_000; top = pos 27_432_000_000_000 }))
 unfolding number_at
 all_edges = refl
 
@@ -70,11 +70,24 @@ inner_edge : margins_named (codes "inner=1in,right=2in") ≡ Some (record (margi
 unfolding number_at
 inner_edge = refl
 
-no_margin : map margins_named (codes "1" ∷ codes "1in," ∷ codes "1in,2in,3in" ∷ codes "1in,2in,3in,4in,5in" ∷ codes "left=1" ∷ codes "middle=1in" ∷ codes "left=1in,2in" ∷ codes "inner=1" ∷ codes "left=1in,left=1in" ∷ codes "top=0,left=1in,top=2in" ∷ codes "inner=1in,inner=1in" ∷ []) ≡ None ∷ None ∷ None ∷ None ∷ None ∷ None ∷ None ∷ None ∷ None ∷ None ∷ None ∷ []
+one_edge : margins_named (codes "left=0") ≡ Some (margins_in nothing_free)
+unfolding number_at
+one_edge = refl
+
+no_margin : map margins_named (codes "1" ∷ codes "1in," ∷ codes "1in,2in,3in" ∷ codes "1in,2in,3in,4in,5in" ∷ codes "left=1" ∷ codes "middle=1in" ∷ codes "left=1in,2in" ∷ codes "inner=1" ∷ codes "left=1in,left=1in" ∷ codes "top=0in,left=1in,top=2in" ∷ codes "inner=1in,inner=1in" ∷ []) ≡ None ∷ None ∷ None ∷ None ∷ None ∷ None ∷ None ∷ None ∷ None ∷ None ∷ None ∷ []
 unfolding number_at
 no_margin = refl
 
-gaps : map gaps_named (codes "1in" ∷ codes "1in,0" ∷ codes "1in,2in,3in" ∷ codes ",1in" ∷ [])
+-- in a list 0 has its unit too: a comma may be meant for a point
+no_zero_in_lists : map margins_named (codes "0,5cm" ∷ codes "0,0" ∷ codes "1in,2in,3in,0" ∷ codes "left=0,top=1in" ∷ []) ≡ None ∷ None ∷ None ∷ None ∷ []
+unfolding number_at
+no_zero_in_lists = refl
+
+no_zero_in_gaps : map gaps_named (codes "0,25in" ∷ codes "1in,0" ∷ []) ≡ None ∷ None ∷ []
+unfolding number_at
+no_zero_in_gaps = refl
+
+gaps : map gaps_named (codes "1in" ∷ codes "1in,0in" ∷ codes "1in,2in,3in" ∷ codes ",1in" ∷ [])
     ≡ Some (record nothing_free { across = pos 9_144_000_000_000; up = pos 9_144_000_000_000 }) ∷ Some (record nothing_free { across = pos 9_144_000_000_000; up = pos 0 }) ∷ None ∷ None ∷ []
 unfolding number_at
 gaps = refl
@@ -101,7 +114,7 @@ both = refl
 
 -- Signatures.
 
-signatures : map signing_named (codes "auto" ∷ codes "4" ∷ codes "6" ∷ codes "0" ∷ codes "x" ∷ []) ≡ Some Auto ∷ Some (OfSides 4) ∷ None ∷ None ∷ None ∷ []
+signatures : map signing_named (codes "auto" ∷ codes "4" ∷ codes "6" ∷ codes "0" ∷ codes "x" ∷ codes "+4" ∷ []) ≡ Some Auto ∷ Some (OfSides 4) ∷ None ∷ None ∷ None ∷ None ∷ []
 signatures = refl
 
 -- Cells: a number of them, or columns and rows.
@@ -170,7 +183,7 @@ sizes : map number_size_named (codes "10pt" ∷ codes "72pt" ∷ codes "0" ∷ c
 unfolding number_at
 sizes = refl
 
-first_numbers : map (first_named true) (None ∷ Some (codes "7") ∷ Some (codes "x") ∷ []) ≡ Some 1 ∷ Some 7 ∷ None ∷ []
+first_numbers : map (first_named true) (None ∷ Some (codes "7") ∷ Some (codes "x") ∷ Some (codes "+7") ∷ []) ≡ Some 1 ∷ Some 7 ∷ None ∷ None ∷ []
 first_numbers = refl
 
 no_first_number : first_named false (Some (codes "7")) ≡ None

@@ -1,6 +1,7 @@
 pub mod Commands
 pub mod Cutting
 pub mod Found
+mod Listed
 pub mod Examples
 pub mod CommandLines
 pub mod SpacingExamples

@@ -1,10 +1,11 @@
 -- What is kept free along the edges of a sheet, and between its cells, as people write it.
-use Rattle.std.specs.Prelude.{ℕ, ℤ, pos, ◌==◌, nat_lt, if◌then◌else◌, is_some, List, length, Option, Some, None, codes, option_map, unwrap_or}
-use Rattle.std.specs.List.{after_first, before_first, position_or_len}
+use Rattle.std.specs.Prelude.{ℕ, ℤ, pos, ◌==◌, Bool, false, true, nat_lt, if◌then◌else◌, is_some, List, [], ◌∷◌, length, Option, Some, None}
+use Rattle.std.specs.Prelude.{codes, option_and_then, option_map, unwrap_or}
+use Rattle.std.specs.List.{after_first, before_first, fold, position_or_len, slice_split}
 use Rattle.std.specs.Str.{bytes_eq}
 use Rattle.layouts.specs.Grids.{nothing_free}
 use Rattle.layouts.specs.declared.arrangement.Free.{Free}
-use Rattle.impose_words.specs.Sizes.{length_with_unit}
+use Rattle.impose_words.specs.Sizes.{length_in}
 use Rattle.impose_words.specs.declared.edges.Edges.{Edges}
 use Rattle.impose_words.specs.declared.edges.Margins.{Margins}
 
@@ -19,40 +20,48 @@ comma = 44
 abbrev pub equals : ℕ
 equals = 61
 
--- ---- gaps: one length, or two with a comma between them
+-- a list has a comma
+abbrev pub is_list : List ℕ → Bool
+is_list text = is_some (cut_at comma text)
+
+-- the parts of a list, or the whole text
+abbrev pub parts_of : List ℕ → List (List ℕ)
+parts_of text = slice_split (λ b. b == comma) text
+
+-- ---- gaps: one length, or two in a list
 
 abbrev pub gaps_of : (across up : Option ℤ) → Option Free
 gaps_of (Some across) (Some up) = Some (record nothing_free { across = across; up = up })
 gaps_of across up = None
 
 abbrev pub gaps_by : Option (List ℕ × List ℕ) → List ℕ → Option Free
-gaps_by None text = gaps_of (length_with_unit text) (length_with_unit text)
-gaps_by (Some (across, up)) text = gaps_of (length_with_unit across) (length_with_unit up)
+gaps_by None text = gaps_of (length_in false text) (length_in false text)
+gaps_by (Some (across, up)) text = gaps_of (length_in true across) (length_in true up)
 
 -- RULES, 13.1
 abbrev pub gaps_named : List ℕ → Option Free
 gaps_named text = gaps_by (cut_at comma text) text
 
--- ---- margins: one length; two, for the edges on both sides, and for the upper and the lower one; or four, clockwise from the
--- upper edge
+-- ---- margins: lengths
 
-abbrev pub margins_of : (top right bottom left : Option ℤ) → Option Free
-margins_of (Some top) (Some right) (Some bottom) (Some left) =
-    Some (record nothing_free { left = left; right = right; bottom = bottom; top = top })
-margins_of top right bottom left = None
+abbrev pub margins_of : (top right bottom left : ℤ) → Free
+margins_of top right bottom left = record nothing_free { left = left; right = right; bottom = bottom; top = top }
 
--- after three commas are four lengths
-abbrev pub of_four : (top right : Option ℤ) → Option (List ℕ × List ℕ) → Option Free
-of_four top right None = None
-of_four top right (Some (bottom, left)) = margins_of top right (length_with_unit bottom) (length_with_unit left)
+-- one is that of all edges; two are those on both sides, and those above and below; four go clockwise from the upper edge
+abbrev pub margins_by : List ℤ → Option Free
+margins_by (all ∷ []) = Some (margins_of all all all all)
+margins_by (sides ∷ ends ∷ []) = Some (margins_of ends sides ends sides)
+margins_by (top ∷ right ∷ bottom ∷ left ∷ []) = Some (margins_of top right bottom left)
+margins_by other = None
 
-abbrev pub of_more : (one : Option ℤ) → Option (List ℕ × List ℕ) → (rest : List ℕ) → Option Free
-of_more one None rest = margins_of (length_with_unit rest) one (length_with_unit rest) one
-of_more one (Some (two, rest')) rest = of_four one (length_with_unit two) (cut_at comma rest')
+-- the lengths that texts mean, if all mean one
+abbrev pub lengths_in : (listed : Bool) → List (List ℕ) → Option (List ℤ)
+lengths_in listed [] = Some []
+lengths_in listed (text ∷ rest) =
+    option_and_then (λ first. option_map (λ others. first ∷ others) (lengths_in listed rest)) (length_in listed text)
 
-abbrev pub lengths_by : Option (List ℕ × List ℕ) → List ℕ → Option Free
-lengths_by None text = let all = length_with_unit text in margins_of all all all all
-lengths_by (Some (one, rest)) text = of_more (length_with_unit one) (cut_at comma rest) rest
+abbrev pub lengths_named : List ℕ → Option Free
+lengths_named text = option_and_then margins_by (lengths_in (is_list text) (parts_of text))
 
 -- ---- or edges by their names, each once, of which the others have no margin
 
@@ -74,30 +83,20 @@ abbrev pub with_margin : Edges → (name : List ℕ) → Option ℤ → Option E
 with_margin e name None = None
 with_margin e name (Some margin) = with_edge e name margin
 
-abbrev pub named_by : Option Edges → Option (List ℕ × List ℕ) → Option Edges
-named_by None part = None
-named_by (Some e) None = None
-named_by (Some e) (Some (name, text)) = with_margin e name (length_with_unit text)
+abbrev pub named_by : (listed : Bool) → Option Edges → Option (List ℕ × List ℕ) → Option Edges
+named_by listed None part = None
+named_by listed (Some e) None = None
+named_by listed (Some e) (Some (name, text)) = with_margin e name (length_in listed text)
 
 -- the name and the length of an edge, with an equals sign between them
-abbrev pub edge_in : Option Edges → List ℕ → Option Edges
-edge_in e text = named_by e (cut_at equals text)
-
--- up to four of them, with commas between them
-abbrev pub last_edges : Option Edges → Option (List ℕ × List ℕ) → List ℕ → Option Edges
-last_edges e None text = edge_in e text
-last_edges e (Some (part, rest)) text = edge_in (edge_in e part) rest
-
-abbrev pub more_edges : Option Edges → Option (List ℕ × List ℕ) → List ℕ → Option Edges
-more_edges e None text = edge_in e text
-more_edges e (Some (part, rest)) text = last_edges (edge_in e part) (cut_at comma rest) rest
+abbrev pub edge_in : (listed : Bool) → Option Edges → List ℕ → Option Edges
+edge_in listed e text = named_by listed e (cut_at equals text)
 
 abbrev pub no_edges : Edges
 no_edges = record { left = None; right = None; top = None; bottom = None; inner = None }
 
-abbrev pub edges_by : Option (List ℕ × List ℕ) → List ℕ → Option Edges
-edges_by None text = edge_in (Some no_edges) text
-edges_by (Some (part, rest)) text = more_edges (edge_in (Some no_edges) part) (cut_at comma rest) rest
+abbrev pub edges_named : List ℕ → Option Edges
+edges_named text = fold (edge_in (is_list text)) (Some no_edges) (parts_of text)
 
 -- what is kept free along these edges, and nothing along the others
 abbrev pub along_edges : Edges → Margins
@@ -117,8 +116,8 @@ margins_in f = record { free = f; inner = None }
 
 -- RULES, 13.1
 abbrev pub margins_named : List ℕ → Option Margins
-margins_named text = if is_some (cut_at equals text) then option_map along_edges (edges_by (cut_at comma text) text)
-    else option_map margins_in (lengths_by (cut_at comma text) text)
+margins_named text = if is_some (cut_at equals text) then option_map along_edges (edges_named text)
+    else option_map margins_in (lengths_named text)
 
 -- ---- all that is kept free
 

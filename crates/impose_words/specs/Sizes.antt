@@ -22,18 +22,21 @@ all_of (Some (number, rest)) = if is_large number || not (is_empty rest) then No
 abbrev pub number_alone : List ℕ → Option ℤ
 number_alone text = all_of (number_at text)
 
--- a number alone is a length if it is 0, which is the same in all units (RULES, 12.1)
-abbrev pub needs_unit : Option ℤ → Bool
-needs_unit None = false
-needs_unit (Some number) = not (int_eq number (pos 0))
+-- a number alone is a length if it is 0, which is the same in all units, and no other length is listed beside it (RULES, 12.1)
+abbrev pub needs_unit : (listed : Bool) → Option ℤ → Bool
+needs_unit listed None = false
+needs_unit listed (Some number) = listed || not (int_eq number (pos 0))
 
-abbrev pub lacks_unit : List ℕ → Bool
-lacks_unit text = needs_unit (number_alone text)
+abbrev pub lacks_unit : (listed : Bool) → List ℕ → Bool
+lacks_unit listed text = needs_unit listed (number_alone text)
 
--- the length that a text means
+-- the length that a text means, which stands alone or in a list
+abbrev pub length_in : (listed : Bool) → List ℕ → Option ℤ
+length_in listed text = if lacks_unit listed text then None else length_named a4 text
+
 abbrev pub length_with_unit : List ℕ → Option ℤ
-length_with_unit text = if lacks_unit text then None else length_named a4 text
+length_with_unit text = length_in false text
 
 -- the border of the width that a text means: 0 means none, and no width is below 0
 abbrev pub border_with_unit : List ℕ → Option (Option ℤ)
-border_with_unit text = if lacks_unit text then None else border_named a4 (Some text)
+border_with_unit text = if lacks_unit false text then None else border_named a4 (Some text)

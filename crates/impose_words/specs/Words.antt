@@ -5,7 +5,7 @@ use Rattle.std.specs.Str.{bytes_eq}
 use Rattle.std.specs.List.{starts_with}
 use Rattle.clap.specs.Words.{Row, Text, fault_of, first_of, subcommand_of}
 use Rattle.rules.specs.Papers.{Paper}
-use Rattle.command_words.specs.Matches.{has_true, number_of}
+use Rattle.command_words.specs.Matches.{has_true}
 use Rattle.layouts.specs.declared.arrangement.Cells.{Cells}
 use Rattle.layouts.specs.declared.arrangement.Cells.TheVariants.{AtLeast, Exactly}
 use Rattle.layouts.specs.declared.arrangement.Order.{Order}
@@ -30,7 +30,7 @@ use Rattle.impose_words.specs.Edges.{gaps_named, margins_in, margins_named, spac
 use Rattle.impose_words.specs.declared.edges.Margins.{Margins}
 use Rattle.impose_words.specs.declared.request.PageChoice.{PageChoice}
 use Rattle.impose_words.specs.Command.{impose}
-use Rattle.impose_words.specs.Signatures.{signing_named}
+use Rattle.impose_words.specs.Signatures.{signing_named, whole_number}
 use Rattle.impose_words.specs.Sizes.{border_with_unit, length_with_unit, number_alone, size_named}
 use Rattle.impose_words.specs.declared.request.Layout.{Layout}
 use Rattle.impose_words.specs.declared.request.Layout.TheVariants as layout
@@ -173,7 +173,7 @@ number_size_found found = asked None (λ text. option_map (λ size. Some size) (
 abbrev pub first_named : (numbered : Bool) → Option Text → Option ℕ
 first_named numbered None = Some 1
 first_named false (Some text) = None
-first_named true (Some text) = number_of text
+first_named true (Some text) = whole_number text
 
 abbrev pub first_found : (found : List Row) → Option ℕ
 first_found found = first_named (is_some (given opt.Numbers found)) (given opt.NumbersFrom found)

@@ -1,9 +1,8 @@
 //! What is kept free along the edges of a sheet, and between its cells, as people write it.
 ghost use Rattle.std.specs.Prelude.{◌≡◌, ◌<◌, Some, option_map};
 ghost use Rattle.impose_words.specs.Edges as meaning;
-ghost use Rattle.impose_words.specs.Sizes.{length_with_unit as length_of};
 
-use crate::sizes::length_with_unit;
+use crate::sizes::length_in;
 use layouts::Free;
 use lengths::Grains;
 
@@ -66,29 +65,29 @@ impl Margins {
     }
 }
 
-/// The gaps that the text means: one length, or two with a comma between them.
+/// The gaps that the text means: one length, or two in a list.
 pub fn gaps_named(text: &str) -> Option<Free>
     ensures { result ≡ meaning.gaps_named text.now }
 {
     match cut_at(text, ',') {
-        None => gaps_of(text, text),
-        Some((across, up)) => gaps_of(across, up),
+        None => gaps_of(length_in(text, false), length_in(text, false)),
+        Some((across, up)) => gaps_of(length_in(across, true), length_in(up, true)),
     }
 }
 
 /// Two gaps, if both are lengths.
-fn gaps_of(across: &str, up: &str) -> Option<Free>
-    ensures { result ≡ meaning.gaps_of (length_of across.now) (length_of up.now) }
+fn gaps_of(across: Option<Grains>, up: Option<Grains>) -> Option<Free>
+    ensures { result ≡ meaning.gaps_of across up }
 {
     Some(Free {
-        across: length_with_unit(across)?,
-        up: length_with_unit(up)?,
+        across: across?,
+        up: up?,
         ..Free::none()
     })
 }
 
 /// The margins that the text means: one length; two, for the edges on both sides, and for the upper and the lower one; four,
-/// clockwise from the upper edge; or up to four edges by their names.
+/// clockwise from the upper edge; or edges by their names.
 pub fn margins_named(text: &str) -> Option<Margins>
     ensures { result ≡ meaning.margins_named text.now }
 {
@@ -102,85 +101,57 @@ pub fn margins_named(text: &str) -> Option<Margins>
 
 /// One, two or four lengths.
 fn lengths_named(text: &str) -> Option<Free>
-    ensures { result ≡ meaning.lengths_by (meaning.cut_at 44 text.now) text.now }
+    ensures { result ≡ meaning.lengths_named text.now }
 {
-    match cut_at(text, ',') {
-        None => margins_of(text, text, text, text),
-        Some((one, rest)) => more_lengths(one, rest),
+    let is_list = cut_at(text, ',').is_some();
+    let mut lengths = [Grains::ZERO; 4];
+    let mut count = 0usize;
+    for part in text.split(',') {
+        if count == 4 {
+            return None;
+        }
+        lengths[count] = length_in(part, is_list)?;
+        count += 1;
     }
+    margins_by(&lengths[..count])
 }
 
-/// One or three lengths after the first one.
-fn more_lengths(one: &str, rest: &str) -> Option<Free>
-    ensures { result ≡ meaning.of_more (length_of one.now) (meaning.cut_at 44 rest.now) rest.now }
+fn margins_by(lengths: &[Grains]) -> Option<Free>
+    ensures { result ≡ meaning.margins_by lengths.now }
 {
-    match cut_at(rest, ',') {
-        None => margins_of(rest, one, rest, one),
-        Some((two, rest)) => last_lengths(one, two, rest),
-    }
-}
-
-/// The last two of four lengths.
-fn last_lengths(top: &str, right: &str, rest: &str) -> Option<Free>
-    ensures { result ≡ meaning.of_four (length_of top.now) (length_of right.now) (meaning.cut_at 44 rest.now) }
-{
-    match cut_at(rest, ',') {
-        None => None,
-        Some((bottom, left)) => margins_of(top, right, bottom, left),
-    }
-}
-
-/// Four margins, if all are lengths.
-fn margins_of(top: &str, right: &str, bottom: &str, left: &str) -> Option<Free>
-    ensures { result ≡ meaning.margins_of (length_of top.now) (length_of right.now) (length_of bottom.now) (length_of left.now) }
-{
+    let (top, right, bottom, left) = match lengths {
+        [all] => (*all, *all, *all, *all),
+        [sides, ends] => (*ends, *sides, *ends, *sides),
+        [top, right, bottom, left] => (*top, *right, *bottom, *left),
+        _ => return None,
+    };
     Some(Free {
-        top: length_with_unit(top)?,
-        right: length_with_unit(right)?,
-        bottom: length_with_unit(bottom)?,
-        left: length_with_unit(left)?,
+        top,
+        right,
+        bottom,
+        left,
         ..Free::none()
     })
 }
 
-/// Up to four edges by their names, each once.
+/// Edges by their names, each once.
 fn edges_named(text: &str) -> Option<Edges>
-    ensures { result ≡ meaning.edges_by (meaning.cut_at 44 text.now) text.now }
+    ensures { result ≡ meaning.edges_named text.now }
 {
-    let none = Some(Edges::none());
-    match cut_at(text, ',') {
-        None => edge_in(none, text),
-        Some((part, rest)) => more_edges(edge_in(none, part), rest),
+    let is_list = cut_at(text, ',').is_some();
+    let mut edges = Edges::none();
+    for part in text.split(',') {
+        edges = edge_in(edges, part, is_list)?;
     }
-}
-
-/// Up to three edges after the first one.
-fn more_edges(edges: Option<Edges>, text: &str) -> Option<Edges>
-    ensures { result ≡ meaning.more_edges edges (meaning.cut_at 44 text.now) text.now }
-{
-    match cut_at(text, ',') {
-        None => edge_in(edges, text),
-        Some((part, rest)) => last_edges(edge_in(edges, part), rest),
-    }
-}
-
-/// The last two of them.
-fn last_edges(edges: Option<Edges>, text: &str) -> Option<Edges>
-    ensures { result ≡ meaning.last_edges edges (meaning.cut_at 44 text.now) text.now }
-{
-    match cut_at(text, ',') {
-        None => edge_in(edges, text),
-        Some((part, rest)) => edge_in(edge_in(edges, part), rest),
-    }
+    Some(edges)
 }
 
 /// One edge more, by its name and its length.
-fn edge_in(edges: Option<Edges>, text: &str) -> Option<Edges>
-    ensures { result ≡ meaning.edge_in edges text.now }
+fn edge_in(edges: Edges, text: &str, is_listed: bool) -> Option<Edges>
+    ensures { result ≡ meaning.edge_in is_listed (Some edges) text.now }
 {
-    let edges = edges?;
     let (name, text) = cut_at(text, '=')?;
-    let margin = length_with_unit(text)?;
+    let margin = length_in(text, is_listed)?;
     with_edge(edges, name, margin)
 }
 

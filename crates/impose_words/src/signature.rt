@@ -1,7 +1,7 @@
 //! How a booklet is sewn, by the word of an option.
 ghost use Rattle.std.specs.Prelude.{◌≡◌};
 ghost use Rattle.command_words.specs.Matches.{number_of};
-ghost use Rattle.impose_words.specs.Signatures.{of_sides as signing_of_sides, signing_named as signing_by};
+ghost use Rattle.impose_words.specs.Signatures.{of_sides as signing_of_sides, signing_named as signing_by, whole_number};
 
 use rows::Signing;
 
@@ -32,8 +32,19 @@ fn of_sides(sides: Option<u32>) -> Option<Signing>
     }
 }
 
-/// The whole number that a text is.
+/// The whole number that a text is, in digits alone.
 pub fn number_in(text: &str) -> Option<u32>
+    ensures { result ≡ whole_number text.now }
+{
+    if text.as_bytes().starts_with(b"+") {
+        None
+    } else {
+        parsed(text)
+    }
+}
+
+/// The same, with or without a plus.
+fn parsed(text: &str) -> Option<u32>
     ensures { result ≡ number_of text.now }
 {
     match text.parse::<u32>() {

@@ -23,13 +23,24 @@ pub fn number_alone(text: &str) -> Option<Number>
     }
 }
 
-/// Whether the text is a number that needs a unit to be a length, as all do but 0.
-pub fn lacks_unit(text: &str) -> bool
-    ensures { result ≡ meaning.lacks_unit text.now }
+/// Whether the text is a number that needs a unit to be a length. Without one 0 is a length too, but in no list.
+pub fn lacks_unit(text: &str, is_listed: bool) -> bool
+    ensures { result ≡ meaning.lacks_unit is_listed text.now }
 {
     match number_alone(text) {
-        Some(number) => number.billionths() != 0,
+        Some(number) => is_listed || number.billionths() != 0,
         None => false,
+    }
+}
+
+/// The length that the text means, which stands alone or in a list.
+pub(crate) fn length_in(text: &str, is_listed: bool) -> Option<Grains>
+    ensures { result ≡ meaning.length_in is_listed text.now }
+{
+    if lacks_unit(text, is_listed) {
+        None
+    } else {
+        length_named(&a4(), text.as_bytes())
     }
 }
 
@@ -37,18 +48,14 @@ pub fn lacks_unit(text: &str) -> bool
 pub fn length_with_unit(text: &str) -> Option<Grains>
     ensures { result ≡ meaning.length_with_unit text.now }
 {
-    if lacks_unit(text) {
-        None
-    } else {
-        length_named(&a4(), text.as_bytes())
-    }
+    length_in(text, false)
 }
 
 /// The border of the width that the text means; none if the width is 0.
 pub fn border_with_unit(text: &str) -> Option<Option<Grains>>
     ensures { result ≡ meaning.border_with_unit text.now }
 {
-    if lacks_unit(text) {
+    if lacks_unit(text, false) {
         None
     } else {
         border_named(&a4(), Some(text))
