@@ -1,18 +1,21 @@
 //! What impose says of how it ended, and with which exit status.
 #![tactic(auto)]
 
+mod clap_text;
 mod fault;
 mod finished;
 mod inputs;
 mod messages;
 mod mistakes;
 mod nearest;
+mod other_programs;
 mod reports;
 mod rooms;
 mod run_lines;
 mod said;
 mod shown;
 mod statuses;
+mod tips;
 mod values;
 
 pub use fault::{IdleOption, ImposeFault, Packing};

@@ -1,20 +1,37 @@
 //! What is said of words that the command doesn't take.
-use crate::shown::{is_shown_whole, push_all, push_shown, shown_word};
+use crate::clap_text::{POINTER, USAGE, is_tip_left_out, option_meant, refused_word};
+use crate::other_programs::{FOR_COMMANDS, OF_OTHERS};
+use crate::shown::{is_shown_whole, joined, push_all, push_shown, shown_word};
+use crate::tips::{
+    FOR_BOOKLETS, FOR_SELECTIONS, FOR_SPECIFICATIONS, MISSING, OF_COMMANDS, SIGNS, tip_in,
+};
 use clap::Error;
 use clap::error::ErrorKind;
 use std::alloc::{AllocError, Global};
+use strsim::osa_distance;
 
-/// What is said of words that the command doesn't take, of which the first is the program's name: clap's text, with a tip of
-/// our own on what to do. Clap's tip to put an option after `--` is left out, as the option would be taken for a
-/// file then. No control character of a word is left, and long words are cut.
+/// What is said of words that the command doesn't take, of which the first is the program's name: clap's text, with a tip on
+/// the word that it refuses in place of its own. No control character of a word is left, and long words are cut.
 pub fn words_text(alloc: Global, error: &Error, words: &[String]) -> Result<String, AllocError> {
     let mut text = format!(in alloc; "{error}")?;
     for word in words {
         let word = word.as_str();
         text = with_shown(alloc, text, word)?;
-        text = with_shown(alloc, text, value_in(word))?;
+        // What comes after an equals sign, or after a letter, is shown for itself.
+        text = match word.split_once("=") {
+            Some((_, value)) => with_shown(alloc, text, value)?,
+            None => with_shown(alloc, text, word.strip_prefix("-p").unwrap_or(word))?,
+        };
     }
-    with_tip(alloc, text.as_str(), tip(error.kind(), words))
+    let text = text.as_str();
+    match tip(error.kind(), text, words) {
+        Some(tip) => with_tip(alloc, text, tip, option_meant(text).is_none()),
+        None => {
+            let tip = likeness(alloc, error.kind(), text)?;
+            let keeps_usage = option_meant(text).is_none() || !tip.is_empty();
+            with_tip(alloc, text, tip.as_str(), keeps_usage)
+        }
+    }
 }
 
 /// The text with a word in it as it is shown.
@@ -26,172 +43,198 @@ fn with_shown(alloc: Global, text: String, word: &str) -> Result<String, AllocEr
     text.as_str().replace(alloc, word, shown.as_str())
 }
 
-/// The value in a word that has an option and its value: what comes after an equals sign, or else after a letter.
-fn value_in(word: &str) -> &str {
-    match word.split_once("=") {
-        Some((_, value)) => value,
-        None => word.strip_prefix("-p").unwrap_or(word),
-    }
-}
-
-/// Clap's text with this tip above the usage, or the last line if there is none, and without the tip to hide an option, or
-/// to take another word that isn't like the one that is there; then the usage, which is of that word, is left out too.
-fn with_tip(alloc: Global, text: &str, tip: Option<&str>) -> Result<String, AllocError> {
+/// Clap's text with this tip, if it isn't empty, above the usage, or the last line if there is none.
+fn with_tip(alloc: Global, text: &str, tip: &str, keeps_usage: bool) -> Result<String, AllocError> {
     let mut out = String::new(alloc);
-    let mut left = tip;
+    let mut is_told = tip.is_empty();
     let mut is_behind_blank = false;
-    let astray = leads_astray(text, tip.is_some());
     for line in text.lines() {
-        if line.starts_with("  tip: to pass ") || line.is_empty() && is_behind_blank {
+        let is_usage = line.starts_with(USAGE);
+        if is_tip_left_out(line) || line.is_empty() && is_behind_blank || is_usage && !keeps_usage {
             continue;
         }
-        if astray && (is_likeness(line) || line.starts_with("Usage:")) {
-            continue;
+        if !is_told && (is_usage || line.starts_with(POINTER)) {
+            push_all(&mut out, &["  tip: ", tip, "\n\n"])?;
+            is_told = true;
         }
-        if line.starts_with("Usage:") || line.starts_with("For more information") {
-            push_tip(&mut out, left)?;
-            left = None;
+        for letter in line.chars() {
+            push_shown(&mut out, letter)?;
         }
-        push_line(&mut out, line)?;
+        out.push('\n')?;
         is_behind_blank = line.is_empty();
     }
     Ok(out)
 }
 
-/// Whether a line is clap's tip to take a word that is like the one that is there.
-fn is_likeness(line: &str) -> bool {
-    line.starts_with("  tip: a similar ") || line.starts_with("  tip: some similar ")
+/// That a command or an option is like the word that is refused, or nothing.
+fn likeness(alloc: Global, kind: ErrorKind, text: &str) -> Result<String, AllocError> {
+    let word = refused_word(text);
+    let (what, like) = match kind {
+        ErrorKind::InvalidSubcommand => ("subcommand", nearest_command(alloc, word)?),
+        ErrorKind::UnknownArgument => ("argument", option_meant(text)),
+        _ => ("", None),
+    };
+    match like {
+        Some(name) if distance(alloc, word, name)?.is_some() => {
+            joined(alloc, &["a similar ", what, " exists: '", name, "'"])
+        }
+        _ => Ok(String::new(alloc)),
+    }
 }
 
-/// Whether clap's text has such a tip though there is another one, or the words don't begin alike.
-fn leads_astray(text: &str, has_tip: bool) -> bool {
-    for line in text.lines() {
-        if is_likeness(line) {
-            return has_tip || first_letter(line) != first_letter(text);
+/// The names of the commands.
+const COMMANDS: [&str; 9] = [
+    "nup", "booklet", "zine", "cards", "stack", "notes", "poster", "select", "spec",
+];
+
+/// The command whose name is like the word, the nearest first.
+fn nearest_command(alloc: Global, word: &str) -> Result<Option<&'static str>, AllocError> {
+    let mut nearest = None;
+    let mut least = usize::MAX;
+    for name in COMMANDS {
+        if let Some(distance) = distance(alloc, word, name)? {
+            if distance < least {
+                nearest = Some(name);
+                least = distance;
+            }
         }
     }
-    false
+    Ok(nearest)
 }
 
-/// The first letter of the option or command in a text: of the first word in quotes.
-fn first_letter(text: &str) -> Option<char> {
-    let (_, behind) = text.split_once("'")?;
-    let (word, _) = behind.split_once("'")?;
-    let mut letters = word.strip_prefix("--").unwrap_or(word).chars();
-    letters.next()
-}
-
-fn push_tip(out: &mut String, tip: Option<&str>) -> Result<(), AllocError> {
-    match tip {
-        Some(tip) => push_all(out, &["  tip: ", tip, "\n\n"]),
-        None => Ok(()),
+/// How many letters of a word that is like a name are missing, too many, others or exchanged: at most a third of them.
+fn distance(alloc: Global, word: &str, name: &str) -> Result<Option<usize>, AllocError> {
+    let word = word.strip_prefix("--").unwrap_or(word);
+    let name = name.strip_prefix("--").unwrap_or(name);
+    if word.eq_ignore_ascii_case(name) {
+        return Ok(Some(0));
+    }
+    if word.len() > MOST_COMPARED {
+        return Ok(None);
+    }
+    let distance = osa_distance(alloc, word, name)?;
+    if distance <= word.len() / 3 {
+        Ok(Some(distance))
+    } else {
+        Ok(None)
     }
 }
 
-fn push_line(out: &mut String, line: &str) -> Result<(), AllocError> {
-    for letter in line.chars() {
-        push_shown(out, letter)?;
-    }
-    out.push('\n')
-}
+/// Longer words are like no name.
+const MOST_COMPARED: usize = 30;
 
 /// What to do at a mistake of this kind in these words, if more can be said than clap says.
-fn tip(kind: ErrorKind, words: &[String]) -> Option<&'static str> {
+fn tip(kind: ErrorKind, text: &str, words: &[String]) -> Option<&'static str> {
     let [_, command, behind @ ..] = words else {
         return None;
     };
     let command = command.as_str();
-    if !is_command(command) {
-        return tip_on_command(command);
-    }
+    let word = refused_word(text);
     match kind {
-        ErrorKind::UnknownArgument => tip_on_unknown(command, behind),
-        ErrorKind::MissingRequiredArgument => tip_in(ARGUMENTS.as_slice(), command),
+        ErrorKind::InvalidSubcommand => tip_on_command(word),
+        ErrorKind::UnknownArgument if !is_command(command) => tip_on_command(word),
+        ErrorKind::UnknownArgument if word.starts_with("-") => {
+            tip_on_option(command, behind, word)
+        }
+        ErrorKind::UnknownArgument => Some(tip_on_file(command, behind)),
+        ErrorKind::MissingRequiredArgument => tip_in(MISSING.as_slice(), command),
         _ => None,
     }
 }
 
 fn is_command(word: &str) -> bool {
-    matches!(
-        word,
-        "nup" | "booklet" | "zine" | "cards" | "stack" | "notes" | "poster" | "select" | "spec"
-    )
+    COMMANDS.iter().any(|name| *name == word)
 }
 
-/// The first word is no command.
+/// A word that is in the place of the command.
 fn tip_on_command(word: &str) -> Option<&'static str> {
     if word.starts_with("-") {
         Some("options come after the command, as in: impose nup 2 -q in.ps out.ps")
     } else if looks_like_file(word) {
         Some("a command comes before the files, as in: impose booklet in.ps out.ps")
-    } else if word.starts_with(|letter: char| letter.is_ascii_digit()) {
+    } else if begins_with_digit(word) {
         Some("a command comes before its number, as in: impose nup 2 in.ps out.ps")
+    } else if is_command_and_number(word) {
+        Some("a blank is between a command and its number, as in: impose nup 2 in.ps out.ps")
     } else {
-        tip_in(OTHERS.as_slice(), word)
-    }
-}
-
-/// An option that there isn't, or a word too many.
-fn tip_on_unknown(command: &str, behind: &[String]) -> Option<&'static str> {
-    let mut before = "";
-    for word in behind {
-        let word = word.as_str();
-        if let Some(tip) = tip_on_word(command, before, word) {
-            return Some(tip);
-        }
-        before = word;
-    }
-    if behind.iter().any(|word| word.as_str().starts_with("-")) {
-        None
-    } else {
-        Some("there are two files at most, INFILE and OUTFILE; put a name with blanks in quotes")
-    }
-}
-
-/// The same of this word, which comes after that one.
-fn tip_on_word(command: &str, before: &str, word: &str) -> Option<&'static str> {
-    if word.starts_with("-o") || word.starts_with("--out") {
-        Some("the sheets go to the second file, without an option: impose nup 2 in.ps out.ps")
-    } else if command == "spec" && (word == "--plan" || word.starts_with("--preview")) {
-        Some(
-            "plans and pictures are made for nup, booklet, zine, cards, stack, notes, poster and select; without one: impose spec 0,0 \
-            in.ps out.ps",
-        )
-    } else if begins_with_minus_and_number(word) {
-        let first = if before.starts_with("-") {
-            before
-        } else {
-            command
-        };
-        tip_in(SIGNS.as_slice(), first).or(tip_in(SIGNS.as_slice(), command))
-    } else if word.starts_with("-") && looks_like_file(word) {
-        Some("a file whose name begins with a minus is written with its folder: ./-in.ps")
-    } else {
-        tip_on_option(command, word)
-    }
-}
-
-/// What other programs have an option for, or only some of the commands.
-fn tip_on_option(command: &str, word: &str) -> Option<&'static str> {
-    match word {
-        "--order" if command == "booklet" => Some(
-            "the order of a booklet is that in which one reads it; one that is bound at the right takes --rtl",
-        ),
-        "--numbers" if !matches!(command, "poster" | "spec") => None,
-        _ if word.starts_with("-") => tip_in(OTHERS.as_slice(), word),
-        _ => None,
-    }
-}
-
-fn begins_with_minus_and_number(word: &str) -> bool {
-    match word.strip_prefix("-") {
-        Some(rest) => rest.starts_with(|letter: char| letter.is_ascii_digit() || letter == '.'),
-        None => false,
+        tip_in(FOR_COMMANDS.as_slice(), word)
     }
 }
 
 pub(crate) fn begins_with_digit(word: &str) -> bool {
     word.starts_with(|letter: char| letter.is_ascii_digit())
+}
+
+fn is_command_and_number(word: &str) -> bool {
+    COMMANDS.iter().any(|name| match word.strip_prefix(*name) {
+        Some(rest) => begins_with_digit(rest),
+        None => false,
+    })
+}
+
+/// An option that there isn't.
+fn tip_on_option(command: &str, behind: &[String], word: &str) -> Option<&'static str> {
+    let (before, whole) = in_place(behind, word);
+    let value = whole.strip_prefix("-").unwrap_or("");
+    if begins_with_digit(value) || value.starts_with(".") {
+        let on_option = tip_in(SIGNS.as_slice(), before);
+        return on_option.or(tip_in(SIGNS.as_slice(), command));
+    }
+    let own = match command {
+        "booklet" => tip_in(FOR_BOOKLETS.as_slice(), word),
+        "select" => tip_in(FOR_SELECTIONS.as_slice(), word),
+        "spec" => tip_in(FOR_SPECIFICATIONS.as_slice(), word),
+        _ => None,
+    };
+    if own.is_some() {
+        return own;
+    }
+    if word == "-o" || word.starts_with("--out") {
+        return Some(
+            "the sheets go to the second file, without an option: impose nup 2 in.ps out.ps",
+        );
+    }
+    if looks_like_file(whole) && !whole.contains("=") {
+        return Some("a file whose name begins with a minus is written with its folder: ./-in.ps");
+    }
+    let others = tip_in(OF_COMMANDS.as_slice(), word);
+    others.or(tip_in(OF_OTHERS.as_slice(), word))
+}
+
+/// The word before an option that clap names so, and the whole word in which it is: `-d1` for `-d`, `--frame=1` for `--frame`.
+/// Both are empty if it is among other letters, as `-d` in `-qd1`.
+fn in_place<'w>(behind: &'w [String], option: &str) -> (&'w str, &'w str) {
+    let mut before = "";
+    for word in behind {
+        let word = word.as_str();
+        if let Some(rest) = word.strip_prefix(option) {
+            if !option.starts_with("--") || rest.is_empty() || rest.starts_with("=") {
+                return (before, word);
+            }
+        }
+        before = word;
+    }
+    ("", "")
+}
+
+/// A word more than there are files.
+fn tip_on_file(command: &str, behind: &[String]) -> &'static str {
+    let first = behind.first().map_or("", |word| word.as_str());
+    let ranges = behind.iter().filter(|word| is_range(word.as_str())).count();
+    if matches!(command, "booklet" | "zine") && is_range(first) {
+        "no number comes after booklet or zine, as in: impose zine in.ps out.ps; leaves are folded some at a time by --signature 16"
+    } else if command == "select" && ranges > 1 {
+        "ranges are one word, as in: impose select 1,3,5-8 in.ps out.ps"
+    } else if ranges > 1 && behind.iter().any(|word| word.as_str() == "--pages") {
+        "ranges are one word, as in: --pages 1,3,5-8"
+    } else if behind
+        .iter()
+        .any(|word| matches!(word.as_str(), "pt" | "mm" | "cm" | "in"))
+    {
+        "a number and its unit are one word, as in: --gap 5mm"
+    } else {
+        "there are two files at most, INFILE and OUTFILE; put a name with blanks in quotes"
+    }
 }
 
 /// Whether a word is more likely a range of pages, or a number, than anything else.
@@ -208,60 +251,3 @@ pub(crate) fn looks_like_file(word: &str) -> bool {
         || word.ends_with(".gz")
         || word.contains("/")
 }
-
-/// The tip on a word in a table, whose rows have the words that they are for, and after a colon the tip.
-fn tip_in(rows: &[&'static str], word: &str) -> Option<&'static str> {
-    for row in rows {
-        let row = *row;
-        if let Some((words, tip)) = row.split_once(": ") {
-            if words.split_whitespace().any(|known| known == word) {
-                return Some(tip);
-            }
-        }
-    }
-    None
-}
-
-/// The argument that a command begins with is missing.
-const ARGUMENTS: [&str; 7] = [
-    "nup: the number of pages comes after nup, as in: impose nup 2 in.ps out.ps",
-    "cards: the number of pages comes after cards, as in: impose cards 8 in.ps out.ps",
-    "stack: the number of pages comes after stack, as in: impose stack 2 in.ps out.ps",
-    "notes: the number of pages comes after notes, as in: impose notes 3 in.ps out.ps",
-    "poster: columns and rows of sheets come after poster, as in: impose poster 2x2 in.ps out.ps",
-    "select: the pages come after select, and 1- are all: impose select 1- --odd in.ps out.ps",
-    "spec: the specification comes after spec, as in: impose spec 0,0 in.ps out.ps",
-];
-
-/// What other programs have a command or an option for, or only some of the commands.
-const OTHERS: [&str; 14] = [
-    "rotate turn --rotate: pages are turned by --turn, as to the left by: impose select 1- --turn left in.ps out.ps",
-    "split cut: some of the pages are taken by: impose select 1-3 in.ps out.ps; each page is put over several sheets by: impose poster 2x1 in.ps out.ps",
-    "scale resize: pages are scaled to another paper by: impose nup 1 --sheet a5 in.ps out.ps",
-    "--short-edge: without an option a booklet is for printers that flip on the short edge: leave it out",
-    "--copies --repeat: each page is on a sheet several times by: impose cards 2 in.ps out.ps; and the document several times after itself by --pages 1-,1-",
-    "--blank: a blank page is named among the others, as in: --pages 1,blank,2-",
-    "--verbose -v: there is no longer report; --plan prints which page is where",
-    "--dry-run -n: --plan prints which page is where on each sheet, and imposes nothing",
-    "--landscape: a sheet on its side is named so, as in: --sheet a4-landscape",
-    "--version: the version is printed without a command: impose --version",
-    "--order: nup, cards and stack have an order, as in: impose nup 4 --order down-right in.ps out.ps",
-    "--marks: nup, cards, stack and booklet have marks, as in: impose cards 8 --marks cut in.ps out.ps",
-    "--turn: a specification turns pages itself, as to the left by: impose spec 'L(1h,0)' --sheet a4-landscape in.ps out.ps",
-    "--numbers: pages of posters and of specifications have no numbers; the others have, as in: impose nup 2 --numbers 10pt",
-];
-
-/// A value with a minus comes after an option, or what comes first after a command has a minus.
-const SIGNS: [&str; 11] = [
-    "--margin --gap --trim --creep --border --overlap --numbers: a length is not below 0, as in: --gap 5mm",
-    "-p --paper --sheet: the sides of a paper are above 0, as in: --paper 210x297mm",
-    "--scale: a scale is above 0, as in: --scale 0.7",
-    "--numbers-from: the first number has no sign, as in: --numbers 10pt --numbers-from 3",
-    "nup: the number of pages has no sign, as in: impose nup 2 in.ps out.ps",
-    "cards: the number of pages has no sign, as in: impose cards 8 in.ps out.ps",
-    "stack: the number of pages has no sign, as in: impose stack 2 in.ps out.ps",
-    "notes: the number of pages has no sign, as in: impose notes 3 in.ps out.ps",
-    "poster: the columns and rows of sheets have no sign, as in: impose poster 2x2 in.ps out.ps",
-    "spec: a specification that begins with a minus is written with its modulo: 1:-0",
-    "--pages booklet zine select: a range begins with the number of a page: 1-3 are the first three, and _3- the last three",
-];

@@ -1,0 +1,223 @@
+//! What to do in place of words that the command doesn't take.
+
+/// Words, of which options are as clap names them (`-d` of `-d1`), and what to do in their place.
+pub(crate) type Tip = (&'static [&'static str], &'static str);
+
+/// The tip on a word.
+pub(crate) fn tip_in(tips: &[Tip], word: &str) -> Option<&'static str> {
+    for (words, tip) in tips {
+        if words.iter().any(|known| *known == word) {
+            return Some(*tip);
+        }
+    }
+    None
+}
+
+/// The argument that a command begins with is missing.
+pub(crate) const MISSING: [Tip; 7] = [
+    (
+        &["nup"],
+        "the number of pages comes after nup, as in: impose nup 2 in.ps out.ps",
+    ),
+    (
+        &["cards"],
+        "the number of pages comes after cards, as in: impose cards 8 in.ps out.ps",
+    ),
+    (
+        &["stack"],
+        "the number of pages comes after stack, as in: impose stack 2 in.ps out.ps",
+    ),
+    (
+        &["notes"],
+        "the number of pages comes after notes, as in: impose notes 3 in.ps out.ps",
+    ),
+    (
+        &["poster"],
+        "columns and rows of sheets come after poster, as in: impose poster 2x2 in.ps out.ps",
+    ),
+    (
+        &["select"],
+        "the pages come after select, and 1- are all: impose select 1- --odd in.ps out.ps",
+    ),
+    (
+        &["spec"],
+        "the specification comes after spec, as in: impose spec 0,0 in.ps out.ps",
+    ),
+];
+
+/// A value with a minus comes after an option, or what comes first after a command has a minus.
+pub(crate) const SIGNS: [Tip; 11] = [
+    (
+        &[
+            "--margin",
+            "--gap",
+            "--trim",
+            "--creep",
+            "--border",
+            "--overlap",
+            "--numbers",
+        ],
+        "a length is not below 0, as in: --gap 5mm",
+    ),
+    (
+        &["-p", "--paper", "--sheet"],
+        "the sides of a paper are above 0, as in: --paper 210x297mm",
+    ),
+    (&["--scale"], "a scale is above 0, as in: --scale 0.7"),
+    (
+        &["--numbers-from"],
+        "the first number has no sign, as in: --numbers 10pt --numbers-from 3",
+    ),
+    (
+        &["nup"],
+        "the number of pages has no sign, as in: impose nup 2 in.ps out.ps",
+    ),
+    (
+        &["cards"],
+        "the number of pages has no sign, as in: impose cards 8 in.ps out.ps",
+    ),
+    (
+        &["stack"],
+        "the number of pages has no sign, as in: impose stack 2 in.ps out.ps",
+    ),
+    (
+        &["notes"],
+        "the number of pages has no sign, as in: impose notes 3 in.ps out.ps",
+    ),
+    (
+        &["poster"],
+        "the columns and rows of sheets have no sign, as in: impose poster 2x2 in.ps out.ps",
+    ),
+    (
+        &["spec"],
+        "a specification that begins with a minus is written with its modulo: 1:-0",
+    ),
+    (
+        &["--pages", "booklet", "zine", "select"],
+        "a range begins with the number of a page: 1-3 are the first three, and _3- the last three",
+    ),
+];
+
+/// Options that mean something else for booklets, or for what other programs call so.
+pub(crate) const FOR_BOOKLETS: [Tip; 4] = [
+    (
+        &["--order"],
+        "the order of a booklet is that in which one reads it; one that is bound at the right takes --rtl",
+    ),
+    (
+        &["--duplex"],
+        "a booklet is for printing on both sides without an option: leave it out",
+    ),
+    (
+        &["-s", "-n", "--sheets", "--leaves"],
+        "leaves are folded some at a time by a number of sides, as in: impose booklet --signature 16 in.ps out.ps",
+    ),
+    (
+        &["--scale"],
+        "pages of a booklet are as large as they fit: name larger sheets, as in: impose booklet --sheet a3 in.ps out.ps",
+    ),
+];
+
+/// The same, of selections.
+pub(crate) const FOR_SELECTIONS: [Tip; 4] = [
+    (
+        &["--pages"],
+        "the pages come after select, as in: impose select 1-3 in.ps out.ps",
+    ),
+    (
+        &["-r"],
+        "pages go backwards by: impose select 1- --reverse in.ps out.ps",
+    ),
+    (
+        &["-o"],
+        "every second page is taken by --odd, as in: impose select 1- --odd in.ps out.ps; the sheets go to the second file, without an option",
+    ),
+    (
+        &["--scale"],
+        "pages are scaled by: impose nup 1 --scale 0.7 in.ps out.ps",
+    ),
+];
+
+/// The same, of specifications.
+pub(crate) const FOR_SPECIFICATIONS: [Tip; 4] = [
+    (
+        &["--plan", "--preview"],
+        "plans and pictures are made for nup, booklet, zine, cards, stack, notes, poster and select; without one: impose spec 0,0 in.ps out.ps",
+    ),
+    (
+        &["--turn"],
+        "a specification turns pages itself, as to the left by: impose spec 'L(1h,0)' --sheet a4-landscape in.ps out.ps",
+    ),
+    (
+        &["--scale"],
+        "a specification scales pages itself, as in: impose spec 0@.7 in.ps out.ps",
+    ),
+    (
+        &["-s"],
+        "the row is put into signatures by: impose spec 0 --signature 16 in.ps out.ps",
+    ),
+];
+
+/// Options that some commands have, for the others.
+pub(crate) const OF_COMMANDS: [Tip; 15] = [
+    (
+        &["--order"],
+        "nup, cards and stack have an order, as in: impose nup 4 --order down-right in.ps out.ps",
+    ),
+    (
+        &["--turned"],
+        "nup, cards and stack have it, as in: impose nup 4 --turned left in.ps out.ps; pages are turned themselves by --turn left",
+    ),
+    (
+        &["--scale"],
+        "nup, cards and stack have a scale, as in: impose nup 2 --scale 0.7 in.ps out.ps",
+    ),
+    (
+        &["--same-scale"],
+        "pages of posters, selections and specifications have their own scales; others have one by: impose nup 2 --same-scale in.ps out.ps",
+    ),
+    (
+        &["--marks"],
+        "zines, notes, posters, selections and specifications have no marks; the others have, as in: impose cards 8 --marks cut in.ps out.ps",
+    ),
+    (
+        &["--numbers", "--numbers-from"],
+        "pages of posters, zines and specifications have no numbers; the others have, as in: impose nup 2 --numbers 10pt in.ps out.ps",
+    ),
+    (
+        &["--margin"],
+        "selections and specifications have no margins; the others have, as in: impose nup 1 --margin 1cm in.ps out.ps",
+    ),
+    (
+        &["--gap"],
+        "posters, selections and specifications have no gaps; the others have, as in: impose nup 2 --gap 5mm in.ps out.ps",
+    ),
+    (
+        &["--trim"],
+        "zines, posters, selections and specifications trim no pages; the others do, as in: impose nup 1 --trim 15mm in.ps out.ps",
+    ),
+    (
+        &["--overlap"],
+        "sheets of posters overlap, as in: impose poster 2x2 --overlap 1cm in.ps out.ps",
+    ),
+    (
+        &["--rtl"],
+        "nup, cards, stack, booklet and zine go from right to left, as in: impose nup 4 --rtl in.ps out.ps",
+    ),
+    (
+        &["--creep"],
+        "leaves of booklets creep, as in: impose booklet --gap 1cm --creep 2mm in.ps out.ps",
+    ),
+    (
+        &["--signature"],
+        "leaves of booklets are folded some at a time, as in: impose booklet --signature 16 in.ps out.ps",
+    ),
+    (
+        &["--duplex"],
+        "for printing on both sides stack alone needs it, as in: impose stack 2 --duplex in.ps out.ps",
+    ),
+    (
+        &["--long-edge"],
+        "backs are turned for a printer that flips on the long edge by: impose nup 2 in.ps | impose spec '2:0,1U(1w,1h)' - out.ps",
+    ),
+];
