@@ -44,6 +44,13 @@ job = refl
 too_long : of_document TooLong (codes "%!") ≡ fault.TooLong
 too_long = refl
 
+-- a drawing is told by its header alone
+eps : of_document NoPages (codes "%!PS-Adobe-3.0 EPSF-3.0\n") ≡ fault.Eps
+eps = refl
+
+no_eps : map (of_document NoPages) (codes "%!PS-Adobe-3.0\n%%Title: EPSF-3.0\n" ∷ codes "%!PS-Adobe-3.0 EPSF" ∷ codes "%!EPSF-3.0" ∷ []) ≡ fault.Run (run.Document NoPages) ∷ fault.Run (run.Document NoPages) ∷ fault.Run (run.Document NoPages) ∷ []
+no_eps = refl
+
 -- another reason is said as it is
 no_pages : of_document NoPages (codes "%!") ≡ fault.Run (run.Document NoPages)
 no_pages = refl

@@ -1,8 +1,8 @@
 -- What an error of its document makes of a request, before anything was written.
-use Rattle.std.specs.Prelude.{ℕ, ◌==◌, Bool, ◌||◌, Option, Some, None, if◌then◌else◌, List, [], ◌∷◌, length, codes, nat_eq}
+use Rattle.std.specs.Prelude.{ℕ, ◌==◌, Bool, false, ◌||◌, ◌&&◌, Option, Some, None, if◌then◌else◌, List, [], ◌∷◌, length, drop, codes, nat_eq}
 use Rattle.std.specs.List.{starts_with}
 use Rattle.dsc.specs.declared.errors.DscError.{DscError}
-use Rattle.dsc.specs.declared.errors.DscError.TheVariants.{NotPostScript, TooLong}
+use Rattle.dsc.specs.declared.errors.DscError.TheVariants.{NoPages, NotPostScript, TooLong}
 use Rattle.planned_runs.specs.Outcomes.{of_document as of_read}
 use Rattle.impose_said.specs.declared.fault.Packing.{Packing}
 use Rattle.impose_said.specs.declared.fault.Packing.TheVariants as packing
@@ -23,6 +23,18 @@ packing_of input = if starts_with nat_eq input (31 ∷ 139 ∷ []) then Some pac
 -- the first bytes of an EPS with a preview before it (Adobe, EPSF 3.0, 5.2)
 abbrev pub is_dos_eps : (input : List ℕ) → Bool
 is_dos_eps input = starts_with nat_eq input (197 ∷ 208 ∷ 211 ∷ 198 ∷ [])
+
+-- what its header goes on with after the version of its comments, as `%!PS-Adobe-3.0 EPSF-3.0` does (DSC, 'EPSF')
+abbrev pub goes_on_as_eps : List ℕ → Bool
+goes_on_as_eps (major ∷ dot ∷ minor ∷ blank ∷ rest) = (dot == 46) && ((blank == 32) && starts_with nat_eq rest (codes "EPSF-"))
+goes_on_as_eps other = false
+
+abbrev pub header_start : List ℕ
+header_start = codes "%!PS-Adobe-"
+
+-- a drawing to be put into a page of a document
+abbrev pub is_eps : (input : List ℕ) → Bool
+is_eps input = starts_with nat_eq input header_start && goes_on_as_eps (drop (length header_start) input)
 
 -- the mark at the start of a text in UTF-16, in one order of bytes or the other
 abbrev pub is_utf_16 : (input : List ℕ) → Bool
@@ -53,4 +65,5 @@ of_other_input input = if length input == 0 then fault.NoInput
 abbrev pub of_document : DscError → (input : List ℕ) → ImposeFault
 of_document NotPostScript input = of_other_input input
 of_document TooLong input = fault.TooLong
+of_document NoPages input = if is_eps input then fault.Eps else fault.Run (of_read NoPages)
 of_document other input = fault.Run (of_read other)

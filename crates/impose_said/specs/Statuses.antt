@@ -52,6 +52,7 @@ fault_status fault.NoInput = 1
 fault_status fault.Pdf = 1
 fault_status (fault.Compressed packing) = 1
 fault_status fault.DosEps = 1
+fault_status fault.Eps = 1
 fault_status fault.Utf16 = 1
 fault_status fault.JobLanguage = 1
 fault_status fault.TooLong = 1

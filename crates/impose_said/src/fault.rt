@@ -72,6 +72,8 @@ pub enum ImposeFault {
     Compressed(Packing),
     /// The input is an EPS with a preview before it.
     DosEps,
+    /// The input is an EPS without `%%Page:` comments.
+    Eps,
     /// The input is a text of two bytes a letter.
     Utf16,
     /// The input begins with a printer's job language.

@@ -1,19 +1,20 @@
 //! What an input is that is no document.
 ghost use Rattle.std.specs.Prelude.{◌≡◌};
-ghost use Rattle.impose_said.specs.Inputs.{of_document as document_fault, of_other_input, of_unpacked, packing_of as packed_by};
+ghost use Rattle.impose_said.specs.Inputs.{is_eps as eps, of_document as document_fault, of_other_input, of_unpacked, packing_of as packed_by};
 
 use crate::fault::{ImposeFault, Packing};
 use dsc::DscError;
 use imposer::RunError;
 
-/// A document's refusal. What is empty, a PDF, compressed or a job for a printer is called so; and what is too long by
-/// itself, as a guard may make it so later.
+/// A document's refusal. What is empty, a PDF, compressed or a job for a printer is called so, and so is an EPS without pages;
+/// and what is too long by itself, as a guard may make it so later.
 pub fn of_document(error: DscError, input: &[u8]) -> ImposeFault
     ensures { result ≡ document_fault error input.now }
 {
     match error {
         DscError::NotPostScript => not_postscript(input),
         DscError::TooLong => ImposeFault::TooLong,
+        DscError::NoPages if is_eps(input) => ImposeFault::Eps,
         error => ImposeFault::Run(RunError::from(error)),
     }
 }
@@ -47,6 +48,19 @@ fn unpacked_fault(input: &[u8]) -> ImposeFault
         ImposeFault::Run(RunError::Document(DscError::NotPostScript))
     }
 }
+
+/// Whether an input is a drawing to be put into a page of a document, by its first line.
+fn is_eps(input: &[u8]) -> bool
+    ensures { result ≡ eps input.now }
+{
+    match input.strip_prefix(HEADER_START) {
+        Some([_, b'.', _, b' ', rest @ ..]) => rest.starts_with(b"EPSF-"),
+        _ => false,
+    }
+}
+
+/// What comes before the version of the header's comments.
+const HEADER_START: &[u8] = b"%!PS-Adobe-";
 
 /// By what an input is compressed, as its first bytes show.
 fn packing_of(input: &[u8]) -> Option<Packing>

@@ -53,6 +53,7 @@ pub fn fault_text(
             return input_text(alloc, "", request, packed_message(*packing));
         }
         ImposeFault::DosEps => return input_text(alloc, "", request, DOS_EPS),
+        ImposeFault::Eps => return input_text(alloc, "", request, EPS),
         ImposeFault::Utf16 => return input_text(alloc, "", request, UTF_16),
         ImposeFault::JobLanguage => return input_text(alloc, "", request, JOB_LANGUAGE),
         ImposeFault::TooLong => return input_text(alloc, "", request, TOO_LONG),
@@ -133,6 +134,9 @@ const PDF: &str =
 
 const DOS_EPS: &str =
     " is an EPS with a preview before it, as DOS had them; use: ps2ps in.eps - | impose .. -";
+
+const EPS: &str =
+    " is an EPS without %%Page: comments; use: gs -q -dEPSCrop -sDEVICE=ps2write -o - in.eps | impose .. -";
 
 const UTF_16: &str =
     " is a text of two bytes a letter (UTF-16), not PostScript; use: iconv -f UTF-16 -t ISO-8859-1 in.ps | \
