@@ -6,7 +6,7 @@ use Rattle.rules.specs.Papers.{Paper}
 use Rattle.rules.specs.Parts.{NestedUnit}
 use Rattle.rules.specs.Run.{DocumentFault, document_of}
 use Rattle.impose_said.specs.Faults.{without_memory}
-use Rattle.impose_said.specs.Said.{is_same}
+use Rattle.layouts.specs.Grids.{is_same}
 use Rattle.papers.specs.declared.cuts.Cut.{Cut}
 use Rattle.std.specs.Prelude.{Option, Result}
 use Rattle.impose_said.specs.declared.fault.ImposeFault.{ImposeFault}

@@ -1,7 +1,7 @@
 //! How a layout lays a row of pages on sheets.
 ghost use Rattle.std.specs.Prelude.{◌≡◌, ◌↔◌, ◌≤◌, IfErr, IfOk, IfSome, IsTrue, OnOk, None, Some, option_map, true};
-ghost use Rattle.layouts.specs.Grids.{count_of, rounded_down as rounded_down_of, rounded_up as rounded_up_of};
-ghost use Rattle.layouts.specs.Refusals.{is_length as may_be_length, why_not_arranged};
+ghost use Rattle.layouts.specs.Grids.{count_of};
+ghost use Rattle.layouts.specs.Refusals.{most_on_sheet, why_not_arranged};
 ghost use Rattle.rows.specs.Sewing.{MayBeSewn};
 ghost use Rattle.sheet_text.specs.Jobs.{is_border};
 ghost use Rattle.row_runs.specs.Sheets.{MayBeLaid};
@@ -16,7 +16,10 @@ ghost use Rattle.impose_said.specs.declared.fault.ImposeFault.TheVariants as fau
 use impose_said::ImposeFault;
 use impose_words::{ImposeRequest, Layout, Spacing};
 use imposer::RunError;
-use layouts::{Arrangement, ArrangementError, Cells, Free, Papers, Setting, check_room};
+use layouts::{
+    Arrangement, ArrangementError, Cells, Free, Papers, Setting, check_room, is_length,
+    rounded_down, rounded_up,
+};
 use lengths::{Grains, Paper};
 use row_runs::{Laying, Scheme, turned_paper};
 use row_sheets::{Poster, check_poster};
@@ -157,7 +160,7 @@ fn cells_for(layout: &Layout, spacing: &Spacing) -> Arrangement
 
 /// How a row is put into these cells.
 fn scheme_for(layout: &Layout, cells: Cells) -> Scheme
-    requires { count_of cells ≤ 1_024 }
+    requires { count_of cells ≤ most_on_sheet }
     ensures { result ≡ scheme_in layout.now (count_of cells) }
 {
     let cells = cells.count() as u32;
@@ -247,30 +250,6 @@ fn has_one_margin(free: &Free) -> bool
     ensures { result ≡ are_one free.now }
 {
     has_even_margins(free) && free.left.get() == free.bottom.get()
-}
-
-/// Whether a length is from 0 to 99,999 points and five nines after the dot.
-fn is_length(length: Grains) -> bool
-    ensures { result ≡ may_be_length length }
-{
-    let grains = length.get();
-    0 <= grains && grains < 12_700_000_000_000_000
-}
-
-/// A length in whole 10^-5 of a point, to which none is added.
-fn rounded_down(length: Grains) -> u64
-    requires { IsTrue (may_be_length length) }
-    ensures { result ≡ rounded_down_of length }
-{
-    length.get() as u64 / 1_270_000
-}
-
-/// A length in whole 10^-5 of a point, of which none is lost.
-fn rounded_up(length: Grains) -> u64
-    requires { IsTrue (may_be_length length) }
-    ensures { result ≡ rounded_up_of length }
-{
-    (length.get() as u64 + 1_269_999) / 1_270_000
 }
 
 /// How the row of a request is sewn, if it is. Refused are a signature that can't have so many sides, and a border as wide

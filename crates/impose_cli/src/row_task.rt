@@ -15,7 +15,7 @@ ghost use Rattle.impose_cli.specs.RowTasks.{guarded_in, first_paper as first_pap
 ghost use Rattle.impose_cli.specs.RowTasks.{ArePapersOf, HasReach, ImposesTask, IsRowPaper, IsRowTask, LaysRows, counted_in};
 ghost use Rattle.std.specs.List.{list_all};
 ghost use Rattle.impose_cli.specs.RowTasks.{TellsOnePaper};
-ghost use Rattle.impose_said.specs.Said.{is_same as are_same};
+ghost use Rattle.layouts.specs.Grids.{is_same as are_same};
 ghost use Rattle.impose_cli.specs.RowTasks.{counted_among, cut_by_named, cut_in, paper_for, papers_in as papers_found, placed_in, row_paper};
 ghost use Rattle.impose_cli.specs.Reaches.{reach_in};
 ghost use Rattle.impose_cli.specs.Refusals.{RefusesDocument, RefusesRowTask};
@@ -35,6 +35,7 @@ use guard::RoomyText;
 use impose_said::{ImposeFault, PaperOrigin, of_document};
 use impose_words::{ImposeRequest, Layout, PageChoice};
 use imposer::{Report, RunError};
+use layouts::is_of_size;
 use lengths::Paper;
 use papers::{Cut, Reach, as_one, cut_by, first_instead_of, own_papers};
 use row_runs::{Asked, AskedError, Laying, RowJob, turned_papers};
@@ -158,24 +159,18 @@ pub(crate) fn has_one_paper(
 fn are_all(first: &Paper, others: &[Paper], paper: &Paper) -> bool
     ensures { result ≡ (are_same first.now paper.now && list_all (are_same paper.now) others.now) }
 {
-    is_same(first, paper) && are_same_as(paper, others)
+    is_of_size(first, paper) && are_same_as(paper, others)
 }
 
 fn are_same_as(paper: &Paper, others: &[Paper]) -> bool
     ensures { result ≡ list_all (are_same paper.now) others.now }
 {
     for other in others {
-        if !is_same(paper, other) {
+        if !is_of_size(paper, other) {
             return false;
         }
     }
     true
-}
-
-fn is_same(one: &Paper, other: &Paper) -> bool
-    ensures { result ≡ are_same one.now other.now }
-{
-    one.width().get() == other.width().get() && one.height().get() == other.height().get()
 }
 
 fn papers_in(

@@ -10,11 +10,10 @@ use Rattle.std.specs.declared.io.ErrorKind.{ErrorKind}
 use Rattle.std.specs.declared.io.ErrorKind.TheVariants.{BrokenPipe}
 use Rattle.clap.specs.Words.{kind_of}
 use Rattle.clap.specs.declared.error.Error.{Error as WordsError}
-use Rattle.std.specs.Ordering.{int_eq}
 use Rattle.rules.specs.Bytes.{line}
 use Rattle.rules.specs.Numbers.{points_text}
 use Rattle.rules.specs.Papers.{Paper}
-use Rattle.layouts.specs.Grids.{count_of}
+use Rattle.layouts.specs.Grids.{count_of, is_same}
 use Rattle.layouts.specs.Placed.{Room}
 use Rattle.papers.specs.declared.media.Comment.TheVariants as comment
 use Rattle.papers.specs.declared.boxes.Edges.{Edges}
@@ -90,15 +89,7 @@ counts_text report r = codes "pages " ++ (decimal report.pages ++ (blanks_text (
     ++ (codes ", sheets " ++ (decimal report.sheets ++ ((if are_sides r.layout r.spacing then leaves_text ((report.sheets + 1) / 2) else [])
     ++ (codes ", bytes " ++ decimal report.bytes))))))
 
--- two papers are one
-abbrev pub is_same : Paper → Paper → Bool
-is_same a b = int_eq a.width b.width && int_eq a.height b.height
-
--- the size of the sheets
-abbrev pub sheet_text : (sheet : Paper) → List ℕ
-sheet_text sheet = codes "; sheets of " ++ (size_text sheet ++ codes " pt")
-
--- if another paper is named for them than the pages have
+-- the size of the sheets, if another paper is named for them than the pages have
 abbrev pub sheets_text : (named : Option Paper) → (page_paper : Paper) → List ℕ
 sheets_text None page_paper = []
 sheets_text (Some sheet) page_paper = if is_same sheet page_paper then [] else sheet_text sheet

@@ -1,18 +1,27 @@
 //! What is said of a finished run.
-ghost use Rattle.std.specs.Prelude.{◌≡◌, ◌+◌, ◌/◌, ◌≤◌, ◌++◌, if◌then◌else◌, [], length};
-ghost use Rattle.impose_said.specs.Rooms.{most_said};
-ghost use Rattle.impose_said.specs.Said.{are_sides as are_sides_of, behind_message, blanks_of as blanks_in, blanks_text, counted, counts_text};
-ghost use Rattle.impose_said.specs.Said.{corners_text, cut_message, cut_pages_text, cut_size_text, edges_text, is_same as are_same, leaves_text, note_text};
-ghost use Rattle.impose_said.specs.Said.{origin_text as text_of_origin, others_text, places_on as places_in, reach_message, report_text};
-ghost use Rattle.impose_said.specs.Said.{sheet_text, sheets_text, sides_text, size_text, some_pages_text, told_message, unknown_message};
+ghost use Rattle.std.specs.Prelude.{◌≡◌, ◌+◌, ◌/◌, IfOk, IsUtf8, OnErr, if◌then◌else◌, [], map, option_map, string_bytes};
+ghost use Rattle.rules.specs.Numbers.{points_text as text_of_points};
+ghost use Rattle.impose_said.specs.Said.{IsNote, behind_text as text_of_behind};
+ghost use Rattle.impose_said.specs.Said.{blanks_of as blanks_in, blanks_text as text_of_blanks, counts_text as text_of_counts};
+ghost use Rattle.impose_said.specs.Said.{are_sides as are_sides_of, leaves_text as text_of_leaves, places_on as places_in};
+ghost use Rattle.impose_said.specs.Said.{cut_pages_text as text_of_cut_pages, cut_size_text as text_of_cut_size, cut_text as text_of_cut};
+ghost use Rattle.impose_said.specs.Said.{some_pages_text as text_of_some_pages};
+ghost use Rattle.impose_said.specs.Said.{edges_text as text_of_edges, others_text as text_of_others, reach_text as text_of_reach};
+ghost use Rattle.impose_said.specs.Said.{report_text as text_of_report, sheets_text as text_of_sheets};
+ghost use Rattle.impose_said.specs.Said.{sides_text as text_of_sides, size_text as text_of_size};
+ghost use Rattle.impose_said.specs.Said.{counted as text_of_counted, told_text as text_of_told};
+ghost use Rattle.impose_said.specs.Said.{is_pdf_name as names_pdf, origin_text as text_of_origin};
+ghost use Rattle.impose_said.specs.Said.{shown_byte as byte_shown, shown_name as text_of_name, unknown_text as text_of_unknown};
 
 use crate::finished::{Finished, PaperOrigin};
 use crate::report_text::ReportText;
 use crate::shown::ShownName;
 use impose_words::{ImposeRequest, Layout};
 use imposer::Report;
-use lengths::{Grains, Paper};
-use papers::{Comment, Cut, Edges, Reach};
+use layouts::is_of_size;
+use lengths::{Grains, Paper, print_points};
+use papers::{Comment, Cut, Edges};
+use std::alloc::{AllocError, Global};
 
 /// The report.
 pub(crate) fn push_report(said: &mut ReportText, done: &Finished, request: &ImposeRequest)
@@ -35,26 +44,12 @@ fn push_sheets(said: &mut ReportText, named: &Option<Paper>, page_paper: &Paper)
     ensures short { length said.new ≤ length said.old + 118 }
 {
     match named {
-        Some(sheet) if !is_same(sheet, page_paper) => push_sheet(said, sheet),
-        _ => {}
+        Some(sheet) if !is_of_size(sheet, page_paper) => {
+            let size = size_text(alloc, sheet)?;
+            format!(in alloc; "; sheets of {size} pt")
+        }
+        _ => Ok(String::new(alloc)),
     }
-}
-
-/// The size of the sheets.
-fn push_sheet(said: &mut ReportText, sheet: &Paper)
-    requires room { length said.old + 118 ≤ most_said }
-    ensures text { said.new ≡ said.old ++ sheet_text sheet.now }
-    ensures short { length said.new ≤ length said.old + 118 }
-{
-    said.push(b"; sheets of ");
-    push_size(said, sheet);
-    said.push(b" pt");
-}
-
-fn is_same(one: &Paper, other: &Paper) -> bool
-    ensures { result ≡ are_same one.now other.now }
-{
-    one.width().get() == other.width().get() && one.height().get() == other.height().get()
 }
 
 /// How many pages, blanks, sheets and leaves there are, and how many bytes.

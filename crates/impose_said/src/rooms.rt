@@ -1,12 +1,12 @@
 //! What is said of sheets that have no room for pages.
-ghost use Rattle.std.specs.Prelude.{◌≡◌, ◌*◌, ◌≤◌, IfOk, IsTrue, IsUtf8, OnErr, pos, string_bytes};
-ghost use Rattle.rules.specs.Numbers.{points_text as text_of_points};
+ghost use Rattle.std.specs.Prelude.{◌≡◌, ◌≤◌, IfOk, IsTrue, pos, string_bytes};
 ghost use Rattle.rules.specs.Papers.{is_side};
 ghost use Rattle.impose_said.specs.Said.{gaps_text as text_of_gaps, leaves_some as leaves_some_of, left_of as left_of_side, lengths_text as text_of_lengths};
 ghost use Rattle.impose_said.specs.Said.{no_room_text as text_of_no_room, sides_text as text_of_sides, size_text as text_of_size};
 
-use layouts::{Room, side};
-use lengths::{Grains, Paper, print_points};
+use crate::reports::{sides_text, size_text};
+use layouts::{HUNDRED_THOUSANDTH, Room, grains, in_grains, side};
+use lengths::Grains;
 use std::alloc::{AllocError, Global};
 
 /// How much margins and gaps are that leave no room for pages, of which sheet, and how much of it margins leave.
@@ -51,7 +51,7 @@ fn lengths_text(alloc: Global, across: u64, up: u64) -> Result<String, AllocErro
     requires up { up ≤ 20_000_000_000 }
     ensures { IfOk result (λ text. string_bytes text ≡ text_of_lengths across up) }
 {
-    sides_text(alloc, grains(across), grains(up))
+    sides_text(alloc, in_grains(across), in_grains(up))
 }
 
 /// What so many 10^-5 of a point leave of a side.
@@ -60,22 +60,8 @@ fn left_of(length: Grains, taken: u64) -> Grains
     requires taken { taken ≤ 20_000_000_000 }
     ensures { result ≡ pos (left_of_side length taken) }
 {
-    let left = side(length).saturating_sub(1_270_000 * taken);
-    match Grains::new(i128::from(left)) {
-        Some(left) => left,
-        None => unreachable!(),
-    }
-}
-
-/// So many 10^-5 of a point.
-fn grains(count: u64) -> Grains
-    requires { count ≤ 20_000_000_000 }
-    ensures { result ≡ pos (1_270_000 * count) }
-{
-    match Grains::new(1_270_000 * i128::from(count)) {
-        Some(length) => length,
-        None => unreachable!(),
-    }
+    let left = side(length).saturating_sub(HUNDRED_THOUSANDTH * taken);
+    grains(i128::from(left))
 }
 
 /// Both sides of a paper, in points.

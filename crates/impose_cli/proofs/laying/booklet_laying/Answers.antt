@@ -19,7 +19,7 @@ returns-then-not-is_length-clause-refused c =
 
 pub returns-in-Ok-clause-laying : goal.returns-in-Ok-clause-laying
 returns-in-Ok-clause-laying c =
-    ap₂ (λ t n. Some (laying.InCells t (scheme.Booklet c.args.long_edge n))) (c.in-Ok.ensures.made ∙ ap (binding_setting_of c.args.papers.now.sheet) c.binding.ensures) c.rounded_down-creep.ensures
+    ap₂ (λ t n. Some (laying.InCells t (scheme.Booklet c.args.long_edge n))) (c.in-Ok.ensures.made ∙ ap (binding_setting_of c.args.papers.now.sheet) c.binding.ensures) c.rounded_down-creep.ensures.value
 
 pub returns-in-Ok-clause-may_be : goal.returns-in-Ok-clause-may_be
 returns-in-Ok-clause-may_be c =

@@ -1,6 +1,6 @@
 use Rattle.std.specs.List.{list_all}
 use Rattle.std.proofs.Common.{◌≡◌, take, true}
-use Rattle.impose_said.specs.Said.{is_same}
+use Rattle.layouts.specs.Grids.{is_same}
 use Rattle.impose_cli.proofs.row_task.are_same_as.Given as goal
 
 abbrev pub invariant-loop-other : goal.invariant-loop-other
