@@ -1,10 +1,11 @@
 //! A row in signatures.
-ghost use Rattle.std.specs.Prelude.{◌≡◌, ℕ, ◌+◌, ◌*◌, ◌<◌, ◌^◌, ◌++◌, IfOk, OnOk, length, map};
+ghost use Rattle.std.specs.Prelude.{◌≡◌, ◌+◌, ◌<◌, ◌^◌, ◌++◌, IfOk, OnOk, length, map};
 ghost use Rattle.std.specs.List.{range_with_len};
 ghost use Rattle.rules.specs.Signatures.{AreSides, entry_of, page_in_signature as page_in};
 ghost use Rattle.made_sheets.specs.Rows.{in_signatures as signed};
 
 use crate::entries::entry_at;
+use sheet_plan::page_in_signature;
 use std::alloc::{AllocError, Global};
 
 /// The row in signatures of this many sides, one after the other. The order is that of printing on leaves that are
@@ -41,20 +42,4 @@ fn append_signature(
         printed.push(entry_at(row, entry as u128))?;
     }
     Ok(())
-}
-
-/// The page at a position of a signature, as psbook orders them.
-fn page_in_signature(sides: u32, position: u32) -> u32
-    requires sides { AreSides sides }
-    requires position { position < sides }
-    ensures value { result ≡ page_in sides position }
-    ensures within { result < sides }
-{
-    let leaf = position / 4;
-    match position % 4 {
-        0 => sides - 1 - 2 * leaf,
-        1 => 2 * leaf,
-        2 => 2 * leaf + 1,
-        _ => sides - 2 - 2 * leaf,
-    }
 }

@@ -16,4 +16,4 @@ mod spec_expansion;
 pub use error::{MadeError, PlanError};
 pub use made::{MadeSheets, MadeSlot, PlacedSlot};
 pub use plan::Plan;
-pub use row::are_sides;
+pub use row::{are_sides, page_in_signature};

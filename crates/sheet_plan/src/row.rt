@@ -65,7 +65,7 @@ fn page_of_entry(sides: u32, entry: u32) -> u32
 }
 
 /// The page at a position of a signature, as psbook orders them.
-fn page_in_signature(sides: u32, position: u32) -> u32
+pub fn page_in_signature(sides: u32, position: u32) -> u32
     requires sides { AreSides sides }
     requires position { position < sides }
     ensures value { result ≡ page_in sides position }
