@@ -326,9 +326,9 @@ inline add(m)
 }
 
 #ifdef SPENT
-/* RunInput::impose_batch, Texts::with_room: for its first sheet, a group that was written,
-   or a new one. One for which memory is refused (F_IMP) is here for a moment, till `no_memory` lets it go; in the code it
-   never is. In a window there are no more groups than sheets. */
+/* RunInput::impose_batch: for its first sheet, a group that was written,
+   or a new one. If memory is refused for the sheet (F_IMP), `no_memory` lets the group go. In a window there are no more
+   groups than sheets. */
 inline take_memory()
 {
 	if

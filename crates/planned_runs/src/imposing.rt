@@ -129,10 +129,7 @@ impl<'s, 'r, 't, 'd, T: SheetTexts, G: Gate> RunInput<'s, 'r, 't, 'd, T, G> {
     {
         let mut batch = match self.channel.spent.pop(rt) {
             Some(spent) => spent,
-            None => {
-                let window = &self.shared.window;
-                Texts::with_room(self.shared.floor.alloc, window.batch, window.batch_bytes)?
-            }
+            None => Texts::new(self.shared.floor.alloc),
         };
         batch.clear();
         self.impose_into(tokens, &mut batch, bench, first)?;

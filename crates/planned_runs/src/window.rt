@@ -56,8 +56,6 @@ pub(crate) struct Window {
     step: u32,
     /// How many sheets an imposer sends together at most.
     pub(crate) batch: u32,
-    /// About how many bytes of text these have.
-    pub(crate) batch_bytes: usize,
 }
 
 impl Window {
@@ -71,7 +69,6 @@ impl Window {
         ensures len { result.len ≡ window_len (length job.now.plan.sheets) workers.imposers bytes }
         ensures step { (0 < result.step) × (result.step ≤ result.len) }
         ensures batch { (0 < result.batch) × (result.batch ≤ result.len) }
-        ensures batch_bytes { result.batch_bytes ≤ 786_432 }
     {
         let text = (bytes / (job.sheets() as usize).max(1)).min(BYTES_AHEAD);
         let fitting = (BYTES_AHEAD / (text + BYTES_BESIDE)).min(MOST_SHEETS) as u32;
@@ -84,7 +81,6 @@ impl Window {
             len,
             step: if len < MANY_SHEETS { 1 } else { len / 4 },
             batch,
-            batch_bytes: (text * batch as usize).min(BYTES_AHEAD),
         }
     }
 

@@ -1,5 +1,5 @@
 //! Texts of several sheets in the same memory.
-ghost use Rattle.std.specs.Prelude.{◌≡◌, ◌≢◌, ◌<◌, ◌≤◌, ◌++◌, ◌∷◌, [], length, take, drop, IfOk, IfSome, IsNone, OnOk, OnErr, Some, slice_get};
+ghost use Rattle.std.specs.Prelude.{◌≡◌, ◌≢◌, ◌<◌, ◌≤◌, ◌++◌, ◌∷◌, [], length, take, drop, IfSome, IsNone, OnOk, OnErr, Some, slice_get};
 ghost use Rattle.std.specs.List.{range_with_len};
 ghost use Rattle.sheet_text.specs.Texts.{sheets_of, joined, texts_in, AreIn};
 
@@ -47,17 +47,6 @@ impl<'r> Texts<'r> {
             own: Vec::new(alloc),
             parts: Vec::new(alloc),
         }
-    }
-
-    /// None yet, with memory for so many texts and so many bytes of their own, which they keep.
-    pub fn with_room(alloc: Global, texts: u32, bytes: usize) -> Result<Texts<'r>, AllocError>
-        ensures { IfOk result (λ made. made ≡ []) }
-    {
-        Ok(Texts {
-            alloc,
-            own: Vec::with_capacity(alloc, bytes)?,
-            parts: Vec::with_capacity(alloc, texts as usize)?,
-        })
     }
 
     /// Lets all of them go. Their memory is kept.
