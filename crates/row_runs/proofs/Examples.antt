@@ -137,6 +137,10 @@ told = refl
 told_at_the_end : told_pages (codes "%!\n%%Pages: (atend)\n%%Page: 1 1\n%%Pages: 9\n%%Trailer\n%%Pages: 4\n%%EOF\n") ≡ Some 4
 told_at_the_end = refl
 
+-- what is embedded in the trailer says nothing of the document
+told_outside : told_pages (codes "%!\n%%Pages: (atend)\n%%Page: 1 1\n%%Trailer\n%%BeginDocument: q\n%%Pages: 8\n%%EndDocument\n%%Pages: 1\n") ≡ Some 1
+told_outside = refl
+
 -- without a trailer nothing is told at the end
 told_at_no_end : told_pages (codes "%!\n%%Pages: (atend)\n%%Page: 1 1\n%%Pages: 9\n") ≡ None
 told_at_no_end = refl

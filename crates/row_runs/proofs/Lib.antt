@@ -4,6 +4,7 @@ pub mod SideExamples
 pub mod Lines
 pub mod Places
 mod TrailerLines
+mod Outside
 mod Alone
 mod Counted
 mod OneScale

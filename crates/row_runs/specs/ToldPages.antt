@@ -1,11 +1,12 @@
 -- How many pages a document says that it has (DSC 3.0, %%Pages): in its header, or at its end if the header says so by (atend). The
 -- end is looked for line by line, so that it is found in a document that was left open too.
-use Rattle.std.specs.Prelude.{ℕ, zero, suc, Bool, true, ◌&&◌, ◌^◌, ◌-◌, min, List, [], ◌∷◌, drop, slice_index, if◌then◌else◌, Option, Some, None, codes, option_and_then}
+use Rattle.std.specs.Prelude.{ℕ, zero, suc, Bool, true, ◌&&◌, ◌^◌, ◌+◌, ◌-◌, ◌==◌, min, List, [], ◌∷◌, drop, slice_index, if◌then◌else◌, Option, Some, None, codes, option_and_then}
 use Rattle.std.specs.List.{list_all}
 use Rattle.std.specs.Str.{bytes_eq}
 use Rattle.std.specs.Char.{is_ascii_digit}
 use Rattle.rules.specs.Numbers.{number_of}
-use Rattle.rules.specs.Units.{is_end, content_of, key}
+use Rattle.rules.specs.Units.{is_end, content_of, fields, has_key, is_comment, key}
+use Rattle.dsc.specs.TrailerBoxes.{first_of}
 use Rattle.papers.specs.Media.{comment_fields, contents, header}
 
 -- the number that a field makes, or the greatest one, if all of it are digits
@@ -43,10 +44,25 @@ behind_trailer all (line ∷ more) =
 abbrev pub last_lines : (text : List ℕ) → List (List ℕ)
 last_lines text = behind_trailer (contents text) (contents text)
 
+-- how many embedded documents are open behind a line
+abbrev pub depth_behind : ℕ → (line : List ℕ) → ℕ
+depth_behind depth line =
+    if has_key (codes "%%BeginDocument" ∷ []) line then depth + 1
+    else (if has_key (codes "%%EndDocument" ∷ []) line then depth - 1 else depth)
+
+-- the fields of a line that is a `%%Pages:` and in no embedded document
+abbrev pub pages_at : (depth : ℕ) → (line : List ℕ) → Option (List (List ℕ))
+pages_at depth line = if is_comment (codes "%%Pages") line && (depth == 0) then Some (fields line) else None
+
+-- those of the first such line, where so many embedded documents are open before the lines
+abbrev pub pages_outside : (depth : ℕ) → List (List ℕ) → Option (List (List ℕ))
+pages_outside depth [] = None
+pages_outside depth (line ∷ more) = first_of (pages_at depth line) (pages_outside (depth_behind depth line) more)
+
 -- what a field of the header says of the number of pages, where these lines are at the end
 abbrev pub count_by : (field : List ℕ) → (end : List (List ℕ)) → Option ℕ
 count_by field end =
-    if bytes_eq field (codes "(atend)") then option_and_then count_of (pages_field end) else count_of field
+    if bytes_eq field (codes "(atend)") then option_and_then count_of (first_field (pages_outside 0 end)) else count_of field
 
 -- RULES, 17
 abbrev pub told_pages : (text : List ℕ) → Option ℕ

@@ -1,16 +1,18 @@
 //! How many pages a document says that it has.
-ghost use Rattle.std.specs.Prelude.{◌≡◌, ◌≤◌, codes, drop, length, option_map};
+ghost use Rattle.std.specs.Prelude.{◌≡◌, ◌<◌, ◌≤◌, ◌+◌, codes, drop, length, option_map};
 ghost use Rattle.dsc.specs.Fields.{fields_in};
 ghost use Rattle.rules.specs.Units.{line_len};
 ghost use Rattle.papers.specs.Media.{comment_fields, contents};
 ghost use Rattle.row_runs.specs.ToldPages as meaning;
 
-use dsc::{content_end, first_content, header_len, key_of, line_end_after, next_field};
+use dsc::{
+    comment_value, content_end, first_content, header_len, key_of, line_end_after, next_field,
+};
 use memchr::memmem::FinderRev;
 use papers::first_comment;
 
 /// How many pages a document says that it has, by the first `%%Pages:` of its header; if that is `(atend)`, by the first one
-/// after the last `%%Trailer` (DSC 3.0, 5.1).
+/// after the last `%%Trailer` that is in no embedded document (DSC 3.0, 5.1).
 pub fn told_pages(text: &[u8]) -> Option<usize>
     ensures { result ≡ meaning.told_pages text.now }
 {
@@ -23,7 +25,7 @@ fn count_by(field: &[u8], text: &[u8]) -> Option<usize>
     ensures { result ≡ meaning.count_by field.now (meaning.last_lines text.now) }
 {
     if field == b"(atend)".as_slice() {
-        count_of(pages_field(last_lines(text))?)
+        count_of(last_field(last_lines(text))?)
     } else {
         count_of(field)
     }
@@ -34,6 +36,55 @@ fn pages_field(lines: &[u8]) -> Option<&[u8]>
     ensures { option_map (λ field. field.now) result ≡ meaning.pages_field (contents lines.now) }
 {
     first_field(pages_value(lines)?)
+}
+
+/// The first field of the first `%%Pages:` among these lines that is in no embedded document.
+fn last_field(lines: &[u8]) -> Option<&[u8]>
+    ensures { option_map (λ field. field.now) result ≡ meaning.first_field (meaning.pages_outside 0 (contents lines.now)) }
+{
+    first_field(value_outside(lines)?)
+}
+
+/// What comes after the colon of that comment.
+fn value_outside(lines: &[u8]) -> Option<&[u8]>
+    ensures { option_map (λ value. fields_in value.now) result ≡ meaning.pages_outside 0 (contents lines.now) }
+{
+    let mut rest = lines;
+    let mut depth = 0usize;
+    while !rest.is_empty() {
+        let content = first_content(rest);
+        if let Some(value) = value_at(depth, content) {
+            return Some(value);
+        }
+        depth = depth_behind(depth, content);
+        let (_, others) = rest.split_at(line_end_after(rest, content.len()));
+        rest = others;
+    }
+    None
+}
+
+/// What comes after the colon, if a line with this content is a `%%Pages:` and in no embedded document.
+fn value_at(depth: usize, content: &[u8]) -> Option<&[u8]>
+    ensures { option_map (λ value. fields_in value.now) result ≡ meaning.pages_at depth content.now }
+{
+    let value = comment_value(content, b"%%Pages", b"%%Pages:")?;
+    if depth == 0 { Some(value) } else { None }
+}
+
+/// How many embedded documents are open behind a line with this content.
+fn depth_behind(depth: usize, content: &[u8]) -> usize
+    requires { depth < usize.MAX }
+    ensures value { result ≡ meaning.depth_behind depth content.now }
+    ensures most { result ≤ depth + 1 }
+{
+    let key = key_of(content);
+    if key == b"%%BeginDocument".as_slice() {
+        depth + 1
+    } else if key == b"%%EndDocument".as_slice() {
+        depth.saturating_sub(1)
+    } else {
+        depth
+    }
 }
 
 fn first_field(value: &[u8]) -> Option<&[u8]>
