@@ -1,5 +1,5 @@
 -- What an error of its document makes of a request, before anything was written.
-use Rattle.std.specs.Prelude.{ℕ, ◌==◌, Bool, false, ◌||◌, ◌&&◌, Option, Some, None, if◌then◌else◌, List, [], ◌∷◌, length, drop, codes, nat_eq}
+use Rattle.std.specs.Prelude.{ℕ, ◌==◌, Bool, ◌||◌, Option, Some, None, if◌then◌else◌, List, [], ◌∷◌, length, codes, nat_eq}
 use Rattle.std.specs.List.{starts_with}
 use Rattle.dsc.specs.declared.errors.DscError.{DscError}
 use Rattle.dsc.specs.declared.errors.DscError.TheVariants.{NoPages, NotPostScript, TooLong}
@@ -24,17 +24,10 @@ packing_of input = if starts_with nat_eq input (31 ∷ 139 ∷ []) then Some pac
 abbrev pub is_dos_eps : (input : List ℕ) → Bool
 is_dos_eps input = starts_with nat_eq input (197 ∷ 208 ∷ 211 ∷ 198 ∷ [])
 
--- what its header goes on with after the version of its comments, as `%!PS-Adobe-3.0 EPSF-3.0` does (DSC, 'EPSF')
-abbrev pub goes_on_as_eps : List ℕ → Bool
-goes_on_as_eps (major ∷ dot ∷ minor ∷ blank ∷ rest) = (dot == 46) && ((blank == 32) && starts_with nat_eq rest (codes "EPSF-"))
-goes_on_as_eps other = false
-
-abbrev pub header_start : List ℕ
-header_start = codes "%!PS-Adobe-"
-
--- a drawing to be put into a page of a document
+-- the first line of a drawing that is to be put into a page of a document, by the version of its comments (DSC, 'EPSF')
 abbrev pub is_eps : (input : List ℕ) → Bool
-is_eps input = starts_with nat_eq input header_start && goes_on_as_eps (drop (length header_start) input)
+is_eps input = starts_with nat_eq input (codes "%!PS-Adobe-2.0 EPSF-") || (starts_with nat_eq input (codes "%!PS-Adobe-2.1 EPSF-")
+    || (starts_with nat_eq input (codes "%!PS-Adobe-3.0 EPSF-") || starts_with nat_eq input (codes "%!PS-Adobe-3.1 EPSF-")))
 
 -- the mark at the start of a text in UTF-16, in one order of bytes or the other
 abbrev pub is_utf_16 : (input : List ℕ) → Bool

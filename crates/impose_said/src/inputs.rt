@@ -53,14 +53,11 @@ fn unpacked_fault(input: &[u8]) -> ImposeFault
 fn is_eps(input: &[u8]) -> bool
     ensures { result ≡ eps input.now }
 {
-    match input.strip_prefix(HEADER_START) {
-        Some([_, b'.', _, b' ', rest @ ..]) => rest.starts_with(b"EPSF-"),
-        _ => false,
-    }
+    input.starts_with(b"%!PS-Adobe-2.0 EPSF-")
+        || input.starts_with(b"%!PS-Adobe-2.1 EPSF-")
+        || input.starts_with(b"%!PS-Adobe-3.0 EPSF-")
+        || input.starts_with(b"%!PS-Adobe-3.1 EPSF-")
 }
-
-/// What comes before the version of the header's comments.
-const HEADER_START: &[u8] = b"%!PS-Adobe-";
 
 /// By what an input is compressed, as its first bytes show.
 fn packing_of(input: &[u8]) -> Option<Packing>
