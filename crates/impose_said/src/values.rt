@@ -37,16 +37,15 @@ fn with_points(alloc: Global, text: &str) -> Result<String, AllocError> {
     let mut pointed = String::new(alloc);
     for (place, part) in text.split(',').enumerate() {
         if place > 0 {
-            let is_decimal = ends_with_digit(pointed.as_str()) && begins_with_digit(part);
+            let is_behind_digit = pointed
+                .as_str()
+                .ends_with(|letter: char| letter.is_ascii_digit());
+            let is_decimal = is_behind_digit && begins_with_digit(part);
             pointed.push(if is_decimal { '.' } else { ',' })?;
         }
         pointed.push_str(part)?;
     }
     Ok(pointed)
-}
-
-fn ends_with_digit(text: &str) -> bool {
-    text.ends_with(|letter: char| letter.is_ascii_digit())
 }
 
 /// Whether a text is a size, a length or a number that the option takes.
@@ -75,68 +74,64 @@ fn decimals_text(
     let text = shown_word(alloc, text)?;
     let pointed = shown_word(alloc, pointed)?;
     let id = option.id();
-    let said = format!(in alloc;
+    let mut said = format!(in alloc;
         "'{text}' after --{id}: decimals come after a point, so write {pointed}"
     )?;
-    let listed = if matches!(option, Opt::Margin | Opt::Gap) {
-        UNITS_IN_LISTS
-    } else {
-        ""
-    };
-    joined(alloc, &[said.as_str(), listed])
+    if matches!(option, Opt::Margin | Opt::Gap) {
+        said.push_str(UNITS_IN_LISTS)?;
+    }
+    Ok(said)
 }
 
 const UNITS_IN_LISTS: &str = "; in a list each length has its unit, 0 too";
 
 /// What is said of a text that is no length, or no list of lengths. It may be one but for a unit.
 fn length_text(alloc: Global, option: Opt, text: &str) -> Result<String, AllocError> {
-    if is_number(text, false) {
-        return no_unit_text(alloc, option, text);
-    }
-    match part_without_unit(text) {
-        Some(part) if matches!(option, Opt::Margin | Opt::Gap) => {
-            no_unit_in_list_text(alloc, option, text, part)
-        }
-        _ => refused_text(alloc, option, text),
+    match part_without_unit(text, matches!(option, Opt::Margin | Opt::Gap)) {
+        Some(part) => no_unit_text(alloc, option, text, part),
+        None => refused_text(alloc, option, text),
     }
 }
 
-/// Whether a text is a length but for its unit.
-fn is_number(text: &str, is_listed: bool) -> bool {
-    lacks_unit(text, is_listed) && !text.starts_with("-")
-}
-
-/// The first length in a list, alone or after the name of an edge, that is one but for its unit.
-fn part_without_unit(text: &str) -> Option<&str> {
+/// The text, or the first length in it, alone or after the name of an edge, that is one but for its unit.
+fn part_without_unit(text: &str, may_be_list: bool) -> Option<&str> {
+    if lacks_unit(text, false) && !text.starts_with("-") {
+        return Some(text);
+    }
+    if !may_be_list {
+        return None;
+    }
     for part in text.split(',') {
         let length = match part.split_once('=') {
             Some((_, length)) => length,
             None => part,
         };
-        if is_number(length, true) {
+        if lacks_unit(length, true) && !length.starts_with("-") {
             return Some(length);
         }
     }
     None
 }
 
-fn no_unit_in_list_text(
-    alloc: Global,
-    option: Opt,
-    text: &str,
-    part: &str,
-) -> Result<String, AllocError> {
-    let is_list = text.contains(",");
+/// What is said of a text that lacks the unit of this part of it.
+fn no_unit_text(alloc: Global, option: Opt, text: &str, part: &str) -> Result<String, AllocError> {
+    let (is_list, is_whole) = (text.contains(","), part == text);
     let text = shown_word(alloc, text)?;
     let part = shown_word(alloc, part)?;
     let id = option.id();
-    let said = format!(in alloc;
-        "{part} in '{text}' after --{id} has no unit: write {part}cm, {part}mm, {part}in or {part}pt"
+    let mut said = if is_whole {
+        format!(in alloc; "length '{text}'")?
+    } else {
+        format!(in alloc; "{part} in '{text}'")?
+    };
+    let cure = format!(in alloc;
+        " after --{id} has no unit: write {part}cm, {part}mm, {part}in or {part}pt"
     )?;
-    joined(
-        alloc,
-        &[said.as_str(), if is_list { UNITS_IN_LISTS } else { "" }],
-    )
+    said.push_str(cure.as_str())?;
+    if is_list {
+        said.push_str(UNITS_IN_LISTS)?;
+    }
+    Ok(said)
 }
 
 /// What is said of a text that names no margins. An edge may be named twice.
@@ -163,27 +158,18 @@ fn first_number_text(alloc: Global, text: &str) -> Result<String, AllocError> {
 /// The first edge in a text that is named again after it.
 fn edge_named_twice(text: &str) -> Option<&str> {
     for (place, part) in text.split(',').enumerate() {
-        if let Some((edge, _)) = part.split_once('=') {
-            if is_named_after(text, place, edge) {
-                return Some(edge);
-            }
-        }
-    }
-    None
-}
-
-/// Whether a part of a text behind this one names the edge.
-fn is_named_after(text: &str, place: usize, edge: &str) -> bool {
-    for (other, part) in text.split(',').enumerate() {
-        if other > place {
-            if let Some((name, _)) = part.split_once('=') {
-                if name == edge {
-                    return true;
+        for (other, again) in text.split(',').enumerate() {
+            if let (Some((edge, _)), Some((name, _))) = (
+                part.split_once('='),
+                again.split_once('='),
+            ) {
+                if place < other && name == edge {
+                    return Some(edge);
                 }
             }
         }
     }
-    false
+    None
 }
 
 /// That a text after an option is none of its values, and what to do.
@@ -252,15 +238,6 @@ fn no_size_unit_text(alloc: Global, option: Opt, text: &str) -> Result<String, A
     let id = option.id();
     format!(in alloc;
         "size '{text}' after --{id} has no unit at its end: write {text}mm, {text}in or {text}pt"
-    )
-}
-
-/// What is said of a length without a unit.
-fn no_unit_text(alloc: Global, option: Opt, text: &str) -> Result<String, AllocError> {
-    let text = shown_word(alloc, text)?;
-    let id = option.id();
-    format!(in alloc;
-        "length '{text}' after --{id} has no unit: write {text}cm, {text}mm, {text}in or {text}pt"
     )
 }
 
@@ -338,7 +315,7 @@ fn signature_text(alloc: Global, text: &str) -> Result<String, AllocError> {
 fn cells_text(alloc: Global, command: GridCommand, text: &str) -> Result<String, AllocError> {
     let shown = shown_word(alloc, text)?;
     let shown = shown.as_str();
-    let (name, example) = named(command);
+    let (name, example, missing, place) = named(command);
     if !looks_like_file(text) {
         let (what, advice) = bad_cells(command, text.contains("x"));
         return joined(
@@ -346,32 +323,29 @@ fn cells_text(alloc: Global, command: GridCommand, text: &str) -> Result<String,
             &[what, " '", shown, "' after ", name, ": give ", advice],
         );
     }
-    let (missing, place) = missing_cells(command);
     let mut said = joined(alloc, &[missing, " missing before '", shown, place, name])?;
     push_all(&mut said, &[", as in: impose ", example, " in.ps out.ps"])?;
     Ok(said)
 }
 
-/// What is missing after a command, and that it comes there.
-fn missing_cells(command: GridCommand) -> (&'static str, &'static str) {
-    match command {
-        GridCommand::Poster => ("columns and rows of sheets are", "': they come after "),
-        GridCommand::NUp | GridCommand::Cards | GridCommand::Stack | GridCommand::Notes => (
-            "the number of pages is",
-            "': it comes after ",
-        ),
-    }
-}
-
-/// The command's name, and how it begins.
-fn named(command: GridCommand) -> (&'static str, &'static str) {
-    match command {
+/// The command's name, how it begins, what is missing after it, and that this comes there.
+fn named(command: GridCommand) -> (&'static str, &'static str, &'static str, &'static str) {
+    let (name, example) = match command {
         GridCommand::NUp => ("nup", "nup 2"),
         GridCommand::Cards => ("cards", "cards 8"),
         GridCommand::Stack => ("stack", "stack 2"),
         GridCommand::Notes => ("notes", "notes 3"),
-        GridCommand::Poster => ("poster", "poster 2x2"),
-    }
+        GridCommand::Poster => {
+            let missing = "columns and rows of sheets are";
+            return ("poster", "poster 2x2", missing, "': they come after ");
+        }
+    };
+    (
+        name,
+        example,
+        "the number of pages is",
+        "': it comes after ",
+    )
 }
 
 /// What a text after a command is to be, and what is such a text.
