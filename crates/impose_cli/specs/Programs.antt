@@ -11,7 +11,7 @@ use Rattle.world.specs.Rests.{has_output}
 use Rattle.world.specs.Worlds.{HasGranted, WasAsked, WorldView, opening}
 use Rattle.rules.specs.Papers.{Paper}
 use Rattle.paper_names.specs.Home.{home_paper}
-use Rattle.impose_cli.specs.Endings.{AfterWrite, Edge, IsUncreated, RefusesRow, Runs}
+use Rattle.impose_cli.specs.Endings.{AfterWrite, Edge, HasFailed, IsUncreated, IsUnfailed, RefusesRow, Runs}
 use Rattle.impose_said.specs.Faults.{without_memory}
 use Rattle.impose_cli.specs.Looks.{TellsRow}
 use Rattle.impose_cli.specs.Printed.{printed_text}

@@ -89,6 +89,10 @@ counts_text report r = codes "pages " ++ (decimal report.pages ++ (blanks_text (
     ++ (codes ", sheets " ++ (decimal report.sheets ++ ((if are_sides r.layout r.spacing then leaves_text ((report.sheets + 1) / 2) else [])
     ++ (codes ", bytes " ++ decimal report.bytes))))))
 
+-- the size of the sheets
+abbrev pub sheet_text : (sheet : Paper) → List ℕ
+sheet_text sheet = codes "; sheets of " ++ (size_text sheet ++ codes " pt")
+
 -- the size of the sheets, if another paper is named for them than the pages have
 abbrev pub sheets_text : (named : Option Paper) → (page_paper : Paper) → List ℕ
 sheets_text None page_paper = []

@@ -2,6 +2,7 @@
 #![tactic(auto)]
 
 mod clap_text;
+mod context;
 mod fault;
 mod finished;
 mod inputs;
@@ -9,6 +10,7 @@ mod messages;
 mod mistakes;
 mod nearest;
 mod other_programs;
+mod report_text;
 mod reports;
 mod rooms;
 mod run_lines;

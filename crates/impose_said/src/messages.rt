@@ -1,16 +1,16 @@
 //! What is said of a fault.
 
+use crate::context::Context;
 use crate::fault::{IdleOption, ImposeFault, Packing};
-use crate::mistakes::looks_like_file;
+use crate::mistakes::{is_range, looks_like_file};
 use crate::rooms::no_room_text;
 use crate::shown::{joined, shown_word};
 use crate::values::value_text;
-use command_words::{caret_below, group_place, item_place, large_place, name_of, range_place};
+use command_words::{caret_below, group_place, item_place, large_place, range_place};
 use dsc::DscError;
-use impose_words::{ImposeRequest, Layout, Product, ProductOption, RequestFault};
+use impose_words::{ImposeRequest, ProductOption, RequestFault};
 use imposer::RunError;
 use layouts::ArrangementError;
-use lengths::Paper;
 use pagespec::SpecError;
 use row_sheets::PosterError;
 use rows::RowError;
@@ -26,18 +26,19 @@ pub fn fault_text(
     fault: &ImposeFault,
     request: Option<&ImposeRequest>,
 ) -> Result<String, AllocError> {
+    let context = &request.map_or(Context::NONE, Context::of);
     let message = match fault {
         ImposeFault::Command(fault) => return command_text(alloc, fault),
-        ImposeFault::Layout(error) => return layout_text(alloc, error, request),
-        ImposeFault::Row(error) => return row_text(alloc, error, request),
+        ImposeFault::Layout(error) => return layout_text(alloc, error, context),
+        ImposeFault::Row(error) => return row_text(alloc, error, context),
         ImposeFault::NoSuchPage { place, pages } => {
-            return no_page_text(alloc, *place, *pages, request);
+            return no_page_text(alloc, *place, *pages, context);
         }
-        ImposeFault::Read(cause) => return read_text(alloc, cause, request),
+        ImposeFault::Read(cause) => return read_text(alloc, cause, context),
         ImposeFault::Write { written, cause } => {
-            return write_text(alloc, *written, cause, request);
+            return write_text(alloc, *written, cause, context);
         }
-        ImposeFault::Run(error) => return run_text(alloc, error, request),
+        ImposeFault::Run(error) => return run_text(alloc, error, context),
         ImposeFault::Poster(error) => poster_message(error),
         ImposeFault::OutOfReach => OUT_OF_REACH,
         ImposeFault::Sheets(error) => sheets_message(error),
@@ -45,20 +46,16 @@ pub fn fault_text(
         ImposeFault::SeveralPapers => SEVERAL_PAPERS,
         ImposeFault::Idle(option) => idle_message(*option),
         ImposeFault::OverInput => {
-            return input_text(alloc, "--preview would write over ", request, OVER_INPUT);
+            return input_text(alloc, "--preview would write over ", context, OVER_INPUT);
         }
-        ImposeFault::NoInput => return input_text(alloc, "", request, NO_INPUT),
-        ImposeFault::Pdf => return input_text(alloc, "", request, PDF),
-        ImposeFault::Compressed(packing) => {
-            return input_text(alloc, "", request, packed_message(*packing));
-        }
-        ImposeFault::DosEps => return input_text(alloc, "", request, DOS_EPS),
-        ImposeFault::Eps => return input_text(alloc, "", request, EPS),
-        ImposeFault::Utf16 => return input_text(alloc, "", request, UTF_16),
-        ImposeFault::JobLanguage => return input_text(alloc, "", request, JOB_LANGUAGE),
-        ImposeFault::TooLong => return input_text(alloc, "", request, TOO_LONG),
+        ImposeFault::NoInput | ImposeFault::Pdf | ImposeFault::Compressed(_) => "",
+        ImposeFault::DosEps | ImposeFault::Eps | ImposeFault::Utf16 => "",
+        ImposeFault::JobLanguage | ImposeFault::TooLong => "",
     };
-    String::from_str(alloc, message)
+    match input_message(fault) {
+        Some(behind) => input_text(alloc, "", context, behind),
+        None => String::from_str(alloc, message),
+    }
 }
 
 /// A range of pages that the document doesn't have.
@@ -66,20 +63,31 @@ fn no_page_text(
     alloc: Global,
     place: usize,
     pages: u32,
-    request: Option<&ImposeRequest>,
+    context: &Context<'_>,
 ) -> Result<String, AllocError> {
     let message = format!(in alloc; "page ranges: the document has pages 1 to {pages} only")?;
-    shown(alloc, message.as_str(), ranges_of(request), place)
+    shown(alloc, message.as_str(), context.ranges, place)
 }
 
 /// An input that couldn't be opened or read.
 fn read_text(
     alloc: Global,
     cause: &Option<io::Error>,
-    request: Option<&ImposeRequest>,
+    context: &Context<'_>,
 ) -> Result<String, AllocError> {
-    let text = input_text(alloc, "cannot read ", request, "")?;
-    with_cause(alloc, text.as_str(), cause)
+    let text = input_text(alloc, "cannot read ", context, "")?;
+    let said = with_cause(alloc, text.as_str(), cause)?;
+    if context.is_selection && context.infile.map_or(false, is_range) {
+        joined(
+            alloc,
+            &[
+                said.as_str(),
+                "; ranges are one word, as in: impose select 1,3,5-8 in.ps out.ps",
+            ],
+        )
+    } else {
+        Ok(said)
+    }
 }
 
 /// An output that couldn't be written after so many bytes.
@@ -87,9 +95,9 @@ fn write_text(
     alloc: Global,
     written: u64,
     cause: &Option<io::Error>,
-    request: Option<&ImposeRequest>,
+    context: &Context<'_>,
 ) -> Result<String, AllocError> {
-    let text = written_text(alloc, written, request)?;
+    let text = written_text(alloc, written, context)?;
     with_cause(alloc, text.as_str(), cause)
 }
 
@@ -125,62 +133,44 @@ fn idle_message(option: IdleOption) -> &'static str {
     }
 }
 
-// What is said of an input that isn't read as a document, after its name.
-
-const NO_INPUT: &str = " is empty; name a file with a PostScript document, or pipe one in";
-
-const PDF: &str =
-    " is a PDF, not PostScript; use: impose-pdf .. in.pdf out.pdf, or pdftops in.pdf - | impose .. -";
-
-const DOS_EPS: &str =
-    " is an EPS with a preview before it, as DOS had them; use: ps2ps in.eps - | impose .. -";
-
-const EPS: &str =
-    " is an EPS without %%Page: comments; use: gs -q -dEPSCrop -sDEVICE=ps2write -o - in.eps | impose .. -";
-
-const UTF_16: &str =
-    " is a text of two bytes a letter (UTF-16), not PostScript; use: iconv -f UTF-16 -t ISO-8859-1 in.ps | \
-    impose .. -";
-
-const JOB_LANGUAGE: &str =
-    " begins with a printer's job language, not with %!; cut that off: sed -n '/^%!/,$p' in.ps | impose .. -";
-
-const TOO_LONG: &str = " is longer than 1,073,741,824 bytes; split it first";
-
-fn packed_message(packing: Packing) -> &'static str {
-    match packing {
-        Packing::Gzip => " is compressed, not PostScript; use: zcat in.ps.gz | impose .. -",
-        Packing::Bzip2 => " is compressed, not PostScript; use: bzcat in.ps.bz2 | impose .. -",
-        Packing::Xz => " is compressed, not PostScript; use: xzcat in.ps.xz | impose .. -",
-        Packing::Zip => " is compressed, not PostScript; use: unzip -p in.zip | impose .. -",
-    }
+/// What is said of an input that isn't read as a document, after its name.
+fn input_message(fault: &ImposeFault) -> Option<&'static str> {
+    let message = match fault {
+        ImposeFault::NoInput => " is empty; name a file with a PostScript document, or pipe one in",
+        ImposeFault::Pdf =>
+            " is a PDF, not PostScript; use: impose-pdf .. in.pdf out.pdf, or pdftops in.pdf - | impose .. -",
+        ImposeFault::Compressed(Packing::Gzip) =>
+            " is compressed, not PostScript; use: zcat in.ps.gz | impose .. -",
+        ImposeFault::Compressed(Packing::Bzip2) =>
+            " is compressed, not PostScript; use: bzcat in.ps.bz2 | impose .. -",
+        ImposeFault::Compressed(Packing::Xz) =>
+            " is compressed, not PostScript; use: xzcat in.ps.xz | impose .. -",
+        ImposeFault::Compressed(Packing::Zip) =>
+            " is compressed, not PostScript; use: unzip -p in.zip | impose .. -",
+        ImposeFault::DosEps =>
+            " is an EPS with a preview before it, as DOS had them; use: ps2ps in.eps - | impose .. -",
+        ImposeFault::Eps =>
+            " is an EPS without %%Page: comments; use: gs -q -dEPSCrop -sDEVICE=ps2write -o - in.eps | impose .. -",
+        ImposeFault::Utf16 =>
+            " is a text of two bytes a letter (UTF-16), not PostScript; use: iconv -f UTF-16 -t ISO-8859-1 in.ps | impose .. -",
+        ImposeFault::JobLanguage =>
+            " begins with a printer's job language, not with %!; cut that off: sed -n '/^%!/,$p' in.ps | impose .. -",
+        ImposeFault::TooLong => " is longer than 1,073,741,824 bytes; split it first",
+        // The others aren't of inputs.
+        _ => return None,
+    };
+    Some(message)
 }
 
 /// The name of the input with these texts before and after it.
 fn input_text(
     alloc: Global,
     before: &str,
-    request: Option<&ImposeRequest>,
+    context: &Context<'_>,
     behind: &str,
 ) -> Result<String, AllocError> {
-    let name = file_name(alloc, infile_of(request), "standard input")?;
+    let name = file_name(alloc, context.infile, "standard input")?;
     joined(alloc, &[before, name.as_str(), behind])
-}
-
-fn infile_of(request: Option<&ImposeRequest>) -> Option<&str> {
-    let request = request?;
-    name_of(&request.infile)
-}
-
-/// The file that is written, if it isn't standard output.
-fn written_file(request: Option<&ImposeRequest>) -> Option<&str> {
-    let request = request?;
-    let file = match &request.product {
-        Product::Sheets => &request.outfile,
-        Product::Specification | Product::Plan => return None,
-        Product::Picture(file) => file,
-    };
-    name_of(file)
 }
 
 /// The name of a file as it is shown, or that of the standard stream in its place.
@@ -196,12 +186,8 @@ fn file_name(alloc: Global, name: Option<&str>, stream: &str) -> Result<String, 
 }
 
 /// A failed write after so many bytes.
-fn written_text(
-    alloc: Global,
-    written: u64,
-    request: Option<&ImposeRequest>,
-) -> Result<String, AllocError> {
-    let name = file_name(alloc, written_file(request), "standard output")?;
+fn written_text(alloc: Global, written: u64, context: &Context<'_>) -> Result<String, AllocError> {
+    let name = file_name(alloc, context.written, "standard output")?;
     let name = name.as_str();
     if written == 0 {
         joined(alloc, &["cannot write ", name])
@@ -251,23 +237,12 @@ fn shown(alloc: Global, message: &str, text: &str, place: usize) -> Result<Strin
     joined(alloc, &[message, caret.as_str()])
 }
 
-fn ranges_of(request: Option<&ImposeRequest>) -> &str {
-    match request {
-        Some(request) => name_of(&request.choice.ranges).unwrap_or(""),
-        None => "",
-    }
-}
-
 /// What is said of ranges that name no row.
-fn row_text(
-    alloc: Global,
-    error: &RowError,
-    request: Option<&ImposeRequest>,
-) -> Result<String, AllocError> {
-    let ranges = ranges_of(request);
+fn row_text(alloc: Global, error: &RowError, context: &Context<'_>) -> Result<String, AllocError> {
+    let ranges = context.ranges;
     let (message, place) = match error {
         RowError::NotARange(at) => {
-            return no_range_text(alloc, request, range_place(ranges, *at));
+            return no_range_text(alloc, context, range_place(ranges, *at));
         }
         RowError::NotInDocument(at) => ("page ranges: the document doesn't have these pages", *at),
         RowError::TooManyEntries(at) => (
@@ -284,13 +259,9 @@ const NO_ENTRIES: &str =
     "page ranges: no page is left by --odd or --even; pages are counted from 1";
 
 /// What is said of ranges that can't go on at this place. A file may be where those of a selection are to be.
-fn no_range_text(
-    alloc: Global,
-    request: Option<&ImposeRequest>,
-    place: usize,
-) -> Result<String, AllocError> {
-    let ranges = ranges_of(request);
-    if is_selection(request) && looks_like_file(ranges) {
+fn no_range_text(alloc: Global, context: &Context<'_>, place: usize) -> Result<String, AllocError> {
+    let ranges = context.ranges;
+    if context.is_selection && looks_like_file(ranges) {
         return shown(alloc, NO_RANGES, ranges, place);
     }
     let message = format!(in alloc;
@@ -303,18 +274,11 @@ fn no_range_text(
 const NO_RANGES: &str =
     "page ranges: they come before the file, and 1- are all pages: impose select 1- in.ps out.ps";
 
-fn is_selection(request: Option<&ImposeRequest>) -> bool {
-    match request {
-        Some(request) => matches!(request.layout, Layout::Selection),
-        None => false,
-    }
-}
-
 /// What is said of pages that can't be laid out so: of a scale that is asked for something else than of one that is found.
 fn layout_text(
     alloc: Global,
     error: &ArrangementError,
-    request: Option<&ImposeRequest>,
+    context: &Context<'_>,
 ) -> Result<String, AllocError> {
     let message = match error {
         ArrangementError::CellsOutOfRange => "a sheet takes from 1 to 1,024 pages",
@@ -326,9 +290,9 @@ fn layout_text(
             "nothing is left of a page that is trimmed so: trim less",
         ArrangementError::UnevenMargins =>
             "margins are alike along opposite edges of what is folded or printed on both sides, and along all edges of a poster",
-        ArrangementError::FoldOnLongEdge => return fold_text(alloc, request),
+        ArrangementError::FoldOnLongEdge => return fold_text(alloc, context),
         ArrangementError::NoRoom(room) => return no_room_text(alloc, room),
-        ArrangementError::ScaleOutOfRange if is_scaled(request) =>
+        ArrangementError::ScaleOutOfRange if context.is_scaled =>
             "the scale is 0 or below, or too large: give one as --scale 0.7",
         ArrangementError::ScaleOutOfRange =>
             "the pages would be too small or too large on the sheet: name other papers by --paper and --sheet",
@@ -341,17 +305,10 @@ fn layout_text(
     String::from_str(alloc, message)
 }
 
-fn is_scaled(request: Option<&ImposeRequest>) -> bool {
-    match request {
-        Some(request) => request.spacing.scale.is_some(),
-        None => false,
-    }
-}
-
 /// Why a booklet's sheet would fold along its longer edge. A sheet that isn't named is the pages', and if these aren't named
 /// either the document names them.
-fn fold_text(alloc: Global, request: Option<&ImposeRequest>) -> Result<String, AllocError> {
-    let reason = match named_sheet(request) {
+fn fold_text(alloc: Global, context: &Context<'_>) -> Result<String, AllocError> {
+    let reason = match context.sheet {
         None =>
             "the sheet is wider than high, or upright pages side by side would be larger on it, and it",
         Some(sheet) if sheet.width() > sheet.height() => "the sheet is wider than high, and",
@@ -362,12 +319,6 @@ fn fold_text(alloc: Global, request: Option<&ImposeRequest>) -> Result<String, A
 
 const FOLD: &str =
     " would fold along its longer edge: name another sheet, as --sheet a4, or use nup 2";
-
-/// The paper of the sheets, if the words name it.
-fn named_sheet(request: Option<&ImposeRequest>) -> Option<Paper> {
-    let request = request?;
-    request.sheet_paper.or(request.page_paper)
-}
 
 /// What is said of pages that can't be such a poster.
 fn poster_message(error: &PosterError) -> &'static str {
@@ -398,21 +349,17 @@ fn sheets_message(error: &MadeError) -> &'static str {
     }
 }
 
-fn run_text(
-    alloc: Global,
-    error: &RunError,
-    request: Option<&ImposeRequest>,
-) -> Result<String, AllocError> {
+fn run_text(alloc: Global, error: &RunError, context: &Context<'_>) -> Result<String, AllocError> {
     let message = match error {
         RunError::Options => "bad options",
-        RunError::Document(error) => return document_text(alloc, error, request),
+        RunError::Document(error) => return document_text(alloc, error, context),
         RunError::Plan(error) => plan_message(error),
         RunError::Spec(SpecError::NoMemory) | RunError::NoMemory { written: 0 } => OUT_OF_MEMORY,
-        RunError::Spec(error) => return spec_text(alloc, error, spec_of(request)),
+        RunError::Spec(error) => return spec_text(alloc, error, context.spec),
         RunError::NoMemory { written } => {
             return format!(in alloc; "out of memory after {written} bytes");
         }
-        RunError::Write { written } => return written_text(alloc, *written, request),
+        RunError::Write { written } => return written_text(alloc, *written, context),
     };
     String::from_str(alloc, message)
 }
@@ -433,7 +380,7 @@ fn plan_message(error: &PlanError) -> &'static str {
 fn document_text(
     alloc: Global,
     error: &DscError,
-    request: Option<&ImposeRequest>,
+    context: &Context<'_>,
 ) -> Result<String, AllocError> {
     let behind = match error {
         DscError::TooLong =>
@@ -446,32 +393,20 @@ fn document_text(
             let behind = format!(in alloc;
                 ": the %%BeginData: or %%BeginBinary: at byte {at} has no count, or a bad one; write the document anew"
             )?;
-            return input_text(alloc, "", request, behind.as_str());
+            return input_text(alloc, "", context, behind.as_str());
         }
         DscError::ShortData(at) => {
             let behind = format!(in alloc;
                 ": the data after the %%BeginData: or %%BeginBinary: at byte {at} is cut short; is the document complete?"
             )?;
-            return input_text(alloc, "", request, behind.as_str());
+            return input_text(alloc, "", context, behind.as_str());
         }
         DscError::TooManyPages => " has more than 1,000,000 pages; split it first",
         DscError::NoPages =>
             " has no %%Page: comments; for plain PostScript run it through ps2ps first",
         DscError::NoMemory => return String::from_str(alloc, OUT_OF_MEMORY),
     };
-    input_text(alloc, "", request, behind)
-}
-
-fn spec_of(request: Option<&ImposeRequest>) -> &str {
-    let Some(request) = request else {
-        return "";
-    };
-    match &request.layout {
-        Layout::SpecRow { specs, .. } => specs.as_str(),
-        Layout::Spec(spec) => spec.as_str(),
-        Layout::NUp(_) | Layout::Booklet { .. } | Layout::Cards(_) | Layout::Stack { .. } => "",
-        Layout::Notes { .. } | Layout::Poster { .. } | Layout::Zine | Layout::Selection => "",
-    }
+    input_text(alloc, "", context, behind)
 }
 
 fn spec_text(alloc: Global, error: &SpecError, spec: &str) -> Result<String, AllocError> {

@@ -1,17 +1,10 @@
 //! What is said of a finished run.
-ghost use Rattle.std.specs.Prelude.{◌≡◌, ◌+◌, ◌/◌, IfOk, IsUtf8, OnErr, if◌then◌else◌, [], map, option_map, string_bytes};
-ghost use Rattle.rules.specs.Numbers.{points_text as text_of_points};
-ghost use Rattle.impose_said.specs.Said.{IsNote, behind_text as text_of_behind};
-ghost use Rattle.impose_said.specs.Said.{blanks_of as blanks_in, blanks_text as text_of_blanks, counts_text as text_of_counts};
-ghost use Rattle.impose_said.specs.Said.{are_sides as are_sides_of, leaves_text as text_of_leaves, places_on as places_in};
-ghost use Rattle.impose_said.specs.Said.{cut_pages_text as text_of_cut_pages, cut_size_text as text_of_cut_size, cut_text as text_of_cut};
-ghost use Rattle.impose_said.specs.Said.{some_pages_text as text_of_some_pages};
-ghost use Rattle.impose_said.specs.Said.{edges_text as text_of_edges, others_text as text_of_others, reach_text as text_of_reach};
-ghost use Rattle.impose_said.specs.Said.{report_text as text_of_report, sheets_text as text_of_sheets};
-ghost use Rattle.impose_said.specs.Said.{sides_text as text_of_sides, size_text as text_of_size};
-ghost use Rattle.impose_said.specs.Said.{counted as text_of_counted, told_text as text_of_told};
-ghost use Rattle.impose_said.specs.Said.{is_pdf_name as names_pdf, origin_text as text_of_origin};
-ghost use Rattle.impose_said.specs.Said.{shown_byte as byte_shown, shown_name as text_of_name, unknown_text as text_of_unknown};
+ghost use Rattle.std.specs.Prelude.{◌≡◌, ◌+◌, ◌/◌, ◌≤◌, ◌++◌, if◌then◌else◌, [], length};
+ghost use Rattle.impose_said.specs.Rooms.{most_said};
+ghost use Rattle.impose_said.specs.Said.{are_sides as are_sides_of, behind_message, blanks_of as blanks_in, blanks_text, counted, counts_text};
+ghost use Rattle.impose_said.specs.Said.{corners_text, cut_message, cut_pages_text, cut_size_text, edges_text, leaves_text, note_text};
+ghost use Rattle.impose_said.specs.Said.{origin_text as text_of_origin, others_text, places_on as places_in, reach_message, report_text};
+ghost use Rattle.impose_said.specs.Said.{sheet_text, sheets_text, sides_text, size_text, some_pages_text, told_message, unknown_message};
 
 use crate::finished::{Finished, PaperOrigin};
 use crate::report_text::ReportText;
@@ -19,9 +12,8 @@ use crate::shown::ShownName;
 use impose_words::{ImposeRequest, Layout};
 use imposer::Report;
 use layouts::is_of_size;
-use lengths::{Grains, Paper, print_points};
-use papers::{Comment, Cut, Edges};
-use std::alloc::{AllocError, Global};
+use lengths::{Grains, Paper};
+use papers::{Comment, Cut, Edges, Reach};
 
 /// The report.
 pub(crate) fn push_report(said: &mut ReportText, done: &Finished, request: &ImposeRequest)
@@ -44,12 +36,20 @@ fn push_sheets(said: &mut ReportText, named: &Option<Paper>, page_paper: &Paper)
     ensures short { length said.new ≤ length said.old + 118 }
 {
     match named {
-        Some(sheet) if !is_of_size(sheet, page_paper) => {
-            let size = size_text(alloc, sheet)?;
-            format!(in alloc; "; sheets of {size} pt")
-        }
-        _ => Ok(String::new(alloc)),
+        Some(sheet) if !is_of_size(sheet, page_paper) => push_sheet(said, sheet),
+        _ => {}
     }
+}
+
+/// The size of the sheets.
+fn push_sheet(said: &mut ReportText, sheet: &Paper)
+    requires room { length said.old + 118 ≤ most_said }
+    ensures text { said.new ≡ said.old ++ sheet_text sheet.now }
+    ensures short { length said.new ≤ length said.old + 118 }
+{
+    said.push(b"; sheets of ");
+    push_size(said, sheet);
+    said.push(b" pt");
 }
 
 /// How many pages, blanks, sheets and leaves there are, and how many bytes.
@@ -352,12 +352,12 @@ fn origin_text(origin: PaperOrigin) -> &'static [u8]
     ensures short { length result.now ≤ 60 }
 {
     match origin {
-        PaperOrigin::Named => "as named",
-        PaperOrigin::ByComment(Comment::DocumentMedia) => "by its %%DocumentMedia",
-        PaperOrigin::ByComment(Comment::DocumentPaperSizes) => "by its %%DocumentPaperSizes",
-        PaperOrigin::ByComment(Comment::BoundingBox) => "by its %%BoundingBox",
-        PaperOrigin::ByComment(Comment::Setup) => "by its setup",
-        PaperOrigin::AtHome => "the usual one here, as the document names none",
-        PaperOrigin::FirstPage => "that of the first page taken, as none has the document's",
+        PaperOrigin::Named => b"as named",
+        PaperOrigin::ByComment(Comment::DocumentMedia) => b"by its %%DocumentMedia",
+        PaperOrigin::ByComment(Comment::DocumentPaperSizes) => b"by its %%DocumentPaperSizes",
+        PaperOrigin::ByComment(Comment::BoundingBox) => b"by its %%BoundingBox",
+        PaperOrigin::ByComment(Comment::Setup) => b"by its setup",
+        PaperOrigin::AtHome => b"the usual one here, as the document names none",
+        PaperOrigin::FirstPage => b"that of the first page taken, as none has the document's",
     }
 }

@@ -1,12 +1,12 @@
 //! What is said of sheets that have no room for pages.
-ghost use Rattle.std.specs.Prelude.{◌≡◌, ◌≤◌, IfOk, IsTrue, pos, string_bytes};
+ghost use Rattle.std.specs.Prelude.{◌≡◌, ◌≤◌, IfOk, IsTrue, IsUtf8, OnErr, pos, string_bytes};
+ghost use Rattle.rules.specs.Numbers.{points_text as text_of_points};
 ghost use Rattle.rules.specs.Papers.{is_side};
 ghost use Rattle.impose_said.specs.Said.{gaps_text as text_of_gaps, leaves_some as leaves_some_of, left_of as left_of_side, lengths_text as text_of_lengths};
 ghost use Rattle.impose_said.specs.Said.{no_room_text as text_of_no_room, sides_text as text_of_sides, size_text as text_of_size};
 
-use crate::reports::{sides_text, size_text};
 use layouts::{HUNDRED_THOUSANDTH, Room, grains, in_grains, side};
-use lengths::Grains;
+use lengths::{Grains, Paper, print_points};
 use std::alloc::{AllocError, Global};
 
 /// How much margins and gaps are that leave no room for pages, of which sheet, and how much of it margins leave.

@@ -1,0 +1,51 @@
+//! What messages say of a request.
+use command_words::name_of;
+use impose_words::{ImposeRequest, Layout, Product};
+use lengths::Paper;
+
+/// What the words ask for, as far as messages speak of it.
+#[derive(Clone, Copy)]
+pub(crate) struct Context<'r> {
+    pub(crate) infile: Option<&'r str>,
+    /// The file that is written; none is standard output, or what has no file.
+    pub(crate) written: Option<&'r str>,
+    pub(crate) ranges: &'r str,
+    pub(crate) spec: &'r str,
+    pub(crate) is_selection: bool,
+    /// Whether a scale is asked for.
+    pub(crate) is_scaled: bool,
+    /// The paper of the sheets, if the words name it: that of the pages, if there is no other.
+    pub(crate) sheet: Option<Paper>,
+}
+
+impl<'r> Context<'r> {
+    /// A command line that isn't taken.
+    pub(crate) const NONE: Context<'static> = Context {
+        infile: None,
+        written: None,
+        ranges: "",
+        spec: "",
+        is_selection: false,
+        is_scaled: false,
+        sheet: None,
+    };
+
+    pub(crate) fn of(request: &'r ImposeRequest) -> Context<'r> {
+        Context {
+            infile: name_of(&request.infile),
+            written: match &request.product {
+                Product::Sheets => name_of(&request.outfile),
+                Product::Specification | Product::Plan => None,
+                Product::Picture(file) => name_of(file),
+            },
+            ranges: name_of(&request.choice.ranges).unwrap_or(""),
+            spec: match &request.layout {
+                Layout::Spec(specs) | Layout::SpecRow { specs, .. } => specs.as_str(),
+                _ => "",
+            },
+            is_selection: matches!(&request.layout, Layout::Selection),
+            is_scaled: request.spacing.scale.is_some(),
+            sheet: request.sheet_paper.or(request.page_paper),
+        }
+    }
+}
