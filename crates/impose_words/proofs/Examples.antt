@@ -29,7 +29,7 @@ no_unit : size_named (codes "72x72") ≡ None
 unfolding number_at papers
 no_unit = refl
 
--- Lengths: each has its unit, but 0.
+-- Lengths: each has its unit, but a 0 alone.
 
 lengths : map length_with_unit (codes "1pt" ∷ codes "2.54cm" ∷ codes "-25.4mm" ∷ codes "0" ∷ codes "-0.0" ∷ codes "0in" ∷ [])
     ≡ Some (pos 127_000_000_000) ∷ Some (pos 9_144_000_000_000) ∷ Some (negsuc 9_143_999_999_999) ∷ Some (pos 0) ∷ Some (pos 0) ∷ Some (pos 0) ∷ []
