@@ -25,7 +25,7 @@ use Rattle.impose_said.specs.declared.fault.ImposeFault.{ImposeFault}
 use Rattle.impose_said.specs.declared.fault.ImposeFault.TheVariants as fault
 
 unless : (found : Option ArrangementError) (e : ArrangementError) → (e ≡ NoMemory → ⊥) → IsFault found e → found ≡ Some e
-unless found e other h = elim h [ inl bad ↦ absurd (other bad) | inr is ↦ is ]
+unless found e other h = elim h [ inl bad ↦ absurd (other bad.0) | inr is ↦ is ]
 
 -- two facts of an answer are one
 pub ok_both : {T E : Type 0} (r : Result T E) (P Q : T → Type 0) → IfOk r P → IfOk r Q → IfOk r (λ x. P x × Q x)

@@ -48,14 +48,17 @@ pub fn fault_text(
         ImposeFault::OverInput => {
             return input_text(alloc, "--preview would write over ", context, OVER_INPUT);
         }
-        ImposeFault::NoInput | ImposeFault::Pdf | ImposeFault::Compressed(_) => "",
-        ImposeFault::DosEps | ImposeFault::Eps | ImposeFault::Utf16 => "",
-        ImposeFault::JobLanguage | ImposeFault::TooLong => "",
+        ImposeFault::NoInput | ImposeFault::Pdf | ImposeFault::Compressed(_) => {
+            return input_text(alloc, "", context, input_message(fault).unwrap_or(""));
+        }
+        ImposeFault::DosEps | ImposeFault::Eps | ImposeFault::Utf16 => {
+            return input_text(alloc, "", context, input_message(fault).unwrap_or(""));
+        }
+        ImposeFault::JobLanguage | ImposeFault::TooLong => {
+            return input_text(alloc, "", context, input_message(fault).unwrap_or(""));
+        }
     };
-    match input_message(fault) {
-        Some(behind) => input_text(alloc, "", context, behind),
-        None => String::from_str(alloc, message),
-    }
+    String::from_str(alloc, message)
 }
 
 /// A range of pages that the document doesn't have.

@@ -1,5 +1,5 @@
 -- Pages of several papers, each fitted into its cell.
-use Rattle.std.proofs.Common.{arith, rules, ◌≡◌, ◌≢◌, ℕ, suc, zero, ◌*◌, ◌/◌, ◌%◌, ◌<◌, ◌≤◌, Bool, true, false, List, Ok, Err, Option, None, inl, inr, refl, sym, ap, subst, ◌∙◌, [], ◌∷◌}
+use Rattle.std.proofs.Common.{arith, rules, ◌≡◌, ◌≢◌, ℕ, suc, zero, ◌*◌, ◌/◌, ◌%◌, ◌<◌, ◌≤◌, Bool, true, false, List, Ok, Err, Option, None, refl, sym, ap, subst, ◌∙◌, [], ◌∷◌}
 use Rattle.std.specs.Prelude.{◌&&◌, ◌==◌, not, nat_le, nat_lt, nat_abs, if◌then◌else◌, is_none, map, IfErr, IsErrAnd, Result}
 use Rattle.std.specs.List.{range_with_len}
 use Rattle.std.proofs.lemmas.Bool.{cond-false, cond-true, false_from_ne_true, leb-true}
@@ -21,7 +21,7 @@ use Rattle.layouts.specs.declared.setting.Setting.{Setting}
 use Rattle.layouts.specs.Placed.{IsEven, Room, IsInside, AreApart, stands}
 use Rattle.layouts.specs.Cells.{Grid, along_height, size, kept, scale_in, item_in, run_in, read_rows, row_of, column_of}
 use Rattle.layouts.specs.Grids.{beside, has_bare_edges, leaf_order, alone, is_same, is_itself, room_of, grid, grid_of, better, best_grid, best_of, best_formed, scale_for, count_of, rounded_up, rounded_down, arranged, bound, sides_in}
-use Rattle.layouts.specs.Refusals.{first_of, is_count, is_even, are_lengths, are_reached, is_shown, why_no_scale, why_not_arranged, why_not_bound, folds_short, IsFault}
+use Rattle.layouts.specs.Refusals.{first_of, is_count, is_even, are_lengths, are_reached, is_shown, why_no_scale, why_not_arranged, why_not_bound, folds_short}
 use Rattle.layouts.specs.Laws.{IsArranged, IsBound, IsPaper, HasPlace, IsExact, IsHalfTurnOf, IsInCell, IsInMiddle, cell_at, ComesInRun, ComesInRunBefore, IsNotTiny, Allows, IsChosen}
 use Rattle.layouts.specs.Fitted.{is_whole, past_cell, scale_on, fitted, fitted_back, setting_of, binding_setting_of, why_no_scale_on, why_not_fitted, IsFitted, FittedStands, FittedIsApart, FittedIsInOrder, ArrangedIsFitted, HaveOneFold, halves, BoundIsFitted}
 use Rattle.layouts.proofs.Folds.{fold, in_middle as fold_in_middle, fold_on_sheet, lies_before, lies_behind, turned_behind, turned_before}
@@ -382,11 +382,6 @@ one_paper_fits page sheet a t h e = subst (λ u. why_not_fitted u page ≡ None)
 pub handed_on : {T E : Type 0} (r : Result T E) (e : E) (P : E → Type 0) → IsErrAnd r (λ g. g ≡ e) → P e → IfErr r P
 handed_on (Ok x) e P h p = absurd h
 handed_on (Err g) e P h p = subst P (sym h) p
-
--- where nothing refuses, only memory does
-pub no_fault : (one other : Option ArrangementError) (e : ArrangementError) → one ≡ None → IsFault one e → IsFault other e
-no_fault one other e none (inl h) = inl h
-no_fault one other e none (inr h) = let no = sym none ∙ h in absurd (cc (no))
 
 -- ---- leaves
 

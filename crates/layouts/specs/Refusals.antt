@@ -122,5 +122,6 @@ abbrev pub NothingIsLeftOfSheet : Type 0
 NothingIsLeftOfSheet = (page sheet : Paper) (f : Free) → is_paper sheet.width sheet.height ≡ true → leaves_room sheet f ≡ false
     → NothingIsLeft page sheet f
 
+-- what an error says: it is the first fault, or memory ran out and there is none
 abbrev pub IsFault : Option ArrangementError → ArrangementError → Type 0
-IsFault found e = (e ≡ why.NoMemory) ⊎ (found ≡ Some e)
+IsFault found e = ((e ≡ why.NoMemory) × (found ≡ None)) ⊎ (found ≡ Some e)

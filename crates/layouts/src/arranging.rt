@@ -1,5 +1,5 @@
 //! Pages in cells and on leaves, as they are asked for.
-ghost use Rattle.std.specs.Prelude.{◌≡◌, ◌⊎◌, ◌≤◌, IfOk, IfErr, OnOk, Some, None, IsTrue, map, ◌∷◌, []};
+ghost use Rattle.std.specs.Prelude.{◌≡◌, ◌≤◌, IfOk, IfErr, OnOk, Some, None, IsTrue, map, ◌∷◌, []};
 ghost use Rattle.std.specs.List.{range_with_len};
 ghost use Rattle.rules.specs.Papers.{is_paper};
 ghost use Rattle.pagespec.specs.Items.{groups_of, item_of};
@@ -21,7 +21,7 @@ use super::scale::{OUT_OF_REACH, is_scale, left_free, scale_in, side};
 use super::setting::Setting;
 use lengths::{Number, Paper};
 use pagespec::{Item, Spec};
-use std::alloc::Global;
+use std::alloc::{AllocError, Global};
 
 /// How many pages a sheet takes at most.
 pub const MOST_ON_SHEET: u64 = 1_024;
@@ -47,8 +47,10 @@ pub fn arrange(
         Err(error) => return Err(error),
     };
     let count = arrangement.cells.count();
-    let groups = one_side(alloc, &setting, &papers.page, count as u32)?;
-    Ok(Spec::of_groups(count as u32, groups))
+    match one_side(alloc, &setting, &papers.page, count as u32) {
+        Ok(groups) => Ok(Spec::of_groups(count as u32, groups)),
+        Err(_) => Err(ArrangementError::NoMemory),
+    }
 }
 
 /// Two pages side by side on each side of a sheet, with the fold parallel to its shorter edge, for a row of pages that
@@ -67,104 +69,91 @@ pub fn bind(alloc: Global, papers: &Papers, binding: &Binding) -> Result<Spec, A
         Err(error) => return Err(error),
     };
     if binding.long_edge {
-        let groups = leaf(alloc, &setting, &papers.page)?;
-        Ok(Spec::of_groups(4, groups))
+        match leaf(alloc, &setting, &papers.page) {
+            Ok(groups) => Ok(Spec::of_groups(4, groups)),
+            Err(_) => Err(ArrangementError::NoMemory),
+        }
     } else {
-        let groups = one_side(alloc, &setting, &papers.page, 2)?;
-        Ok(Spec::of_groups(2, groups))
+        match one_side(alloc, &setting, &papers.page, 2) {
+            Ok(groups) => Ok(Spec::of_groups(2, groups)),
+            Err(_) => Err(ArrangementError::NoMemory),
+        }
     }
 }
 
-/// One side of a sheet: so many pages, each in its cell.
+/// One side of a sheet: so many pages, each in its cell, into which they fit.
 fn one_side(
     alloc: Global,
     setting: &Setting,
     page_paper: &Paper,
     n: u32,
-) -> Result<Vec<Vec<Item>>, ArrangementError>
-    requires { n ≤ size setting.now.grid }
-    ensures made { IfOk result (λ groups. groups_of groups.items
+) -> Result<Vec<Vec<Item>>, AllocError>
+    requires cells { n ≤ size setting.now.grid }
+    requires possible { why_not_fitted setting.now page_paper.now ≡ None }
+    ensures { IfOk result (λ groups. groups_of groups.items
         ≡ map (fitted setting.now page_paper.now) (range_with_len 0 n) ∷ []) }
-    ensures refused { IfErr result (IsFault (why_not_fitted setting.now page_paper.now)) }
 {
     let items = fronts(alloc, setting, page_paper, n)?;
     let mut groups = Vec::new(alloc);
-    match groups.push(items) {
-        Ok(()) => Ok(groups),
-        Err(_) => Err(ArrangementError::NoMemory),
-    }
+    groups.push(items)?;
+    Ok(groups)
 }
 
 /// The two sides of a leaf, of which the second is turned by half.
-fn leaf(
-    alloc: Global,
-    setting: &Setting,
-    page_paper: &Paper,
-) -> Result<Vec<Vec<Item>>, ArrangementError>
-    requires { 2 ≤ size setting.now.grid }
-    ensures made { IfOk result (λ groups. groups_of groups.items
+fn leaf(alloc: Global, setting: &Setting, page_paper: &Paper) -> Result<Vec<Vec<Item>>, AllocError>
+    requires cells { 2 ≤ size setting.now.grid }
+    requires possible { why_not_fitted setting.now page_paper.now ≡ None }
+    requires scaled { why_no_scale_on setting.now page_paper.now ≡ None }
+    ensures { IfOk result (λ groups. groups_of groups.items
         ≡ map (fitted setting.now page_paper.now) (range_with_len 0 2)
         ∷ map (back_of setting.now page_paper.now) (range_with_len 0 2) ∷ []) }
-    ensures refused { IfErr result (λ error. IsFault (why_not_fitted setting.now page_paper.now) error
-        ⊎ IsFault (why_no_scale_on setting.now page_paper.now) error) }
 {
     let front = fronts(alloc, setting, page_paper, 2)?;
     let back = backs(alloc, setting, page_paper)?;
     let mut groups = Vec::new(alloc);
-    match groups.push(front) {
-        Ok(()) => (),
-        Err(_) => return Err(ArrangementError::NoMemory),
-    }
-    match groups.push(back) {
-        Ok(()) => Ok(groups),
-        Err(_) => Err(ArrangementError::NoMemory),
-    }
+    groups.push(front)?;
+    groups.push(back)?;
+    Ok(groups)
 }
 
-/// So many pages, each in its cell.
+/// So many pages, each in its cell, into which they fit.
 fn fronts(
     alloc: Global,
     setting: &Setting,
     page_paper: &Paper,
     n: u32,
-) -> Result<Vec<Item>, ArrangementError>
-    requires { n ≤ size setting.now.grid }
-    ensures made { IfOk result (λ items. map item_of items.items
+) -> Result<Vec<Item>, AllocError>
+    requires cells { n ≤ size setting.now.grid }
+    requires possible { why_not_fitted setting.now page_paper.now ≡ None }
+    ensures { IfOk result (λ items. map item_of items.items
         ≡ map (fitted setting.now page_paper.now) (range_with_len 0 n)) }
-    ensures refused { IfErr result (IsFault (why_not_fitted setting.now page_paper.now)) }
 {
     let mut items = Vec::new(alloc);
     for k in 0..n {
-        let item = setting.item(page_paper, k)?;
-        match items.push(item) {
-            Ok(()) => (),
-            Err(_) => return Err(ArrangementError::NoMemory),
-        }
+        let Ok(item) = setting.item(page_paper, k) else {
+            unreachable!();
+        };
+        items.push(item)?;
     }
     Ok(items)
 }
 
 /// The two pages of a back, on a sheet that is turned by half.
-fn backs(
-    alloc: Global,
-    setting: &Setting,
-    page_paper: &Paper,
-) -> Result<Vec<Item>, ArrangementError>
-    requires { 2 ≤ size setting.now.grid }
-    ensures made { IfOk result (λ items. map item_of items.items
+fn backs(alloc: Global, setting: &Setting, page_paper: &Paper) -> Result<Vec<Item>, AllocError>
+    requires cells { 2 ≤ size setting.now.grid }
+    requires scaled { why_no_scale_on setting.now page_paper.now ≡ None }
+    ensures { IfOk result (λ items. map item_of items.items
         ≡ map (back_of setting.now page_paper.now) (range_with_len 0 2)) }
-    ensures refused { IfErr result (IsFault (why_no_scale_on setting.now page_paper.now)) }
 {
     let mut items = Vec::new(alloc);
     for k in 0..2 {
-        let item = setting.back_item(page_paper, k)?;
-        match items.push(Item {
+        let Ok(item) = setting.back_item(page_paper, k) else {
+            unreachable!();
+        };
+        items.push(Item {
             page: 2 + k,
             ..item
-        }) {
-            Ok(()) => (),
-            Err(_) => return Err(ArrangementError::NoMemory),
-        }
+        })?;
     }
     Ok(items)
 }

@@ -10,9 +10,9 @@ use Rattle.layouts.proofs.arranging.backs.Goals as goal
 pub loop-k-preserved : goal.loop-k-preserved
 loop-k-preserved c =
     let k = c.loop-k.k in
-    pushed item_of (back_of c.args.setting.now c.args.page_paper.now) c.loop-k.items.items c.push.new.self.items _ k c.loop-k.invariant (ap (λ (i : Item). record i { page = 2 + k }) c.in_ok-item.ensures.made) c.in-Ok.ensures.items
+    pushed item_of (back_of c.args.setting.now c.args.page_paper.now) c.loop-k.items.items c.push.new.self.items _ k c.loop-k.invariant (ap (λ (i : Item). record i { page = 2 + k }) c.in-Ok.ensures.made) c.in_ok-push.ensures.items
 
-pub returns-clause-made : goal.returns-clause-made
-returns-clause-made c =
+pub returns : goal.returns
+returns c =
     let done : c.loop-k.k ≡ 2 = search rules in
     c.loop-k.invariant ∙ ap (λ n. map (back_of c.args.setting.now c.args.page_paper.now) (range_with_len 0 n)) done
