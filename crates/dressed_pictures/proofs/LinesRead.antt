@@ -4,7 +4,7 @@ use Rattle.std.proofs.Common.{◌≡◌, ℕ, refl, ap, ◌∙◌, sym, subst, B
 use Rattle.rules.specs.Bytes.{line, line_feed}
 use Rattle.rules.specs.Numbers.{points_text}
 use Rattle.rules.specs.Papers.{Paper}
-use Rattle.made_sheets.specs.Dress.{lines_text}
+use Rattle.rules.specs.Dress.{lines_text}
 use Rattle.papers.specs.Own.{covering}
 use Rattle.papers.specs.Told.{telling_of, size_text, size_name, medium_text, medium_line, box_line, box_lines, exact_box_line, exact_box_lines, is_whole, whole_paper, page_size_lines, sheet_lines, setting_line}
 use Rattle.dressing.specs.Drawn.{stroke_line, mark_lines}

@@ -8,9 +8,9 @@ use Rattle.rules.specs.Parts.{NestedUnit, pages, preamble, bytes_of}
 use Rattle.rules.specs.Filters.{trailer_text}
 use Rattle.rules.specs.Run.{document_of}
 use Rattle.rules.specs.Output.{Border}
-use Rattle.made_sheets.specs.Made.{MadeSlot, Blank, Placed, MadeSheet}
-use Rattle.made_sheets.specs.Dress.{Dress, lines_text}
-use Rattle.made_sheets.specs.MadeOutput.{made_slot_text, made_sheet_text, dressed_preamble, made_output}
+use Rattle.rules.specs.Made.{MadeSlot, Blank, Placed, MadeSheet}
+use Rattle.rules.specs.Dress.{Dress, lines_text}
+use Rattle.rules.specs.MadeOutput.{made_slot_text, made_sheet_text, dressed_preamble, made_output}
 use Rattle.papers.specs.Told.{telling_of}
 use Rattle.dressing.specs.Drawn.{marked}
 use Rattle.dressing.specs.declared.strokes.Stroke.{Stroke}

@@ -3,7 +3,7 @@ use Rattle.std.specs.Prelude.{Option, Some, None, codes, bytes_eq, if◌then◌e
 use Rattle.std.proofs.Common.{◌≡◌, ℕ, ◌+◌, ◌≤◌, refl, ap, ◌∙◌, sym, subst, true, false, true≢false, is_none, List, [], ◌∷◌, ◌++◌, append-nil, arith}
 use Rattle.rules.specs.Numbers.{points_text}
 use Rattle.rules.specs.Papers.{Paper}
-use Rattle.made_sheets.specs.Dress.{lines_text}
+use Rattle.rules.specs.Dress.{lines_text}
 use Rattle.papers.specs.Told.{page_size_lines}
 use Rattle.dressing.specs.declared.strokes.Stroke.{Stroke}
 use Rattle.pictures.specs.Objects.{Token, Number, Name, Literal, Bound, Opens, Closes, Object, Plain, Truth, Mark, Array, Procedure, Dictionary, SystemDictionary, Operator, Looks, SetsDevice}

@@ -2,7 +2,7 @@
 use Rattle.std.specs.Prelude.{◌≡◌, ℕ, ◌+◌, List, [], ◌∷◌, ◌++◌, true, false, Some, codes}
 use Rattle.rules.specs.Numbers.{points_text}
 use Rattle.rules.specs.Papers.{Paper}
-use Rattle.made_sheets.specs.Dress.{lines_text}
+use Rattle.rules.specs.Dress.{lines_text}
 use Rattle.papers.specs.Told.{page_size_lines}
 use Rattle.pictures.specs.Objects.{Token, Number, Bound, Truth, Array, Dictionary}
 use Rattle.pictures.specs.Dictionaries.{Entry, system}

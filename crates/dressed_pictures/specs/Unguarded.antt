@@ -4,8 +4,8 @@ use Rattle.rules.specs.Papers.{Paper}
 use Rattle.rules.specs.Parts.{NestedUnit, preamble, bytes_of}
 use Rattle.rules.specs.Run.{document_of}
 use Rattle.rules.specs.Output.{Border}
-use Rattle.made_sheets.specs.Made.{MadeSheet}
-use Rattle.made_sheets.specs.MadeOutput.{made_output}
+use Rattle.rules.specs.Made.{MadeSheet}
+use Rattle.rules.specs.MadeOutput.{made_output}
 use Rattle.papers.specs.Told.{telling}
 use Rattle.dressing.specs.Drawn.{marked}
 use Rattle.dressing.specs.declared.strokes.Stroke.{Stroke}

@@ -4,8 +4,8 @@ use Rattle.std.specs.Prelude.{ℕ, Bool, codes, map, [], ◌∷◌, false, true,
 use Rattle.std.specs.Fmt.{digits}
 use Rattle.rules.specs.Papers.{Paper, Pt, points}
 use Rattle.rules.specs.Specification.{Item, Turn, Upright, Left, Half}
-use Rattle.made_sheets.specs.Dress.{undressed}
-use Rattle.made_sheets.specs.Made.{Blank}
+use Rattle.rules.specs.Dress.{undressed}
+use Rattle.rules.specs.Made.{Blank}
 use Rattle.sheet_text.specs.PageNumbers.{foot_text, number_line, slot_lines}
 use Rattle.sheet_text.specs.declared.numbers.Numbers.{Numbers}
 use Rattle.layouts.specs.Placed.{Room}

@@ -3,7 +3,7 @@ use Rattle.std.proofs.Common.{ℕ, append_assoc, sym, ◌≡◌, ◌∙◌, refl
 use Rattle.std.specs.Prelude.{if◌then◌else◌, nat_lt, Option, Some, None}
 use Rattle.std.proofs.lemmas.Bool.{lt-ltb}
 use Rattle.rules.specs.Papers.{Paper}
-use Rattle.made_sheets.specs.Dress.{Dress}
+use Rattle.rules.specs.Dress.{Dress}
 use Rattle.papers.specs.Told.{box_line, box_lines, exact_box_line, is_whole, whole_paper, medium_line, size_name, telling_of}
 use Rattle.sheet_text.specs.Dressings.{told_if, with_numbers}
 use Rattle.sheet_text.specs.declared.numbers.Numbers.{Numbers}

@@ -6,9 +6,9 @@ use Rattle.rules.specs.Papers.{Paper}
 use Rattle.rules.specs.Run.{most_input_bytes}
 use Rattle.rules.specs.Units.{content_of}
 use Rattle.dsc.specs.Units.{units_of}
-use Rattle.made_sheets.specs.Dress.{lines_text, undressed}
-use Rattle.made_sheets.specs.Made.{Blank, MadeSlot, Placed}
-use Rattle.made_sheets.specs.MadeOutput.{made_output}
+use Rattle.rules.specs.Dress.{lines_text, undressed}
+use Rattle.rules.specs.Made.{Blank, MadeSlot, Placed}
+use Rattle.rules.specs.MadeOutput.{made_output}
 use Rattle.sheet_plan.specs.OfSheets.{slots_at}
 use Rattle.sheet_text.specs.PageNumbers.{number_line, slot_lines}
 use Rattle.sheet_text.specs.declared.numbers.Numbers.{Numbers}

@@ -5,8 +5,8 @@ use Rattle.rules.specs.Numbers.{points_text}
 use Rattle.rules.specs.Papers.{Paper}
 use Rattle.rules.specs.Placement.{offset}
 use Rattle.rules.specs.Specification.{Item, Turn, Upright, Left, Half, Right}
-use Rattle.made_sheets.specs.Dress.{Dress}
-use Rattle.made_sheets.specs.Made.{MadeSlot, Blank, Placed}
+use Rattle.rules.specs.Dress.{Dress}
+use Rattle.rules.specs.Made.{MadeSlot, Blank, Placed}
 use Rattle.sheet_plan.specs.OfSheets.{slots_at}
 use Rattle.seams.proofs.Plainly.{no_ends_append, no_ends_decimal, no_ends_points}
 use Rattle.seams.specs.Seams.{no_ends}

@@ -1,7 +1,7 @@
 -- The lines that draw marks, and the dress that has them. Their operators are of the PostScript Language Reference; the rest
 -- is this project's own rules.
 use Rattle.std.specs.Prelude.{ℕ, List, [], ◌∷◌, ◌++◌, map, codes}
-use Rattle.made_sheets.specs.Dress.{Dress}
+use Rattle.rules.specs.Dress.{Dress}
 use Rattle.sheet_text.specs.PageNumbers.{point_text}
 use Rattle.dressing.specs.declared.strokes.Stroke.{Stroke}
 

@@ -1,7 +1,7 @@
 -- What holds of marks and numbers.
 use Rattle.std.specs.Prelude.{◌≡◌, ◌⊎◌, ℕ, ◌+◌, ◌*◌, ◌<◌, ◌≤◌, ℤ, pos, ◌-ℤ◌, ◌*ℤ◌, ◌≤ℤ◌, List, ◌++◌}
 use Rattle.std.specs.List.{AllByRecursion}
-use Rattle.made_sheets.specs.Dress.{Dress}
+use Rattle.rules.specs.Dress.{Dress}
 use Rattle.imposed_again.specs.MadeAgain.{IsTameDress}
 use Rattle.rules.specs.Papers.{Paper}
 use Rattle.rules.specs.Placement.{Point}

@@ -1,7 +1,7 @@
 -- The dress that has numbers of pages too, and what is drawn on sheets.
 use Rattle.std.specs.Prelude.{◌≡◌, List, [], ◌++◌, Option, Some, None}
 use Rattle.rules.specs.Papers.{Paper}
-use Rattle.made_sheets.specs.Dress.{Dress}
+use Rattle.rules.specs.Dress.{Dress}
 use Rattle.sheet_text.specs.PageNumbers.{number_lines}
 use Rattle.sheet_text.specs.declared.numbers.Numbers.{Numbers}
 use Rattle.papers.specs.Told.{telling_of}

@@ -6,8 +6,8 @@ use Rattle.rules.specs.Papers.{Paper}
 use Rattle.rules.specs.Parts.{NestedUnit, page_run}
 use Rattle.rules.specs.Run.{document_of, most_input_bytes, most_pages}
 use Rattle.dsc.specs.Units.{units_of}
-use Rattle.made_sheets.specs.Made.{MadeSheet}
-use Rattle.made_sheets.specs.MadeOutput.{made_output}
+use Rattle.rules.specs.Made.{MadeSheet}
+use Rattle.rules.specs.MadeOutput.{made_output}
 use Rattle.imposed_again.specs.Again.{depth_behind}
 use Rattle.papers.specs.Found.{AreQuiet, Finish, IsTellablePaper, as_printed, telling_and}
 use Rattle.papers.specs.Own.{own_papers}

@@ -5,7 +5,7 @@ use Rattle.std.specs.BTreeSet.{BTreeSet, contains}
 use Rattle.std.specs.declared.cmp.Ordering.{Ordering}
 use Rattle.std.specs.Ordering.{int_cmp, ordering_then}
 use Rattle.rules.specs.Papers.{Paper}
-use Rattle.made_sheets.specs.Made.{MadeSheet}
+use Rattle.rules.specs.Made.{MadeSheet}
 use Rattle.papers.specs.Told.{in_print, is_told_alike}
 use Rattle.dressing.specs.declared.told.Size.{Size}
 

@@ -6,8 +6,8 @@ use Rattle.rules.specs.Bytes.{line}
 use Rattle.rules.specs.Units.{TextUnit, is_end, FaultyBlock, cut}
 use Rattle.rules.specs.Parts.{NestedUnit, nested, bytes_of}
 use Rattle.rules.specs.Filters.{kept_after, kept, ended}
-use Rattle.made_sheets.specs.Dress.{lines_text}
-use Rattle.made_sheets.specs.MadeOutput.{drops_with}
+use Rattle.rules.specs.Dress.{lines_text}
+use Rattle.rules.specs.MadeOutput.{drops_with}
 use Rattle.dsc.specs.Units.{or_none, units_of}
 use Rattle.dsc.specs.Filters.{drops_of, is_dropped, of_units, filter_on}
 use Rattle.dsc.specs.declared.filters.Drops.{Drops}

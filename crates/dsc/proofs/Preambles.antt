@@ -11,8 +11,8 @@ use Rattle.rules.specs.Bytes.{line}
 use Rattle.rules.specs.Units.{TextUnit, BlockFault, has_key, is_end, is_blank, content_of, line_len, key, begins_block, fields, data_len, block, first_unit, cut, BeginsWith}
 use Rattle.rules.specs.Parts.{NestedUnit, depth_after, nested_from, nested, begins_page, up_to, preamble, bytes_of}
 use Rattle.rules.specs.Filters.{kept_after, kept, drops_in_header, ended, with_count, preamble_text, continues}
-use Rattle.made_sheets.specs.Dress.{lines_text}
-use Rattle.made_sheets.specs.MadeOutput.{with_lines, drops_with, dressed_preamble}
+use Rattle.rules.specs.Dress.{lines_text}
+use Rattle.rules.specs.MadeOutput.{with_lines, drops_with, dressed_preamble}
 use Rattle.std.proofs.lemmas.List.{append-nil}
 use Rattle.dsc.specs.Units.{or_none, units_of}
 use Rattle.dsc.specs.Documents.{HasItsParts}

@@ -12,10 +12,10 @@ use Rattle.rules.specs.Parts.{NestedUnit, pages, preamble, page_run, bytes_of}
 use Rattle.rules.specs.Run.{document_of, most_input_bytes, most_pages}
 use Rattle.rules.specs.Filters.{prepared}
 use Rattle.rules.specs.Output.{Border, Frame, body_text, output}
-use Rattle.made_sheets.specs.Made.{MadeSlot, Blank, Placed, MadeSheet}
-use Rattle.made_sheets.specs.Dress.{Dress, undressed}
-use Rattle.made_sheets.specs.MadeOutput.{made_sheet_text, made_output}
-use Rattle.made_sheets.proofs.Made.{made_is_output}
+use Rattle.rules.specs.Made.{MadeSlot, Blank, Placed, MadeSheet}
+use Rattle.rules.specs.Dress.{Dress, undressed}
+use Rattle.rules.specs.MadeOutput.{made_sheet_text, made_output}
+use Rattle.rules.proofs.Made.{made_is_output}
 use Rattle.dsc.specs.Units.{units_of}
 use Rattle.imposed_again.specs.Again.{depth_behind}
 use Rattle.imposed_again.specs.MadeAgain.{IsTameDress, made_texts}

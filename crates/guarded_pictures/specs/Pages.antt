@@ -10,7 +10,7 @@ use Rattle.rules.specs.Papers.{Paper}
 use Rattle.dsc.specs.Units.{units_of}
 use Rattle.guard.specs.Guard.{guarded}
 use Rattle.rules.specs.Output.{Border, Frame}
-use Rattle.made_sheets.specs.Made.{MadeSheet}
+use Rattle.rules.specs.Made.{MadeSheet}
 use Rattle.pictures.specs.Objects.{Token, Truth, Procedure, Dictionary, Matrix}
 use Rattle.pictures.specs.Dictionaries.{Entry, userdict, system, meaning, entry_of}
 use Rattle.pictures.specs.Chains.{is_same_chain}

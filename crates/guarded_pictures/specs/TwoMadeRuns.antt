@@ -5,9 +5,9 @@ use Rattle.rules.specs.Specification.{Spec}
 use Rattle.rules.specs.Output.{Border, Frame, output}
 use Rattle.rules.specs.Parts.{NestedUnit, preamble, page_run, bytes_of}
 use Rattle.rules.specs.Run.{document_of, most_input_bytes, most_pages}
-use Rattle.made_sheets.specs.Made.{MadeSheet}
-use Rattle.made_sheets.specs.Dress.{Dress}
-use Rattle.made_sheets.specs.MadeOutput.{made_output}
+use Rattle.rules.specs.Made.{MadeSheet}
+use Rattle.rules.specs.Dress.{Dress}
+use Rattle.rules.specs.MadeOutput.{made_output}
 use Rattle.dsc.specs.Units.{units_of}
 use Rattle.imposed_again.specs.Again.{depth_behind}
 use Rattle.imposed_again.specs.MadeAgain.{IsTameDress}

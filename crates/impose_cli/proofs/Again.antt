@@ -6,13 +6,13 @@ use Rattle.std.proofs.lemmas.Bool.{ltb-false}
 use Rattle.rules.specs.Admissible.{most_slots}
 use Rattle.rules.specs.Output.{output}
 use Rattle.rules.specs.Run.{most_input_bytes, most_pages, most_sheets, refuse_if}
-use Rattle.made_sheets.specs.Made.{MadeSheet}
-use Rattle.made_sheets.specs.MadePlans.{MadeTooManyPages, MadeTooManySheets, made_plan_of}
+use Rattle.rules.specs.Made.{MadeSheet}
+use Rattle.rules.specs.MadePlans.{MadeTooManyPages, MadeTooManySheets, made_plan_of}
 use Rattle.imposed_again.proofs.Again.{imposed_again, trailer_shuts}
 use Rattle.imposed_again.proofs.MadeAgain.{made_is_document}
 use Rattle.papers.specs.Told.{telling}
 use Rattle.papers.proofs.Tame.{telling_is_tame}
-use Rattle.made_sheets.specs.Dress.{Dress}
+use Rattle.rules.specs.Dress.{Dress}
 use Rattle.dressing.specs.Numbered.{drawn_on, nothing_drawn}
 use Rattle.dressing.proofs.Tame.{drawn_is_tame}
 use Rattle.row_runs.specs.BySpec.{border_by_spec, output_by_spec}

@@ -19,10 +19,10 @@ use Rattle.sheet_text.specs.Jobs.{JobView, output_of}
 use Rattle.rules.specs.Sheets.{Plan, layout}
 use Rattle.rules.specs.Parts.{NestedUnit, pages}
 use Rattle.rules.specs.Output.{Border}
-use Rattle.made_sheets.specs.Made.{MadeSheet}
-use Rattle.made_sheets.specs.Dress.{Dress}
-use Rattle.made_sheets.specs.MadeOutput.{made_output}
-use Rattle.made_sheets.specs.MadePlans.{made_layout}
+use Rattle.rules.specs.Made.{MadeSheet}
+use Rattle.rules.specs.Dress.{Dress}
+use Rattle.rules.specs.MadeOutput.{made_output}
+use Rattle.rules.specs.MadePlans.{made_layout}
 use Rattle.papers.specs.Told.{telling}
 use Rattle.dressing.specs.Numbered.{Drawn, drawn_on}
 use Rattle.row_runs.specs.SheetsRuns.{told_output}

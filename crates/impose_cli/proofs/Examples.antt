@@ -4,7 +4,7 @@ use Rattle.std.specs.Prelude.{codes, None, Some}
 use Rattle.rules.specs.Papers.{points}
 use Rattle.impose_words.specs.declared.request.Layout.TheVariants as layout
 use Rattle.guard.specs.Guard.{guarded}
-use Rattle.made_sheets.specs.Choice.{InOne as in_one, Auto as by_itself, sides_for}
+use Rattle.rules.specs.Choice.{InOne as in_one, Auto as by_itself, sides_for}
 use Rattle.papers.specs.declared.media.Comment.TheVariants.{DocumentMedia}
 use Rattle.impose_said.specs.declared.finished.PaperOrigin.TheVariants.{Named, ByComment, AtHome}
 use Rattle.impose_cli.specs.RowTasks.{guarded_in}

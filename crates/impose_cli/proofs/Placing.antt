@@ -12,7 +12,7 @@ use Rattle.layouts.specs.declared.error.ArrangementError.TheVariants.{LengthOutO
 use Rattle.impose_said.specs.Faults.{of_layout, without_memory}
 use Rattle.rows.specs.Sewing.{signing_of}
 use Rattle.rows.specs.declared.sewing.Signing.{Signing}
-use Rattle.made_sheets.specs.Choice.{sides_for}
+use Rattle.rules.specs.Choice.{sides_for}
 use Rattle.layouts.specs.Grids.{bound}
 use Rattle.layouts.specs.Laws.{IsBound}
 use Rattle.impose_cli.specs.Tasks.{IsPlaced, IsWritten}

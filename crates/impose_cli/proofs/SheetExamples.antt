@@ -3,9 +3,9 @@ use Rattle.std.proofs.Common.{◌≡◌, ℕ, ◌+◌, ◌*◌, List, [], ◌∷
 use Rattle.std.specs.Prelude.{ℤ, pos, negsuc, Option, None, Some, option_map}
 use Rattle.rules.specs.Papers.{Paper, points}
 use Rattle.rules.specs.Specification.{Turn, Upright, Left, Right}
-use Rattle.made_sheets.specs.Choice.{signed}
-use Rattle.made_sheets.specs.Made.{MadeSheet, MadeSlot, Blank, Placed}
-use Rattle.made_sheets.specs.Rows.{all_pages}
+use Rattle.rules.specs.Choice.{signed}
+use Rattle.rules.specs.Made.{MadeSheet, MadeSlot, Blank, Placed}
+use Rattle.rules.specs.Rows.{all_pages}
 use Rattle.layouts.specs.Grids.{leaf_order}
 use Rattle.layouts.specs.Placed.{Room}
 use Rattle.layouts.specs.declared.arrangement.Cells.TheVariants.{Exactly}

@@ -3,7 +3,7 @@ use Rattle.std.proofs.Common.{Bool, true, false, ◌≡◌, ◌∙◌, ℕ, zero
 use Rattle.std.specs.Prelude.{Option, None, Some, option_and_then, slice_get, get_or, ◌||◌, if◌then◌else◌}
 use Rattle.std.proofs.lemmas.List.{take_more, length-take-le}
 use Rattle.rules.specs.Papers.{Paper}
-use Rattle.made_sheets.specs.Rows.{Row}
+use Rattle.rules.specs.Rows.{Row}
 use Rattle.impose_cli.specs.Reaches.{is_page, takes}
 use Rattle.impose_cli.specs.RowTasks.{or_without, row_papers, taken_from}
 

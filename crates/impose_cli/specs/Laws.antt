@@ -7,11 +7,11 @@ use Rattle.rules.specs.Sheets.{Slot, sheets}
 use Rattle.rules.specs.Output.{Border, Frame}
 use Rattle.rules.specs.Run.{document_of, most_input_bytes}
 use Rattle.dsc.specs.Units.{units_of}
-use Rattle.made_sheets.specs.Choice.{imposed_row}
-use Rattle.made_sheets.specs.Made.{MadeSheet}
-use Rattle.made_sheets.specs.Rows.{Row}
+use Rattle.rules.specs.Choice.{imposed_row}
+use Rattle.rules.specs.Made.{MadeSheet}
+use Rattle.rules.specs.Rows.{Row}
 use Rattle.row_sheets.specs.RowSheets.{selected}
-use Rattle.made_sheets.specs.Dress.{Dress}
+use Rattle.rules.specs.Dress.{Dress}
 use Rattle.imposed_again.specs.Again.{IsAgain, depth_behind, sheet_texts}
 use Rattle.imposed_again.specs.MadeAgain.{IsMadeAgain, made_texts}
 use Rattle.papers.specs.Told.{telling}

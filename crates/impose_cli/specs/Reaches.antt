@@ -3,8 +3,8 @@ use Rattle.std.specs.Prelude.{◌≡◌, ℕ, ◌==◌, Bool, false, ◌||◌, L
 use Rattle.rules.specs.Papers.{Paper}
 use Rattle.rules.specs.Parts.{NestedUnit, pages}
 use Rattle.rules.specs.Run.{document_of}
-use Rattle.made_sheets.specs.Choice.{RowFault, imposed_row}
-use Rattle.made_sheets.specs.Rows.{Row}
+use Rattle.rules.specs.Choice.{RowFault, imposed_row}
+use Rattle.rules.specs.Rows.{Row}
 use Rattle.paper_names.specs.Names.{paper_named}
 use Rattle.papers.specs.Own.{own_papers}
 use Rattle.papers.specs.Reach.{page_boxes, reach_of}

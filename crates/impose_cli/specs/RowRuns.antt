@@ -3,8 +3,8 @@ use Rattle.std.specs.Prelude.{◌≡◌, ℕ, ◌≤◌, List, length, Option}
 use Rattle.std.specs.Io.KnownBytes.{Appends}
 use Rattle.rules.specs.Parts.{NestedUnit, pages}
 use Rattle.rules.specs.Output.{Border}
-use Rattle.made_sheets.specs.Made.{MadeSheet}
-use Rattle.made_sheets.specs.MadePlans.{made_layout}
+use Rattle.rules.specs.Made.{MadeSheet}
+use Rattle.rules.specs.MadePlans.{made_layout}
 use Rattle.sheet_plan.specs.Places.{born_complete}
 use Rattle.dressing.specs.Numbered.{Drawn, nothing_drawn}
 use Rattle.planned_runs.specs.declared.outcome.Report.{Report}

@@ -10,7 +10,7 @@ use Rattle.rules.specs.Sheets.{sheets}
 use Rattle.dsc.specs.PagesBehind.{pages_behind}
 use Rattle.impose_cli.specs.Claims.{IsToldBy}
 use Rattle.impose_cli.specs.Reaches.{HasReachOver}
-use Rattle.made_sheets.specs.Choice.{sides_for}
+use Rattle.rules.specs.Choice.{sides_for}
 use Rattle.rows.specs.Sewing.{signing_of}
 use Rattle.guard.specs.Guard.{guarded}
 use Rattle.layouts.specs.Grids.{arranged, bound}

@@ -5,7 +5,7 @@ use Rattle.std.specs.Str.{bytes_eq}
 use Rattle.rules.specs.Papers.{Paper}
 use Rattle.rules.specs.Specification.{Spec}
 use Rattle.rules.specs.Admissible.{Takes, most_slots}
-use Rattle.made_sheets.specs.Choice.{NotARange, row_of_text}
+use Rattle.rules.specs.Choice.{NotARange, row_of_text}
 use Rattle.rows.specs.declared.error.RowError.TheVariants as row
 use Rattle.pagespec.specs.Refusals.{IsPlaced, IsRefusal}
 use Rattle.pagespec.specs.declared.error.SpecError.{SpecError}

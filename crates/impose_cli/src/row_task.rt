@@ -9,7 +9,7 @@ ghost use Rattle.sheet_text.specs.Jobs.{is_border};
 ghost use Rattle.impose_said.specs.Faults.{without_memory};
 ghost use Rattle.impose_cli.specs.Faults.{of_asked as asked_fault, of_row as row_fault};
 ghost use Rattle.rules.specs.Run.{most_pages};
-ghost use Rattle.made_sheets.specs.Choice.{imposed_row as row_of};
+ghost use Rattle.rules.specs.Choice.{imposed_row as row_of};
 ghost use Rattle.impose_words.specs.Choices.{choice_in};
 ghost use Rattle.impose_cli.specs.RowTasks.{guarded_in, first_paper as first_paper_of};
 ghost use Rattle.impose_cli.specs.RowTasks.{ArePapersOf, HasReach, ImposesTask, IsRowPaper, IsRowTask, LaysRows, counted_in};

@@ -1,7 +1,7 @@
 //! The row of pages that is taken.
 ghost use Rattle.std.specs.Prelude.{◌≡◌, ℕ, ◌<◌, ◌≤◌, ◌==◌, ◌||◌, if◌then◌else◌, IfOk, OnOk, None, length, get_or, false};
 ghost use Rattle.std.specs.Prelude.{[], ◌++◌, option_and_then, slice_get};
-ghost use Rattle.made_sheets.specs.Choice.{imposed_row as row_of, most_entries};
+ghost use Rattle.rules.specs.Choice.{imposed_row as row_of, most_entries};
 ghost use Rattle.impose_words.specs.Choices.{choice_in};
 ghost use Rattle.impose_cli.specs.Reaches.{is_page, takes};
 ghost use Rattle.impose_cli.specs.RowTasks.{or_without, row_or_none, row_papers, taken_from};

@@ -4,7 +4,7 @@ ghost use Rattle.std.specs.Ordering.{int_eq};
 ghost use Rattle.rules.specs.Run.{most_pages};
 ghost use Rattle.dsc.specs.Serving.{ArePartsOf, Serve};
 ghost use Rattle.dsc.specs.declared.parts.Parts.{Parts};
-ghost use Rattle.made_sheets.specs.Choice.{sides_for};
+ghost use Rattle.rules.specs.Choice.{sides_for};
 ghost use Rattle.rows.specs.Sewing.{signing_of};
 ghost use Rattle.layouts.specs.Grids.{bound};
 ghost use Rattle.layouts.specs.Laws.{IsBound};

@@ -1,6 +1,6 @@
 -- Which pages a request chooses.
 use Rattle.std.specs.Prelude.{Bool, true, false, ◌&&◌, not, is_none, option_map, string_bytes}
-use Rattle.made_sheets.specs.Choice.{Choice}
+use Rattle.rules.specs.Choice.{Choice}
 use Rattle.rows.specs.Choices.{part_named}
 use Rattle.rows.specs.declared.choices.Part.{Part}
 use Rattle.rows.specs.declared.choices.Part.TheVariants.{All, Odd, Even}

@@ -17,7 +17,7 @@ use Rattle.rules.specs.Output.{Frame, sheet_text, output}
 use Rattle.rules.specs.Run.{document_of, most_input_bytes, most_pages, most_sheets, PlanFault, PlanTooManyPages, TooManySheets, TooManyPlaces, plan_in}
 use Rattle.rules.proofs.Counts.{sheet_count}
 use Rattle.rules.proofs.Signatures.{whole_signatures}
-use Rattle.made_sheets.specs.MadeOutput.{drops_with}
+use Rattle.rules.specs.MadeOutput.{drops_with}
 use Rattle.dsc.specs.Units.{or_none, units_of}
 use Rattle.dsc.proofs.Reading.{accepted_cut, accepted_opening}
 use Rattle.dsc.proofs.PartMarks.{exclusive}

@@ -9,7 +9,7 @@ use Rattle.std.proofs.lemmas.Slice.Eq.{bytes_eq-Decides}
 use Rattle.rules.specs.Units.{TextUnit, key, has_key, is_blank}
 use Rattle.rules.specs.Parts.{NestedUnit, depth_after, nested_from, bytes_of, is_outermost_line}
 use Rattle.rules.specs.Filters.{continues, kept_after, drops_in_page}
-use Rattle.made_sheets.specs.MadeOutput.{drops_with}
+use Rattle.rules.specs.MadeOutput.{drops_with}
 use Rattle.dsc.proofs.Cases.{by_test}
 use Rattle.seams.specs.Seams.{joined, passes}
 use Rattle.seams.proofs.Keys.{not_key}

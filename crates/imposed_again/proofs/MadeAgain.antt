@@ -17,9 +17,9 @@ use Rattle.seams.proofs.Splits.{at_depth, passes_cons}
 use Rattle.seams.proofs.Texts.{are_units, joined_append, joined_is, units_behind}
 use Rattle.seams.proofs.UnitsMeet.{first_line}
 use Rattle.seams.specs.Seams.{joined, line_unit, passes}
-use Rattle.made_sheets.specs.Dress.{Dress, lines_text}
-use Rattle.made_sheets.specs.Made.{MadeSheet}
-use Rattle.made_sheets.specs.MadeOutput.{dressed_preamble, drops_with, made_output, made_sheet_text, with_lines}
+use Rattle.rules.specs.Dress.{Dress, lines_text}
+use Rattle.rules.specs.Made.{MadeSheet}
+use Rattle.rules.specs.MadeOutput.{dressed_preamble, drops_with, made_output, made_sheet_text, with_lines}
 use Rattle.imposed_again.proofs.Again.{Parts, as_many, first_not_dropped, mapped, opened, parts, row_back, row_front, some_preamble}
 use Rattle.imposed_again.proofs.Assembly.{Assembled, Sheets, Trailing, all_sheets, assembled, count_content, count_whole, depth_is, not_dropped, trailer_made}
 use Rattle.imposed_again.proofs.Keeps.{kept_bytes, kept_passes, kept_row, kept_units, mild_with}

@@ -12,9 +12,9 @@ use Rattle.seams.specs.Seams.{joined, line_unit, passes}
 use Rattle.seams.proofs.Splits.{at_depth}
 use Rattle.seams.proofs.Texts.{Goes, goes_append, goes_line}
 use Rattle.seams.proofs.UnitsMeet.{first_line}
-use Rattle.made_sheets.specs.Made.{MadeSlot, Blank, Placed, MadeSheet}
-use Rattle.made_sheets.specs.Dress.{Dress, lines_text}
-use Rattle.made_sheets.specs.MadeOutput.{made_slot_text, made_sheet_text}
+use Rattle.rules.specs.Made.{MadeSlot, Blank, Placed, MadeSheet}
+use Rattle.rules.specs.Dress.{Dress, lines_text}
+use Rattle.rules.specs.MadeOutput.{made_slot_text, made_sheet_text}
 use Rattle.imposed_again.specs.MadeAgain.{AreTame, IsTame, IsTameDress}
 use Rattle.imposed_again.proofs.Assembly.{EachSheet}
 use Rattle.imposed_again.proofs.Pieces.{AllBodies, Piece, Sheet, append, closed, known, nothing, opening, page_content, page_whole, tame_depth, tame_line}

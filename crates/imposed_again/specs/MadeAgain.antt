@@ -9,9 +9,9 @@ use Rattle.rules.specs.Run.{document_of, most_input_bytes, most_pages}
 use Rattle.rules.specs.Output.{Border}
 use Rattle.dsc.specs.Units.{units_of}
 use Rattle.seams.specs.Seams.{no_ends}
-use Rattle.made_sheets.specs.Made.{MadeSheet}
-use Rattle.made_sheets.specs.Dress.{Dress}
-use Rattle.made_sheets.specs.MadeOutput.{dressed_preamble, made_sheet_text, made_output}
+use Rattle.rules.specs.Made.{MadeSheet}
+use Rattle.rules.specs.Dress.{Dress}
+use Rattle.rules.specs.MadeOutput.{dressed_preamble, made_sheet_text, made_output}
 use Rattle.imposed_again.specs.Again.{AreShut, depth_behind}
 
 -- a line that begins no part and no data, and neither begins nor ends an embedded document

@@ -5,8 +5,8 @@ use Rattle.rules.specs.Parts.{NestedUnit, pages, preamble, bytes_of}
 use Rattle.rules.specs.Signatures.{sheets_in}
 use Rattle.rules.specs.Run.{document_of}
 use Rattle.rules.specs.Output.{Border}
-use Rattle.made_sheets.specs.Made.{MadeSheet, made_of}
-use Rattle.made_sheets.specs.Dress.{Dress, undressed}
+use Rattle.rules.specs.Made.{MadeSheet, made_of}
+use Rattle.rules.specs.Dress.{Dress, undressed}
 use Rattle.dsc.specs.Units.{units_of}
 use Rattle.guard.specs.Guard.{guarded}
 use Rattle.guard.proofs.TheGuard.{guard_stays}

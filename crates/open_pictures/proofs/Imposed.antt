@@ -1,7 +1,7 @@
 -- Given an output, a machine with further operators prints what the document's own pages print.
 use Rattle.std.proofs.Common.{false}
 use Rattle.rules.specs.Parts.{preamble, bytes_of}
-use Rattle.made_sheets.specs.Dress.{undressed}
+use Rattle.rules.specs.Dress.{undressed}
 use Rattle.pictures.specs.Documents.{frame_of, all_sheets}
 use Rattle.pictures.proofs.Sheets.{still, ground_prints}
 use Rattle.pictures.proofs.Output.{Bodies, on_sheets, undressed_is_quiet, by_specification}

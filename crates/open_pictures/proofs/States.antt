@@ -7,9 +7,9 @@ use Rattle.rules.specs.Parts.{NestedUnit, pages, preamble, bytes_of}
 use Rattle.rules.specs.Run.{document_of, most_input_bytes}
 use Rattle.rules.specs.Signatures.{sheets_in}
 use Rattle.rules.specs.Output.{Border, Frame, output}
-use Rattle.made_sheets.specs.Made.{MadeSheet, made_of}
-use Rattle.made_sheets.specs.Dress.{Dress, undressed}
-use Rattle.made_sheets.specs.MadeOutput.{made_output}
+use Rattle.rules.specs.Made.{MadeSheet, made_of}
+use Rattle.rules.specs.Dress.{Dress, undressed}
+use Rattle.rules.specs.MadeOutput.{made_output}
 use Rattle.dsc.specs.Units.{units_of}
 use Rattle.guard.specs.Guard.{guarded}
 use Rattle.guard.proofs.TheGuard.{guard_stays}

@@ -5,9 +5,9 @@ use Rattle.rules.specs.Parts.{NestedUnit, preamble, bytes_of}
 use Rattle.rules.specs.Run.{document_of}
 use Rattle.rules.specs.Filters.{trailer_text}
 use Rattle.rules.specs.Output.{Border, Frame, output}
-use Rattle.made_sheets.specs.Made.{MadeSheet}
-use Rattle.made_sheets.specs.Dress.{Dress}
-use Rattle.made_sheets.specs.MadeOutput.{made_output}
+use Rattle.rules.specs.Made.{MadeSheet}
+use Rattle.rules.specs.Dress.{Dress}
+use Rattle.rules.specs.MadeOutput.{made_output}
 use Rattle.pictures.specs.Imposed.{IsQuiet}
 use Rattle.pictures.specs.Objects.{Token}
 use Rattle.pictures.specs.Dictionaries.{userdict}

@@ -5,8 +5,8 @@ use Rattle.rules.specs.Specification.{Spec}
 use Rattle.rules.specs.Parts.{NestedUnit, preamble, bytes_of}
 use Rattle.rules.specs.Run.{document_of, most_input_bytes}
 use Rattle.rules.specs.Output.{Border, Frame, output}
-use Rattle.made_sheets.specs.Made.{MadeSheet}
-use Rattle.made_sheets.specs.MadeOutput.{made_output}
+use Rattle.rules.specs.Made.{MadeSheet}
+use Rattle.rules.specs.MadeOutput.{made_output}
 use Rattle.dsc.specs.Units.{units_of}
 use Rattle.guard.specs.Guard.{guarded}
 use Rattle.papers.specs.Told.{telling}

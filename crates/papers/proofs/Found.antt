@@ -10,9 +10,9 @@ use Rattle.rules.specs.Parts.{NestedUnit, page_run, pages}
 use Rattle.rules.specs.Run.{document_of, most_input_bytes, most_pages}
 use Rattle.rules.specs.Units.{content_of, is_comment, line_len}
 use Rattle.dsc.specs.Units.{units_of}
-use Rattle.made_sheets.specs.Dress.{lines_text}
-use Rattle.made_sheets.specs.Made.{Blank, MadeSheet, MadeSlot, Placed}
-use Rattle.made_sheets.specs.MadeOutput.{made_output, made_sheet_text, made_slot_text}
+use Rattle.rules.specs.Dress.{lines_text}
+use Rattle.rules.specs.Made.{Blank, MadeSheet, MadeSlot, Placed}
+use Rattle.rules.specs.MadeOutput.{made_output, made_sheet_text, made_slot_text}
 use Rattle.imposed_again.specs.Again.{depth_behind}
 use Rattle.imposed_again.specs.MadeAgain.{IsTameDress, made_texts}
 use Rattle.imposed_again.proofs.MadeAgain.{made_is_document}

@@ -23,9 +23,9 @@ use Rattle.seams.proofs.LinesMeet.{go_content, go_line, stop_content, stop_line}
 use Rattle.seams.proofs.Splits.{at_depth, from_passed}
 use Rattle.seams.proofs.Texts.{are_units, joined_is}
 use Rattle.seams.proofs.UnitsMeet.{unit_content, unit_line, unit_same}
-use Rattle.made_sheets.specs.Dress.{Dress, lines_text}
-use Rattle.made_sheets.specs.Made.{MadeSheet}
-use Rattle.made_sheets.specs.MadeOutput.{dressed_preamble, drops_with, made_output, made_sheet_text, with_lines}
+use Rattle.rules.specs.Dress.{Dress, lines_text}
+use Rattle.rules.specs.Made.{MadeSheet}
+use Rattle.rules.specs.MadeOutput.{dressed_preamble, drops_with, made_output, made_sheet_text, with_lines}
 use Rattle.imposed_again.proofs.Again.{first_not_dropped}
 use Rattle.imposed_again.proofs.Assembly.{count_content, count_whole, not_dropped}
 use Rattle.imposed_again.proofs.Recut.{Row, Stands, row_of}

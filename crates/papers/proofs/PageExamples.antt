@@ -7,8 +7,8 @@ use Rattle.rules.specs.Specification.{Item, Upright}
 use Rattle.rules.specs.Units.{◌>>=◌}
 use Rattle.rules.specs.Run.{document_of, DocumentFault}
 use Rattle.lengths.specs.Reading.{number_at}
-use Rattle.made_sheets.specs.Made.{MadeSheet, Blank, Placed}
-use Rattle.made_sheets.specs.MadeOutput.{made_output}
+use Rattle.rules.specs.Made.{MadeSheet, Blank, Placed}
+use Rattle.rules.specs.MadeOutput.{made_output}
 use Rattle.papers.specs.Own.{covering, covers, is_near, own_papers}
 use Rattle.papers.specs.Told.{box_lines, telling}
 

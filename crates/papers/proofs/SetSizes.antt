@@ -9,7 +9,7 @@ use Rattle.std.proofs.lemmas.List.Folds.{list_any-append}
 use Rattle.lengths.proofs.Numbers.{some_same}
 use Rattle.rules.specs.Numbers.{points_text, printed}
 use Rattle.rules.specs.Papers.{Paper}
-use Rattle.made_sheets.specs.Made.{MadeSheet}
+use Rattle.rules.specs.Made.{MadeSheet}
 use Rattle.papers.specs.SetSizes.{SetLast, SizeIsSet, StayAsSet}
 use Rattle.papers.specs.Told.{different_from, in_print, is_told_alike, papers_told, sheet_lines, size_text, telling_of}
 use Rattle.papers.proofs.Covered.{by_test}

@@ -8,9 +8,9 @@ use Rattle.rules.specs.Parts.{NestedUnit, page_run}
 use Rattle.rules.specs.Run.{document_of, most_input_bytes, most_pages}
 use Rattle.rules.specs.Units.{content_of}
 use Rattle.dsc.specs.Units.{units_of}
-use Rattle.made_sheets.specs.Dress.{Dress, lines_text}
-use Rattle.made_sheets.specs.Made.{MadeSheet}
-use Rattle.made_sheets.specs.MadeOutput.{made_output}
+use Rattle.rules.specs.Dress.{Dress, lines_text}
+use Rattle.rules.specs.Made.{MadeSheet}
+use Rattle.rules.specs.MadeOutput.{made_output}
 use Rattle.imposed_again.specs.Again.{depth_behind}
 use Rattle.imposed_again.specs.MadeAgain.{AreTame}
 use Rattle.papers.specs.Comments.{is_in_head}

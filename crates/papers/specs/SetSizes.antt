@@ -1,7 +1,7 @@
 -- The page size that is set when a sheet begins.
 use Rattle.std.specs.Prelude.{◌≡◌, ◌⊎◌, ℕ, List, [], ◌∷◌, ◌++◌, Some, slice_get}
 use Rattle.rules.specs.Papers.{Paper}
-use Rattle.made_sheets.specs.Made.{MadeSheet}
+use Rattle.rules.specs.Made.{MadeSheet}
 use Rattle.papers.specs.Told.{setting_line, size_text, telling}
 
 -- the last of these lines sets the page size to this paper

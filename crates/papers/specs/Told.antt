@@ -6,8 +6,8 @@ use Rattle.std.specs.Ordering.{int_eq}
 use Rattle.std.specs.List.{list_any}
 use Rattle.rules.specs.Numbers.{points_text, rounded}
 use Rattle.rules.specs.Papers.{Paper}
-use Rattle.made_sheets.specs.Made.{MadeSheet}
-use Rattle.made_sheets.specs.Dress.{Dress, undressed}
+use Rattle.rules.specs.Made.{MadeSheet}
+use Rattle.rules.specs.Dress.{Dress, undressed}
 use Rattle.imposed_again.specs.MadeAgain.{IsTameDress}
 use Rattle.papers.specs.Own.{covering}
 

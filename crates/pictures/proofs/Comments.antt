@@ -3,7 +3,7 @@ use Rattle.std.specs.Prelude.{codes, decimal, if◌then◌else◌, ℤ}
 use Rattle.std.proofs.Common.{◌≡◌, ℕ, refl, ap, ◌∙◌, sym, subst, Bool, true, false, not, ◌&&◌, ◌||◌, ◌==◌, true≢false, eqb-true, List, [], ◌∷◌, ◌++◌}
 use Rattle.rules.specs.Bytes.{line, line_feed, space, tab, carriage_return}
 use Rattle.rules.specs.Numbers.{points_text}
-use Rattle.made_sheets.specs.Dress.{lines_text}
+use Rattle.rules.specs.Dress.{lines_text}
 use Rattle.pictures.specs.Scanner.{Between, InComment, Class, White, Regular, class_of, is_white, percent_sign, form_feed, null, ends_comment, scan_from, behind}
 use Rattle.pictures.specs.Imposed.{ends_nowhere, is_comment_line, are_comments}
 use Rattle.pictures.proofs.Tests.{first, second}

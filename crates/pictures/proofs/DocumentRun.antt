@@ -12,7 +12,7 @@ use Rattle.rules.specs.Parts.{NestedUnit, preamble, pages, trailer, bytes_of}
 use Rattle.rules.specs.Run.{document_of}
 use Rattle.rules.specs.Papers.{Paper}
 use Rattle.rules.specs.Output.{Frame}
-use Rattle.made_sheets.specs.Made.{MadeSlot, made_slot, made_of}
+use Rattle.rules.specs.Made.{MadeSlot, made_slot, made_of}
 use Rattle.rules.proofs.Whole.{parts_make_text}
 use Rattle.pictures.specs.Objects.{Token}
 use Rattle.pictures.specs.Machine.{State, Painting, Runs}

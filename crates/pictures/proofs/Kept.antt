@@ -9,8 +9,8 @@ use Rattle.rules.specs.Parts.{NestedUnit, nested, nested_from, depth_after, is_o
 use Rattle.rules.specs.Filters.{continues, kept, kept_after, drops_in_header, drops_in_page, with_count, ended, prepared}
 use Rattle.rules.specs.Run.{DocumentFault, NoPages, InputTooManyPages, InputTooLong, NotPostScript, of_block, refuse_if, with_pages, document_of}
 use Rattle.rules.specs.Output.{body_text}
-use Rattle.made_sheets.specs.Dress.{lines_text}
-use Rattle.made_sheets.specs.MadeOutput.{with_lines, drops_with, dressed_preamble}
+use Rattle.rules.specs.Dress.{lines_text}
+use Rattle.rules.specs.MadeOutput.{with_lines, drops_with, dressed_preamble}
 use Rattle.rules.proofs.Whole.{units_make_text}
 use Rattle.rules.proofs.CutUnits.{cut_is_units, same_ok, apart_results, none_below}
 use Rattle.pictures.specs.Objects.{Token}

@@ -7,7 +7,7 @@ use Rattle.std.proofs.Common.{◌≡◌, ℕ, suc, ◌+◌, refl, ap, ◌∙◌,
 use Rattle.rules.specs.Bytes.{line_feed, carriage_return, colon}
 use Rattle.rules.specs.Units.{TextUnit, BlockFault, is_end, is_blank, content_of, end_len, line_len, key, first_unit, block, begins_block, data_len, fields}
 use Rattle.rules.specs.Filters.{drops_in_header, drops_in_page}
-use Rattle.made_sheets.specs.MadeOutput.{drops_with}
+use Rattle.rules.specs.MadeOutput.{drops_with}
 use Rattle.rules.proofs.CutUnits.{same_ok, apart_results}
 use Rattle.pictures.specs.Scanner.{Between, InComment, scan_from, behind, ends_comment, form_feed, percent_sign}
 use Rattle.pictures.specs.Kept.{has_form_feed}

@@ -10,10 +10,10 @@ use Rattle.rules.specs.Specification.{Item, Spec}
 use Rattle.rules.specs.Parts.{NestedUnit, pages, preamble, bytes_of}
 use Rattle.rules.specs.Filters.{kept, drops_in_header, ended, with_count, preamble_text, trailer_text}
 use Rattle.rules.specs.Output.{Border, Frame, opening_text, closing_text, output}
-use Rattle.made_sheets.specs.Made.{MadeSlot, Blank, Placed, MadeSheet}
-use Rattle.made_sheets.specs.Dress.{Dress, undressed, lines_text}
-use Rattle.made_sheets.specs.MadeOutput.{made_slot_text, made_sheet_text, with_lines, dressed_preamble, made_output}
-use Rattle.made_sheets.proofs.Made.{made_is_output}
+use Rattle.rules.specs.Made.{MadeSlot, Blank, Placed, MadeSheet}
+use Rattle.rules.specs.Dress.{Dress, undressed, lines_text}
+use Rattle.rules.specs.MadeOutput.{made_slot_text, made_sheet_text, with_lines, dressed_preamble, made_output}
+use Rattle.rules.proofs.Made.{made_is_output}
 use Rattle.pictures.specs.Objects.{Token, Name}
 use Rattle.pictures.specs.Machine.{State, Painting, Runs}
 use Rattle.pictures.specs.Scanner.{Reading, Between, scan_from, tokens, IsComplete}

@@ -9,7 +9,7 @@ use Rattle.rules.specs.Placement.{matrix_of}
 use Rattle.rules.specs.Parts.{NestedUnit, pages}
 use Rattle.rules.specs.Filters.{preamble_text, trailer_text, prepared}
 use Rattle.rules.specs.Output.{Border, Frame, body_text, opening_text, output}
-use Rattle.made_sheets.specs.Made.{MadeSlot, Blank, Placed, MadeSheet, made_of}
+use Rattle.rules.specs.Made.{MadeSlot, Blank, Placed, MadeSheet, made_of}
 use Rattle.pictures.specs.Objects.{Token}
 use Rattle.pictures.specs.Dictionaries.{userdict}
 use Rattle.pictures.specs.Machine.{State, Painting, Runs}

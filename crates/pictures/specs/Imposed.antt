@@ -5,9 +5,9 @@ use Rattle.rules.specs.Parts.{NestedUnit, preamble, bytes_of}
 use Rattle.rules.specs.Filters.{trailer_text}
 use Rattle.rules.specs.Run.{document_of}
 use Rattle.rules.specs.Output.{Border}
-use Rattle.made_sheets.specs.Made.{MadeSheet}
-use Rattle.made_sheets.specs.Dress.{Dress}
-use Rattle.made_sheets.specs.MadeOutput.{made_output}
+use Rattle.rules.specs.Made.{MadeSheet}
+use Rattle.rules.specs.Dress.{Dress}
+use Rattle.rules.specs.MadeOutput.{made_output}
 use Rattle.pictures.specs.Machine.{State, Painting, Runs}
 use Rattle.pictures.specs.Scanner.{percent_sign, ends_comment, tokens}
 use Rattle.pictures.specs.Sheets.{IsGround}

@@ -6,7 +6,7 @@ use Rattle.rules.specs.Parts.{NestedUnit, nested, is_outermost_line, bytes_of, p
 use Rattle.rules.specs.Run.{document_of}
 use Rattle.rules.specs.Filters.{continues, drops_in_page, kept, prepared, preamble_text}
 use Rattle.rules.specs.Output.{body_text}
-use Rattle.made_sheets.specs.MadeOutput.{drops_with}
+use Rattle.rules.specs.MadeOutput.{drops_with}
 use Rattle.pictures.specs.Scanner.{Reading, Between, form_feed, scan_from, tokens, IsComplete}
 
 -- the reader's state after a text

@@ -1,7 +1,7 @@
 -- What the collector of a run begins with.
 use Rattle.std.specs.Prelude.{◌≡◌, length}
 use Rattle.rules.specs.Filters.{trailer_text}
-use Rattle.made_sheets.specs.MadeOutput.{dressed_preamble}
+use Rattle.rules.specs.MadeOutput.{dressed_preamble}
 use Rattle.sheet_text.specs.Jobs.{JobView}
 use Rattle.sheet_writer.specs.Writing.{AreEarly}
 use Rattle.planned_runs.specs.declared.setup.Desk.{Desk}

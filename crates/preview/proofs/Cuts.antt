@@ -2,7 +2,7 @@
 use Rattle.std.proofs.Common.{ℕ, zero, suc, List, ◌+◌, ◌-◌, ◌≤◌, ◌<◌, ◌++◌, ◌≡◌, Bool, true, false, ap, sym, refl, ◌∙◌, length, take, arith, append_assoc, append-nil}
 use Rattle.std.specs.Prelude.{nat_le, if◌then◌else◌}
 use Rattle.std.proofs.lemmas.Bool.Decides.{nat_tests}
-use Rattle.made_sheets.specs.Made.{MadeSheet}
+use Rattle.rules.specs.Made.{MadeSheet}
 use Rattle.preview.specs.Naming.{each}
 use Rattle.preview.specs.Drawing.{first_drawn, left_out, drawn}
 use Rattle.preview.specs.declared.guides.Guide.{Guide}

@@ -4,7 +4,7 @@ use Rattle.std.specs.Prelude.{codes, pos}
 use Rattle.std.specs.Fmt.{digits}
 use Rattle.rules.specs.Papers.{Paper, Pt, points}
 use Rattle.rules.specs.Specification.{Item, Left}
-use Rattle.made_sheets.specs.Made.{MadeSheet, MadeSlot, Blank, Placed}
+use Rattle.rules.specs.Made.{MadeSheet, MadeSlot, Blank, Placed}
 use Rattle.layouts.specs.Cells.{Grid}
 use Rattle.layouts.specs.Grids.{beside, plain_order}
 use Rattle.layouts.specs.declared.arrangement.Run.TheVariants.{Rows, Columns}

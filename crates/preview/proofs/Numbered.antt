@@ -5,7 +5,7 @@ use Rattle.std.specs.List.{fold, sum_by}
 use Rattle.std.proofs.lemmas.List.Sums.{fold_more, sum_by_more}
 use Rattle.std.proofs.lemmas.Option.{same_Some, none-some, slice_get_within, get_or_from_slice_get}
 use Rattle.rules.specs.Papers.{Paper}
-use Rattle.made_sheets.specs.Made.{MadeSheet}
+use Rattle.rules.specs.Made.{MadeSheet}
 use Rattle.sheet_plan.specs.OfSheets.{slots_at}
 use Rattle.preview.specs.Naming.{numbered}
 

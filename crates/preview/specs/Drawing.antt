@@ -7,7 +7,7 @@ use Rattle.rules.specs.Bytes.{line}
 use Rattle.rules.specs.Numbers.{points_text, scale_text}
 use Rattle.rules.specs.Papers.{Paper}
 use Rattle.rules.specs.Placement.{Matrix, matrix_of}
-use Rattle.made_sheets.specs.Made.{MadeSheet, MadeSlot, Blank, Placed}
+use Rattle.rules.specs.Made.{MadeSheet, MadeSlot, Blank, Placed}
 use Rattle.preview.specs.Naming.{numbered, side_name, size_text}
 use Rattle.preview.specs.Guides.{guides_picture}
 use Rattle.preview.specs.declared.guides.Guide.{Guide}

@@ -5,7 +5,7 @@ use Rattle.std.specs.Ordering.{int_eq}
 use Rattle.rules.specs.Bytes.{line}
 use Rattle.rules.specs.Numbers.{scale_text}
 use Rattle.rules.specs.Papers.{Paper}
-use Rattle.made_sheets.specs.Made.{MadeSheet, MadeSlot, Blank, Placed}
+use Rattle.rules.specs.Made.{MadeSheet, MadeSlot, Blank, Placed}
 use Rattle.preview.specs.Naming.{numbered, size_text}
 use Rattle.preview.specs.declared.ways.Way.{Way}
 

@@ -1,6 +1,6 @@
 //! The picture of a plan.
 ghost use Rattle.std.specs.Prelude.{◌≡◌, ◌+◌, ◌*◌, ◌/◌, ◌<◌, ◌≤◌, ◌++◌, flat_map, length, take, OnOk, IfOk, Some, slice_get};
-ghost use Rattle.made_sheets.specs.Made.{MadeSheet, Placed};
+ghost use Rattle.rules.specs.Made.{MadeSheet, Placed};
 ghost use Rattle.pagespec.specs.Items.{item_of};
 ghost use Rattle.placement.specs.Matrices.{numbers_of};
 ghost use Rattle.sheet_plan.specs.OfSheets.{placed_of, slots_at};

@@ -1,7 +1,7 @@
 //! In which ways pages lie on sheets.
 ghost use Rattle.std.specs.Prelude.{◌≡◌, ◌<◌, ◌++◌, ◌||◌, nat_lt, length, OnOk, IfOk, Some, slice_get};
 ghost use Rattle.std.specs.List.{fold, list_any};
-ghost use Rattle.made_sheets.specs.Made.{MadeSheet};
+ghost use Rattle.rules.specs.Made.{MadeSheet};
 ghost use Rattle.sheet_plan.specs.OfSheets.{placed_of, slots_at};
 ghost use Rattle.preview.specs.Naming.{numbered};
 ghost use Rattle.preview.specs.Ways.{is_same_way, most_told, way_line, way_text, way_told, ways_of, ways_text};

@@ -4,8 +4,8 @@ use Rattle.rules.specs.Specification.{Spec}
 use Rattle.rules.specs.Parts.{NestedUnit, pages, preamble, bytes_of}
 use Rattle.rules.specs.Run.{document_of}
 use Rattle.rules.specs.Output.{Border, Frame}
-use Rattle.made_sheets.specs.Dress.{Dress}
-use Rattle.made_sheets.specs.Made.{MadeSheet}
+use Rattle.rules.specs.Dress.{Dress}
+use Rattle.rules.specs.Made.{MadeSheet}
 use Rattle.pictures.specs.Imposed.{IsQuiet}
 use Rattle.pictures.specs.Machine.{State, Painting}
 use Rattle.pictures.specs.Sheets.{IsGround}

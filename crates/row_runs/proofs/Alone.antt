@@ -4,8 +4,8 @@ use Rattle.std.specs.Prelude.{All, AllPairs, slice_index_or}
 use Rattle.std.proofs.lemmas.Int.{ints}
 use Rattle.std.proofs.lemmas.List.Elements.{All-map}
 use Rattle.rules.specs.Papers.{Paper}
-use Rattle.made_sheets.specs.Made.{MadeSlot, Placed}
-use Rattle.made_sheets.specs.Rows.{Row}
+use Rattle.rules.specs.Made.{MadeSlot, Placed}
+use Rattle.rules.specs.Rows.{Row}
 use Rattle.layouts.specs.Placed.{IsInside, bare}
 use Rattle.row_sheets.specs.RowSheets.{as_it_is, selected, selected_sheet}
 use Rattle.row_sheets.specs.Filled.{SlotIsInside, SlotsAreApart}

@@ -1,9 +1,9 @@
 -- Sheets of a specification that are no plan.
 use Rattle.std.proofs.Common.{rules, ◌≡◌, ◌≤◌, List, Ok}
 use Rattle.std.specs.Prelude.{IsOk, option_map}
-use Rattle.made_sheets.specs.Choice.{signed}
-use Rattle.made_sheets.specs.Made.{MadeSheet}
-use Rattle.made_sheets.specs.Rows.{Row}
+use Rattle.rules.specs.Choice.{signed}
+use Rattle.rules.specs.Made.{MadeSheet}
+use Rattle.rules.specs.Rows.{Row}
 use Rattle.rows.specs.Sewing.{signing_of}
 use Rattle.row_sheets.specs.BySpec.{WhyNoSheets, by_spec}
 use Rattle.sheet_plan.specs.MadeRefusals.{RefusesMade}

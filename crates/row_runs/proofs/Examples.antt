@@ -4,9 +4,9 @@ use Rattle.std.specs.Prelude.{codes, pos, ℤ, List, None, Some}
 use Rattle.std.specs.Fmt.{digits}
 use Rattle.rules.specs.Papers.{Paper, points}
 use Rattle.rules.specs.Specification.{Upright}
-use Rattle.made_sheets.specs.Rows.{Row, all_pages}
-use Rattle.made_sheets.specs.Made.{MadeSlot, Blank, Placed, MadeSheet}
-use Rattle.made_sheets.specs.Choice.{InOne, OfSides}
+use Rattle.rules.specs.Rows.{Row, all_pages}
+use Rattle.rules.specs.Made.{MadeSlot, Blank, Placed, MadeSheet}
+use Rattle.rules.specs.Choice.{InOne, OfSides}
 use Rattle.layouts.specs.Cells.{in_points}
 use Rattle.layouts.specs.Grids.{plain_order}
 use Rattle.layouts.specs.Placed.{Room}

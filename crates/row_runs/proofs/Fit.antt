@@ -5,9 +5,9 @@ use Rattle.std.specs.List.{AllByRecursion}
 use Rattle.rules.specs.Papers.{Paper}
 use Rattle.rules.specs.Sheets.{blocks}
 use Rattle.rules.specs.Signatures.{entry_of}
-use Rattle.made_sheets.specs.Choice.{signed}
-use Rattle.made_sheets.specs.Made.{MadeSheet}
-use Rattle.made_sheets.specs.Rows.{Row}
+use Rattle.rules.specs.Choice.{signed}
+use Rattle.rules.specs.Made.{MadeSheet}
+use Rattle.rules.specs.Rows.{Row}
 use Rattle.layouts.specs.Placed.{Room}
 use Rattle.layouts.specs.Cells.{Grid, along_height, cell, size, wide}
 use Rattle.layouts.specs.Grids.{beside}

@@ -10,8 +10,8 @@ use Rattle.std.proofs.lemmas.List.FromFn.{get_or-map-range_with_len, length-map-
 use Rattle.rules.specs.Papers.{Paper, Pt}
 use Rattle.rules.specs.Sheets.{blocks}
 use Rattle.rules.specs.Specification.{Item, Measure, Turn, Upright, Left, Half, Right}
-use Rattle.made_sheets.specs.Made.{MadeSlot, Blank, Placed, MadeSheet}
-use Rattle.made_sheets.specs.Rows.{Row}
+use Rattle.rules.specs.Made.{MadeSlot, Blank, Placed, MadeSheet}
+use Rattle.rules.specs.Rows.{Row}
 use Rattle.layouts.specs.declared.setting.Setting.{Setting}
 use Rattle.layouts.specs.Placed.{Room}
 use Rattle.layouts.specs.Cells.{along_width, column_of, in_points, item_in, kept, part, row_of, size, step, to_right, to_top, whole}

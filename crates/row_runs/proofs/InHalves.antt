@@ -7,8 +7,8 @@ use Rattle.rules.specs.Papers.{Paper, Pt}
 use Rattle.rules.specs.Placement.{Point}
 use Rattle.rules.specs.Sheets.{blocks}
 use Rattle.rules.specs.Specification.{Item, Measure, Turn, Upright, Left, Half, Right}
-use Rattle.made_sheets.specs.Made.{Blank, MadeSheet, MadeSlot, Placed}
-use Rattle.made_sheets.specs.Rows.{Row}
+use Rattle.rules.specs.Made.{Blank, MadeSheet, MadeSlot, Placed}
+use Rattle.rules.specs.Rows.{Row}
 use Rattle.layouts.specs.declared.setting.Setting.{Setting}
 use Rattle.layouts.specs.Cells.{kept, size}
 use Rattle.layouts.specs.Laws.{LiesInCell}

@@ -4,9 +4,9 @@ use Rattle.std.specs.Prelude.{⊤, ◌==◌, ◌%◌, if◌then◌else◌}
 use Rattle.rules.specs.Papers.{Paper}
 use Rattle.rules.specs.Sheets.{blocks}
 use Rattle.rules.specs.Specification.{Turn}
-use Rattle.made_sheets.specs.Choice.{signed}
-use Rattle.made_sheets.specs.Made.{MadeSheet}
-use Rattle.made_sheets.specs.Rows.{Row}
+use Rattle.rules.specs.Choice.{signed}
+use Rattle.rules.specs.Made.{MadeSheet}
+use Rattle.rules.specs.Rows.{Row}
 use Rattle.layouts.specs.Cells.{size}
 use Rattle.layouts.specs.Placed.{Room}
 use Rattle.row_sheets.specs.Filled.{behind_in, card_entry, duplex_entry, grid_entry, stack_entry}

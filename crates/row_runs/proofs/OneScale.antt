@@ -1,8 +1,8 @@
 -- Pages that are laid at one scale.
 use Rattle.std.proofs.Common.{Bool, true, false, List, ◌≡◌, ◌∙◌, sym, ap, refl, None, ◌⊎◌, ⊎_elim}
 use Rattle.rules.specs.Papers.{Paper}
-use Rattle.made_sheets.specs.Made.{MadeSheet}
-use Rattle.made_sheets.specs.Rows.{Row}
+use Rattle.rules.specs.Made.{MadeSheet}
+use Rattle.rules.specs.Rows.{Row}
 use Rattle.row_runs.specs.declared.asked.Laying.{Laying}
 use Rattle.row_runs.specs.declared.asked.Laying.TheVariants as laying
 use Rattle.row_runs.specs.declared.asked.Scheme.TheVariants as scheme

@@ -3,9 +3,9 @@ use Rattle.std.proofs.Common.{ℕ, zero, suc, List, [], ◌∷◌, Option, Some,
 use Rattle.std.specs.Prelude.{slice_get}
 use Rattle.std.proofs.lemmas.Option.{none-some, same_Some}
 use Rattle.rules.specs.Papers.{Paper}
-use Rattle.made_sheets.specs.Choice.{signed}
-use Rattle.made_sheets.specs.Made.{MadeSheet}
-use Rattle.made_sheets.specs.Rows.{Row}
+use Rattle.rules.specs.Choice.{signed}
+use Rattle.rules.specs.Made.{MadeSheet}
+use Rattle.rules.specs.Rows.{Row}
 use Rattle.row_runs.specs.Evened.{evened_if}
 use Rattle.row_runs.specs.Numbers.{named, paper_in, places_by, places_from, sheet_paper}
 use Rattle.row_runs.specs.Sheets.{laying_for, leaves_in, row_chosen, sewn, sheets_laid}

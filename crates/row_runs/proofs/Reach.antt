@@ -14,7 +14,7 @@ use Rattle.rules.specs.Run.{most_pages}
 use Rattle.rules.specs.Specification.{Item, Measure, Turn}
 use Rattle.lengths.specs.Ranges.{FitsNumber}
 use Rattle.layouts.specs.Placed.{Room}
-use Rattle.made_sheets.specs.Made.{MadeSheet, MadeSlot}
+use Rattle.rules.specs.Made.{MadeSheet, MadeSlot}
 use Rattle.pagespec.specs.Items.{turn_of}
 use Rattle.sheet_plan.specs.OfSheets.{slots_at}
 use Rattle.sheet_plan.specs.declared.error.MadeError.TheVariants as plan

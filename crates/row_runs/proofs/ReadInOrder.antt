@@ -5,10 +5,10 @@ use Rattle.std.specs.List.{range_with_len}
 use Rattle.rules.specs.Papers.{Paper}
 use Rattle.rules.specs.Sheets.{blocks}
 use Rattle.rules.specs.Signatures.{entry_of}
-use Rattle.made_sheets.specs.Choice.{sides_for, signed}
-use Rattle.made_sheets.specs.Leaves.{faces, read_signature}
-use Rattle.made_sheets.specs.Rows.{Row, auto_leaves, in_signatures, leaves_for}
-use Rattle.made_sheets.proofs.Folded.{row_is_read}
+use Rattle.rules.specs.Choice.{sides_for, signed}
+use Rattle.rules.specs.Leaves.{faces, read_signature}
+use Rattle.rules.specs.Rows.{Row, auto_leaves, in_signatures, leaves_for}
+use Rattle.rules.proofs.Folded.{row_is_read}
 use Rattle.layouts.specs.declared.setting.Setting.{Setting}
 use Rattle.rows.specs.Sewing.{MayBeSewn, signing_of}
 use Rattle.rows.specs.declared.sewing.Signing.{Signing}

@@ -8,7 +8,7 @@ use Rattle.row_runs.specs.Errors.{of_plan}
 use Rattle.row_runs.specs.Runs.{AreTurned, RefusesRun, mirror_for, page_count}
 use Rattle.row_runs.specs.BySpec.{AreBySpec, RefusesBySpec, pages_of}
 use Rattle.row_runs.specs.declared.by_spec.SpecJob.{SpecJob}
-use Rattle.made_sheets.specs.Made.{MadeSheet}
+use Rattle.rules.specs.Made.{MadeSheet}
 use Rattle.pagespec.specs.Items.{turn_of}
 use Rattle.sheet_plan.specs.MadeRefusals.{RefusesMade}
 use Rattle.sheet_plan.specs.declared.error.MadeError.{MadeError}

@@ -10,7 +10,7 @@ use Rattle.std.proofs.lemmas.List.FromFn.{get_or-map-range_with_len, length-map-
 use Rattle.rules.specs.Papers.{Paper}
 use Rattle.rules.specs.Placement.{Point}
 use Rattle.rules.specs.Specification.{Item, Measure, Turn, Upright, Left, Half, Right}
-use Rattle.made_sheets.specs.Made.{MadeSlot, Blank, Placed, MadeSheet}
+use Rattle.rules.specs.Made.{MadeSlot, Blank, Placed, MadeSheet}
 use Rattle.layouts.specs.declared.setting.Setting.{Setting}
 use Rattle.layouts.specs.Placed.{AreApart, ComesFirst, IsOfPage, Room, across, fine, stands, up}
 use Rattle.layouts.specs.Cells.{Along, along_height, along_width, cell, column_of, high, in_points, item_in, kept, row_of, size, step, turn_in, whole, wide}

@@ -7,8 +7,8 @@ use Rattle.std.proofs.lemmas.List.{length-map}
 use Rattle.std.proofs.lemmas.List.Sums.{sum_by-cons}
 use Rattle.rules.specs.Run.{most_pages, most_places, most_sheets, refuse_if}
 use Rattle.rules.specs.Specification.{Turn}
-use Rattle.made_sheets.specs.Made.{MadeSheet, MadeSlot, Blank, Placed}
-use Rattle.made_sheets.specs.MadePlans.{MadeFault, MadeNoSuchPage, MadeSlotsOutOfRange, MadeTooManyPages, MadeTooManyPlaces, MadeTooManySheets, is_missing, is_slot_count, refuse_at, slot_count}
+use Rattle.rules.specs.Made.{MadeSheet, MadeSlot, Blank, Placed}
+use Rattle.rules.specs.MadePlans.{MadeFault, MadeNoSuchPage, MadeSlotsOutOfRange, MadeTooManyPages, MadeTooManyPlaces, MadeTooManySheets, is_missing, is_slot_count, refuse_at, slot_count}
 use Rattle.layouts.specs.Placed.{Room}
 use Rattle.row_runs.specs.Mirrored.{mirror_on, mirrored, mirrored_from, moved_sheet, moved_slot}
 use Rattle.row_runs.specs.Turning.{turned_sheet, turned_slot}

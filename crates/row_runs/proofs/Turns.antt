@@ -7,7 +7,7 @@ use Rattle.std.proofs.lemmas.Option.{none-some, same_Some}
 use Rattle.rules.specs.Papers.{Paper, Pt}
 use Rattle.rules.specs.Placement.{Point, moved, turned}
 use Rattle.rules.specs.Specification.{Item, Measure, Turn, Upright, Left, Half, Right}
-use Rattle.made_sheets.specs.Made.{MadeSlot, Blank, Placed, MadeSheet}
+use Rattle.rules.specs.Made.{MadeSlot, Blank, Placed, MadeSheet}
 use Rattle.sheet_plan.specs.OfSheets.{slots_at}
 use Rattle.layouts.specs.Placed.{fine, finer, times}
 use Rattle.row_runs.specs.Turning.{IsDrawnTurned, IsLittle, TurnedStands, TurnsAddUp, both, corner, excess, farther, further, long, on_turned, turned_item, turned_paper, turned_sheet, turned_slot}

@@ -4,10 +4,10 @@ use Rattle.std.specs.Prelude.{flat_map, slice_index_or}
 use Rattle.std.specs.List.{range_with_len}
 use Rattle.rules.specs.Sheets.{blocks}
 use Rattle.rules.specs.Specification.{Turn}
-use Rattle.made_sheets.specs.Choice.{sides_for, signed}
-use Rattle.made_sheets.specs.Leaves.{Face, read_signature}
-use Rattle.made_sheets.specs.Made.{Blank, MadeSheet, MadeSlot, Placed}
-use Rattle.made_sheets.specs.Rows.{Row}
+use Rattle.rules.specs.Choice.{sides_for, signed}
+use Rattle.rules.specs.Leaves.{Face, read_signature}
+use Rattle.rules.specs.Made.{Blank, MadeSheet, MadeSlot, Placed}
+use Rattle.rules.specs.Rows.{Row}
 use Rattle.layouts.specs.Cells.{size}
 use Rattle.layouts.specs.Placed.{Room}
 use Rattle.rows.specs.Sewing.{signing_of}

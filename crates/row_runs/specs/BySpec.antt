@@ -2,10 +2,10 @@
 use Rattle.std.specs.Prelude.{◌≡◌, ℕ, List, length, pos, IsOk, Ok, Option, Result, option_map}
 use Rattle.rules.specs.Parts.{pages}
 use Rattle.rules.specs.Output.{Border, border_within}
-use Rattle.made_sheets.specs.Choice.{RowFault, chosen, signed}
-use Rattle.made_sheets.specs.Made.{MadeSheet}
-use Rattle.made_sheets.specs.MadePlans.{made_plan_of}
-use Rattle.made_sheets.specs.Rows.{Row}
+use Rattle.rules.specs.Choice.{RowFault, chosen, signed}
+use Rattle.rules.specs.Made.{MadeSheet}
+use Rattle.rules.specs.MadePlans.{made_plan_of}
+use Rattle.rules.specs.Rows.{Row}
 use Rattle.rows.specs.Choices.{choice_of}
 use Rattle.rows.specs.Refusals.{RefusesRow}
 use Rattle.rows.specs.Sewing.{signing_of}

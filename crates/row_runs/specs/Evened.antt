@@ -1,7 +1,7 @@
 -- Layings with one scale for all pages of a row.
 use Rattle.std.specs.Prelude.{Bool, true, List, Option, None}
 use Rattle.rules.specs.Papers.{Paper}
-use Rattle.made_sheets.specs.Rows.{Row}
+use Rattle.rules.specs.Rows.{Row}
 use Rattle.layouts.specs.declared.error.ArrangementError.{ArrangementError}
 use Rattle.row_sheets.specs.Shapes.{filling}
 use Rattle.row_sheets.specs.SameScale.{at_one_scale, first_unscaled}

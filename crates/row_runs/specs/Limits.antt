@@ -2,8 +2,8 @@
 use Rattle.std.specs.Prelude.{ℕ, ◌*◌, ◌≤◌, ⊤, nat_lt, ◌&&◌, if◌then◌else◌, List, length, sum_by, Option, Some, None}
 use Rattle.rules.specs.Admissible.{most_slots}
 use Rattle.rules.specs.Run.{most_sheets, most_places}
-use Rattle.made_sheets.specs.Made.{MadeSheet}
-use Rattle.made_sheets.specs.MadePlans.{slot_count}
+use Rattle.rules.specs.Made.{MadeSheet}
+use Rattle.rules.specs.MadePlans.{slot_count}
 use Rattle.sheet_plan.specs.declared.error.MadeError.{MadeError}
 use Rattle.sheet_plan.specs.declared.error.MadeError.TheVariants as plan
 use Rattle.row_runs.specs.declared.asked.Laying.{Laying}

@@ -1,6 +1,6 @@
 -- What is shown of sheets before they are imposed.
 use Rattle.std.specs.Prelude.{◌≡◌, ℕ, if◌then◌else◌, List, []}
-use Rattle.made_sheets.specs.Made.{MadeSheet}
+use Rattle.rules.specs.Made.{MadeSheet}
 use Rattle.preview.specs.Listing.{plan_text}
 use Rattle.preview.specs.Drawing.{preview_text}
 use Rattle.preview.specs.declared.guides.Guide.{Guide}

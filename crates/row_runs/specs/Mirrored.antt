@@ -4,8 +4,8 @@ use Rattle.std.specs.Prelude.{◌≡◌, ⊤, ℕ, ◌+◌, ◌%◌, ◌==◌, �
 use Rattle.std.specs.Prelude.{slice_index_or}
 use Rattle.rules.specs.Papers.{Pt}
 use Rattle.rules.specs.Specification.{Item}
-use Rattle.made_sheets.specs.Made.{MadeSlot, Blank, Placed, MadeSheet}
-use Rattle.made_sheets.specs.Rows.{Row}
+use Rattle.rules.specs.Made.{MadeSlot, Blank, Placed, MadeSheet}
+use Rattle.rules.specs.Rows.{Row}
 use Rattle.layouts.specs.Placed.{Room}
 use Rattle.row_sheets.specs.Filled.{Filling, grid_sheets}
 use Rattle.row_sheets.specs.Standing.{AllStand, StandsIn}

@@ -3,9 +3,9 @@ use Rattle.std.specs.Prelude.{ℕ, ◌+◌, ◌*◌, nat_le, ℤ, pos, Bool, tru
 use Rattle.rules.specs.Papers.{Paper}
 use Rattle.rules.specs.Run.{most_sheets}
 use Rattle.rules.specs.Specification.{Upright}
-use Rattle.made_sheets.specs.Choice.{RowFault, signed}
-use Rattle.made_sheets.specs.Made.{MadeSheet}
-use Rattle.made_sheets.specs.Rows.{Row}
+use Rattle.rules.specs.Choice.{RowFault, signed}
+use Rattle.rules.specs.Made.{MadeSheet}
+use Rattle.rules.specs.Rows.{Row}
 use Rattle.layouts.specs.Cells.{high}
 use Rattle.layouts.specs.Placed.{Room}
 use Rattle.row_sheets.specs.RowSheets.{paper_of}

@@ -1,7 +1,7 @@
 -- Numbers of pages lie in their pages' cells.
 use Rattle.std.specs.Prelude.{⊤, ℕ, ◌<◌, ℤ, Bool, Option}
 use Rattle.rules.specs.Specification.{Turn}
-use Rattle.made_sheets.specs.Made.{MadeSlot, Blank, Placed}
+use Rattle.rules.specs.Made.{MadeSlot, Blank, Placed}
 use Rattle.layouts.specs.Cells.{column_of, row_of, size, turn_in}
 use Rattle.layouts.specs.Laws.{Cell, cell_at}
 use Rattle.row_sheets.specs.Creep.{AreHalves, creeping_slot}

@@ -6,7 +6,7 @@ use Rattle.rules.specs.Numbers.{greatest_number}
 use Rattle.rules.specs.Papers.{Paper}
 use Rattle.rules.specs.Run.{most_sheets}
 use Rattle.rules.specs.Specification.{Item, Measure, Turn}
-use Rattle.made_sheets.specs.Made.{MadeSlot, Blank, Placed, MadeSheet}
+use Rattle.rules.specs.Made.{MadeSlot, Blank, Placed, MadeSheet}
 use Rattle.layouts.specs.Placed.{Room}
 use Rattle.sheet_plan.specs.declared.error.MadeError.TheVariants as plan
 use Rattle.row_runs.specs.Turning.{turned_item}

@@ -2,8 +2,8 @@
 use Rattle.std.specs.Prelude.{◌≡◌, ℕ, Bool, true, false, ◌&&◌, List, length, map, Option, IsOk, Ok}
 use Rattle.rules.specs.Parts.{pages}
 use Rattle.rules.specs.Output.{Border, border_within}
-use Rattle.made_sheets.specs.Made.{MadeSheet}
-use Rattle.made_sheets.specs.MadePlans.{made_plan_of}
+use Rattle.rules.specs.Made.{MadeSheet}
+use Rattle.rules.specs.MadePlans.{made_plan_of}
 use Rattle.layouts.specs.Placed.{Room}
 use Rattle.pagespec.specs.Items.{turn_of}
 use Rattle.row_runs.specs.Turning.{turned_sheet}

@@ -3,9 +3,9 @@ use Rattle.std.specs.Prelude.{◌≡◌, ◌⊎◌, ⊤, ℕ, ◌*◌, ◌/◌, 
 use Rattle.std.specs.Option.{option_or}
 use Rattle.rules.specs.Papers.{Paper}
 use Rattle.rules.specs.Run.{most_pages}
-use Rattle.made_sheets.specs.Made.{MadeSheet}
-use Rattle.made_sheets.specs.Rows.{Row}
-use Rattle.made_sheets.specs.Choice.{RowFault, Signing, chosen, sides_for, signed}
+use Rattle.rules.specs.Made.{MadeSheet}
+use Rattle.rules.specs.Rows.{Row}
+use Rattle.rules.specs.Choice.{RowFault, Signing, chosen, sides_for, signed}
 use Rattle.layouts.specs.Cells.{size}
 use Rattle.layouts.specs.declared.error.ArrangementError.{ArrangementError}
 use Rattle.layouts.specs.declared.error.ArrangementError.TheVariants as why

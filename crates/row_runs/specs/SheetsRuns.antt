@@ -2,8 +2,8 @@
 use Rattle.std.specs.Prelude.{◌≡◌, ℕ, List, Option}
 use Rattle.rules.specs.Parts.{NestedUnit}
 use Rattle.rules.specs.Output.{Border}
-use Rattle.made_sheets.specs.Made.{MadeSheet}
-use Rattle.made_sheets.specs.MadeOutput.{made_output}
+use Rattle.rules.specs.Made.{MadeSheet}
+use Rattle.rules.specs.MadeOutput.{made_output}
 use Rattle.papers.specs.Told.{telling}
 use Rattle.dressing.specs.Numbered.{Drawn, drawn_on}
 use Rattle.sheet_text.specs.Dressings.{dress_in}

@@ -1,7 +1,7 @@
 -- How the pages of the sheets that are asked for lie.
 use Rattle.std.specs.Prelude.{◌≡◌, ⊤, List, [], ◌∷◌, All}
 use Rattle.rules.specs.Papers.{Paper}
-use Rattle.made_sheets.specs.Made.{MadeSlot, Blank, Placed, MadeSheet}
+use Rattle.rules.specs.Made.{MadeSlot, Blank, Placed, MadeSheet}
 use Rattle.layouts.specs.Placed.{bare}
 use Rattle.row_sheets.specs.RowSheets.{as_it_is}
 use Rattle.row_sheets.specs.Standing.{AllStand, LeavesStand, StandsIn}

@@ -3,9 +3,9 @@ use Rattle.std.specs.Prelude.{◌≡◌, ⊤, ℕ, ◌+◌, ◌<◌, ◌≤◌, 
 use Rattle.rules.specs.Papers.{Paper}
 use Rattle.rules.specs.Placement.{Point}
 use Rattle.rules.specs.Specification.{Item, Turn, Upright}
-use Rattle.made_sheets.specs.Choice.{sides_for, signed}
-use Rattle.made_sheets.specs.Made.{MadeSlot, Blank, Placed, MadeSheet}
-use Rattle.made_sheets.specs.Rows.{Row}
+use Rattle.rules.specs.Choice.{sides_for, signed}
+use Rattle.rules.specs.Made.{MadeSlot, Blank, Placed, MadeSheet}
+use Rattle.rules.specs.Rows.{Row}
 use Rattle.layouts.specs.declared.setting.Setting.{Setting}
 use Rattle.layouts.specs.Placed.{IsOfPage, Room, fine, stands}
 use Rattle.layouts.specs.Cells.{column_of, in_points, kept, row_of, whole}

@@ -1,6 +1,6 @@
 //! The sheets that are asked for.
 ghost use Rattle.std.specs.Prelude.{◌≡◌, ◌<◌, ◌≤◌, IfErr, IfOk, IfSome, OnOk, Ok, None, Some, length, option_map, ℕ};
-ghost use Rattle.made_sheets.specs.Choice.{most_entries};
+ghost use Rattle.rules.specs.Choice.{most_entries};
 ghost use Rattle.rows.specs.Sewing.{MayBeSewn, signing_of};
 ghost use Rattle.row_sheets.specs.Shapes.{filling};
 ghost use Rattle.row_runs.specs.Errors.{of_arrangement, of_poster, of_row};

@@ -1,6 +1,6 @@
 //! A look at the sheets that would be imposed.
 ghost use Rattle.std.specs.Prelude.{◌≡◌, IfErr, IfOk, OnOk, Ok};
-ghost use Rattle.made_sheets.specs.MadePlans.{made_plan_of};
+ghost use Rattle.rules.specs.MadePlans.{made_plan_of};
 ghost use Rattle.sheet_plan.specs.MadeRefusals.{RefusesMade};
 ghost use Rattle.preview.specs.Drawing.{preview_text as picture_of};
 ghost use Rattle.row_runs.specs.Sheets.{MayBeAsked};

@@ -1,6 +1,6 @@
 //! The numbers on sheets.
 ghost use Rattle.std.specs.Prelude.{◌≡◌, ◌≤◌, ◌<◌, ◌⊎◌, ℕ, IfErr, IfOk, Option, Some, false, length, map, slice_get};
-ghost use Rattle.made_sheets.specs.Choice.{most_entries};
+ghost use Rattle.rules.specs.Choice.{most_entries};
 ghost use Rattle.row_runs.specs.Numbers.{are_numbers_reached, below_middle as below_of, named, numbers_asked, paper_in as paper_of_entry, places_by};
 ghost use Rattle.row_runs.specs.Numbers.{places_from, sheet_paper as sheet_paper_of};
 ghost use Rattle.row_runs.specs.Sheets.{MayBeAsked, row_chosen};

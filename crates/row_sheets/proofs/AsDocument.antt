@@ -7,8 +7,8 @@ use Rattle.std.proofs.lemmas.Simd.{map-map}
 use Rattle.rules.specs.Papers.{Paper}
 use Rattle.rules.specs.Sheets.{blocks}
 use Rattle.rules.specs.Signatures.{entry_of, page_in_signature}
-use Rattle.made_sheets.specs.Made.{MadeSlot, Placed}
-use Rattle.made_sheets.specs.Rows.{Row, all_pages, in_order_of, in_signatures}
+use Rattle.rules.specs.Made.{MadeSlot, Placed}
+use Rattle.rules.specs.Rows.{Row, all_pages, in_order_of, in_signatures}
 use Rattle.layouts.specs.Cells.{size}
 use Rattle.layouts.specs.Fitted.{fitted, fitted_back, scale_on}
 use Rattle.layouts.specs.declared.setting.Setting.{Setting}

@@ -8,9 +8,9 @@ use Rattle.rules.specs.Sheets.{blocks, sheets}
 use Rattle.rules.specs.Signatures.{entry_of, page_in_signature, sheets_in}
 use Rattle.rules.specs.Specification.{Spec}
 use Rattle.rules.proofs.OneFault.{one_answer}
-use Rattle.made_sheets.specs.Made.{Placed}
-use Rattle.made_sheets.specs.Rows.{Row, all_pages, in_signatures}
-use Rattle.made_sheets.proofs.Rows.{sheets_of_all}
+use Rattle.rules.specs.Made.{Placed}
+use Rattle.rules.specs.Rows.{Row, all_pages, in_signatures}
+use Rattle.rules.proofs.Rows.{sheets_of_all}
 use Rattle.layouts.specs.Fitted.{binding_setting_of, fitted, setting_of}
 use Rattle.layouts.specs.Grids.{arranged, bound, count_of}
 use Rattle.layouts.specs.declared.setting.Setting.{Setting}

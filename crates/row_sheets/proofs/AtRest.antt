@@ -7,8 +7,8 @@ use Rattle.std.proofs.Math.IntN.{+ℤ_idr}
 use Rattle.rules.specs.Papers.{Paper, Pt}
 use Rattle.rules.specs.Signatures.{entry_of}
 use Rattle.rules.specs.Specification.{Item}
-use Rattle.made_sheets.specs.Made.{Placed}
-use Rattle.made_sheets.specs.Rows.{Row}
+use Rattle.rules.specs.Made.{Placed}
+use Rattle.rules.specs.Rows.{Row}
 use Rattle.layouts.specs.declared.error.ArrangementError.{ArrangementError}
 use Rattle.layouts.specs.declared.error.ArrangementError.TheVariants as why
 use Rattle.layouts.specs.declared.setting.Setting.{Setting}

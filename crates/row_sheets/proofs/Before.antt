@@ -6,8 +6,8 @@ use Rattle.std.proofs.lemmas.Simd.{map-map}
 use Rattle.std.proofs.lemmas.Option.{get_or_from_slice_get}
 use Rattle.std.proofs.lemmas.List.FromFn.{get_or-map-range_with_len, length-map-range_with_len}
 use Rattle.rules.specs.Papers.{Paper}
-use Rattle.made_sheets.specs.Made.{MadeSlot, MadeSheet}
-use Rattle.made_sheets.specs.Rows.{Row}
+use Rattle.rules.specs.Made.{MadeSlot, MadeSheet}
+use Rattle.rules.specs.Rows.{Row}
 use Rattle.sheet_plan.specs.OfSheets.{placed_of, slots_at}
 use Rattle.sheet_plan.specs.declared.made.PlacedSlot.{PlacedSlot}
 use Rattle.row_sheets.specs.Filled.{Filling, filled, grid_entry, is_turned, slot_in}

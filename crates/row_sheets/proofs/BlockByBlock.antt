@@ -14,9 +14,9 @@ use Rattle.rules.specs.Specification.{AreGroups, IsItem, IsJoined, IsSpec, Item,
 use Rattle.rules.specs.Sheets.{Slot, blocks}
 use Rattle.rules.specs.Signatures.{entry_of}
 use Rattle.rules.proofs.Counts.{sheet_count, place_count}
-use Rattle.made_sheets.specs.Made.{MadeSheet, made_slot}
-use Rattle.made_sheets.specs.MadePlans.{slot_count}
-use Rattle.made_sheets.specs.Rows.{Row, sheets_of_row}
+use Rattle.rules.specs.Made.{MadeSheet, made_slot}
+use Rattle.rules.specs.MadePlans.{slot_count}
+use Rattle.rules.specs.Rows.{Row, sheets_of_row}
 use Rattle.pagespec.specs.declared.item.Item.{Item as PageItem}
 use Rattle.pagespec.specs.Items.{groups_of, item_of}
 use Rattle.sheet_plan.proofs.Access.{few_in_block}

@@ -3,11 +3,11 @@ use Rattle.std.proofs.Common.{◌≡◌, refl}
 use Rattle.std.specs.Prelude.{ℕ, ◌+◌, ◌*◌, ℤ, pos, false, map, [], ◌∷◌, Option, Some, None}
 use Rattle.std.specs.List.{range_with_len}
 use Rattle.layouts.specs.declared.arrangement.Run.TheVariants.{Rows, Columns}
-use Rattle.made_sheets.specs.Rows.{all_pages}
+use Rattle.rules.specs.Rows.{all_pages}
 use Rattle.layouts.specs.Grids.{leaf_order}
 use Rattle.layouts.specs.Placed.{bare}
 use Rattle.layouts.specs.declared.setting.Setting.{Setting}
-use Rattle.made_sheets.specs.Made.{MadeSlot, Blank, Placed}
+use Rattle.rules.specs.Made.{MadeSlot, Blank, Placed}
 use Rattle.row_sheets.specs.Filled.{Filling, stack_entry, duplex_entry, cell_behind, card_entry, zine_place, zine_slot}
 use Rattle.row_sheets.specs.Zine.{in_hand, zine_grid}
 use Rattle.row_sheets.specs.Creep.{creep_of}

@@ -5,7 +5,7 @@ use Rattle.std.specs.List.{range_with_len}
 use Rattle.std.proofs.Math.Nat.{eq-or-lt_of_le}
 use Rattle.std.proofs.lemmas.List.FromFn.{map-range_with_len_more}
 use Rattle.rules.specs.Papers.{Paper}
-use Rattle.made_sheets.specs.Made.{MadeSlot, MadeSheet}
+use Rattle.rules.specs.Made.{MadeSlot, MadeSheet}
 
 -- one more sheet
 abbrev pub sheet : (paper : Paper) → (slots : List MadeSlot) → MadeSheet

@@ -5,11 +5,11 @@ use Rattle.std.specs.List.{range_with_len}
 use Rattle.std.proofs.lemmas.List.FromFn.{fill_by_all}
 use Rattle.rules.specs.Sheets.{blocks}
 use Rattle.rules.specs.Signatures.{entry_of}
-use Rattle.made_sheets.specs.Leaves.{Face, face_of, faces, read_signature}
-use Rattle.made_sheets.specs.Made.{MadeSlot, MadeSheet}
-use Rattle.made_sheets.specs.Rows.{Row, all_pages, in_signatures}
-use Rattle.made_sheets.proofs.Faces.{faces_len, left_of, right_of}
-use Rattle.made_sheets.proofs.Folded.{row_is_read}
+use Rattle.rules.specs.Leaves.{Face, face_of, faces, read_signature}
+use Rattle.rules.specs.Made.{MadeSlot, MadeSheet}
+use Rattle.rules.specs.Rows.{Row, all_pages, in_signatures}
+use Rattle.rules.proofs.Faces.{faces_len, left_of, right_of}
+use Rattle.rules.proofs.Folded.{row_is_read}
 use Rattle.row_sheets.specs.Filled.{Filling, grid_entry, is_turned}
 use Rattle.row_sheets.specs.Creep.{creep_on, creeping_slot, creeping_sheets}
 use Rattle.row_sheets.specs.Bound.{BookletIsRead, as_bound, face, face_in, faces_from, faces_on, is_first_left, shown_in}

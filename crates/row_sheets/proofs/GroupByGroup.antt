@@ -9,8 +9,8 @@ use Rattle.rules.specs.Papers.{Paper}
 use Rattle.rules.specs.Specification.{Item, Spec}
 use Rattle.rules.specs.Sheets.{Slot, blocks, place}
 use Rattle.rules.specs.Signatures.{entry_of}
-use Rattle.made_sheets.specs.Made.{MadeSheet, MadeSlot, made_slot}
-use Rattle.made_sheets.specs.Rows.{Row, sheets_of_row}
+use Rattle.rules.specs.Made.{MadeSheet, MadeSlot, made_slot}
+use Rattle.rules.specs.Rows.{Row, sheets_of_row}
 use Rattle.row_sheets.specs.BySpec.{made_on, sheet_by}
 
 pub map_flat : {X Y : Type 0} (h : X → Y) (f : ℕ → List X) (bs : List ℕ) → map h (flat_map f bs) ≡ flat_map (λ b. map h (f b)) bs

@@ -17,7 +17,7 @@ use Rattle.layouts.proofs.Fitting.{fitted_stands, in_cell, one_of_many, scale_of
 use Rattle.layouts.proofs.Folds.{kept_little}
 use Rattle.layouts.proofs.InGrid.{fits}
 use Rattle.rules.specs.Sheets.{blocks}
-use Rattle.made_sheets.specs.Made.{MadeSheet, MadeSlot}
+use Rattle.rules.specs.Made.{MadeSheet, MadeSlot}
 use Rattle.row_sheets.specs.Creep.{AreHalves, creep_on, creeping, creeping_slot, moved_up, to_fold}
 use Rattle.row_sheets.specs.Filled.{Filling, grid_entry, is_turned}
 use Rattle.row_sheets.specs.Halves.{BookletLiesInHalves, CellIsOn, LiesInHalf, SlotLiesInHalf, creeping_half, half_of, moved_cell, turned_cell}

@@ -3,7 +3,7 @@ use Rattle.std.proofs.Common.{◌≡◌, ℕ, ◌-◌, ◌*◌, Bool, true, fals
 use Rattle.std.specs.Prelude.{if◌then◌else◌, nat_abs}
 use Rattle.rules.specs.Papers.{Paper}
 use Rattle.rules.specs.Specification.{Item}
-use Rattle.made_sheets.specs.Made.{MadeSlot, Blank, Placed}
+use Rattle.rules.specs.Made.{MadeSlot, Blank, Placed}
 use Rattle.layouts.specs.Cells.{whole}
 use Rattle.layouts.specs.Fitted.{why_not_fitted, HaveOneFold}
 use Rattle.layouts.specs.Laws.{IsPaper, LiesBefore, LiesBehind}

@@ -6,7 +6,7 @@ use Rattle.rules.specs.Papers.{Paper}
 use Rattle.rules.specs.Placement.{Point}
 use Rattle.rules.specs.Sheets.{blocks}
 use Rattle.rules.specs.Specification.{Item}
-use Rattle.made_sheets.specs.Made.{Blank, MadeSheet, MadeSlot, Placed}
+use Rattle.rules.specs.Made.{Blank, MadeSheet, MadeSlot, Placed}
 use Rattle.layouts.specs.declared.setting.Setting.{Setting}
 use Rattle.layouts.specs.Placed.{ComesFirst, IsEven, IsOfPage, Room, fine, stands, up}
 use Rattle.layouts.specs.Cells.{along_height, item_in, back_in, whole}

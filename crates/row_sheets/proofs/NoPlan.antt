@@ -10,9 +10,9 @@ use Rattle.rules.specs.Admissible.{IsAdmissible, most_slots}
 use Rattle.rules.specs.Papers.{Paper}
 use Rattle.rules.specs.Sheets.{blocks}
 use Rattle.rules.specs.Specification.{Item, Spec}
-use Rattle.made_sheets.specs.Made.{MadeSheet}
-use Rattle.made_sheets.specs.MadePlans.{MadeTooManyPlaces, MadeTooManySheets, is_slot_count, made_plan_of, slot_count}
-use Rattle.made_sheets.specs.Rows.{Row}
+use Rattle.rules.specs.Made.{MadeSheet}
+use Rattle.rules.specs.MadePlans.{MadeTooManyPlaces, MadeTooManySheets, is_slot_count, made_plan_of, slot_count}
+use Rattle.rules.specs.Rows.{Row}
 use Rattle.sheet_plan.proofs.Accepted.{looked_none, too_many_places, too_many_sheets, uneven}
 use Rattle.sheet_plan.proofs.Admitted.{bounded, filled}
 use Rattle.row_sheets.specs.BySpec.{by_spec, sheet_by, slot_by}

@@ -4,7 +4,7 @@ use Rattle.std.specs.Prelude.{pos, nat_le, ◌&&◌, if◌then◌else◌, option
 use Rattle.std.specs.List.{fold}
 use Rattle.std.proofs.lemmas.Option.{none-some, same_Some}
 use Rattle.rules.specs.Signatures.{entry_of}
-use Rattle.made_sheets.specs.Rows.{Row}
+use Rattle.rules.specs.Rows.{Row}
 use Rattle.layouts.specs.declared.error.ArrangementError.{ArrangementError}
 use Rattle.layouts.specs.declared.error.ArrangementError.TheVariants as why
 use Rattle.layouts.specs.Cells.{scale_in}

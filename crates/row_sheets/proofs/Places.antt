@@ -7,8 +7,8 @@ use Rattle.std.proofs.lemmas.List.{get_or_past}
 use Rattle.std.proofs.lemmas.Nat.{div-add-mod'}
 use Rattle.rules.specs.Sheets.{blocks}
 use Rattle.rules.specs.Signatures.{entry_of}
-use Rattle.made_sheets.specs.Rows.{Row}
-use Rattle.made_sheets.proofs.Auto.{blocks_cover}
+use Rattle.rules.specs.Rows.{Row}
+use Rattle.rules.proofs.Auto.{blocks_cover}
 use Rattle.layouts.specs.Cells.{size}
 use Rattle.layouts.specs.declared.setting.Setting.{Setting}
 use Rattle.row_sheets.specs.Filled.{Filling, behind_in, grid_entry, zine_place}

@@ -11,11 +11,11 @@ use Rattle.rules.specs.Sheets.{blocks}
 use Rattle.rules.specs.Signatures.{entry_of, sheets_in}
 use Rattle.rules.specs.Specification.{Spec}
 use Rattle.rules.proofs.Signatures.{whole_signatures}
-use Rattle.made_sheets.specs.Made.{Blank, MadeSheet, MadeSlot, Placed, made_slot}
-use Rattle.made_sheets.specs.Dress.{lines_text}
-use Rattle.made_sheets.specs.MadeOutput.{made_slot_text}
-use Rattle.made_sheets.specs.Rows.{Row, all_pages, in_signatures}
-use Rattle.made_sheets.proofs.Rows.{sheets_of_all, signatures_of_all}
+use Rattle.rules.specs.Made.{Blank, MadeSheet, MadeSlot, Placed, made_slot}
+use Rattle.rules.specs.Dress.{lines_text}
+use Rattle.rules.specs.MadeOutput.{made_slot_text}
+use Rattle.rules.specs.Rows.{Row, all_pages, in_signatures}
+use Rattle.rules.proofs.Rows.{sheets_of_all, signatures_of_all}
 use Rattle.layouts.specs.Fitted.{back_of, binding_setting_of, fitted, fitted_back, halves, is_whole}
 use Rattle.layouts.specs.Grids.{bound}
 use Rattle.layouts.specs.declared.setting.Setting.{Setting}

@@ -7,7 +7,7 @@ use Rattle.std.proofs.lemmas.Nat.{div-mul-add}
 use Rattle.std.proofs.lemmas.Option.{none-some}
 use Rattle.rules.specs.Papers.{Paper}
 use Rattle.rules.specs.Signatures.{entry_of}
-use Rattle.made_sheets.specs.Rows.{Row}
+use Rattle.rules.specs.Rows.{Row}
 use Rattle.layouts.specs.declared.error.ArrangementError.{ArrangementError}
 use Rattle.row_sheets.specs.Filled.{Filling, grid_entry}
 use Rattle.row_sheets.specs.FirstFault.{first_fault}

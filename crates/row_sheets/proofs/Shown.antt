@@ -8,8 +8,8 @@ use Rattle.std.proofs.lemmas.List.FromFn.{get_or-map-range_with_len, length-map-
 use Rattle.std.proofs.lemmas.Option.{slice_get-get_or}
 use Rattle.rules.specs.Papers.{Paper}
 use Rattle.rules.specs.Signatures.{entry_of}
-use Rattle.made_sheets.specs.Made.{MadeSheet, Blank, Placed}
-use Rattle.made_sheets.specs.Rows.{Row}
+use Rattle.rules.specs.Made.{MadeSheet, Blank, Placed}
+use Rattle.rules.specs.Rows.{Row}
 use Rattle.layouts.proofs.InGrid.{some_each}
 use Rattle.row_sheets.specs.declared.poster.Poster.{Poster}
 use Rattle.layouts.specs.Placed.{stands}

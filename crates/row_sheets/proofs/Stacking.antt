@@ -5,8 +5,8 @@ use Rattle.std.specs.List.{range_with_len}
 use Rattle.std.proofs.lemmas.Simd.{map-map}
 use Rattle.std.proofs.lemmas.List.FromFn.{get_or-map-range_with_len}
 use Rattle.rules.specs.Sheets.{blocks}
-use Rattle.made_sheets.specs.Made.{MadeSheet, Blank}
-use Rattle.made_sheets.specs.Rows.{Row}
+use Rattle.rules.specs.Made.{MadeSheet, Blank}
+use Rattle.rules.specs.Rows.{Row}
 use Rattle.layouts.specs.Cells.{size}
 use Rattle.layouts.specs.declared.setting.Setting.{Setting}
 use Rattle.row_sheets.specs.Filled.{Filling, behind_in, card_entry, duplex_entry, duplex_sheets, grid_entry, is_turned, slot_on, stack_entry, stack_sheets}

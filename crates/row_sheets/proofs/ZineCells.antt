@@ -9,7 +9,7 @@ use Rattle.rules.specs.Papers.{Paper}
 use Rattle.rules.specs.Placement.{Point}
 use Rattle.rules.specs.Specification.{Item}
 use Rattle.rules.specs.Sheets.{blocks}
-use Rattle.made_sheets.specs.Made.{MadeSheet, MadeSlot}
+use Rattle.rules.specs.Made.{MadeSheet, MadeSlot}
 use Rattle.layouts.specs.declared.arrangement.Order.{Order}
 use Rattle.layouts.specs.declared.setting.Setting.{Setting}
 use Rattle.layouts.specs.Placed.{IsEven, Room, fine, stands}

@@ -2,8 +2,8 @@
 use Rattle.std.specs.Prelude.{◌≡◌, ℕ, ◌<◌, Bool, List, length, map, Option, Some, slice_index_or}
 use Rattle.std.specs.List.{AllByRecursion}
 use Rattle.rules.specs.Papers.{Paper}
-use Rattle.made_sheets.specs.Made.{MadeSlot, Blank, Placed, MadeSheet}
-use Rattle.made_sheets.specs.Rows.{Row, all_pages, in_order_of}
+use Rattle.rules.specs.Made.{MadeSlot, Blank, Placed, MadeSheet}
+use Rattle.rules.specs.Rows.{Row, all_pages, in_order_of}
 use Rattle.layouts.specs.declared.setting.Setting.{Setting}
 use Rattle.row_sheets.specs.Creep.{creeping_sheets}
 use Rattle.row_sheets.specs.Filled.{card_sheets, duplex_sheets, grid_sheets, stack_sheets}

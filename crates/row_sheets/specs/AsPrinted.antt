@@ -7,10 +7,10 @@ use Rattle.rules.specs.Papers.{Paper}
 use Rattle.rules.specs.Sheets.{sheets}
 use Rattle.rules.specs.Signatures.{sheets_in}
 use Rattle.rules.specs.Specification.{Spec}
-use Rattle.made_sheets.specs.Made.{Blank, MadeSheet, MadeSlot, Placed}
-use Rattle.made_sheets.specs.Dress.{Dress}
-use Rattle.made_sheets.specs.MadeOutput.{made_sheet_text}
-use Rattle.made_sheets.specs.Rows.{all_pages, in_signatures}
+use Rattle.rules.specs.Made.{Blank, MadeSheet, MadeSlot, Placed}
+use Rattle.rules.specs.Dress.{Dress}
+use Rattle.rules.specs.MadeOutput.{made_sheet_text}
+use Rattle.rules.specs.Rows.{all_pages, in_signatures}
 use Rattle.layouts.specs.declared.arrangement.Arrangement.{Arrangement}
 use Rattle.layouts.specs.declared.arrangement.Binding.{Binding}
 use Rattle.layouts.specs.Fitted.{setting_of, binding_setting_of}

@@ -3,9 +3,9 @@ use Rattle.std.specs.Prelude.{◌≡◌, ℕ, ◌+◌, ◌*◌, Bool, not, if◌
 use Rattle.std.specs.List.{range_with_len}
 use Rattle.rules.specs.Sheets.{blocks}
 use Rattle.rules.specs.Signatures.{entry_of}
-use Rattle.made_sheets.specs.Leaves.{Face, read_signature}
-use Rattle.made_sheets.specs.Made.{MadeSlot, Blank, Placed, MadeSheet}
-use Rattle.made_sheets.specs.Rows.{Row, in_signatures}
+use Rattle.rules.specs.Leaves.{Face, read_signature}
+use Rattle.rules.specs.Made.{MadeSlot, Blank, Placed, MadeSheet}
+use Rattle.rules.specs.Rows.{Row, in_signatures}
 use Rattle.row_sheets.specs.Filled.{Filling, is_turned}
 use Rattle.row_sheets.specs.Creep.{creeping_sheets}
 use Rattle.row_sheets.specs.Standing.{is_first_before}

@@ -5,9 +5,9 @@ use Rattle.rules.specs.Run.{most_pages, most_sheets, most_places}
 use Rattle.rules.specs.Specification.{Item, Spec}
 use Rattle.rules.specs.Sheets.{Slot, place}
 use Rattle.rules.specs.Signatures.{entry_of, sheets_in}
-use Rattle.made_sheets.specs.Made.{MadeSlot, MadeSheet, made_slot, made_of}
-use Rattle.made_sheets.specs.MadePlans.{slot_count}
-use Rattle.made_sheets.specs.Rows.{Row, all_pages, in_order_of, sheets_of_row}
+use Rattle.rules.specs.Made.{MadeSlot, MadeSheet, made_slot, made_of}
+use Rattle.rules.specs.MadePlans.{slot_count}
+use Rattle.rules.specs.Rows.{Row, all_pages, in_order_of, sheets_of_row}
 use Rattle.sheet_plan.specs.MadeRefusals.{RefusesMade}
 use Rattle.sheet_plan.specs.declared.error.MadeError.{MadeError}
 use Rattle.sheet_plan.specs.declared.error.MadeError.TheVariants as error

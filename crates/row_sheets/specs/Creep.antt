@@ -9,8 +9,8 @@ use Rattle.rules.specs.Specification.{Item}
 use Rattle.rules.specs.Placement.{Point}
 use Rattle.rules.specs.Sheets.{blocks}
 use Rattle.rules.specs.Signatures.{entry_of}
-use Rattle.made_sheets.specs.Made.{MadeSlot, Blank, Placed, MadeSheet}
-use Rattle.made_sheets.specs.Rows.{Row}
+use Rattle.rules.specs.Made.{MadeSlot, Blank, Placed, MadeSheet}
+use Rattle.rules.specs.Rows.{Row}
 use Rattle.layouts.specs.declared.error.ArrangementError.{ArrangementError}
 use Rattle.layouts.specs.declared.error.ArrangementError.TheVariants as why
 use Rattle.layouts.specs.declared.setting.Setting.{Setting}

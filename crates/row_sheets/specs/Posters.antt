@@ -10,8 +10,8 @@ use Rattle.layouts.specs.Cells.{fitting, slack, in_points, whole}
 use Rattle.layouts.specs.Refusals.{are_reached, is_scale, most_on_sheet}
 use Rattle.layouts.specs.Laws.{Cell, IsInMiddle, IsPaper}
 use Rattle.rules.specs.Signatures.{entry_of}
-use Rattle.made_sheets.specs.Made.{MadeSheet, Blank, Placed}
-use Rattle.made_sheets.specs.Rows.{Row}
+use Rattle.rules.specs.Made.{MadeSheet, Blank, Placed}
+use Rattle.rules.specs.Rows.{Row}
 use Rattle.row_sheets.specs.FirstFault.{first_fault}
 use Rattle.row_sheets.specs.declared.poster.Poster.{Poster}
 use Rattle.row_sheets.specs.declared.poster.Laid.{Laid}

@@ -2,8 +2,8 @@
 use Rattle.std.specs.Prelude.{ℕ, pos, false, List, [], ◌∷◌, map, Option, Some, None, slice_index_or}
 use Rattle.rules.specs.Papers.{Paper}
 use Rattle.rules.specs.Specification.{Item, Upright, zero_points}
-use Rattle.made_sheets.specs.Made.{Blank, Placed, MadeSheet}
-use Rattle.made_sheets.specs.Rows.{Row}
+use Rattle.rules.specs.Made.{Blank, Placed, MadeSheet}
+use Rattle.rules.specs.Rows.{Row}
 
 -- the paper of a page, and another one if the page isn't there
 abbrev pub paper_of : (papers : List Paper) → (other : Paper) → (page : ℕ) → Paper

@@ -3,7 +3,7 @@ use Rattle.std.specs.Prelude.{◌≡◌, ℕ, ◌<◌, ◌≤◌, ℤ, pos, int_
 use Rattle.std.specs.List.{fold}
 use Rattle.rules.specs.Papers.{Paper}
 use Rattle.rules.specs.Signatures.{entry_of}
-use Rattle.made_sheets.specs.Rows.{Row}
+use Rattle.rules.specs.Rows.{Row}
 use Rattle.layouts.specs.declared.error.ArrangementError.{ArrangementError}
 use Rattle.layouts.specs.declared.setting.Setting.{Setting}
 use Rattle.layouts.specs.Cells.{size}

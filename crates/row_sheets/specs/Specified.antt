@@ -2,7 +2,7 @@
 -- specification: the one that `--print-spec` prints.
 use Rattle.std.specs.Prelude.{◌≡◌, false, None}
 use Rattle.rules.specs.Papers.{Paper}
-use Rattle.made_sheets.specs.Rows.{Row}
+use Rattle.rules.specs.Rows.{Row}
 use Rattle.layouts.specs.declared.arrangement.Arrangement.{Arrangement}
 use Rattle.layouts.specs.declared.arrangement.Binding.{Binding}
 use Rattle.layouts.specs.declared.setting.Setting.{Setting}

@@ -4,8 +4,8 @@ use Rattle.std.specs.Prelude.{◌≡◌, ⊤, ℕ, ◌-◌, ◌*◌, ◌+◌, �
 use Rattle.std.specs.Prelude.{All, AllPairs, Option, Some, None, slice_index_or}
 use Rattle.rules.specs.Papers.{Paper}
 use Rattle.rules.specs.Signatures.{entry_of}
-use Rattle.made_sheets.specs.Made.{MadeSlot, Blank, Placed, MadeSheet}
-use Rattle.made_sheets.specs.Rows.{Row}
+use Rattle.rules.specs.Made.{MadeSlot, Blank, Placed, MadeSheet}
+use Rattle.rules.specs.Rows.{Row}
 use Rattle.layouts.specs.declared.setting.Setting.{Setting}
 use Rattle.layouts.specs.Placed.{Room}
 use Rattle.layouts.specs.Cells.{size, whole, run_in}

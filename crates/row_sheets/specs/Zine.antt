@@ -5,8 +5,8 @@ use Rattle.rules.specs.Papers.{Paper}
 use Rattle.rules.specs.Sheets.{blocks}
 use Rattle.rules.specs.Signatures.{entry_of}
 use Rattle.rules.specs.Specification.{Item, Turn}
-use Rattle.made_sheets.specs.Made.{MadeSlot, Blank, Placed, MadeSheet}
-use Rattle.made_sheets.specs.Rows.{Row}
+use Rattle.rules.specs.Made.{MadeSlot, Blank, Placed, MadeSheet}
+use Rattle.rules.specs.Rows.{Row}
 use Rattle.layouts.specs.Placed.{IsEven, Room}
 use Rattle.layouts.specs.Cells.{Grid, column_of, half_turned, row_of, turn_in}
 use Rattle.layouts.specs.Fitted.{IsFitted, fitted}

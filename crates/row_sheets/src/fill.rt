@@ -4,7 +4,7 @@ ghost use Rattle.std.specs.List.{range_with_len};
 ghost use Rattle.rules.specs.Sheets.{blocks};
 ghost use Rattle.layouts.specs.Cells.{size};
 ghost use Rattle.layouts.specs.declared.error.ArrangementError.TheVariants as why;
-ghost use Rattle.made_sheets.specs.Made.{Placed};
+ghost use Rattle.rules.specs.Made.{Placed};
 ghost use Rattle.pagespec.specs.Items.{item_of};
 ghost use Rattle.sheet_plan.specs.OfSheets.{placed_of, slot_of, slots_at};
 ghost use Rattle.row_sheets.specs.Filled.{behind_in, slot_in as slot_of_cell, back_slot_in as back_slot_of_cell};

@@ -6,8 +6,8 @@ use Rattle.std.proofs.lemmas.Grind.{div_ceil_times}
 use Rattle.std.proofs.lemmas.List.{length-reverse}
 use Rattle.std.proofs.lemmas.Nat.{div-mul-add}
 use Rattle.rules.specs.Signatures.{entry_of}
-use Rattle.made_sheets.specs.Choice.{Part, All, Odd, Even, part_of, reversed_if}
-use Rattle.made_sheets.specs.Rows.{Row, odd_part, even_part}
+use Rattle.rules.specs.Choice.{Part, All, Odd, Even, part_of, reversed_if}
+use Rattle.rules.specs.Rows.{Row, odd_part, even_part}
 
 odd_cons : (x : Option ℕ) (rest : Row) → odd_part (x ∷ rest) ≡ x ∷ odd_part (drop 1 rest)
 odd_cons x [] = refl

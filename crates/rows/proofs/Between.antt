@@ -5,8 +5,8 @@ use Rattle.std.specs.List.{range_with_len}
 use Rattle.std.proofs.lemmas.Bool.Decides.{nat_tests}
 use Rattle.std.proofs.lemmas.List.{length-map}
 use Rattle.std.proofs.lemmas.List.FromFn.{length-map-range_with_len, map-range_with_len_more}
-use Rattle.made_sheets.specs.Rows.{Row}
-use Rattle.made_sheets.specs.Ranges.{from_to}
+use Rattle.rules.specs.Rows.{Row}
+use Rattle.rules.specs.Ranges.{from_to}
 use Rattle.rows.specs.Found.{pages_from_to}
 
 pub pages_up : (f l : ℕ) → f ≤ l → length (pages_from_to f l) ≡ l - f + 1

@@ -1,8 +1,8 @@
 -- Worked examples: which entries stay, how leaves are sewn, and what refusals report.
 use Rattle.std.proofs.Common.{◌≡◌, ℕ, [], ◌∷◌, refl}
 use Rattle.std.specs.Prelude.{Some, Err}
-use Rattle.made_sheets.specs.Rows.{all_pages}
-use Rattle.made_sheets.specs.Choice.{part_of, sides_for, NotInDocument, NoEntries}
+use Rattle.rules.specs.Rows.{all_pages}
+use Rattle.rules.specs.Choice.{part_of, sides_for, NotInDocument, NoEntries}
 use Rattle.rows.specs.declared.choices.Part.TheVariants as part
 use Rattle.rows.specs.declared.sewing.Signing.TheVariants as sewn
 use Rattle.rows.specs.declared.error.RowError.TheVariants as error

@@ -7,7 +7,7 @@ use Rattle.std.proofs.lemmas.Nat.{div-mul-add}
 use Rattle.std.proofs.lemmas.List.{flat_map_more}
 use Rattle.rules.specs.Sheets.{blocks}
 use Rattle.rules.specs.Signatures.{entry_of, page_in_signature}
-use Rattle.made_sheets.specs.Rows.{Row}
+use Rattle.rules.specs.Rows.{Row}
 
 -- a number that is divided and rounded up
 pub ceil : (n m : ℕ) → 0 < m → n / m + min 1 (n % m) ≡ blocks m n

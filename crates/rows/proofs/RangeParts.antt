@@ -3,7 +3,7 @@ use Rattle.std.proofs.Common.{ℕ, ◌<◌, ◌≡◌, ◌∙◌, Option, Some, 
 use Rattle.std.specs.Prelude.{if◌then◌else◌, option_map, option_and_then}
 use Rattle.std.specs.List.{slice_split}
 use Rattle.std.proofs.lemmas.List.Splits.{length-slice_split}
-use Rattle.made_sheets.specs.Ranges.{Place, BlankPage, FromTo, is_blank_page, range_at, range_of, place_at, last_place_at}
+use Rattle.rules.specs.Ranges.{Place, BlankPage, FromTo, is_blank_page, range_at, range_of, place_at, last_place_at}
 use Rattle.rows.specs.Found.{found_in, number_found, range_found}
 
 abbrev parts : List ℕ → List (List ℕ)

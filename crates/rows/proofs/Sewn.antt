@@ -5,10 +5,10 @@ use Rattle.std.specs.List.{range_with_len}
 use Rattle.std.proofs.lemmas.Nat.{div-add-mod'}
 use Rattle.rules.specs.Sheets.{blocks}
 use Rattle.rules.specs.Signatures.{entry_of}
-use Rattle.made_sheets.specs.Rows.{Row, in_signatures}
-use Rattle.made_sheets.specs.Choice.{sides_for}
-use Rattle.made_sheets.specs.Leaves.{faces, read_signature}
-use Rattle.made_sheets.proofs.Folded.{row_is_read}
+use Rattle.rules.specs.Rows.{Row, in_signatures}
+use Rattle.rules.specs.Choice.{sides_for}
+use Rattle.rules.specs.Leaves.{faces, read_signature}
+use Rattle.rules.proofs.Folded.{row_is_read}
 use Rattle.rows.specs.Sewing.{SignedIsRead}
 
 abbrev IsReadBy : Row → (sides leaves : ℕ) → Type 0

@@ -5,9 +5,9 @@ use Rattle.std.proofs.lemmas.Bool.Decides.{nat_tests}
 use Rattle.std.proofs.lemmas.List.{length-append}
 use Rattle.std.proofs.lemmas.List.Concat.{flat_map-cons}
 use Rattle.rules.specs.Units.{◌>>=◌}
-use Rattle.made_sheets.specs.Rows.{Row}
-use Rattle.made_sheets.specs.Ranges.{Place, FromStart, FromEnd, Range, BlankPage, FromTo, has_place, has_range, number_in, entries_of, range_at, row_named}
-use Rattle.made_sheets.specs.Choice.{RowFault, NotARange, NotInDocument, TooManyEntries, Standing, or_fault, standing_from, first_missing, first_over, ranges_from, refused_at, row_standing}
+use Rattle.rules.specs.Rows.{Row}
+use Rattle.rules.specs.Ranges.{Place, FromStart, FromEnd, Range, BlankPage, FromTo, has_place, has_range, number_in, entries_of, range_at, row_named}
+use Rattle.rules.specs.Choice.{RowFault, NotARange, NotInDocument, TooManyEntries, Standing, or_fault, standing_from, first_missing, first_over, ranges_from, refused_at, row_standing}
 use Rattle.rows.specs.declared.tallies.Tally.{Tally}
 use Rattle.rows.specs.Found.{found_in, number_found, is_missing, entries_found, entries_if, pages_from_to, piece_found}
 use Rattle.rows.specs.Tallies.{tally_of, no_tally, counted, tally_piece, tally_from}

@@ -6,9 +6,9 @@ use Rattle.std.proofs.lemmas.List.{length-append}
 use Rattle.rules.specs.Units.{◌>>=◌}
 use Rattle.rows.specs.declared.found_ranges.Found.{Found}
 use Rattle.rows.specs.declared.tallies.Tally.{Tally}
-use Rattle.made_sheets.specs.Rows.{Row}
+use Rattle.rules.specs.Rows.{Row}
 use Rattle.rows.specs.Found.{parts_left, piece_found, entries_if, found_in}
-use Rattle.made_sheets.specs.Ranges.{Range, range_at}
+use Rattle.rules.specs.Ranges.{Range, range_at}
 use Rattle.rows.specs.Tallies.{tally_from, tally_piece, counted}
 
 abbrev pub bytes_left : Option (Bor (List ℕ)) → ℕ

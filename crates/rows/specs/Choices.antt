@@ -1,8 +1,8 @@
 -- The row that is chosen, in terms of the code.
 use Rattle.std.specs.Prelude.{ℕ, List, Option, Some, None}
 use Rattle.std.specs.Borrow.{Bor}
-use Rattle.made_sheets.specs.Rows.{Row, all_pages}
-use Rattle.made_sheets.specs.Choice.{Choice, Part, All, Odd, Even}
+use Rattle.rules.specs.Rows.{Row, all_pages}
+use Rattle.rules.specs.Choice.{Choice, Part, All, Odd, Even}
 use Rattle.rows.specs.declared.choices.Choice as code
 use Rattle.rows.specs.declared.choices.Part as part
 use Rattle.rows.specs.declared.choices.Part.TheVariants as part_is

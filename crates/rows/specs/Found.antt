@@ -6,8 +6,8 @@ use Rattle.std.specs.Borrow.{Bor}
 use Rattle.std.specs.List.{slice_split}
 use Rattle.rows.specs.declared.found_ranges.Found as code
 use Rattle.rows.specs.declared.found_ranges.Found.TheVariants as found
-use Rattle.made_sheets.specs.Rows.{Row}
-use Rattle.made_sheets.specs.Ranges.{Place, Range, BlankPage, FromTo, number_in, has_place, from_to, pieces_of, range_at}
+use Rattle.rules.specs.Rows.{Row}
+use Rattle.rules.specs.Ranges.{Place, Range, BlankPage, FromTo, number_in, has_place, from_to, pieces_of, range_at}
 
 -- the parts of what follows a byte at which a text was cut
 abbrev pub parts_left : ℕ → Option (Bor (List ℕ)) → List (List ℕ)

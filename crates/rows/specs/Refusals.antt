@@ -1,7 +1,7 @@
 -- What refusals say.
 use Rattle.std.specs.Prelude.{◌≡◌, Result, Err, IsOk}
-use Rattle.made_sheets.specs.Rows.{Row}
-use Rattle.made_sheets.specs.Choice.{RowFault, NotARange, NotInDocument, TooManyEntries, NoEntries}
+use Rattle.rules.specs.Rows.{Row}
+use Rattle.rules.specs.Choice.{RowFault, NotARange, NotInDocument, TooManyEntries, NoEntries}
 use Rattle.rows.specs.declared.error.RowError.{RowError}
 use Rattle.rows.specs.declared.error.RowError.TheVariants as error
 

@@ -3,9 +3,9 @@ use Rattle.std.specs.Prelude.{⊤, ◌≡◌, ◌*◌, ◌/◌, length, map, fla
 use Rattle.std.specs.List.{range_with_len}
 use Rattle.rules.specs.Sheets.{blocks}
 use Rattle.rules.specs.Signatures.{AreSides, entry_of}
-use Rattle.made_sheets.specs.Rows.{Row}
-use Rattle.made_sheets.specs.Choice.{Signing, InOne, OfSides, Auto, sides_for, signed}
-use Rattle.made_sheets.specs.Leaves.{faces, read_signature}
+use Rattle.rules.specs.Rows.{Row}
+use Rattle.rules.specs.Choice.{Signing, InOne, OfSides, Auto, sides_for, signed}
+use Rattle.rules.specs.Leaves.{faces, read_signature}
 use Rattle.rows.specs.declared.sewing.Signing as code
 use Rattle.rows.specs.declared.sewing.Signing.TheVariants as sewn
 

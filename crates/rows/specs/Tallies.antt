@@ -1,7 +1,7 @@
 -- How ranges are counted before they are kept.
 use Rattle.std.specs.Prelude.{ℕ, ◌+◌, nat_lt, if◌then◌else◌, List, [], ◌∷◌, length, Option, Some, None, is_some, Result, Ok, Err}
 use Rattle.rules.specs.Units.{◌>>=◌}
-use Rattle.made_sheets.specs.Ranges.{Range, range_at}
+use Rattle.rules.specs.Ranges.{Range, range_at}
 use Rattle.rows.specs.declared.found_ranges.Found.{Found}
 use Rattle.rows.specs.declared.tallies.Tally.{Tally}
 use Rattle.rows.specs.Found.{found_in, is_missing, entries_found}

@@ -1,7 +1,7 @@
 //! What is chosen of a document's pages.
 ghost use Rattle.std.specs.Prelude.{◌≡◌, ◌≤◌, ◌<◌, length, Ok, IfOk, IfErr};
-ghost use Rattle.made_sheets.specs.Rows.{Row};
-ghost use Rattle.made_sheets.specs.Choice.{chosen, named_row, part_of, reversed_if, most_entries};
+ghost use Rattle.rules.specs.Rows.{Row};
+ghost use Rattle.rules.specs.Choice.{chosen, named_row, part_of, reversed_if, most_entries};
 ghost use Rattle.rows.specs.Choices.{choice_of, part_named, ranges_in, named_found};
 ghost use Rattle.rows.specs.Refusals.{RefusesRow, IsFault};
 

@@ -1,6 +1,6 @@
 //! Ranges, as they are found in a document.
 ghost use Rattle.std.specs.Prelude.{◌≡◌, ◌^◌, ◌≤◌, length, option_map, option_and_then};
-ghost use Rattle.made_sheets.specs.Ranges.{FromTo, place_at, last_place_at, range_at, is_blank_page};
+ghost use Rattle.rules.specs.Ranges.{FromTo, place_at, last_place_at, range_at, is_blank_page};
 ghost use Rattle.rows.specs.Found.{found_in, is_missing, entries_found, range_found, pages_from_to};
 
 use crate::cutting::cut;

@@ -1,6 +1,6 @@
 //! Rows as texts name them.
 ghost use Rattle.std.specs.Prelude.{◌≡◌, length, Ok, IfOk, IfErr, vec_len, vec_capacity};
-ghost use Rattle.made_sheets.specs.Choice.{row_of_text};
+ghost use Rattle.rules.specs.Choice.{row_of_text};
 ghost use Rattle.rows.specs.Found.{row_found};
 ghost use Rattle.rows.specs.Refusals.{RefusesRow};
 

@@ -1,6 +1,6 @@
 //! All pages, and the parts of a row.
 ghost use Rattle.std.specs.Prelude.{◌≡◌, IfOk, drop};
-ghost use Rattle.made_sheets.specs.Rows.{all_pages as all, odd_part as odd, even_part as even};
+ghost use Rattle.rules.specs.Rows.{all_pages as all, odd_part as odd, even_part as even};
 
 use crate::entries::entry_at;
 use std::alloc::{AllocError, Global};

@@ -3,7 +3,7 @@ ghost use Rattle.std.specs.Prelude.{◌≡◌, true, false, min, option_map, Mat
 ghost use Rattle.std.specs.List.{list_all};
 ghost use Rattle.std.specs.Char.{is_ascii_digit};
 ghost use Rattle.rules.specs.Numbers.{number_of};
-ghost use Rattle.made_sheets.specs.Ranges.{FromStart, FromEnd, by_digits, is_number as is_number_text, place_at, last_place_at};
+ghost use Rattle.rules.specs.Ranges.{FromStart, FromEnd, by_digits, is_number as is_number_text, place_at, last_place_at};
 ghost use Rattle.rows.specs.Found.{number_found};
 
 /// The number, counted from 1, of the page that a text means in a document of this many; 0 if the document lacks

@@ -2,8 +2,8 @@
 ghost use Rattle.std.specs.Prelude.{◌≡◌, ◌*◌, ◌≤◌, ◌<◌, length, IfOk, IfErr, IfSome, Ok, option_map};
 ghost use Rattle.rules.specs.Sheets.{blocks};
 ghost use Rattle.rules.specs.Signatures.{AreSides};
-ghost use Rattle.made_sheets.specs.Rows.{auto_sides, leaves_for};
-ghost use Rattle.made_sheets.specs.Choice.{imposed_row, signed, sides_for, most_entries};
+ghost use Rattle.rules.specs.Rows.{auto_sides, leaves_for};
+ghost use Rattle.rules.specs.Choice.{imposed_row, signed, sides_for, most_entries};
 ghost use Rattle.rows.specs.Choices.{choice_of};
 ghost use Rattle.rows.specs.Sewing.{signing_of, MayBeSewn};
 ghost use Rattle.rows.specs.Refusals.{RefusesRow};

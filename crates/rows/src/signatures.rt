@@ -2,7 +2,7 @@
 ghost use Rattle.std.specs.Prelude.{◌≡◌, ◌+◌, ◌<◌, ◌^◌, ◌++◌, IfOk, OnOk, length, map};
 ghost use Rattle.std.specs.List.{range_with_len};
 ghost use Rattle.rules.specs.Signatures.{AreSides, entry_of, page_in_signature as page_in};
-ghost use Rattle.made_sheets.specs.Rows.{in_signatures as signed};
+ghost use Rattle.rules.specs.Rows.{in_signatures as signed};
 
 use crate::entries::entry_at;
 use sheet_plan::page_in_signature;

@@ -1,7 +1,7 @@
 //! What is known of the ranges of a text before they are kept.
 ghost use Rattle.std.specs.Prelude.{◌≡◌, ◌≤◌, length, Ok, IfOk, IfErr};
-ghost use Rattle.made_sheets.specs.Ranges.{pieces_of};
-ghost use Rattle.made_sheets.specs.Choice.{most_entries, row_of_text};
+ghost use Rattle.rules.specs.Ranges.{pieces_of};
+ghost use Rattle.rules.specs.Choice.{most_entries, row_of_text};
 ghost use Rattle.rows.specs.Found.{row_found};
 ghost use Rattle.rows.specs.Tallies.{counted, tally_from, no_tally};
 ghost use Rattle.rows.specs.Refusals.{IsFault};

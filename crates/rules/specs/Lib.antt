@@ -1,5 +1,7 @@
 -- Read in this order: bytes, numbers and papers; what a specification says; which pages are on which sheets and
--- where; how a document is cut and what is kept of it; what is written; what is refused. The sources are pstops(1)
+-- where; how a document is cut and what is kept of it; what is written; what is refused. Then, of impose: sheets as they
+-- are made; what is added to the text of an output; the output of made sheets, and which are accepted; rows; texts that name
+-- rows; what is chosen of them; leaves, and how they are read. The sources of the first part are pstops(1)
 -- of psutils 1, the Document Structuring Conventions 3.0 (DSC below) and the PostScript Language Reference. Each
 -- file first says what it takes from them; the rest are rules of this project.
 pub mod Bytes
@@ -15,3 +17,12 @@ pub mod Parts
 pub mod Filters
 pub mod Output
 pub mod Run
+pub mod Made
+pub mod Dress
+pub mod MadeOutput
+pub mod Dressed
+pub mod MadePlans
+pub mod Rows
+pub mod Ranges
+pub mod Choice
+pub mod Leaves

@@ -10,9 +10,9 @@ use Rattle.gather_table.specs.History.{Entry, PageAt, IsLegal, IsComplete, after
 use Rattle.gather_table.specs.Shared.{TableView, SeatView, IsSeat, IsSeatOf, Made, Makes}
 use Rattle.gather_table.proofs.Groups.{pages_of as index_of}
 use Rattle.gather_table.proofs.Calls.{makes_push, begins_makes, same_makes, complete_stays, finds_index}
-use Rattle.made_sheets.specs.Made.{MadeSlot, Blank, Placed}
-use Rattle.made_sheets.specs.MadePlans.{page_of}
-use Rattle.made_sheets.specs.MadeOutput.{made_slot_text}
+use Rattle.rules.specs.Made.{MadeSlot, Blank, Placed}
+use Rattle.rules.specs.MadePlans.{page_of}
+use Rattle.rules.specs.MadeOutput.{made_slot_text}
 use Rattle.sheet_text.specs.Jobs.{JobView, AreOfPlan, slots_of}
 use Rattle.sheet_text.proofs.Slots.{pages_are}
 use Rattle.run_steps.specs.LookUps.{needed, pages_of, look_ups, LooksUp, LooksUpUntil, LooksAt, HasIndex}

@@ -3,8 +3,8 @@ ghost use Rattle.std.specs.Prelude.{◌≡◌, ◌↔◌, ℕ, ◌+◌, ◌-◌,
 ghost use Rattle.std.specs.Prelude.{IsTrue, Some, slice_get, slice_index_or, true};
 ghost use Rattle.rules.specs.Parts.{pages};
 ghost use Rattle.rules.specs.Sheets.{layout};
-ghost use Rattle.made_sheets.specs.Made.{MadeSlot};
-ghost use Rattle.made_sheets.specs.MadeOutput.{made_slot_text};
+ghost use Rattle.rules.specs.Made.{MadeSlot};
+ghost use Rattle.rules.specs.MadeOutput.{made_slot_text};
 ghost use Rattle.sheet_plan.specs.Plans.{pages_on};
 ghost use Rattle.gather_table.specs.History.{Look, PageAt, IsComplete};
 ghost use Rattle.gather_table.specs.Shared.{IsSeatOf, Made};

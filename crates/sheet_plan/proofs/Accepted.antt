@@ -10,8 +10,8 @@ use Rattle.std.proofs.lemmas.Option.{same_Some, none-some, slice_get-map}
 use Rattle.rules.specs.Papers.{points}
 use Rattle.rules.specs.Sheets.{Plan, Slot, layout}
 use Rattle.rules.specs.Run.{refuse_if}
-use Rattle.made_sheets.specs.Made.{MadeSlot, Blank, Placed, MadeSheet}
-use Rattle.made_sheets.specs.MadePlans.{MadeFault, MadeTooManyPages, MadeTooManySheets, MadeSlotsOutOfRange, MadeTooManyPlaces, MadeNoSuchPage, page_of, is_missing, slot_count, is_slot_count, refuse_at, made_plan_of, made_layout}
+use Rattle.rules.specs.Made.{MadeSlot, Blank, Placed, MadeSheet}
+use Rattle.rules.specs.MadePlans.{MadeFault, MadeTooManyPages, MadeTooManySheets, MadeSlotsOutOfRange, MadeTooManyPlaces, MadeNoSuchPage, page_of, is_missing, slot_count, is_slot_count, refuse_at, made_plan_of, made_layout}
 use Rattle.sheet_plan.specs.OfSheets.{slots_at, item_in, slot_in, made_plan}
 use Rattle.sheet_plan.specs.Plans.{pages_on, items_on, IsSound}
 use Rattle.sheet_plan.proofs.Admitted.{none_passes}

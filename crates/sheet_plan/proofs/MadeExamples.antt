@@ -4,7 +4,7 @@ use Rattle.std.specs.Prelude.{pos}
 use Rattle.rules.specs.Papers.{points, Pt}
 use Rattle.rules.specs.Sheets.{layout}
 use Rattle.rules.specs.Specification.{Item, Left}
-use Rattle.made_sheets.specs.Made.{Blank, Placed, MadeSheet}
+use Rattle.rules.specs.Made.{Blank, Placed, MadeSheet}
 use Rattle.sheet_plan.specs.Nothing.{nothing}
 use Rattle.sheet_plan.specs.OfSheets.{made_plan, slots_at}
 use Rattle.sheet_plan.specs.Store.{end_of, start_of}

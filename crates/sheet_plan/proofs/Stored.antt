@@ -7,8 +7,8 @@ use Rattle.std.proofs.lemmas.List.Elements.{All-head, All-tail, All-take, All-dr
 use Rattle.std.proofs.lemmas.List.Sums.{sum_by-cons}
 use Rattle.std.proofs.lemmas.Option.{slice_get-map, slice_get-get_or, slice_get_within, get_or_from_slice_get, same_Some, none-some}
 use Rattle.rules.specs.Papers.{Paper}
-use Rattle.made_sheets.specs.Made.{MadeSlot, MadeSheet}
-use Rattle.made_sheets.specs.MadePlans.{slot_count}
+use Rattle.rules.specs.Made.{MadeSlot, MadeSheet}
+use Rattle.rules.specs.MadePlans.{slot_count}
 use Rattle.sheet_plan.specs.declared.made.Placing.{Placing}
 use Rattle.sheet_plan.specs.declared.made.KeptSlot.{KeptSlot}
 use Rattle.sheet_plan.specs.declared.made.KeptSheet.{KeptSheet}

@@ -1,7 +1,7 @@
 -- Which made sheets are planned, and why the others are refused.
 use Rattle.std.specs.Prelude.{◌≡◌, ℕ, List, Ok, Err}
-use Rattle.made_sheets.specs.Made.{MadeSheet}
-use Rattle.made_sheets.specs.MadePlans.{made_plan_of, MadeTooManyPages, MadeTooManySheets, MadeSlotsOutOfRange, MadeTooManyPlaces, MadeNoSuchPage}
+use Rattle.rules.specs.Made.{MadeSheet}
+use Rattle.rules.specs.MadePlans.{made_plan_of, MadeTooManyPages, MadeTooManySheets, MadeSlotsOutOfRange, MadeTooManyPlaces, MadeNoSuchPage}
 use Rattle.sheet_plan.specs.declared.error.MadeError.{MadeError}
 use Rattle.sheet_plan.specs.declared.error.MadeError.TheVariants as error
 

@@ -3,8 +3,8 @@ use Rattle.std.specs.Prelude.{◌≡◌, ℕ, List, [], map, slice_index_or, Opt
 use Rattle.rules.specs.Specification.{Item}
 use Rattle.rules.specs.Sheets.{Slot, Plan}
 use Rattle.pagespec.specs.Items.{item_of}
-use Rattle.made_sheets.specs.Made.{MadeSlot, Blank, Placed, MadeSheet}
-use Rattle.made_sheets.specs.MadePlans.{page_of, made_plan_of}
+use Rattle.rules.specs.Made.{MadeSlot, Blank, Placed, MadeSheet}
+use Rattle.rules.specs.MadePlans.{page_of, made_plan_of}
 use Rattle.sheet_plan.specs.declared.made.MadeSlot as code
 use Rattle.sheet_plan.specs.declared.made.MadeSlot.TheVariants as made
 use Rattle.sheet_plan.specs.declared.made.PlacedSlot.{PlacedSlot}

@@ -5,7 +5,7 @@ use Rattle.std.specs.declared.alloc.Global.{Global}
 use Rattle.rules.specs.Specification.{Spec}
 use Rattle.rules.specs.Sheets.{Plan, blocks as blocks_of}
 use Rattle.rules.specs.Signatures.{row_len}
-use Rattle.made_sheets.specs.MadePlans.{made_plan_of}
+use Rattle.rules.specs.MadePlans.{made_plan_of}
 use Rattle.pagespec.specs.declared.item.Item.{Item}
 use Rattle.pagespec.specs.Items.{groups_of}
 use Rattle.sheet_plan.specs.Plans.{planned_in}

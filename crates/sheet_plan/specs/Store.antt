@@ -3,7 +3,7 @@ use Rattle.std.specs.Prelude.{◌≡◌, ℕ, zero, suc, ◌<◌, ◌≤◌, Lis
 use Rattle.std.specs.Prelude.{slice_range, Option, Some, None}
 use Rattle.rules.specs.Papers.{Paper, points}
 use Rattle.pagespec.specs.Items.{item_of}
-use Rattle.made_sheets.specs.Made.{MadeSlot, Blank, Placed, MadeSheet}
+use Rattle.rules.specs.Made.{MadeSlot, Blank, Placed, MadeSheet}
 use Rattle.sheet_plan.specs.declared.made.Placing.{Placing}
 use Rattle.sheet_plan.specs.declared.made.KeptSlot.{KeptSlot}
 use Rattle.sheet_plan.specs.declared.made.KeptSheet.{KeptSheet}

@@ -1,7 +1,7 @@
 //! Sheets that are made in any way, and how they are kept.
 ghost use Rattle.std.specs.Prelude.{◌≡◌, ◌≢◌, ◌+◌, ◌<◌, ◌≤◌, ◌++◌, ◌∷◌, [], length, map, sum_by, All, OnOk, OnErr, IfOk};
 ghost use Rattle.std.specs.Prelude.{ℕ, ◌↔◌, IfSome, IsNone, IsTrue, Some, slice_get};
-ghost use Rattle.made_sheets.specs.MadePlans.{slot_count};
+ghost use Rattle.rules.specs.MadePlans.{slot_count};
 ghost use Rattle.pagespec.specs.Items.{item_of};
 ghost use Rattle.sheet_plan.specs.Nothing.{nothing as no_item};
 ghost use Rattle.sheet_plan.specs.OfSheets.{slot_of, slots_at, placed_of};
@@ -73,7 +73,7 @@ pub struct MadeSheets {
 
 impl Model for MadeSheets {
     ghost use Rattle.std.specs.Prelude.{◌≡◌, List};
-    ghost use Rattle.made_sheets.specs.Made.{MadeSheet};
+    ghost use Rattle.rules.specs.Made.{MadeSheet};
     ghost use Rattle.pagespec.specs.Items.{item_of};
     ghost use Rattle.sheet_plan.specs.Nothing.{nothing as no_item};
     ghost use Rattle.sheet_plan.specs.Store.{sheets_from, AreKept};

@@ -2,8 +2,8 @@
 ghost use Rattle.std.specs.Prelude.{◌≡◌, ◌≢◌, ◌<◌, ◌≤◌, length, not, position, Some, Ok, Err, OnOk, IfOk, IfErr, slice_get};
 ghost use Rattle.std.specs.List.{list_any};
 ghost use Rattle.rules.specs.Run.{most_sheets};
-ghost use Rattle.made_sheets.specs.Made.{MadeSlot};
-ghost use Rattle.made_sheets.specs.MadePlans.{made_plan_of, is_slot_count, slot_count, is_missing};
+ghost use Rattle.rules.specs.Made.{MadeSlot};
+ghost use Rattle.rules.specs.MadePlans.{made_plan_of, is_slot_count, slot_count, is_missing};
 ghost use Rattle.sheet_plan.specs.OfSheets.{made_plan, slots_at};
 ghost use Rattle.sheet_plan.specs.MadeRefusals.{RefusesMade};
 ghost use Rattle.sheet_plan.specs.Sources.{plan_from, IsPlannable};

@@ -9,7 +9,7 @@ ghost use Rattle.rules.specs.Sheets.{layout, sheets};
 ghost use Rattle.rules.specs.Signatures.{AreSides, AreSidesIfGiven, sheets_in};
 ghost use Rattle.pagespec.specs.Items.{item_of};
 ghost use Rattle.sheet_plan.specs.Plans.{planned, planned_in, pages_on, items_on, slot_groups, needs_page, IsSound};
-ghost use Rattle.made_sheets.specs.MadePlans.{made_plan_of, made_layout};
+ghost use Rattle.rules.specs.MadePlans.{made_plan_of, made_layout};
 ghost use Rattle.sheet_plan.specs.Plans.{IsOfSpec};
 ghost use Rattle.sheet_plan.specs.OfSheets.{made_plan, IsOfSheets};
 ghost use Rattle.sheet_plan.specs.MadeRefusals.{RefusesMade};

@@ -7,10 +7,10 @@ use Rattle.std.proofs.lemmas.List.FromFn.{length-enumerate_from}
 use Rattle.std.proofs.lemmas.Option.{none-some, same_Some}
 use Rattle.rules.specs.Papers.{Paper}
 use Rattle.rules.specs.Sheets.{Plan, layout}
-use Rattle.made_sheets.specs.Made.{MadeSlot, MadeSheet}
-use Rattle.made_sheets.specs.Dress.{Dress}
-use Rattle.made_sheets.specs.Dressed.{DressedSheet, dressed_in, dressed_sheets}
-use Rattle.made_sheets.specs.MadePlans.{page_of}
+use Rattle.rules.specs.Made.{MadeSlot, MadeSheet}
+use Rattle.rules.specs.Dress.{Dress}
+use Rattle.rules.specs.Dressed.{DressedSheet, dressed_in, dressed_sheets}
+use Rattle.rules.specs.MadePlans.{page_of}
 use Rattle.sheet_plan.specs.OfSheets.{slot_in, slots_at, made_plan}
 use Rattle.sheet_text.specs.Dressings.{dress_in, told_if, with_numbers}
 use Rattle.sheet_text.specs.Jobs.{AreOfPlan, no_sheet}

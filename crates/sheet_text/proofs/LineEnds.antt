@@ -3,7 +3,7 @@ use Rattle.std.proofs.Common.{ℕ, List, [], ◌∷◌, ◌++◌, ◌≡◌, Boo
 use Rattle.std.specs.Prelude.{⊤, ◌==◌, not, ◌&&◌, if◌then◌else◌}
 use Rattle.std.proofs.lemmas.Grind.{flat_map-append}
 use Rattle.rules.specs.Bytes.{line}
-use Rattle.made_sheets.specs.Dress.{lines_text}
+use Rattle.rules.specs.Dress.{lines_text}
 use Rattle.sheet_text.specs.LinesIn.{is_line, put_before, lines_in}
 
 abbrev HasNoEnd : List ℕ → Type 0

@@ -9,12 +9,12 @@ use Rattle.rules.specs.Sheets.{Plan, Slot}
 use Rattle.rules.specs.Signatures.{sheets_in}
 use Rattle.rules.specs.Specification.{Spec, Item}
 use Rattle.rules.specs.Output.{Frame, output, sheet_text}
-use Rattle.made_sheets.specs.Made.{Blank, made_slot, made_of}
-use Rattle.made_sheets.specs.Dress.{undressed}
-use Rattle.made_sheets.specs.Dressed.{DressedSheet, dressed_in, dressed_sheets, dressed_sheet_text}
-use Rattle.made_sheets.specs.MadePlans.{page_of}
-use Rattle.made_sheets.proofs.Dressed.{dressed_is_made}
-use Rattle.made_sheets.proofs.Made.{made_is_output, sheet_same}
+use Rattle.rules.specs.Made.{Blank, made_slot, made_of}
+use Rattle.rules.specs.Dress.{undressed}
+use Rattle.rules.specs.Dressed.{DressedSheet, dressed_in, dressed_sheets, dressed_sheet_text}
+use Rattle.rules.specs.MadePlans.{page_of}
+use Rattle.rules.proofs.Dressed.{dressed_is_made}
+use Rattle.rules.proofs.Made.{made_is_output, sheet_same}
 use Rattle.sheet_plan.specs.Plans.{planned_in, pages_on, items_on}
 use Rattle.sheet_text.specs.Jobs.{AreOfPlan, no_sheet, of_frame, output_of, text_of}
 use Rattle.sheet_text.proofs.Outputs.{output_dressed}

@@ -7,9 +7,9 @@ use Rattle.rules.specs.Sheets.{Plan}
 use Rattle.rules.specs.Parts.{pages}
 use Rattle.rules.specs.Filters.{trailer_text}
 use Rattle.rules.specs.Output.{Border}
-use Rattle.made_sheets.specs.Dressed.{DressedSheet, dressed_sheet_text, dressed_output}
-use Rattle.made_sheets.specs.MadeOutput.{dressed_preamble}
-use Rattle.made_sheets.specs.MadePlans.{page_of}
+use Rattle.rules.specs.Dressed.{DressedSheet, dressed_sheet_text, dressed_output}
+use Rattle.rules.specs.MadeOutput.{dressed_preamble}
+use Rattle.rules.specs.MadePlans.{page_of}
 use Rattle.sheet_text.specs.Jobs.{JobView, AreOfPlan, no_sheet, text_of, output_of}
 
 -- texts by number are those of the sheets

@@ -3,7 +3,7 @@ use Rattle.std.proofs.Common.{ℕ, ◌+◌, ◌<◌, ◌≤◌, ◌≡◌, ◌�
 use Rattle.std.proofs.lemmas.List.Sums.{sum_by_more}
 use Rattle.std.proofs.lemmas.Option.{get_or_from_slice_get, slice_get_within}
 use Rattle.rules.specs.Parts.{pages}
-use Rattle.made_sheets.specs.Made.{MadeSlot}
+use Rattle.rules.specs.Made.{MadeSlot}
 use Rattle.sheet_plan.specs.Plans.{pages_on}
 use Rattle.sheet_text.specs.Jobs.{JobView, AreOfPlan, slots_of}
 use Rattle.sheet_text.specs.Rooms.{slot_room}

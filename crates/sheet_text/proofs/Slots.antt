@@ -14,10 +14,10 @@ use Rattle.rules.specs.Sheets.{Plan}
 use Rattle.rules.specs.Parts.{pages}
 use Rattle.rules.specs.Filters.{prepared}
 use Rattle.rules.specs.Output.{Border, opening_text, body_text, closing_text}
-use Rattle.made_sheets.specs.Made.{MadeSlot, Blank, Placed}
-use Rattle.made_sheets.specs.Dressed.{DressedSheet}
-use Rattle.made_sheets.specs.MadeOutput.{made_slot_text}
-use Rattle.made_sheets.specs.MadePlans.{page_of}
+use Rattle.rules.specs.Made.{MadeSlot, Blank, Placed}
+use Rattle.rules.specs.Dressed.{DressedSheet}
+use Rattle.rules.specs.MadeOutput.{made_slot_text}
+use Rattle.rules.specs.MadePlans.{page_of}
 use Rattle.sheet_plan.specs.Plans.{pages_on, IsSound}
 use Rattle.sheet_text.specs.Jobs.{JobView, AreOfPlan, no_sheet, slots_of, slots_text}
 

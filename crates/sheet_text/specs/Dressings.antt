@@ -1,7 +1,7 @@
 -- The dress of an output, as it is kept.
 use Rattle.std.specs.Prelude.{ℕ, Bool, true, false, List, [], ◌++◌, Option, Some, None}
 use Rattle.rules.specs.Papers.{Paper}
-use Rattle.made_sheets.specs.Dress.{Dress}
+use Rattle.rules.specs.Dress.{Dress}
 use Rattle.papers.specs.Told.{sheet_lines}
 use Rattle.sheet_text.specs.PageNumbers.{number_lines}
 use Rattle.sheet_text.specs.declared.dress.Dress as code

@@ -7,11 +7,11 @@ use Rattle.rules.specs.Sheets.{Plan, layout}
 use Rattle.rules.specs.Parts.{NestedUnit, pages}
 use Rattle.rules.specs.Filters.{trailer_text}
 use Rattle.rules.specs.Output.{Border, Frame}
-use Rattle.made_sheets.specs.Made.{MadeSlot, made_of}
-use Rattle.made_sheets.specs.Dress.{undressed}
-use Rattle.made_sheets.specs.Dressed.{DressedSheet, dressed_sheets, dressed_sheet_text}
-use Rattle.made_sheets.specs.MadeOutput.{made_slot_text, dressed_preamble}
-use Rattle.made_sheets.specs.MadePlans.{page_of}
+use Rattle.rules.specs.Made.{MadeSlot, made_of}
+use Rattle.rules.specs.Dress.{undressed}
+use Rattle.rules.specs.Dressed.{DressedSheet, dressed_sheets, dressed_sheet_text}
+use Rattle.rules.specs.MadeOutput.{made_slot_text, dressed_preamble}
+use Rattle.rules.specs.MadePlans.{page_of}
 
 -- the plan's sheets, each with its slots and with the lines at its start and at its end; and the lines of the header
 pub record JobView : Type 0 where

@@ -4,7 +4,7 @@ use Rattle.rules.specs.Numbers.{points_text}
 use Rattle.rules.specs.Papers.{Paper}
 use Rattle.rules.specs.Placement.{offset}
 use Rattle.rules.specs.Specification.{Item, Turn, Upright, Left, Half, Right}
-use Rattle.made_sheets.specs.Made.{MadeSlot, Blank, Placed}
+use Rattle.rules.specs.Made.{MadeSlot, Blank, Placed}
 use Rattle.sheet_plan.specs.OfSheets.{slots_at}
 use Rattle.sheet_text.specs.declared.numbers.Numbers.{Numbers}
 

@@ -1,9 +1,9 @@
 -- The sheets and the header of a job.
 use Rattle.std.specs.Prelude.{ℕ, List, []}
 use Rattle.rules.specs.Sheets.{Plan}
-use Rattle.made_sheets.specs.Made.{made_of}
-use Rattle.made_sheets.specs.Dress.{undressed}
-use Rattle.made_sheets.specs.Dressed.{DressedSheet, dressed_sheets}
+use Rattle.rules.specs.Made.{made_of}
+use Rattle.rules.specs.Dress.{undressed}
+use Rattle.rules.specs.Dressed.{DressedSheet, dressed_sheets}
 use Rattle.sheet_text.specs.Dressings.{dress_in}
 use Rattle.sheet_text.specs.declared.sheet_papers.SheetPapers.{SheetPapers}
 use Rattle.sheet_text.specs.declared.sheet_papers.SheetPapers.TheVariants.{One, Made}

@@ -1,7 +1,7 @@
 -- How much room the text of a sheet is given, in memory of its own.
 use Rattle.std.specs.Prelude.{ℕ, ◌+◌, List, [], length, sum_by, slice_index_or}
 use Rattle.rules.specs.Parts.{pages}
-use Rattle.made_sheets.specs.Made.{MadeSlot, Blank, Placed}
+use Rattle.rules.specs.Made.{MadeSlot, Blank, Placed}
 use Rattle.sheet_text.specs.Jobs.{JobView, slots_of}
 
 -- for a slot that has a page: as many bytes as the page has, and 256 for the texts round it

@@ -1,6 +1,6 @@
 //! The lines that an output gets besides its pages.
 ghost use Rattle.std.specs.Prelude.{◌≡◌, ◌++◌, OnOk};
-ghost use Rattle.made_sheets.specs.Dress.{lines_text};
+ghost use Rattle.rules.specs.Dress.{lines_text};
 ghost use Rattle.sheet_text.specs.Dressings.{told_if, with_numbers};
 
 use crate::lines::Lines;

@@ -3,9 +3,9 @@ ghost use Rattle.std.specs.Prelude.{◌≡◌, ℕ, ◌<◌, ◌++◌, [], lengt
 ghost use Rattle.rules.specs.Parts.{pages};
 ghost use Rattle.rules.specs.Specification.{Spec};
 ghost use Rattle.rules.specs.Output.{border_within, framed, output, sheet_text};
-ghost use Rattle.made_sheets.specs.Dress.{lines_text};
-ghost use Rattle.made_sheets.specs.Dressed.{dressed_sheets};
-ghost use Rattle.made_sheets.specs.MadeOutput.{made_output};
+ghost use Rattle.rules.specs.Dress.{lines_text};
+ghost use Rattle.rules.specs.Dressed.{dressed_sheets};
+ghost use Rattle.rules.specs.MadeOutput.{made_output};
 ghost use Rattle.sheet_plan.specs.OfSheets.{made_plan, placed_of};
 ghost use Rattle.sheet_plan.specs.Plans.{pages_on, planned_in, IsSound};
 ghost use Rattle.sheet_text.specs.Dressings.{dress_in};

@@ -1,6 +1,6 @@
 //! Lines in one block.
 ghost use Rattle.std.specs.Prelude.{◌≡◌, ℕ, ◌++◌, ◌∷◌, [], List, IsTrue, length, OnOk, OnErr, take};
-ghost use Rattle.made_sheets.specs.Dress.{lines_text};
+ghost use Rattle.rules.specs.Dress.{lines_text};
 ghost use Rattle.sheet_text.specs.LinesIn.{is_line};
 
 use std::alloc::{AllocError, Global};
@@ -14,7 +14,7 @@ pub struct Lines {
 
 impl Model for Lines {
     ghost use Rattle.std.specs.Prelude.{◌≡◌, ℕ, List};
-    ghost use Rattle.made_sheets.specs.Dress.{lines_text};
+    ghost use Rattle.rules.specs.Dress.{lines_text};
     ghost use Rattle.sheet_text.specs.LinesIn.{lines_in};
 
     ghost Value = { List (List ℕ) };

@@ -1,7 +1,7 @@
 //! The numbers of pages.
 ghost use Rattle.std.specs.Prelude.{◌≡◌, ◌≤◌, ◌+◌, ◌*◌, ◌^◌, ◌++◌, ◌∷◌, [], nat_abs, pos, IsTrue, OnOk};
 ghost use Rattle.rules.specs.Papers.{is_side};
-ghost use Rattle.made_sheets.specs.Dress.{lines_text};
+ghost use Rattle.rules.specs.Dress.{lines_text};
 ghost use Rattle.pagespec.specs.Items.{item_of, turn_of};
 ghost use Rattle.sheet_plan.specs.OfSheets.{placed_of, slots_at};
 ghost use Rattle.sheet_text.specs.PageNumbers.{corner_text, degrees as degrees_of, font_text, foot_text, middle as middle_of};

@@ -2,9 +2,9 @@
 ghost use Rattle.std.specs.Prelude.{◌≡◌, ℕ, ◌+◌, ◌<◌, ◌≤◌, ◌++◌, List, IfOk, OnOk, codes, decimal, length, Some, slice_get};
 ghost use Rattle.rules.specs.Bytes.{line};
 ghost use Rattle.rules.specs.Parts.{pages};
-ghost use Rattle.made_sheets.specs.Made.{MadeSlot, Placed};
-ghost use Rattle.made_sheets.specs.Dress.{lines_text};
-ghost use Rattle.made_sheets.specs.MadeOutput.{made_slot_text};
+ghost use Rattle.rules.specs.Made.{MadeSlot, Placed};
+ghost use Rattle.rules.specs.Dress.{lines_text};
+ghost use Rattle.rules.specs.MadeOutput.{made_slot_text};
 ghost use Rattle.rules.specs.Papers.{Paper};
 ghost use Rattle.rules.specs.Specification.{Item};
 ghost use Rattle.rules.specs.Filters.{prepared};

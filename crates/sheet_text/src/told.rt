@@ -1,7 +1,7 @@
 //! The lines by which a sheet reports its paper.
 ghost use Rattle.std.specs.Prelude.{◌≡◌, ◌++◌, OnOk, codes};
 ghost use Rattle.rules.specs.Bytes.{line};
-ghost use Rattle.made_sheets.specs.Dress.{lines_text};
+ghost use Rattle.rules.specs.Dress.{lines_text};
 ghost use Rattle.papers.specs.Told.{setting_line, sheet_lines, size_name, size_text};
 
 use crate::rope::Rope;

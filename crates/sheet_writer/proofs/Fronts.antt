@@ -8,7 +8,7 @@ use Rattle.std.proofs.Math.Seq.{take-append-add, take-append_seam}
 use Rattle.std.proofs.lemmas.List.{take-append-drop, length-append, take-append-le}
 use Rattle.std.proofs.lemmas.Grind.{flat_map-append}
 use Rattle.rules.specs.Filters.{trailer_text}
-use Rattle.made_sheets.specs.MadeOutput.{dressed_preamble}
+use Rattle.rules.specs.MadeOutput.{dressed_preamble}
 use Rattle.sheet_text.specs.Jobs.{JobView, text_of, output_of}
 use Rattle.sheet_writer.specs.Sinks.{SinkView, Took, FailedBehind, IsUntouched}
 use Rattle.sheet_writer.specs.Writing.{front_text, WroteFirst, AfterHalt, Halts, Handed, HasFront, HasAll, Stands, Ends, HaveTexts, AreEarly, texts_from}

@@ -7,7 +7,7 @@ use Rattle.std.proofs.Math.ListN.{get_or}
 use Rattle.std.proofs.lemmas.List.FromFn.{length-range_with_len, get_or-range_with_len}
 use Rattle.std.proofs.lemmas.List.{flat_map_more, take_all}
 use Rattle.rules.specs.Filters.{trailer_text}
-use Rattle.made_sheets.specs.MadeOutput.{dressed_preamble}
+use Rattle.rules.specs.MadeOutput.{dressed_preamble}
 use Rattle.sheet_text.specs.Jobs.{JobView, text_of, output_of}
 
 -- the texts of the first n of this many sheets

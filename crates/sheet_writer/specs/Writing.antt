@@ -2,7 +2,7 @@
 use Rattle.std.specs.Prelude.{◌≡◌, ℕ, ◌+◌, ◌<◌, ◌≤◌, List, ◌++◌, length, take, flat_map, All, slice_get, Option, Some, None}
 use Rattle.std.specs.List.{range_with_len}
 use Rattle.std.specs.Io.KnownBytes.{Appends}
-use Rattle.made_sheets.specs.MadeOutput.{dressed_preamble}
+use Rattle.rules.specs.MadeOutput.{dressed_preamble}
 use Rattle.sheet_text.specs.Jobs.{JobView, text_of, output_of}
 use Rattle.sheet_text.specs.Texts.{TextsView}
 use Rattle.sheet_writer.specs.Sinks.{SinkView, Took, FailedBehind, IsUntouched}

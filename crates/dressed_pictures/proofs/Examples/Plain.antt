@@ -4,8 +4,8 @@ use Rattle.std.proofs.Common.{List, [], ◌∷◌, refl, None, false}
 use Rattle.std.specs.Prelude.{codes, pos}
 use Rattle.std.specs.Fmt.{digits}
 use Rattle.rules.specs.Parts.{preamble, bytes_of}
-use Rattle.made_sheets.specs.Made.{Placed, MadeSheet}
-use Rattle.made_sheets.specs.MadeOutput.{made_output}
+use Rattle.rules.specs.Made.{Placed, MadeSheet}
+use Rattle.rules.specs.MadeOutput.{made_output}
 use Rattle.papers.specs.Told.{telling}
 use Rattle.dressing.specs.Drawn.{marked}
 use Rattle.pictures.specs.Objects.{Call}

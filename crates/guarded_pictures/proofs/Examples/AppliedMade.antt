@@ -5,7 +5,7 @@ use Rattle.std.specs.Prelude.{codes, ℤ, pos, ◌*ℤ◌}
 use Rattle.std.specs.Fmt.{digits}
 use Rattle.rules.specs.Papers.{Paper, Pt, points}
 use Rattle.rules.specs.Specification.{Item, Upright}
-use Rattle.made_sheets.specs.Made.{Blank, Placed, MadeSheet}
+use Rattle.rules.specs.Made.{Blank, Placed, MadeSheet}
 use Rattle.dsc.specs.Units.{units_of}
 use Rattle.guard.specs.Guard.{guarded}
 use Rattle.papers.specs.Told.{telling}

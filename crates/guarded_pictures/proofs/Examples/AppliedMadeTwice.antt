@@ -3,7 +3,7 @@ use Rattle.std.proofs.Common.{List, [], ◌∷◌, refl, None, arith}
 use Rattle.std.specs.Prelude.{pos}
 use Rattle.std.specs.Fmt.{digits}
 use Rattle.rules.specs.Parts.{NestedUnit, preamble, bytes_of}
-use Rattle.made_sheets.specs.Made.{Placed, MadeSheet}
+use Rattle.rules.specs.Made.{Placed, MadeSheet}
 use Rattle.papers.specs.Told.{telling}
 use Rattle.papers.proofs.Tame.{telling_is_tame}
 use Rattle.pictures.specs.Imposed.{MadeIsPrinted}

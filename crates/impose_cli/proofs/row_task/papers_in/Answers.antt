@@ -1,6 +1,6 @@
 use Rattle.std.proofs.Common.{◌∙◌, ap}
 use Rattle.std.specs.Prelude.{None}
-use Rattle.made_sheets.specs.Choice.{imposed_row}
+use Rattle.rules.specs.Choice.{imposed_row}
 use Rattle.impose_words.specs.Choices.{choice_in}
 use Rattle.impose_cli.specs.RowTasks.{row_or_none}
 use Rattle.impose_cli.proofs.Rows.{are_placed, as_many}

@@ -1,5 +1,5 @@
 use Rattle.std.proofs.Common.{◌≡◌, ◌∙◌, ap, inl, inr, length, None, refl, rules}
-use Rattle.made_sheets.specs.Choice.{imposed_row}
+use Rattle.rules.specs.Choice.{imposed_row}
 use Rattle.impose_words.specs.Choices.{choice_in}
 use Rattle.layouts.proofs.Fitting.{handed_on}
 use Rattle.impose_said.specs.Faults.{without_memory}

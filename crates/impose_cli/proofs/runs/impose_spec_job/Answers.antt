@@ -1,5 +1,5 @@
 use Rattle.std.proofs.Common.{◌≡◌, ◌∙◌, Ok, ap, ap₂, option_map, subst}
-use Rattle.made_sheets.specs.MadePlans.{made_plan_of}
+use Rattle.rules.specs.MadePlans.{made_plan_of}
 use Rattle.sheet_plan.specs.MadeRefusals.{RefusesMade}
 use Rattle.dressing.specs.Numbered.{nothing_drawn}
 use Rattle.sheet_text.specs.Dressings.{dress_in}

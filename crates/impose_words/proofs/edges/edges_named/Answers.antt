@@ -26,11 +26,10 @@ loop-part-preserved c =
     let listed = c.is_some-is_list.result in
     let all = parts_of c.args.text.now in
     let rest = drop (length c.loop-part.yielded + 1) all in
-    let more = folds_more (edge_in listed) (Some c.loop-part.edges) all (length c.loop-part.yielded) c.in-Some.part.now turn in
-    (
+    let more = folds_more (edge_in listed) (Some c.loop-part.edges) all (length c.loop-part.yielded) c.in-Some.part.now turn in (
       c.loop-part.invariant.0,
       ap (λ n. fold (edge_in listed) (Some c.in_ok-edges.edges) (drop n all)) (length_push c.loop-part.yielded c.in-Some.part)
-      ∙ ap (λ e. fold (edge_in listed) e rest) (sym c.in_ok-edges.was ∙ c.edge_in.ensures) ∙ sym more ∙ c.loop-part.invariant.1,
+          ∙ ap (λ e. fold (edge_in listed) e rest) (sym c.in_ok-edges.was ∙ c.edge_in.ensures) ∙ sym more ∙ c.loop-part.invariant.1,
     )
 
 pub returns : goal.returns

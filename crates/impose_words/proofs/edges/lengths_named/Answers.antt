@@ -43,8 +43,7 @@ loop-part-preserved c =
     let count = c.loop-part.count in
     let front = take count c.loop-part.lengths in
     let more = reads_more listed front all count c.in-Some.part.now c.in_ok-lengths.field-0 at (sym c.length_in.ensures ∙ c.in_ok-lengths.was) in
-    let within : count < length c.loop-part.lengths = omega (arith, k.2, k.3, c.if-count-eq4.false) in
-    (
+    let within : count < length c.loop-part.lengths = omega (arith, k.2, k.3, c.if-count-eq4.false) in (
       k.0,
       ap (λ n. n + 1) k.1 ∙ sym (length_push c.loop-part.yielded c.in-Some.part),
       omega (arith, k.2, c.if-count-eq4.false),

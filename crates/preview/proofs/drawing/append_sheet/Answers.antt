@@ -1,7 +1,7 @@
 use Rattle.std.proofs.Common.{List, ◌++◌, codes, ◌∙◌, ap}
 use Rattle.std.specs.Prelude.{flat_map}
 use Rattle.rules.specs.Papers.{Paper}
-use Rattle.made_sheets.specs.Made.{MadeSlot}
+use Rattle.rules.specs.Made.{MadeSlot}
 use Rattle.preview.specs.Drawing.{square_at, viewed, slot_picture, caption}
 use Rattle.preview.proofs.Numbered.{paper_is, slots_are}
 use Rattle.preview.proofs.Chains.{first, more}

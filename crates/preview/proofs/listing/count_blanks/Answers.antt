@@ -1,5 +1,5 @@
 use Rattle.std.proofs.Common.{arith, ap, ◌∙◌}
-use Rattle.made_sheets.specs.Made.{MadeSheet}
+use Rattle.rules.specs.Made.{MadeSheet}
 use Rattle.preview.specs.Listing.{blanks_on}
 use Rattle.preview.proofs.Numbered.{sum_more, there, slots_are}
 use Rattle.preview.proofs.listing.count_blanks.Goals as goal

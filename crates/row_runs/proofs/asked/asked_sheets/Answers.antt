@@ -2,7 +2,7 @@ use Rattle.std.specs.Prelude.{IfOk, OnOk, Result}
 use Rattle.std.proofs.Common.{rules, ◌≡◌, Ok, Err, subst}
 use Rattle.std.proofs.lemmas.Result.{IfErr-weaker, IfOk-weaker}
 use Rattle.row_runs.specs.Sheets.{leaves_in, row_chosen, sewn}
-use Rattle.made_sheets.specs.Choice.{signed}
+use Rattle.rules.specs.Choice.{signed}
 use Rattle.row_runs.specs.Standing.{StandAsLaid}
 use Rattle.row_runs.proofs.Counted.{few_made}
 use Rattle.row_runs.proofs.Fit.{asked_so}

@@ -1,5 +1,5 @@
 use Rattle.std.proofs.Common.{rules, ◌≡◌, ◌∙◌, ◌<◌, ◌≤◌, ap, ap₂, length, map, Ok, subst, sym}
-use Rattle.made_sheets.specs.Choice.{most_entries, signed}
+use Rattle.rules.specs.Choice.{most_entries, signed}
 use Rattle.row_runs.specs.Numbers.{paper_in, places_from}
 use Rattle.row_runs.specs.Sheets.{leaves_in, row_chosen, sewn}
 use Rattle.row_runs.proofs.Places.{place_count, places_so}

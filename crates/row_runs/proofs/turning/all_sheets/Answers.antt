@@ -2,7 +2,7 @@ use Rattle.std.proofs.Common.{rules, ◌≡◌, ◌∙◌, ◌<◌, ap, length, 
 use Rattle.std.specs.List.{list_all}
 use Rattle.std.specs.Prelude.{List}
 use Rattle.pagespec.specs.Items.{turn_of}
-use Rattle.made_sheets.specs.Made.{MadeSlot}
+use Rattle.rules.specs.Made.{MadeSlot}
 use Rattle.sheet_plan.specs.OfSheets.{slot_of, slots_at}
 use Rattle.row_runs.specs.Mirrored.{mirror_on, moved_slot}
 use Rattle.row_runs.specs.Reaching.{is_slot_reached}

@@ -1,7 +1,7 @@
 use Rattle.std.proofs.Common.{arith, ◌≡◌, ◌++◌, List, map, sym, ap, ◌∙◌, append-nil}
 use Rattle.std.proofs.lemmas.List.{take_all}
 use Rattle.rules.specs.Specification.{Item}
-use Rattle.made_sheets.specs.Made.{MadeSlot}
+use Rattle.rules.specs.Made.{MadeSlot}
 use Rattle.pagespec.specs.Items.{groups_of, item_of}
 use Rattle.sheet_plan.specs.OfSheets.{slot_of}
 use Rattle.row_sheets.specs.BySpec.{sheet_by, slot_by}

@@ -1,5 +1,5 @@
 use Rattle.std.proofs.Common.{rules, ◌≡◌, ◌∙◌, Some, ap}
-use Rattle.made_sheets.specs.Made.{Placed}
+use Rattle.rules.specs.Made.{Placed}
 use Rattle.pagespec.specs.Items.{item_of}
 use Rattle.sheet_plan.specs.OfSheets.{placed_of}
 use Rattle.row_sheets.proofs.fill.same_item.Goals as goal

@@ -1,6 +1,6 @@
 use Rattle.std.proofs.Common.{ap, sym}
-use Rattle.made_sheets.specs.Made.{made_of}
-use Rattle.made_sheets.proofs.Rows.{sheets_of_all}
+use Rattle.rules.specs.Made.{made_of}
+use Rattle.rules.proofs.Rows.{sheets_of_all}
 use Rattle.row_sheets.proofs.laws.by_spec_on_all.Goals as goal
 
 pub returns : goal.returns

@@ -1,6 +1,6 @@
 use Rattle.std.proofs.Common.{rules, ◌≡◌, ◌<◌, ◌*◌, ◌-◌, ◌+◌, ◌/◌, ◌%◌, ◌++◌, ◌∷◌, [], sym, subst, ap, ◌∙◌}
 use Rattle.pagespec.specs.Items.{item_of}
-use Rattle.made_sheets.specs.Made.{Placed}
+use Rattle.rules.specs.Made.{Placed}
 use Rattle.row_sheets.specs.Posters.{IsNear, tile_item, laid_item}
 use Rattle.row_sheets.proofs.Filling.{sheet, sheet_behind}
 use Rattle.row_sheets.proofs.Offsets.{tile_in, tile_near}

@@ -1,7 +1,7 @@
 use Rattle.std.proofs.Common.{◌≡◌, ◌++◌, ◌+◌, ◌-◌, ◌/◌, ◌%◌, [], ◌∷◌}
 use Rattle.std.specs.Prelude.{map}
 use Rattle.std.specs.List.{range_with_len}
-use Rattle.made_sheets.specs.Made.{Placed}
+use Rattle.rules.specs.Made.{Placed}
 use Rattle.row_sheets.specs.Posters.{tile_item}
 use Rattle.row_sheets.proofs.Filling.{sheet}
 use Rattle.row_sheets.proofs.poster.push_poster.Given as goal

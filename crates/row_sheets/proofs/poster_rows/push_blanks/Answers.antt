@@ -1,5 +1,5 @@
 use Rattle.std.proofs.Common.{rules, refl, ◌≡◌, ◌++◌, ◌∷◌, []}
-use Rattle.made_sheets.specs.Made.{Blank}
+use Rattle.rules.specs.Made.{Blank}
 use Rattle.row_sheets.proofs.Filling.{sheet, sheet_behind}
 use Rattle.row_sheets.proofs.poster_rows.push_blanks.Goals as goal
 

@@ -1,4 +1,4 @@
-use Rattle.made_sheets.specs.Choice.{most_entries}
+use Rattle.rules.specs.Choice.{most_entries}
 use Rattle.rows.specs.Choices.{part_named, named_found}
 use Rattle.rows.proofs.Alternate.{chosen_few}
 use Rattle.rows.proofs.choices.chosen_row.Goals as goal

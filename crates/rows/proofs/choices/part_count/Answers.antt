@@ -1,5 +1,5 @@
 use Rattle.std.proofs.Common.{◌∙◌, ap, length}
-use Rattle.made_sheets.specs.Choice.{part_of}
+use Rattle.rules.specs.Choice.{part_of}
 use Rattle.rows.specs.Choices.{part_named}
 use Rattle.rows.proofs.Alternate.{odd_count, even_count}
 use Rattle.rows.proofs.choices.part_count.Goals as goal

@@ -1,6 +1,6 @@
 use Rattle.std.proofs.Common.{◌+◌, ◌-◌, ◌++◌, ◌∙◌, ◌≡◌, ap, arith, map, Some}
 use Rattle.std.specs.List.{range_with_len}
-use Rattle.made_sheets.specs.Rows.{Row}
+use Rattle.rules.specs.Rows.{Row}
 use Rattle.rows.proofs.Between.{one_more, all_down, pages_down}
 use Rattle.rows.proofs.filling.append_down.Goals as goal
 

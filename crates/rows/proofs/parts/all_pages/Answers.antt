@@ -1,6 +1,6 @@
 use Rattle.std.proofs.Common.{ap, sym, arith, [], ◌∷◌, ◌++◌, ◌∙◌, Some}
 use Rattle.std.proofs.lemmas.List.FromFn.{map-range_with_len_more}
-use Rattle.made_sheets.specs.Rows.{Row}
+use Rattle.rules.specs.Rows.{Row}
 use Rattle.rows.proofs.parts.all_pages.Goals as goal
 
 pub loop-page-preserved : goal.loop-page-preserved

@@ -1,5 +1,5 @@
 use Rattle.std.proofs.Common.{arith, ap, [], ◌∷◌, ◌++◌, ◌+◌, ◌∙◌, drop, Option, ℕ}
-use Rattle.made_sheets.specs.Rows.{Row, odd_part}
+use Rattle.rules.specs.Rows.{Row, odd_part}
 use Rattle.rows.proofs.Alternate.{part_more, part_all}
 use Rattle.rows.proofs.parts.every_other.Goals as goal
 

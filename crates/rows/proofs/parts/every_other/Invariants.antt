@@ -1,5 +1,5 @@
 use Rattle.std.proofs.Common.{◌≡◌, ◌-◌, ◌++◌, length, drop}
-use Rattle.made_sheets.specs.Rows.{odd_part}
+use Rattle.rules.specs.Rows.{odd_part}
 use Rattle.rows.proofs.parts.every_other.Given as goal
 
 abbrev pub invariant-loop-at : goal.invariant-loop-at

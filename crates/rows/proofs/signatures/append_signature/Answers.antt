@@ -2,7 +2,7 @@ use Rattle.std.proofs.Common.{arith, ap, sym, [], ◌∷◌, ◌++◌, ◌+◌, 
 use Rattle.std.specs.List.{range_with_len}
 use Rattle.std.proofs.lemmas.List.FromFn.{map-range_with_len_more}
 use Rattle.rules.specs.Signatures.{entry_of, page_in_signature}
-use Rattle.made_sheets.specs.Rows.{Row}
+use Rattle.rules.specs.Rows.{Row}
 use Rattle.rows.proofs.signatures.append_signature.Goals as goal
 
 pub loop-position-preserved : goal.loop-position-preserved

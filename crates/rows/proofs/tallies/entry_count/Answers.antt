@@ -1,6 +1,6 @@
 use Rattle.std.proofs.Common.{◌∙◌, sym}
-use Rattle.made_sheets.specs.Ranges.{pieces_of}
-use Rattle.made_sheets.specs.Choice.{most_entries, standing_from}
+use Rattle.rules.specs.Ranges.{pieces_of}
+use Rattle.rules.specs.Choice.{most_entries, standing_from}
 use Rattle.rows.specs.Tallies.{no_tally}
 use Rattle.rows.proofs.Tallied.{are_tallied, are_read, no_range, not_there, too_many_there, all_there}
 use Rattle.rows.proofs.tallies.entry_count.Goals as goal

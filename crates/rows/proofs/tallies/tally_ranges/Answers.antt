@@ -1,5 +1,5 @@
 use Rattle.std.proofs.Common.{rules, ◌∙◌, ap, sym, length}
-use Rattle.made_sheets.specs.Choice.{most_entries}
+use Rattle.rules.specs.Choice.{most_entries}
 use Rattle.rows.proofs.Walked.{tally_left, tally_step}
 use Rattle.rows.proofs.tallies.tally_ranges.Goals as goal
 

@@ -1,7 +1,7 @@
 use Rattle.std.proofs.Common.{◌≡◌, ◌≤◌, length}
 use Rattle.std.specs.Prelude.{IfSome}
-use Rattle.made_sheets.specs.Ranges.{pieces_of}
-use Rattle.made_sheets.specs.Choice.{most_entries}
+use Rattle.rules.specs.Ranges.{pieces_of}
+use Rattle.rules.specs.Choice.{most_entries}
 use Rattle.rows.specs.Tallies.{tally_from, no_tally}
 use Rattle.rows.proofs.Walked.{bytes_left, tally_left}
 use Rattle.rows.proofs.tallies.tally_ranges.Given as goal

@@ -1,6 +1,6 @@
 use Rattle.std.proofs.Common.{arith, sym, ap, ◌∙◌}
 use Rattle.std.specs.List.{list_any}
-use Rattle.made_sheets.specs.MadePlans.{is_missing}
+use Rattle.rules.specs.MadePlans.{is_missing}
 use Rattle.sheet_plan.proofs.Accepted.{lacks, no_sheet, slots_are, found_at, passed_by, looked_none, looked_all}
 use Rattle.sheet_plan.proofs.made_expansion.first_missing.Goals as goal
 

@@ -1,6 +1,6 @@
 use Rattle.std.proofs.Common.{arith, sym, ap, ◌∙◌}
 use Rattle.std.specs.Prelude.{not, length}
-use Rattle.made_sheets.specs.MadePlans.{is_slot_count}
+use Rattle.rules.specs.MadePlans.{is_slot_count}
 use Rattle.sheet_plan.proofs.Accepted.{uneven, no_sheet, slots_are, found_at, passed_by, looked_none, looked_all}
 use Rattle.sheet_plan.proofs.made_expansion.first_uneven.Goals as goal
 

@@ -1,6 +1,6 @@
 use Rattle.std.proofs.Common.{ap, sym, ◌∙◌}
 use Rattle.std.proofs.lemmas.Option.{same_Some}
-use Rattle.made_sheets.specs.MadePlans.{is_missing}
+use Rattle.rules.specs.MadePlans.{is_missing}
 use Rattle.sheet_plan.proofs.made_expansion.is_missing_in.Goals as goal
 
 pub returns-in-Some : goal.returns-in-Some

@@ -1,7 +1,7 @@
 use Rattle.std.proofs.Common.{arith, sym, get_or}
 use Rattle.std.proofs.lemmas.Option.{slice_get-get_or}
-use Rattle.made_sheets.specs.Made.{Blank}
-use Rattle.made_sheets.specs.MadePlans.{is_missing}
+use Rattle.rules.specs.Made.{Blank}
+use Rattle.rules.specs.MadePlans.{is_missing}
 use Rattle.sheet_plan.specs.OfSheets.{slots_at}
 use Rattle.sheet_plan.proofs.Accepted.{any_found, any_passed, any_none}
 use Rattle.sheet_plan.proofs.made_expansion.is_page_missing.Goals as goal

@@ -1,6 +1,6 @@
 use Rattle.std.proofs.Common.{◌≡◌, drop}
 use Rattle.std.specs.List.{list_any}
-use Rattle.made_sheets.specs.MadePlans.{is_missing}
+use Rattle.rules.specs.MadePlans.{is_missing}
 use Rattle.sheet_plan.specs.OfSheets.{slots_at}
 use Rattle.sheet_plan.proofs.made_expansion.is_page_missing.Given as goal
 

@@ -1,4 +1,4 @@
-use Rattle.made_sheets.specs.Made.{Placed}
+use Rattle.rules.specs.Made.{Placed}
 use Rattle.sheet_text.specs.Jobs.{slots_of}
 use Rattle.sheet_text.proofs.sheet.append_placed.Goals as goal
 use Rattle.sheet_text.proofs.Slots.{same_slot, placed_is}

@@ -4,7 +4,7 @@ use Rattle.rules.specs.Bytes.{line}
 use Rattle.rules.specs.Units.{cut}
 use Rattle.rules.specs.Parts.{bytes_of}
 use Rattle.rules.specs.Filters.{kept, ended}
-use Rattle.made_sheets.specs.MadeOutput.{drops_with, dressed_preamble}
+use Rattle.rules.specs.MadeOutput.{drops_with, dressed_preamble}
 use Rattle.dsc.specs.Filters.{drops_of}
 use Rattle.dsc.specs.Units.{or_none, units_of}
 use Rattle.dsc.proofs.Preambles.{PreambleFound, preamble_at}

@@ -1,5 +1,5 @@
 use Rattle.std.proofs.Common.{rules, ap, length, ◌∙◌}
-use Rattle.made_sheets.specs.MadeOutput.{dressed_preamble}
+use Rattle.rules.specs.MadeOutput.{dressed_preamble}
 use Rattle.planned_runs.proofs.setup.Setup.new.Goals as goal
 
 pub returns-clause-desk : goal.returns-clause-desk

@@ -1,8 +1,8 @@
 use Rattle.std.proofs.Common.{ap, sym, subst, ◌∙◌, ◌≡◌, ◌++◌, append-nil, List, ℕ}
 use Rattle.std.specs.Prelude.{slice_index_or, OnOk}
-use Rattle.made_sheets.specs.Made.{made_of}
-use Rattle.made_sheets.specs.Dress.{lines_text, undressed}
-use Rattle.made_sheets.specs.Dressed.{DressedSheet, dressed_sheets}
+use Rattle.rules.specs.Made.{made_of}
+use Rattle.rules.specs.Dress.{lines_text, undressed}
+use Rattle.rules.specs.Dressed.{DressedSheet, dressed_sheets}
 use Rattle.sheet_text.specs.Dressings.{dress_in}
 use Rattle.sheet_text.specs.Jobs.{JobView, AreOfPlan, no_sheet}
 use Rattle.sheet_text.specs.PapersOf.{sheets_on}

@@ -1,7 +1,7 @@
 use Rattle.std.proofs.Common.{◌∙◌}
 use Rattle.rules.specs.Output.{border_within}
-use Rattle.made_sheets.specs.Dressed.{dressed_sheets}
-use Rattle.made_sheets.proofs.Dressed.{dressed_is_made}
+use Rattle.rules.specs.Dressed.{dressed_sheets}
+use Rattle.rules.proofs.Dressed.{dressed_is_made}
 use Rattle.sheet_text.specs.Dressings.{dress_in}
 use Rattle.sheet_text.proofs.Dressed.{of_plan}
 use Rattle.sheet_text.proofs.Outputs.{output_dressed}

@@ -2,9 +2,9 @@ use Rattle.std.proofs.Common.{arith, ap, sym, subst, Some, ◌∙◌, ◌≡◌,
 use Rattle.std.specs.Prelude.{slice_get, slice_index_or}
 use Rattle.rules.specs.Parts.{pages}
 use Rattle.pagespec.specs.Items.{item_of}
-use Rattle.made_sheets.specs.Made.{MadeSlot, made_of}
-use Rattle.made_sheets.specs.Dress.{undressed}
-use Rattle.made_sheets.specs.Dressed.{DressedSheet, dressed_sheets}
+use Rattle.rules.specs.Made.{MadeSlot, made_of}
+use Rattle.rules.specs.Dress.{undressed}
+use Rattle.rules.specs.Dressed.{DressedSheet, dressed_sheets}
 use Rattle.sheet_plan.specs.Plans.{IsSound}
 use Rattle.sheet_plan.specs.OfSheets.{slots_at}
 use Rattle.sheet_text.specs.Dressings.{dress_in}

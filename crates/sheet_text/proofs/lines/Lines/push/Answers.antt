@@ -1,5 +1,5 @@
 use Rattle.std.proofs.Common.{ap, sym, subst, [], ◌∷◌, ◌++◌, ◌≡◌, ◌∙◌}
-use Rattle.made_sheets.specs.Dress.{lines_text}
+use Rattle.rules.specs.Dress.{lines_text}
 use Rattle.sheet_text.specs.LinesIn.{lines_in}
 use Rattle.sheet_text.proofs.LineEnds.{line_more, text_more}
 use Rattle.sheet_text.proofs.lines.Lines.push.Goals as goal

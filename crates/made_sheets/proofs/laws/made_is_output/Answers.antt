@@ -1,5 +1,0 @@
-use Rattle.made_sheets.proofs.Made.{made_is_output}
-use Rattle.made_sheets.proofs.laws.made_is_output.Goals as goal
-
-pub returns : goal.returns
-returns c = made_is_output

@@ -1,5 +1,0 @@
-use Rattle.made_sheets.proofs.Rows.{parts_by_number}
-use Rattle.made_sheets.proofs.laws.parts_by_number.Goals as goal
-
-pub returns : goal.returns
-returns c = parts_by_number

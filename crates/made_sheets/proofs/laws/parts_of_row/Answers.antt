@@ -1,5 +1,0 @@
-use Rattle.made_sheets.proofs.Rows.{parts_of_row}
-use Rattle.made_sheets.proofs.laws.parts_of_row.Goals as goal
-
-pub returns : goal.returns
-returns c = parts_of_row

@@ -1,5 +1,0 @@
-use Rattle.made_sheets.proofs.RangeTexts.{ranges_are_read}
-use Rattle.made_sheets.proofs.laws.ranges_are_read.Goals as goal
-
-pub returns : goal.returns
-returns c = ranges_are_read

@@ -1,5 +1,0 @@
-use Rattle.made_sheets.proofs.Ranges.{ranges_of_all}
-use Rattle.made_sheets.proofs.laws.ranges_of_all.Goals as goal
-
-pub returns : goal.returns
-returns c = ranges_of_all

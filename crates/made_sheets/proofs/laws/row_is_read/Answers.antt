@@ -1,5 +1,0 @@
-use Rattle.made_sheets.proofs.Folded.{row_is_read}
-use Rattle.made_sheets.proofs.laws.row_is_read.Goals as goal
-
-pub returns : goal.returns
-returns c = row_is_read

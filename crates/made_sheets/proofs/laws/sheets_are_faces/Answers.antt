@@ -1,5 +1,0 @@
-use Rattle.made_sheets.proofs.Faces.{sheets_are_faces}
-use Rattle.made_sheets.proofs.laws.sheets_are_faces.Goals as goal
-
-pub returns : goal.returns
-returns c = sheets_are_faces

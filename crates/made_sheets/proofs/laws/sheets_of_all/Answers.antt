@@ -1,5 +1,0 @@
-use Rattle.made_sheets.proofs.Rows.{sheets_of_all}
-use Rattle.made_sheets.proofs.laws.sheets_of_all.Goals as goal
-
-pub returns : goal.returns
-returns c = sheets_of_all

@@ -1,5 +1,0 @@
-use Rattle.made_sheets.proofs.Rows.{signatures_of_all}
-use Rattle.made_sheets.proofs.laws.signatures_of_all.Goals as goal
-
-pub returns : goal.returns
-returns c = signatures_of_all
