@@ -8,7 +8,7 @@ use Rattle.gather_table.specs.History.{Entry, after, Fits, after_history, IsLega
 use Rattle.gather_table.specs.Rule.{WordsHold, IsKept, Sight}
 use Rattle.gather_table.specs.Steps.{Adds}
 use Rattle.gather_table.proofs.Histories.{after_history_push, IsLegal_push}
-use Rattle.histories.specs.Seats.{added}
+use Rattle.rules.specs.Seats.{added}
 
 -- the call e after the history log, by the seat id
 pub adds : (layout : Layout) (s : State Unit Sight) (log : List Entry) (id : ℕ) (v : Sight) (e : Entry) (words : List ℕ) (k : IsKept layout s log)
@@ -17,5 +17,5 @@ pub adds : (layout : Layout) (s : State Unit Sight) (log : List Entry) (id : ℕ
 adds layout s log id v e words k at pos fits holds =
     let legal = IsLegal_push layout log e k.legal fits in
     let now = after_history_push layout log e in
-    let step = Rattle.histories.proofs.Shares.adds IsLegal layout log s.views id v e k.seats at pos legal in
+    let step = Rattle.rules.proofs.SeatShares.adds IsLegal layout log s.views id v e k.seats at pos legal in
     (record { legal = legal; words = subst (λ t. WordsHold layout t words) (sym now) holds; seats = step.0 }, step.1)

@@ -14,7 +14,7 @@ use Rattle.gather_table.specs.Rule.{WordsHold, Kept}
 use Rattle.gather_table.specs.Table.{IsSound, slot_count, is_wide, group_count, start}
 use Rattle.gather_table.proofs.Lanes.{width_le, free_inside, facts}
 use Rattle.gather_table.proofs.Sheets.{few_groups}
-use Rattle.histories.specs.Seats.{opening_sight}
+use Rattle.rules.specs.Seats.{opening_sight}
 
 -- the first n sheets have their places: the next lane follows theirs, and the next wide sheet follows the wide ones
 -- among them
@@ -136,6 +136,6 @@ opens layout words h = (
   record {
     legal = tt;
     words = h;
-    seats = Rattle.histories.proofs.Shares.opens layout;
+    seats = Rattle.rules.proofs.SeatShares.opens layout;
   },
 )

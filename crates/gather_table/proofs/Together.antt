@@ -5,9 +5,9 @@ use mathlib.Core.Option.{some, some-ne-none, some-injective}
 use lib.ListN.{get_elem?}
 use Rattle.atomic_table.specs.Table.{State}
 use Rattle.rules.specs.Sheets.{Layout}
-use Rattle.histories.specs.Seats.{total}
-use Rattle.histories.specs.Own.{entries_at}
-use Rattle.histories.proofs.Together.{seats_stand_together}
+use Rattle.rules.specs.Seats.{total}
+use Rattle.rules.specs.SeatRules.{entries_at}
+use Rattle.rules.proofs.SeatsTogether.{seats_stand_together}
 use Rattle.gather_table.specs.History.{Entry, IsLegal, after_history}
 use Rattle.gather_table.specs.Laws.{completes, completings}
 use Rattle.gather_table.specs.Rule.{Sight, Kept, StandTogether, Tells, WordsHold}

@@ -3,7 +3,7 @@
 use Rattle.std.specs.Prelude.{List}
 use Rattle.atomic_table.specs.Seated.{TableId}
 use Rattle.rules.specs.Sheets.{Layout}
-use Rattle.histories.specs.Calls.{IsOf, opening, own_entries}
+use Rattle.rules.specs.SeatCalls.{IsOf, opening, own_entries}
 use Rattle.gather_table.specs.History.{Entry, IsLegal}
 
 -- a table and its layout
@@ -14,7 +14,7 @@ pub record TableView : Type 0 where
 -- a seat: its table, the layout (its key), the history that its caller has seen, the places in it of the caller's own
 -- calls, and its share
 abbrev pub SeatView : Type 0
-SeatView = Rattle.histories.specs.Calls.SeatView Layout Entry
+SeatView = Rattle.rules.specs.SeatCalls.SeatView Layout Entry
 
 abbrev pub IsSeatOf : TableView → SeatView → Type 0
 IsSeatOf t seat = IsOf t.table t.layout seat
@@ -26,7 +26,7 @@ opening_seat t = opening t.table t.layout
 -- what every seat keeps to: its front is legal, and its own places are places of the front, each once. If it has
 -- all shares, they are all places of it
 abbrev pub IsSeat : SeatView → Type 0
-IsSeat = Rattle.histories.specs.Calls.IsSeat IsLegal
+IsSeat = Rattle.rules.specs.SeatCalls.IsSeat IsLegal
 
 -- the seat's own calls, with their replies
 abbrev pub own_calls : SeatView → List Entry
@@ -35,20 +35,20 @@ own_calls seat = own_entries seat
 -- the call was made: the new front is the old one, then what others did in the meantime, then this call, whose
 -- place is one more own place. If the seat has all shares, there are no others
 abbrev pub Made : SeatView → Entry → SeatView → Type 0
-Made = Rattle.histories.specs.Calls.Made IsLegal
+Made = Rattle.rules.specs.SeatCalls.Made IsLegal
 
 -- these calls were made, one after the other, and no others
 abbrev pub Makes : SeatView → List Entry → SeatView → Type 0
-Makes = Rattle.histories.specs.Calls.Makes IsLegal
+Makes = Rattle.rules.specs.SeatCalls.Makes IsLegal
 
 -- two seats: the front of each is a beginning of the longer one, and no place is an own place of both
 abbrev pub Agree : SeatView → SeatView → Type 0
-Agree = Rattle.histories.specs.Calls.Agree
+Agree = Rattle.rules.specs.SeatCalls.Agree
 
 -- both fronts become the longer one
 abbrev pub Met : SeatView → SeatView → SeatView → SeatView → Type 0
-Met = Rattle.histories.specs.Calls.Met IsLegal
+Met = Rattle.rules.specs.SeatCalls.Met IsLegal
 
 -- one seat with the longer front, the own places of both, none of which is shared, and both shares
 abbrev pub Joined : SeatView → SeatView → SeatView → Type 0
-Joined = Rattle.histories.specs.Calls.Joined IsLegal
+Joined = Rattle.rules.specs.SeatCalls.Joined IsLegal

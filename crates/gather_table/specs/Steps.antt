@@ -7,11 +7,11 @@ use Rattle.gather_table.specs.Lanes.{lane, in_lane}
 use Rattle.gather_table.specs.Rule.{Sight}
 use Rattle.gather_table.specs.Table.{slot_count, group_count, group_size, publish_reply, group_reply, closing_by}
 use Rattle.gather_table.specs.Words.{index_in, reply_in}
-use Rattle.histories.specs.Seats.{Learned}
+use Rattle.rules.specs.Seats.{Learned}
 
 -- the call was made, with its reply
 abbrev pub Adds : Sight → Entry → Sight → Type 0
-Adds = Rattle.histories.specs.Seats.Adds IsLegal
+Adds = Rattle.rules.specs.Seats.Adds IsLegal
 
 -- a publish was made, and the word that it found gives its reply
 abbrev pub publishes : Step Unit → Me Unit Sight → ℕ → Me Unit Sight → Type 0

@@ -23,7 +23,7 @@ pub struct TableHistory;
 
 impl<'s> TableRule<(), SeatKnowledge, Plan<'s>> for TableHistory {
     ghost use Rattle.rules.specs.Sheets.{layout};
-    ghost use Rattle.histories.specs.Seats.{opening_sight};
+    ghost use Rattle.rules.specs.Seats.{opening_sight};
     ghost use Rattle.gather_table.specs.Rule.{Kept};
 
     ghost holds = { λ plan. Kept (layout plan) };

@@ -16,7 +16,7 @@ pub struct Seat {
 
 impl Model for Seat {
     ghost use Rattle.std.specs.Prelude.{◌≡◌, []};
-    ghost use Rattle.histories.specs.Calls.{seat_view};
+    ghost use Rattle.rules.specs.SeatCalls.{seat_view};
     ghost use Rattle.gather_table.specs.Rule.{StandsAlone};
     ghost use Rattle.gather_table.specs.Shared.{SeatView};
 

@@ -50,7 +50,7 @@ impl<E: Tells> Play<(), SeatKnowledge> for Calls<E> {
 pub(crate) struct JoinSeats;
 
 impl Join<SeatKnowledge> for JoinSeats {
-    ghost use Rattle.histories.specs.Seats.{absorbed};
+    ghost use Rattle.rules.specs.Seats.{absorbed};
     ghost use Rattle.gather_table.specs.Rule.{spent};
 
     ghost both = { absorbed };
@@ -95,7 +95,7 @@ pub(crate) struct Parted<P: Parts> {
 }
 
 impl<P: Parts> Split<SeatKnowledge> for Parted<P> {
-    ghost use Rattle.histories.specs.Seats.{keeps_back, given};
+    ghost use Rattle.rules.specs.Seats.{keeps_back, given};
 
     ghost left = { keeps_back P.first P.share };
 

@@ -1,9 +1,9 @@
 -- The moves of a pass.
 use Rattle.std.proofs.Common.{◌≡◌, ℕ, ◌+◌, List, [], ◌∷◌, ◌++◌, refl, ap, arith}
-use Rattle.histories.specs.Seats.{total, times}
-use Rattle.histories.proofs.Calls.{calls_stand, own_entries_are_kept, whole_seat_made_all}
-use Rattle.histories.proofs.Courses.{courses_stand}
-use Rattle.histories.proofs.Totals.{total-append}
+use Rattle.rules.specs.Seats.{total, times}
+use Rattle.rules.proofs.SeatCalls.{calls_stand, own_entries_are_kept, whole_seat_made_all}
+use Rattle.rules.proofs.SeatCourses.{courses_stand}
+use Rattle.rules.proofs.SeatTotals.{total-append}
 use Rattle.handover.specs.Queue.{Move, Put, Take, content, IsQueueHistory, sheets_put, sheets_taken}
 use Rattle.handover.specs.Passes.{PassView, Makes, seat_of, own_moves}
 use Rattle.handover.specs.Laws.{MovesStandInOneHistory, SplitMovesStandInOneHistory, OwnMovesAreKept, WholePassMadeAll, WholePassLosesNone}
@@ -20,7 +20,7 @@ own_moves_are_kept = own_entries_are_kept IsQueueHistory
 
 -- moves of a pass are moves of the seat that it is
 pub seats_make : (old new : PassView) (moves : List Move) → Makes old moves new
-    → Rattle.histories.specs.Calls.Makes IsQueueHistory (seat_of old) moves (seat_of new)
+    → Rattle.rules.specs.SeatCalls.Makes IsQueueHistory (seat_of old) moves (seat_of new)
 seats_make old new [] made = ap seat_of made
 seats_make old new (m ∷ moves) made = (seat_of made.0, made.1.0, seats_make made.0 new moves made.2)
 

@@ -3,8 +3,8 @@ use Rattle.std.proofs.Common.{◌≡◌, ◌≢◌, ⊎_elim, ℕ, zero, suc, �
 use mathlib.Core.Option.{some, some-injective, some-ne-none}
 use lib.ListN.{get_elem?}
 use Rattle.atomic_table.proofs.Lists.{at_set, at_snoc}
-use Rattle.histories.specs.Seats.{total, share_of}
-use Rattle.histories.proofs.Totals.{total_zero, total_alone}
+use Rattle.rules.specs.Seats.{total, share_of}
+use Rattle.rules.proofs.SeatTotals.{total_zero, total_alone}
 use Rattle.handover.specs.Queue.{Move, Put, Take, sheets_put}
 use Rattle.handover.specs.Passes.{PassView, Makes, puts_in, room_after, room_kept, room_given, both_rooms}
 use Rattle.handover.specs.Laws.{RoomIsUsedUp}

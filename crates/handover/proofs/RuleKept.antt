@@ -4,10 +4,10 @@ use mathlib.Core.Option.{some}
 use lib.ListN.{get_elem?}
 use Rattle.crossbeam_queue.specs.Fifo.{Pushes, Pops, Forks, Merges}
 use Rattle.atomic_table.proofs.Lists.{at_set, set_else}
-use Rattle.histories.specs.Seats.{AreSeats, whole_share, opening_sight, keeps_back, given, absorbed, added, total}
-use Rattle.histories.specs.Seats as sights
-use Rattle.histories.proofs.Shares.{adds, splits, absorbs, opens, whole_front, rekeys}
-use Rattle.histories.proofs.Totals.{total_set, total-append, total_has}
+use Rattle.rules.specs.Seats.{AreSeats, whole_share, opening_sight, keeps_back, given, absorbed, added, total}
+use Rattle.rules.specs.Seats as sights
+use Rattle.rules.proofs.SeatShares.{adds, splits, absorbs, opens, whole_front, rekeys}
+use Rattle.rules.proofs.SeatTotals.{total_set, total-append, total_has}
 use Rattle.handover.specs.Queue.{Move, Put, Take, content, after, Fits, IsQueueHistory}
 use Rattle.handover.specs.Passes.{puts_in, room_after}
 use Rattle.handover.specs.Rule.{Sight, SeatSight, Kept, AreRooms, IsRoomed, opening, spent, seats_of, room_of}
@@ -107,7 +107,7 @@ sees port v items views h at = record {
 
 pub learns : (port : ℕ) (v : Sight) → Rattle.crossbeam_queue.specs.Fifo.Learns Kept port v (Learns v)
 learns port v items views h at = record {
-  seat = Rattle.histories.proofs.Shares.learns h.0 h.1 (seats_of views) port v.seat h.2.seats (seat_at views port v at);
+  seat = Rattle.rules.proofs.SeatShares.learns h.0 h.1 (seats_of views) port v.seat h.2.seats (seat_at views port v at);
   few = let mine = total_has room_of views port v at in let enough = h.2.rooms.enough in let small = h.2.small in omega (arith, mine, enough, small);
 }
 

@@ -2,7 +2,7 @@
 use Rattle.std.proofs.Common.{◌≡◌, inl, inr, ℕ, zero, suc, ◌+◌, Option, Some, None, refl, sym, ap, ◌∙◌, subst, arith}
 use Rattle.std.specs.Prelude.{IfSome, MatchOption}
 use Rattle.atomic_table.specs.Seated.{TableId}
-use Rattle.histories.specs.Seats.{Learned, whole_share}
+use Rattle.rules.specs.Seats.{Learned, whole_share}
 use Rattle.handover.specs.Queue.{Move, Take, IsQueueHistory}
 use Rattle.handover.specs.Passes.{PassView, seat_of, puts_in, Made, Joined, opening_pass, room_after, both_rooms}
 use Rattle.handover.specs.Rule.{Sight, StandsAlone, pass_view}
@@ -10,18 +10,18 @@ use Rattle.handover.specs.Steps.{Adds, both_of, opened}
 use Rattle.handover.proofs.RuleKept.{MayTry}
 
 abbrev pub Held : Sight → Type 0
-Held v = Rattle.histories.proofs.Views.Held IsQueueHistory v.seat
+Held v = Rattle.rules.proofs.SeatViews.Held IsQueueHistory v.seat
 
 -- a move
 pub stands_after : (v w : Sight) (share : ℕ) (room left : Option ℕ) (m : Move) → Adds v m w → left ≡ room_after m room → StandsAlone v share room → StandsAlone w share left
 stands_after v w share room left m is after s = record {
-  seat = Rattle.histories.proofs.Views.stands_after IsQueueHistory v.seat w.seat share m is.seat s.seat;
+  seat = Rattle.rules.proofs.SeatViews.stands_after IsQueueHistory v.seat w.seat share m is.seat s.seat;
   room = after ∙ ap (room_after m) s.room ∙ sym is.room;
 }
 
 pub made : (t t' : TableId) (v w : Sight) (m : Move) (old : PassView) → Adds v m w → Held v → t' ≡ t → pass_view t v ≡ old → Made old m (pass_view t' w)
 made t t' v w m old is h same is_old = (
-  Rattle.histories.proofs.Views.made IsQueueHistory t t' v.seat w.seat m m (seat_of old) is.seat h same refl (ap seat_of is_old),
+  Rattle.rules.proofs.SeatViews.made IsQueueHistory t t' v.seat w.seat m m (seat_of old) is.seat h same refl (ap seat_of is_old),
   is.room ∙ ap (λ (p : PassView). room_after m p.room) is_old,
 )
 
@@ -53,12 +53,12 @@ view_opens t t' v key key' room same is same_key = (λ i. pass_view (same i) (is
 pub stands_joined : (v w u : Sight) (share part sum : ℕ) (one two all : Option ℕ) → u ≡ both_of v w → Learned u.seat → w.seat.key ≡ v.seat.key → sum ≡ share + part → all ≡ both_rooms one two
     → StandsAlone v share one → StandsAlone w part two → StandsAlone u sum all
 stands_joined v w u share part sum one two all is l key is_sum is_all sv sw = record {
-  seat = Rattle.histories.proofs.Views.stands_joined IsQueueHistory v.seat w.seat u.seat share part sum (ap (λ (z : Sight). z.seat) is) l key is_sum sv.seat sw.seat;
+  seat = Rattle.rules.proofs.SeatViews.stands_joined IsQueueHistory v.seat w.seat u.seat share part sum (ap (λ (z : Sight). z.seat) is) l key is_sum sv.seat sw.seat;
   room = is_all ∙ (λ i. both_rooms (sv.room i) (sw.room i)) ∙ sym (ap (λ (z : Sight). z.room) is);
 }
 
 pub joined : (t tw t' : TableId) (v w u : Sight) (a b : PassView) → pass_view t v ≡ a → pass_view tw w ≡ b → u ≡ both_of v w → Learned u.seat → t' ≡ t → w.seat.key ≡ v.seat.key → Held v → Held w → Joined a b (pass_view t' u)
 joined t tw t' v w u a b is_a is_b is l same key hv hw = (
-  Rattle.histories.proofs.Views.joined IsQueueHistory t tw t' v.seat w.seat u.seat (seat_of a) (seat_of b) (ap seat_of is_a) (ap seat_of is_b) (ap (λ (z : Sight). z.seat) is) l same key hv hw,
+  Rattle.rules.proofs.SeatViews.joined IsQueueHistory t tw t' v.seat w.seat u.seat (seat_of a) (seat_of b) (ap seat_of is_a) (ap seat_of is_b) (ap (λ (z : Sight). z.seat) is) l same key hv hw,
   ap (λ (z : Sight). z.room) is ∙ (λ i. both_rooms (ap (λ (p : PassView). p.room) is_a i) (ap (λ (p : PassView). p.room) is_b i)),
 )

@@ -1,8 +1,8 @@
 -- Laws of every history of the queue, and of every pass by the contracts of its calls. Laws of histories treat a
 -- pass as the seat that it is (`seat_of`).
 use Rattle.std.specs.Prelude.{◌≡◌, ℕ, ◌+◌, ◌-◌, ◌≤◌, List, ◌++◌, length}
-use Rattle.histories.specs.Seats.{whole_share, times}
-use Rattle.histories.specs.Laws.{CallsStandInOneHistory, CoursesStandInOneHistory, OwnEntriesAreKept, WholeSeatMadeAll}
+use Rattle.rules.specs.Seats.{whole_share, times}
+use Rattle.rules.specs.SeatLaws.{CallsStandInOneHistory, CoursesStandInOneHistory, OwnEntriesAreKept, WholeSeatMadeAll}
 use Rattle.handover.specs.Queue.{Move, content, IsQueueHistory, sheets_put, sheets_taken}
 use Rattle.handover.specs.Passes.{PassView, IsPass, Joined, Makes, own_moves, puts_in}
 

@@ -1,9 +1,9 @@
 -- What clauses see of the ready queue and of its passes. A pass is a seat of the queue's history, with room. What
--- holds of the seats of any history is in the crate histories.
+-- holds of the seats of any history is in `rules` (`Seats`).
 use Rattle.std.specs.Prelude.{◌≡◌, ℕ, ◌+◌, ◌-◌, List, [], ◌∷◌, Option, Some, None}
 use Rattle.atomic_table.specs.Seated.{TableId}
-use Rattle.histories.specs.Seats.{whole_share}
-use Rattle.histories.specs.Calls.{SeatView, IsOf, IsSeat, own_entries}
+use Rattle.rules.specs.Seats.{whole_share}
+use Rattle.rules.specs.SeatCalls.{SeatView, IsOf, IsSeat, own_entries}
 use Rattle.handover.specs.Queue.{Move, Put, Take, IsQueueHistory}
 
 -- a queue and its capacity in sheets
@@ -77,7 +77,7 @@ both_rooms (Some n) (Some m) = Some (n + m)
 -- place is one more own place. If the pass has all shares, there are no others. A put by right lowers the room
 abbrev pub Made : PassView → Move → PassView → Type 0
 Made old m new =
-    Rattle.histories.specs.Calls.Made IsQueueHistory (seat_of old) m (seat_of new)
+    Rattle.rules.specs.SeatCalls.Made IsQueueHistory (seat_of old) m (seat_of new)
     × (new.room ≡ room_after m old.room)
 
 -- these moves were made, one after the other, and no others
@@ -88,5 +88,5 @@ Makes old (m ∷ ms) new = (mid : PassView) × Made old m mid × Makes mid ms ne
 -- one pass with the longer front, the own places of both, none of which is shared, both shares and the room of both
 abbrev pub Joined : PassView → PassView → PassView → Type 0
 Joined a b new =
-    Rattle.histories.specs.Calls.Joined IsQueueHistory (seat_of a) (seat_of b) (seat_of new)
+    Rattle.rules.specs.SeatCalls.Joined IsQueueHistory (seat_of a) (seat_of b) (seat_of new)
     × (new.room ≡ both_rooms a.room b.room)

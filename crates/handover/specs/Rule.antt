@@ -2,16 +2,16 @@
 use Rattle.std.specs.Prelude.{◌≡◌, ℕ, ◌+◌, ◌<◌, ◌≤◌, Bool, List, [], ◌∷◌, length, Option, None, is_some}
 use mathlib.Core.Option.{some}
 use lib.ListN.{get_elem?}
-use Rattle.histories.specs.Seats.{AreSeats, total}
-use Rattle.histories.specs.Laws.{StandTogether}
-use Rattle.histories.specs.Seats as sights
+use Rattle.rules.specs.Seats.{AreSeats, total}
+use Rattle.rules.specs.SeatLaws.{StandTogether}
+use Rattle.rules.specs.Seats as sights
 use Rattle.handover.specs.Queue.{Move, content, IsQueueHistory}
 use Rattle.atomic_table.specs.Seated.{TableId}
 use Rattle.handover.specs.Passes.{PassView, puts_in}
 
 -- what a pass knows as a seat of the queue's history, whose capacity is the key
 abbrev pub SeatSight : Type 0
-SeatSight = Rattle.histories.specs.Seats.Sight ℕ Move
+SeatSight = Rattle.rules.specs.Seats.Sight ℕ Move
 
 -- what a pass knows: its seat, and its room
 pub record Sight : Type 0 where
@@ -47,7 +47,7 @@ pass_view table v = record {
 
 -- a pass between two calls: it has this share and this room, and keeps to what every pass keeps to
 pub record StandsAlone (v : Sight) (its_share : ℕ) (its_room : Option ℕ) : Type 0 where
-  pub seat : Rattle.histories.specs.Own.StandsAlone IsQueueHistory v.seat its_share
+  pub seat : Rattle.rules.specs.SeatRules.StandsAlone IsQueueHistory v.seat its_share
   pub room : its_room ≡ v.room
 
 -- a pass has room if puts are made by right, and otherwise none; one without a share can make none by right

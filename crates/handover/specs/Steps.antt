@@ -1,14 +1,14 @@
 -- What each step reveals.
 use Rattle.std.specs.Prelude.{◌≡◌, ℕ, ◌<◌, ◌≤◌, List, [], length, Option, None}
-use Rattle.histories.specs.Seats.{Learned, whole_share, keeps_back, given, absorbed, opening_sight}
-use Rattle.histories.specs.Seats as sights
+use Rattle.rules.specs.Seats.{Learned, whole_share, keeps_back, given, absorbed, opening_sight}
+use Rattle.rules.specs.Seats as sights
 use Rattle.handover.specs.Queue.{Move, content, IsQueueHistory}
 use Rattle.handover.specs.Passes.{room_after, room_kept, room_given, both_rooms}
 use Rattle.handover.specs.Rule.{Sight, room_of}
 
 -- the move was made
 pub record Adds (v : Sight) (m : Move) (w : Sight) : Type 0 where
-  pub seat : Rattle.histories.specs.Seats.Adds IsQueueHistory v.seat m w.seat
+  pub seat : Rattle.rules.specs.Seats.Adds IsQueueHistory v.seat m w.seat
   pub room : w.room ≡ room_after m v.room
 
 -- a step that changes no pass. The front of a pass that has all shares is the whole history, and its content is

@@ -1,7 +1,7 @@
 //! The queue of sheets that are ready.
 ghost use Rattle.std.specs.Prelude.{◌≡◌, ◌<◌, ◌≤◌, ◌-◌, [], length, OnOk, OnErr, IfOk, IfErr, IfSome, IfNone};
 ghost use Rattle.crossbeam_queue.specs.Passes.{view};
-ghost use Rattle.histories.specs.Seats.{whole_share};
+ghost use Rattle.rules.specs.Seats.{whole_share};
 ghost use Rattle.handover.specs.Queue.{Put, Take, content};
 ghost use Rattle.handover.specs.Passes.{IsPass, IsPassOf, Made, Joined, opening_pass, opening_pass_by_right};
 ghost use Rattle.handover.specs.Passes.{puts_in, room_kept, room_given};

@@ -1,6 +1,6 @@
 //! The room of a pass: how many puts it may make that won't be refused. None if puts aren't made by right.
 ghost use Rattle.std.specs.Prelude.{◌≡◌, ◌≢◌, ℕ, ◌+◌, ◌≤◌, Some, IsTrue, false};
-ghost use Rattle.histories.specs.Seats.{whole_share};
+ghost use Rattle.rules.specs.Seats.{whole_share};
 ghost use Rattle.handover.specs.Queue.{Put};
 ghost use Rattle.handover.specs.Passes.{puts_in, room_after, room_kept, room_given, both_rooms};
 

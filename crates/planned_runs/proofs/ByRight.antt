@@ -5,9 +5,9 @@ use mathlib.Core.Logic.{dite}
 use native.Mathlib.Decide.{ℕ_discrete}
 use Rattle.std.proofs.lemmas.List.{length-map}
 use Rattle.rules.specs.Sheets.{Plan, Layout, layout}
-use Rattle.histories.specs.Seats.{total, times}
-use Rattle.histories.specs.Own.{entries_at}
-use Rattle.histories.proofs.Totals.{times_same, times_else}
+use Rattle.rules.specs.Seats.{total, times}
+use Rattle.rules.specs.SeatRules.{entries_at}
+use Rattle.rules.proofs.SeatTotals.{times_same, times_else}
 use Rattle.sheet_plan.specs.Places.{places_of}
 use Rattle.gather_table.specs.declared.answers.Reply.{Reply}
 use Rattle.gather_table.specs.declared.answers.Reply.TheVariants.{Fresh, Repeated, Completing, Fills}

@@ -4,7 +4,7 @@ use Rattle.std.specs.Prelude.{Err, IfSome, IsNone, IsSome, IsTrue}
 use Rattle.std.specs.Io.KnownBytes.{Appends}
 use Rattle.std.proofs.KnownBytes.{Appends-nil}
 use Rattle.rules.specs.Sheets.{Layout}
-use Rattle.histories.specs.Seats.{whole_share, times}
+use Rattle.rules.specs.Seats.{whole_share, times}
 use Rattle.gather_table.specs.History.{Entry}
 use Rattle.gather_table.specs.Shared.{TableView, SeatView, IsSeat, own_calls}
 use Rattle.handover.specs.Queue.{Move}

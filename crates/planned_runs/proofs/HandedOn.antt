@@ -6,8 +6,8 @@ use mathlib.Core.Logic.{dite}
 use native.Mathlib.Decide.{ℕ_discrete}
 use Rattle.std.proofs.lemmas.Bool.{cases_lt}
 use Rattle.rules.specs.Sheets.{Layout}
-use Rattle.histories.specs.Seats.{whole_share, total, times}
-use Rattle.histories.proofs.Totals.{times_same, times_else}
+use Rattle.rules.specs.Seats.{whole_share, total, times}
+use Rattle.rules.proofs.SeatTotals.{times_same, times_else}
 use Rattle.sheet_plan.specs.Places.{born_complete}
 use Rattle.sheet_plan.specs.Places as places
 use Rattle.gather_table.specs.History.{Entry, IsLegal, IsComplete}

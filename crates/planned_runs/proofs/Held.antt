@@ -3,9 +3,9 @@ use Rattle.std.proofs.Common.{◌≡◌, ⊎_elim, ℕ, ◌+◌, ◌≤◌, if�
 use Rattle.std.proofs.Common.{arith}
 use Rattle.std.specs.Prelude.{Result, Ok, OnOk}
 use Rattle.rules.specs.Sheets.{Layout}
-use Rattle.histories.specs.Seats.{total, times}
-use Rattle.histories.specs.Own.{entries_at}
-use Rattle.histories.proofs.Totals.{total-append}
+use Rattle.rules.specs.Seats.{total, times}
+use Rattle.rules.specs.SeatRules.{entries_at}
+use Rattle.rules.proofs.SeatTotals.{total-append}
 use Rattle.gather_table.specs.History.{Entry}
 use Rattle.gather_table.specs.Laws.{fills, closes, completes, completings, fillings, closings}
 use Rattle.gather_table.specs.Shared.{TableView, SeatView, IsSeat, IsSeatOf, own_calls, opening_seat}
@@ -32,7 +32,7 @@ at_ok r P is holds = subst (λ x. OnOk x P) is holds
 
 -- a pass as the seat that it is
 abbrev PassSeat : Type 0
-PassSeat = Rattle.histories.specs.Calls.SeatView ℕ Move
+PassSeat = Rattle.rules.specs.SeatCalls.SeatView ℕ Move
 
 -- a seat of this table, and a pass of this queue, with this share
 pub record IsSeatWith (t : TableView) (n : ℕ) (one : SeatView) : Type 0 where

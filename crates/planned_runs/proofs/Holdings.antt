@@ -2,8 +2,8 @@
 use Rattle.std.proofs.Common.{◌≡◌, ℕ, suc, ◌+◌, ◌<◌, [], Option, Some, None, if◌then◌else◌, refl, sym, ap, ◌∙◌, subst, true≢false, arith}
 use Rattle.std.specs.Option.{option_or}
 use Rattle.std.specs.Prelude.{IfSome, IsNone, IsTrue}
-use Rattle.histories.specs.Own.{entries_at}
-use Rattle.histories.specs.Seats.{whole_share}
+use Rattle.rules.specs.SeatRules.{entries_at}
+use Rattle.rules.specs.Seats.{whole_share}
 use Rattle.gather_table.specs.Laws.{completes}
 use Rattle.gather_table.specs.Shared.{SeatView}
 use Rattle.handover.specs.Passes.{PassView}

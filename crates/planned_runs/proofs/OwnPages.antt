@@ -3,7 +3,7 @@ use Rattle.std.proofs.Common.{◌≡◌, ◌≢◌, ◌∙◌, ⊎_elim, ℕ, ze
 use Rattle.std.proofs.lemmas.Bool.{ne_eqb, cases_lt}
 use Rattle.std.proofs.lemmas.Nat.{div-add-mod', mod_below, mod-mul-add, same_from_place}
 use Rattle.rules.specs.Sheets.{Plan, Layout, layout}
-use Rattle.histories.specs.Seats.{total}
+use Rattle.rules.specs.Seats.{total}
 use Rattle.sheet_plan.specs.Places.{places_of}
 use Rattle.run_steps.specs.Duty.{Duty, duties, is_place, most_puts, share_below}
 use Rattle.planned_runs.proofs.ByRight.{next_share, sheets_same}

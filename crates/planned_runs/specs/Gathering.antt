@@ -3,7 +3,7 @@ use Rattle.std.specs.Prelude.{◌≡◌, ℕ, ◌≤◌, [], length, Option, Non
 use Rattle.std.specs.Prelude.{IsSomeAnd, IsNone, ⊤}
 use Rattle.std.specs.Io.KnownBytes.{Appends}
 use Rattle.rules.specs.Sheets.{layout}
-use Rattle.histories.specs.Seats.{whole_share}
+use Rattle.rules.specs.Seats.{whole_share}
 use Rattle.sheet_plan.specs.Places.{born_complete}
 use Rattle.gather_table.specs.Shared.{TableView, SeatView, IsSeat, IsSeatOf}
 use Rattle.handover.specs.Passes.{QueueView, PassView, IsPass, IsPassOf}

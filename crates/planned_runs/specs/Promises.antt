@@ -1,6 +1,6 @@
 -- What each worker of a run promises, and what is known of all that are joined.
 use Rattle.std.specs.Prelude.{◌≡◌, ℕ, ◌+◌, ◌≤◌, [], IfSome, IsNone, IsTrue}
-use Rattle.histories.specs.Seats.{times}
+use Rattle.rules.specs.Seats.{times}
 use Rattle.sheet_plan.specs.Places.{born_complete}
 use Rattle.gather_table.specs.Shared.{own_calls}
 use Rattle.handover.specs.Passes.{puts_in}

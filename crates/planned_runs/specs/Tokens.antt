@@ -1,6 +1,6 @@
 -- What a worker of a run holds: a seat of the table and a pass of the queue.
 use Rattle.std.specs.Prelude.{◌≡◌, ℕ, zero, suc, ◌+◌, ◌≤◌, []}
-use Rattle.histories.specs.Seats.{total, times}
+use Rattle.rules.specs.Seats.{total, times}
 use Rattle.gather_table.specs.History.{Entry}
 use Rattle.gather_table.specs.Laws.{completings}
 use Rattle.gather_table.specs.Shared.{TableView, IsSeat, IsSeatOf, own_calls}

@@ -5,7 +5,7 @@ ghost use Rattle.std.specs.Io.KnownBytes.{Appends};
 ghost use Rattle.crossbeam_channel.specs.Claims.{IsSeatAt};
 ghost use Rattle.crossbeam_channel.specs.Ends.{receives_on, sends_on};
 ghost use Rattle.rules.specs.Sheets.{layout};
-ghost use Rattle.histories.specs.Seats.{whole_share};
+ghost use Rattle.rules.specs.Seats.{whole_share};
 ghost use Rattle.handover.specs.Passes.{IsPassOf};
 ghost use Rattle.handover.specs.Shelves.{IsOn};
 ghost use Rattle.planned_runs.specs.declared.outcome.RunError.TheVariants.{NoMemory};

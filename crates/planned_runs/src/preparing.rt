@@ -1,6 +1,6 @@
 //! What a preparer does.
 ghost use Rattle.std.specs.Prelude.{◌≡◌, ℕ, ◌+◌, ◌<◌, ◌%◌, ◌==◌, if◌then◌else◌, IfOk, OnOk, IfSome, IsNone};
-ghost use Rattle.histories.specs.Seats.{total};
+ghost use Rattle.rules.specs.Seats.{total};
 ghost use Rattle.handover.specs.Shelves.{IsOn};
 ghost use Rattle.run_steps.specs.Duty.{Duty, duties};
 ghost use Rattle.planned_runs.specs.Tokens.{AreTokens, AreInOrder, done};

@@ -4,7 +4,7 @@ use Rattle.std.specs.Prelude.{Option, Some, None, slice_get, slice_index_or}
 use mathlib.Core.Logic.{dite}
 use native.Mathlib.Decide.{ℕ_discrete}
 use Rattle.rules.specs.Sheets.{Plan, Layout, layout}
-use Rattle.histories.specs.Seats.{whole_share, total}
+use Rattle.rules.specs.Seats.{whole_share, total}
 use Rattle.sheet_plan.specs.Places.{has_page, places_in, places_from, places_of}
 use Rattle.sheet_plan.specs.Plans.{IsSound}
 use Rattle.std.proofs.lemmas.List.{length-map}

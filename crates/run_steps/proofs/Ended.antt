@@ -1,7 +1,7 @@
 -- What a gathering leaves.
 use Rattle.std.proofs.Common.{◌≡◌, ◌+◌, ◌++◌, ap, arith}
-use Rattle.histories.specs.Seats.{times}
-use Rattle.histories.proofs.Totals.{total-append}
+use Rattle.rules.specs.Seats.{times}
+use Rattle.rules.proofs.SeatTotals.{total-append}
 use Rattle.handover.specs.Queue.{content, sheets_put, sheets_taken}
 use Rattle.gather_table.proofs.Calls.{look_ups_find}
 use Rattle.run_steps.specs.Gathered.{GatheredAreFound, TakenAtMostOnce}

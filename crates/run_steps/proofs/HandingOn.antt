@@ -3,7 +3,7 @@ use Rattle.std.proofs.Common.{◌≡◌, inl, inr, ℕ, suc, ◌+◌, ◌<◌, B
 use Rattle.std.proofs.Common.{if◌then◌else◌, refl, sym, ap, ◌∙◌, subst, arith}
 use Rattle.std.specs.Prelude.{filter, Option, Result, Ok, Err, OnOk, OnErr, IfErr}
 use Rattle.std.proofs.Math.Seq.{take-suc}
-use Rattle.histories.specs.Seats.{whole_share}
+use Rattle.rules.specs.Seats.{whole_share}
 use Rattle.handover.specs.declared.ready.Full.{Full}
 use Rattle.handover.specs.Queue.{Put, content}
 use Rattle.gather_table.specs.declared.answers.Reply.{Reply}

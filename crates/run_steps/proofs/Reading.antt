@@ -1,8 +1,8 @@
 -- What only reads adds nothing.
 use Rattle.std.proofs.Common.{◌≡◌, ℕ, List, [], ◌∷◌, ◌++◌, refl, subst, arith}
 use Rattle.rules.specs.Sheets.{Layout}
-use Rattle.histories.specs.Seats.{total}
-use Rattle.histories.proofs.Totals.{total-append}
+use Rattle.rules.specs.Seats.{total}
+use Rattle.rules.proofs.SeatTotals.{total-append}
 use Rattle.gather_table.specs.History.{Look, IsComplete}
 use Rattle.std.specs.Prelude.{if◌then◌else◌}
 use Rattle.gather_table.specs.Laws.{fills, closes, fillings, closings}

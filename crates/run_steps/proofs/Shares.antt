@@ -3,8 +3,8 @@ use Rattle.std.proofs.Common.{◌≡◌, ℕ, zero, suc, ◌+◌, ◌<◌, ◌�
 use Rattle.std.proofs.Common.{[], ◌∷◌, ◌++◌, length, map, arith, refl}
 use Rattle.std.specs.Prelude.{filter}
 use Rattle.rules.specs.Sheets.{Layout}
-use Rattle.histories.specs.Seats.{total, times}
-use Rattle.histories.proofs.Totals.{total-append}
+use Rattle.rules.specs.Seats.{total, times}
+use Rattle.rules.proofs.SeatTotals.{total-append}
 use Rattle.sheet_plan.specs.Places.{places_of}
 use Rattle.gather_table.specs.declared.answers.Reply.{Reply}
 use Rattle.gather_table.specs.declared.answers.Reply.TheVariants.{Fresh, Repeated, Completing, Fills}

@@ -1,7 +1,7 @@
 -- What preparers owe, weighed: each page is published once, and each place of it is marked once.
 use Rattle.std.specs.Prelude.{◌≡◌, ℕ, zero, suc, ◌+◌, ◌<◌, ◌%◌, ◌==◌, if◌then◌else◌, List, ◌∷◌, length, map, min}
 use Rattle.rules.specs.Sheets.{Layout}
-use Rattle.histories.specs.Seats.{total}
+use Rattle.rules.specs.Seats.{total}
 use Rattle.sheet_plan.specs.Places.{places_of, born_complete}
 use Rattle.gather_table.specs.declared.answers.Published.{Published}
 use Rattle.gather_table.specs.declared.answers.Reply.{Reply}

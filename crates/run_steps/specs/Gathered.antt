@@ -3,7 +3,7 @@ use Rattle.std.specs.Prelude.{◌≡◌, ℕ, ◌+◌, ◌<◌, ◌≤◌, ◌==
 use Rattle.std.specs.Prelude.{Option, Some, slice_get}
 use mathlib.Core.List.{IsPrefix}
 use Rattle.rules.specs.Sheets.{Layout}
-use Rattle.histories.specs.Seats.{total, times, whole_share}
+use Rattle.rules.specs.Seats.{total, times, whole_share}
 use Rattle.gather_table.specs.Table.{slots, is_blank, is_full, HasGroup}
 use Rattle.gather_table.specs.History.{Entry, PageAt, IsLegal, IsComplete}
 use Rattle.gather_table.specs.Laws.{completings, closings}

@@ -1,6 +1,6 @@
 -- Calls that change nothing of the table.
 use Rattle.std.specs.Prelude.{◌≡◌, ℕ, List}
-use Rattle.histories.specs.Seats.{total}
+use Rattle.rules.specs.Seats.{total}
 use Rattle.gather_table.specs.History.{Entry}
 use Rattle.gather_table.specs.Laws.{fillings, closings}
 use Rattle.gather_table.specs.Shared.{SeatView, Makes}

@@ -1,4 +1,4 @@
-use Rattle.histories.proofs.Together.{seats_stand_together}
+use Rattle.rules.proofs.SeatsTogether.{seats_stand_together}
 use Rattle.handover.specs.Queue.{IsQueueHistory}
 use Rattle.handover.specs.Rule.{seats_of}
 use Rattle.handover.proofs.Rooms.{seat_at}

@@ -1,5 +1,5 @@
 use Rattle.std.proofs.Common.{arith, ◌≡◌, ◌≤◌, ◌∙◌, ℕ, List, length, sym, subst, ap}
-use Rattle.histories.specs.Seats.{whole_share, times}
+use Rattle.rules.specs.Seats.{whole_share, times}
 use Rattle.rules.specs.Sheets.{layout}
 use Rattle.sheet_plan.specs.Places.{born_complete}
 use Rattle.planned_runs.specs.Tokens as tokens

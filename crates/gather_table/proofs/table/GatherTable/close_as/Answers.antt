@@ -6,7 +6,7 @@ use Rattle.gather_table.specs.Homes.{IsHome}
 use Rattle.gather_table.specs.History.{after_history, IsLegal}
 use Rattle.gather_table.specs.Steps.{close_of}
 use Rattle.gather_table.proofs.Sheets.{close_moves, or_at, close_told, few_groups, wide_room}
-use Rattle.histories.proofs.Views.{made, stands_after}
+use Rattle.rules.proofs.SeatViews.{made, stands_after}
 use Rattle.gather_table.proofs.table.GatherTable.close_as.Goals as goal
 
 pub fetch_or-found-requires : goal.fetch_or-found-requires

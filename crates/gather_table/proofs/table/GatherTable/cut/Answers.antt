@@ -1,6 +1,6 @@
 use Rattle.std.proofs.Common.{refl, arith, sym, ap, ◌∙◌, []}
-use Rattle.histories.specs.Seats.{keeps_back, given, times}
-use Rattle.histories.proofs.Views.{stands_kept, stands_given}
+use Rattle.rules.specs.Seats.{keeps_back, given, times}
+use Rattle.rules.proofs.SeatViews.{stands_kept, stands_given}
 use Rattle.gather_table.specs.History.{IsLegal}
 use Rattle.gather_table.proofs.RuleKept.{some_word, splits}
 use Rattle.gather_table.proofs.table.GatherTable.cut.Goals as goal

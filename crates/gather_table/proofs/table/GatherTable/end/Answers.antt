@@ -4,7 +4,7 @@ use mathlib.Core.Option.{some}
 use lib.ListN.{get_elem?}
 use Rattle.std.below.core.specs.Mem.Slots.{slots_items}
 use Rattle.rules.specs.Sheets.{Layout, layout as layout_of}
-use Rattle.histories.proofs.Shares.{whole_front}
+use Rattle.rules.proofs.SeatShares.{whole_front}
 use Rattle.gather_table.specs.History.{Entry}
 use Rattle.gather_table.specs.Rule.{IsLeft}
 use Rattle.gather_table.proofs.LeftWords.{is_elem}

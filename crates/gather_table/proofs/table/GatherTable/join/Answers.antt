@@ -1,6 +1,6 @@
 use Rattle.std.proofs.Common.{refl, sym, ap, ◌∙◌, subst}
-use Rattle.histories.specs.Seats.{Learned}
-use Rattle.histories.proofs.Views.{joined, stands_joined}
+use Rattle.rules.specs.Seats.{Learned}
+use Rattle.rules.proofs.SeatViews.{joined, stands_joined}
 use Rattle.gather_table.specs.History.{IsLegal}
 use Rattle.gather_table.proofs.RuleKept.{some_word, joins, learns_moves}
 use Rattle.gather_table.proofs.table.GatherTable.join.Goals as goal

@@ -5,7 +5,7 @@ use Rattle.gather_table.specs.Homes.{IsHome}
 use Rattle.gather_table.specs.History.{IsLegal}
 use Rattle.gather_table.specs.Steps.{look_group_of}
 use Rattle.gather_table.proofs.Sheets.{look_group_moves, load_at, look_group_told, wide_room}
-use Rattle.histories.proofs.Views.{made, stands_after}
+use Rattle.rules.proofs.SeatViews.{made, stands_after}
 use Rattle.gather_table.proofs.table.GatherTable.look_group_as.Goals as goal
 
 pub load-found-requires : goal.load-found-requires

@@ -6,7 +6,7 @@ use Rattle.gather_table.specs.History.{IsLegal}
 use Rattle.gather_table.specs.Steps.{look_of}
 use Rattle.gather_table.proofs.Lanes.{lane_below}
 use Rattle.gather_table.proofs.Sheets.{look_moves, load_at, look_told}
-use Rattle.histories.proofs.Views.{made, stands_after}
+use Rattle.rules.proofs.SeatViews.{made, stands_after}
 use Rattle.gather_table.proofs.table.GatherTable.look_narrow.Goals as goal
 
 pub load-found-requires : goal.load-found-requires

@@ -5,7 +5,7 @@ use Rattle.gather_table.specs.Homes.{IsHome}
 use Rattle.gather_table.specs.History.{IsLegal}
 use Rattle.gather_table.specs.Steps.{wide_look_of}
 use Rattle.gather_table.proofs.Sheets.{wide_look_moves, load_at, wide_look_told, wide_room}
-use Rattle.histories.proofs.Views.{made, stands_after}
+use Rattle.rules.proofs.SeatViews.{made, stands_after}
 use Rattle.gather_table.proofs.table.GatherTable.look_wide.Goals as goal
 
 pub load-found-requires : goal.load-found-requires

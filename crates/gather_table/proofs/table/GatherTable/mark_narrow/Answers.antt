@@ -9,7 +9,7 @@ use Rattle.gather_table.specs.Steps.{mark_of}
 use Rattle.gather_table.proofs.Histories.{below_length}
 use Rattle.gather_table.proofs.Lanes.{inside, width_of, width_le, lane_below}
 use Rattle.gather_table.proofs.Sheets.{mark_moves, or_at, mark_told, slim_le}
-use Rattle.histories.proofs.Views.{made, stands_after}
+use Rattle.rules.proofs.SeatViews.{made, stands_after}
 use Rattle.gather_table.proofs.table.GatherTable.mark_narrow.Goals as goal
 
 pub fetch_or-found-requires : goal.fetch_or-found-requires

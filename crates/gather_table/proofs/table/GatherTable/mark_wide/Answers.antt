@@ -7,7 +7,7 @@ use Rattle.gather_table.specs.History.{after_history, IsLegal}
 use Rattle.gather_table.specs.Steps.{wide_mark_of}
 use Rattle.gather_table.proofs.Histories.{below_length}
 use Rattle.gather_table.proofs.Sheets.{wide_mark_moves, or_at, wide_mark_told, group_of_slot, wide_room}
-use Rattle.histories.proofs.Views.{made, stands_after}
+use Rattle.rules.proofs.SeatViews.{made, stands_after}
 use Rattle.gather_table.proofs.table.GatherTable.mark_wide.Goals as goal
 
 pub fetch_or-found-requires : goal.fetch_or-found-requires

@@ -1,6 +1,6 @@
 use Rattle.std.proofs.Common.{sym, ap, ◌∙◌, subst}
-use Rattle.histories.specs.Seats.{Learned}
-use Rattle.histories.proofs.Views.{met, stands_first, stands_second}
+use Rattle.rules.specs.Seats.{Learned}
+use Rattle.rules.proofs.SeatViews.{met, stands_first, stands_second}
 use Rattle.gather_table.specs.History.{IsLegal}
 use Rattle.gather_table.proofs.RuleKept.{some_word, joins, learns_moves, parts}
 use Rattle.gather_table.proofs.table.GatherTable.meet_as.Goals as goal

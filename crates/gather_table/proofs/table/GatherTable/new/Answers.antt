@@ -4,7 +4,7 @@ use Rattle.gather_table.specs.Counts.{KeepsCounts}
 use Rattle.gather_table.specs.History.{IsLegal}
 use Rattle.gather_table.proofs.Placing.{opens}
 use Rattle.gather_table.proofs.Blanks.{sound_of}
-use Rattle.histories.proofs.Views.{stands_open, view_opens}
+use Rattle.rules.proofs.SeatViews.{stands_open, view_opens}
 use Rattle.gather_table.proofs.table.GatherTable.new.Goals as goal
 
 pub of_words-requires : goal.of_words-requires

@@ -2,7 +2,7 @@ use Rattle.std.proofs.Common.{arith, sym, ap, ◌∙◌, subst, ◌<◌, length}
 use Rattle.rules.specs.Sheets.{layout as layout_of}
 use Rattle.gather_table.specs.History.{PageAt, IsLegal}
 use Rattle.gather_table.proofs.Lanes.{at_least}
-use Rattle.histories.proofs.Views.{made, stands_after}
+use Rattle.rules.proofs.SeatViews.{made, stands_after}
 use Rattle.gather_table.proofs.Pages.{find_moves}
 use Rattle.gather_table.proofs.table.GatherTable.page_at.Goals as goal
 

@@ -2,7 +2,7 @@ use Rattle.std.proofs.Common.{arith, sym, ap, ◌∙◌, subst, ◌≡◌, ◌<�
 use Rattle.rules.specs.Sheets.{layout as layout_of}
 use Rattle.gather_table.specs.History.{Publish, IsLegal}
 use Rattle.gather_table.proofs.Lanes.{at_least}
-use Rattle.histories.proofs.Views.{made, stands_after}
+use Rattle.rules.proofs.SeatViews.{made, stands_after}
 use Rattle.gather_table.proofs.Pages.{publish_moves}
 use Rattle.gather_table.proofs.table.GatherTable.publish.Goals as goal
 

@@ -1,5 +1,5 @@
 use Rattle.std.proofs.Common.{sym, ap, ◌∙◌, refl, subst, arith}
-use Rattle.histories.specs.Seats.{Learned}
+use Rattle.rules.specs.Seats.{Learned}
 use Rattle.handover.specs.Rule.{Sight}
 use Rattle.handover.specs.Passes.{puts_in}
 use Rattle.handover.proofs.Rooms.{sum_of_both}

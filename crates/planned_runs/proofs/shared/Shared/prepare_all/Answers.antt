@@ -1,5 +1,5 @@
 use Rattle.std.proofs.Common.{rules, arith, suc, ◌+◌, ◌%◌, ◌==◌, if◌then◌else◌, ◌∙◌, ◌≡◌, ap}
-use Rattle.histories.specs.Seats.{total}
+use Rattle.rules.specs.Seats.{total}
 use Rattle.run_steps.specs.Duty.{share_below, duties}
 use Rattle.planned_runs.proofs.ByRight.{room_at_first, unused_puts_all}
 use Rattle.planned_runs.proofs.shared.Shared.prepare_all.Goals as goal

@@ -1,6 +1,6 @@
 use Rattle.std.proofs.Common.{◌≡◌, ◌+◌, ◌<◌, length, subst, sym}
 use Rattle.rules.specs.Parts.{pages}
-use Rattle.histories.specs.Seats.{total}
+use Rattle.rules.specs.Seats.{total}
 use Rattle.run_steps.specs.Delivery.{calls_of, completed}
 use Rattle.run_steps.specs.Duty.{duties}
 use Rattle.planned_runs.specs.Tokens.{done}

@@ -4,9 +4,9 @@ use Rattle.std.specs.Prelude.{◌≡◌, ◌⊎◌, ℕ, ◌+◌, ◌<◌, ◌�
 use mathlib.Core.Option.{some}
 use mathlib.Core.List.{IsPrefix}
 use lib.ListN.{get_elem?}
-use Rattle.histories.specs.Seats.{Sight, AreSeats, whole_share, longer, owned, times, total}
-use Rattle.histories.specs.Own.{StandAt, entries_at}
-use Rattle.histories.specs.Calls.{SeatView, IsSeat, Agree, Made, Makes, Split, Met, Joined, own_entries}
+use Rattle.rules.specs.Seats.{Sight, AreSeats, whole_share, longer, owned, times, total}
+use Rattle.rules.specs.SeatRules.{StandAt, entries_at}
+use Rattle.rules.specs.SeatCalls.{SeatView, IsSeat, Agree, Made, Makes, Split, Met, Joined, own_entries}
 
 -- what a caller does with a seat: nothing; one call; it meets another seat; it gives a part of its share to a new
 -- seat of another caller; it takes in another caller's seat; one thing after another; or it splits the seat in two,

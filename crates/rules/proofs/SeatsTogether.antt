@@ -2,12 +2,12 @@
 use Rattle.std.proofs.Common.{◌≡◌, ⊎_elim, ℕ, suc, ◌<◌, List, [], ◌∷◌, ◌++◌, length, refl, ap, arith}
 use mathlib.Core.Option.{some}
 use lib.ListN.{get_elem?}
-use Rattle.histories.specs.Seats.{Sight, total, times, owned, IsSightOf}
-use Rattle.histories.specs.Own.{entries_at}
-use Rattle.histories.specs.Laws.{SeatsStandTogether}
-use Rattle.histories.proofs.Totals.{total-append, times-append, pos_or}
-use Rattle.histories.proofs.Fronts.{length_begins}
-use Rattle.histories.proofs.Own.{entries_at-append, entries_longer, part_weight}
+use Rattle.rules.specs.Seats.{Sight, total, times, owned, IsSightOf}
+use Rattle.rules.specs.SeatRules.{entries_at}
+use Rattle.rules.specs.SeatLaws.{SeatsStandTogether}
+use Rattle.rules.proofs.SeatTotals.{total-append, times-append, pos_or}
+use Rattle.rules.proofs.SeatFronts.{length_begins}
+use Rattle.rules.proofs.SeatRules.{entries_at-append, entries_longer, part_weight}
 
 module _ {K E : Type 0} where
   -- the own places of all of them

@@ -1,12 +1,12 @@
 -- What a step reveals, as clauses see it; and a seat between two calls stays one.
 use Rattle.std.proofs.Common.{◌≡◌, ℕ, ◌+◌, ◌-◌, ◌<◌, List, [], refl, sym, ap, ◌∙◌, subst, arith}
 use Rattle.atomic_table.specs.Seated.{TableId}
-use Rattle.histories.specs.Seats.{Sight, Adds, Learned, keeps_back, given, absorbed, opening_sight, longer}
-use Rattle.histories.specs.Own.{IsHeld, StandsAlone}
-use Rattle.histories.specs.Calls.{SeatView, seat_view, Agree, Made, Met, Joined, opening}
-use Rattle.histories.proofs.Fronts.{both_begin}
-use Rattle.histories.proofs.Own.{held_added, held_keeps, held_given, held_opens, held_joined, held_met}
-use Rattle.histories.proofs.Totals.{times-append}
+use Rattle.rules.specs.Seats.{Sight, Adds, Learned, keeps_back, given, absorbed, opening_sight, longer}
+use Rattle.rules.specs.SeatRules.{IsHeld, StandsAlone}
+use Rattle.rules.specs.SeatCalls.{SeatView, seat_view, Agree, Made, Met, Joined, opening}
+use Rattle.rules.proofs.SeatFronts.{both_begin}
+use Rattle.rules.proofs.SeatRules.{held_added, held_keeps, held_given, held_opens, held_joined, held_met}
+use Rattle.rules.proofs.SeatTotals.{times-append}
 
 module _ {K E : Type 0} where
   -- the seat that a table is made with

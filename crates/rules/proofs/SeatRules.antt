@@ -4,10 +4,10 @@ use Rattle.std.specs.Prelude.{nat_lt}
 use mathlib.Core.List.{IsPrefix}
 use mathlib.Core.Logic.{dite}
 use native.Mathlib.Decide.{ℕ_discrete}
-use Rattle.histories.specs.Seats.{whole_share, longer, total, times}
-use Rattle.histories.specs.Own.{entry_at, entries_at, IsHeld}
-use Rattle.histories.proofs.Totals.{total-append, times-append, times_push, times_same, times_else, not_pos, pos_or}
-use Rattle.histories.proofs.Fronts.{length_begins}
+use Rattle.rules.specs.Seats.{whole_share, longer, total, times}
+use Rattle.rules.specs.SeatRules.{entry_at, entries_at, IsHeld}
+use Rattle.rules.proofs.SeatTotals.{total-append, times-append, times_push, times_same, times_else, not_pos, pos_or}
+use Rattle.rules.proofs.SeatFronts.{length_begins}
 
 -- what is before the end stays where it is if the list grows
 module _ {E : Type 0} (log more : List E) where

@@ -1,6 +1,6 @@
 -- What every seat keeps to, and its own entries.
 use Rattle.std.specs.Prelude.{ℕ, suc, ◌≡◌, ◌<◌, ◌≤◌, List, [], ◌∷◌, length, take, drop, flat_map, Some, slice_get}
-use Rattle.histories.specs.Seats.{Sight, times, whole_share}
+use Rattle.rules.specs.Seats.{Sight, times, whole_share}
 
 module _ {E : Type 0} where
   -- the entry at a place, as a list of one

@@ -3,8 +3,8 @@
 use Rattle.std.specs.Prelude.{◌≡◌, ℕ, ◌+◌, ◌-◌, ◌<◌, ◌≤◌, List, [], ◌∷◌, ◌++◌, length}
 use mathlib.Core.List.{IsPrefix}
 use Rattle.atomic_table.specs.Seated.{TableId}
-use Rattle.histories.specs.Seats.{Sight, whole_share, longer, times}
-use Rattle.histories.specs.Own.{entries_at, IsHeld}
+use Rattle.rules.specs.Seats.{Sight, whole_share, longer, times}
+use Rattle.rules.specs.SeatRules.{entries_at, IsHeld}
 
 -- a seat: its table, the subject of its history, the history that its caller has seen, the places in it of the
 -- caller's own entries, and its share

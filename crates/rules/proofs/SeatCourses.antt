@@ -2,12 +2,12 @@
 use Rattle.std.proofs.Common.{◌≡◌, ⊎_elim, ℕ, zero, suc, ◌+◌, ◌≤◌, List, [], ◌∷◌, ◌++◌, length, refl, sym, ap, ◌∙◌, subst, arith, append_assoc, append-nil, length-append}
 use Rattle.std.specs.Prelude.{Some, slice_get}
 use mathlib.Core.List.{IsPrefix}
-use Rattle.histories.specs.Seats.{times, longer}
-use Rattle.histories.specs.Calls.{SeatView, IsSeat, Made, Split, Met, Joined}
-use Rattle.histories.specs.Laws.{Course, Rests, Calls, Meets, Gives, TakesIn, Then, InTwo, CourseStands, Goes, CoursesStandInOneHistory}
-use Rattle.histories.proofs.Fronts.{begins_self, begins_further, length_begins}
-use Rattle.histories.proofs.Runs.{last_there}
-use Rattle.histories.proofs.Totals.{times-append, times_push}
+use Rattle.rules.specs.Seats.{times, longer}
+use Rattle.rules.specs.SeatCalls.{SeatView, IsSeat, Made, Split, Met, Joined}
+use Rattle.rules.specs.SeatLaws.{Course, Rests, Calls, Meets, Gives, TakesIn, Then, InTwo, CourseStands, Goes, CoursesStandInOneHistory}
+use Rattle.rules.proofs.SeatFronts.{begins_self, begins_further, length_begins}
+use Rattle.rules.proofs.SeatRuns.{last_there}
+use Rattle.rules.proofs.SeatTotals.{times-append, times_push}
 
 module _ {E : Type 0} where
   there_later : (log more : List E) (x : ℕ) (e : E) → slice_get log x ≡ Some e → slice_get (log ++ more) x ≡ Some e

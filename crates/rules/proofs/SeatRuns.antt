@@ -2,10 +2,10 @@
 use Rattle.std.proofs.Common.{◌≡◌, ℕ, suc, ◌<◌, List, [], ◌∷◌, ◌++◌, length, refl, sym, ap, ◌∙◌, subst, arith, append_assoc, append-nil, length-append}
 use Rattle.std.specs.Prelude.{Some, slice_get}
 use mathlib.Core.List.{IsPrefix}
-use Rattle.histories.specs.Seats.{whole_share, times}
-use Rattle.histories.specs.Own.{entries_at, StandAt}
-use Rattle.histories.proofs.Fronts.{begins_further}
-use Rattle.histories.proofs.Own.{entries_added}
+use Rattle.rules.specs.Seats.{whole_share, times}
+use Rattle.rules.specs.SeatRules.{entries_at, StandAt}
+use Rattle.rules.proofs.SeatFronts.{begins_further}
+use Rattle.rules.proofs.SeatRules.{entries_added}
 
 module _ {E : Type 0} where
   -- from a front and its own places to a later front and more places

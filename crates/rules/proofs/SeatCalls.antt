@@ -1,12 +1,12 @@
 -- The calls of a seat, one after the other.
 use Rattle.std.proofs.Common.{◌≡◌, ℕ, ◌+◌, ◌-◌, ◌≤◌, List, [], ◌∷◌, ◌++◌, refl, sym, ap, ◌∙◌, subst, arith}
 use mathlib.Core.List.{IsPrefix}
-use Rattle.histories.specs.Seats.{longer, times, total}
-use Rattle.histories.specs.Calls.{SeatView, IsSeat, Agree, Made, Makes, Split, own_entries}
-use Rattle.histories.specs.Laws.{CallsStandInOneHistory, OwnEntriesAreKept, WholeSeatMadeAll, OwnEntriesAreOfTheFront, SharesAreKept}
-use Rattle.histories.proofs.Own.{entries_joined, entries_longer, whole_weight, part_weight, joined_inside}
-use Rattle.histories.proofs.Runs.{Runs, run_begins, run_places, run_owns, run_stands, run_alone, run_entries}
-use Rattle.histories.proofs.Totals.{total-append, times-append}
+use Rattle.rules.specs.Seats.{longer, times, total}
+use Rattle.rules.specs.SeatCalls.{SeatView, IsSeat, Agree, Made, Makes, Split, own_entries}
+use Rattle.rules.specs.SeatLaws.{CallsStandInOneHistory, OwnEntriesAreKept, WholeSeatMadeAll, OwnEntriesAreOfTheFront, SharesAreKept}
+use Rattle.rules.proofs.SeatRules.{entries_joined, entries_longer, whole_weight, part_weight, joined_inside}
+use Rattle.rules.proofs.SeatRuns.{Runs, run_begins, run_places, run_owns, run_stands, run_alone, run_entries}
+use Rattle.rules.proofs.SeatTotals.{total-append, times-append}
 
 module _ {K E : Type 0} (Legal : K → List E → Type 0) where
   -- one more call, and calls after calls
