@@ -2,7 +2,7 @@
 use Rattle.std.proofs.Common.{◌≡◌, ℕ, List, [], ◌∷◌, Bool, true, false, refl, ap, ◌∙◌}
 use Rattle.std.specs.Prelude.{IsTrue, not, ◌&&◌, ◌||◌, ◌==◌}
 use Rattle.rules.specs.Units.{is_end}
-use Rattle.seams.specs.Seams.{no_ends}
+use Rattle.imposed_again.specs.Seams.{no_ends}
 use Rattle.sheet_text.specs.LinesIn.{is_line}
 
 both : (s t : Bool) → (s && t) ≡ true → (s ≡ true) × (t ≡ true)

@@ -8,8 +8,8 @@ use Rattle.rules.specs.Specification.{Item, Turn, Upright, Left, Half, Right}
 use Rattle.rules.specs.Dress.{Dress}
 use Rattle.rules.specs.Made.{MadeSlot, Blank, Placed}
 use Rattle.sheet_plan.specs.OfSheets.{slots_at}
-use Rattle.seams.proofs.Plainly.{no_ends_append, no_ends_decimal, no_ends_points}
-use Rattle.seams.specs.Seams.{no_ends}
+use Rattle.imposed_again.proofs.Plainly.{no_ends_append, no_ends_decimal, no_ends_points}
+use Rattle.imposed_again.specs.Seams.{no_ends}
 use Rattle.imposed_again.specs.MadeAgain.{AreTame, IsTame, IsTameDress}
 use Rattle.sheet_text.specs.PageNumbers.{corner_text, degrees, font_text, foot_text, middle, number_line, number_lines, point_text, rise, shown_text}
 use Rattle.sheet_text.specs.PageNumbers.{slot_lines}

@@ -15,17 +15,17 @@ use Rattle.dsc.specs.Units.{or_none, units_of}
 use Rattle.dsc.proofs.Cases.{by_test, and_false}
 use Rattle.dsc.proofs.LineLengths.{line_len-within, end_len-pos}
 use Rattle.dsc.proofs.Reading.{accepted_cut, accepted_opening}
-use Rattle.seams.specs.Seams.{joined, passes, line_unit, ends}
+use Rattle.imposed_again.specs.Seams.{joined, passes, line_unit, ends}
 use Rattle.dsc.specs.Header.{is_header, ends_header, is_last, run_len, header_run, header_len}
 use Rattle.guard.specs.PutIn.{put_in}
 use Rattle.guard.specs.Laws.{CanBePutIn, ChangesPreambleAlone, LinesStay}
-use Rattle.seams.proofs.LinesMeet.{clash, stop_line, go_line}
-use Rattle.seams.proofs.UnitsMeet.{unit_content, unit_line}
-use Rattle.seams.proofs.Texts.{are_units, units_are, joined_is, joined_append, lines_put_in}
-use Rattle.seams.proofs.Splits.{at_depth, from_passed, pages_stay}
-use Rattle.seams.proofs.Keys.{key_is}
-use Rattle.seams.proofs.FirstLine.{two_on, taken_two, line_two, IsFirst, first_is, first_no_page}
-use Rattle.seams.proofs.Accepted.{accept, some_pages, few_pages}
+use Rattle.imposed_again.proofs.LinesMeet.{clash, stop_line, go_line}
+use Rattle.imposed_again.proofs.UnitsMeet.{unit_content, unit_line}
+use Rattle.imposed_again.proofs.Texts.{are_units, units_are, joined_is, joined_append, lines_put_in}
+use Rattle.imposed_again.proofs.Splits.{at_depth, from_passed, pages_stay}
+use Rattle.imposed_again.proofs.Keys.{key_is}
+use Rattle.imposed_again.proofs.FirstLine.{two_on, taken_two, line_two, IsFirst, first_is, first_no_page}
+use Rattle.imposed_again.proofs.Accepted.{accept, some_pages, few_pages}
 
 take_none : (t : List ℕ) → take 0 t ≡ []
 take_none [] = refl

@@ -5,8 +5,8 @@ use Rattle.rules.specs.Numbers.{points_text}
 use Rattle.rules.specs.Papers.{Paper}
 use Rattle.rules.specs.Parts.{begins_page}
 use Rattle.rules.specs.Units.{begins_block}
-use Rattle.seams.specs.Seams.{passes, no_ends, AreLines, IsLine, line_unit}
-use Rattle.seams.proofs.Plainly.{no_ends_append, no_ends_points}
+use Rattle.imposed_again.specs.Seams.{passes, no_ends, AreLines, IsLine, line_unit}
+use Rattle.imposed_again.proofs.Plainly.{no_ends_append, no_ends_points}
 use Rattle.guard.specs.Guard.{first_lines, other_lines, page_size_line, page_size_lines, guard_lines}
 use Rattle.guard.specs.Laws.{CanBePutIn, GuardStays}
 use Rattle.guard.proofs.Guarding.{lines_stay}

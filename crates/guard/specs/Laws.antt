@@ -6,7 +6,7 @@ use Rattle.rules.specs.Parts.{NestedUnit, nested, begins_page, starting_at, page
 use Rattle.rules.specs.Papers.{Paper, is_paper}
 use Rattle.rules.specs.Run.{document_of, most_input_bytes}
 use Rattle.dsc.specs.Units.{units_of}
-use Rattle.seams.specs.Seams.{joined, passes, AreLines, line_unit}
+use Rattle.imposed_again.specs.Seams.{joined, passes, AreLines, line_unit}
 use Rattle.dsc.specs.Header.{header_len}
 use Rattle.guard.specs.PutIn.{put_in}
 use Rattle.guard.specs.Guard.{guard_lines, guarded}

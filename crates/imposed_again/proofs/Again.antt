@@ -21,16 +21,16 @@ use Rattle.rules.specs.MadeOutput.{drops_with}
 use Rattle.dsc.specs.Units.{or_none, units_of}
 use Rattle.dsc.proofs.Reading.{accepted_cut, accepted_opening}
 use Rattle.dsc.proofs.PartMarks.{exclusive}
-use Rattle.seams.specs.Seams.{joined, line_unit, passes}
+use Rattle.imposed_again.specs.Seams.{joined, line_unit, passes}
 use Rattle.imposed_again.specs.Again.{depth_behind, sheet_texts, written, AreShut, IsAgain, WrittenIsDocument, SheetsShut, TrailerShuts, MakesSheets, ImposedAgain}
-use Rattle.seams.proofs.LinesMeet.{clash}
-use Rattle.seams.proofs.Texts.{are_units, units_behind, joined_append, joined_is}
-use Rattle.seams.proofs.Splits.{at_depth, same_some, Opens, Split, split, up_to_passed, from_passed, up_to_open, from_open}
+use Rattle.imposed_again.proofs.LinesMeet.{clash}
+use Rattle.imposed_again.proofs.Texts.{are_units, units_behind, joined_append, joined_is}
+use Rattle.imposed_again.proofs.Splits.{at_depth, same_some, Opens, Split, split, up_to_passed, from_passed, up_to_open, from_open}
 use Rattle.imposed_again.proofs.Recut.{Row, row_of}
 use Rattle.imposed_again.proofs.Keeps.{header_key, paper_key, kept_units}
 use Rattle.imposed_again.proofs.Pieces.{Made, AllBodies, sheet}
-use Rattle.seams.proofs.FirstLine.{and_first, IsFirst, first_is, first_no_page}
-use Rattle.seams.proofs.Accepted.{let_through, some_of, some_pages, accept}
+use Rattle.imposed_again.proofs.FirstLine.{and_first, IsFirst, first_is, first_no_page}
+use Rattle.imposed_again.proofs.Accepted.{let_through, some_of, some_pages, accept}
 use Rattle.imposed_again.proofs.Pages.{page_depth, EachBody, pages_good, all_bodies}
 use Rattle.imposed_again.proofs.Assembly.{depth_is, count_content, count_text, EachSheet, Sheets, all_sheets, Trailing, trailer_made, preamble_made, Assembled, assembled}
 

@@ -13,17 +13,17 @@ use Rattle.dsc.proofs.PartMarks.{exclusive}
 use Rattle.dsc.proofs.Alone.{nested-bytes}
 use Rattle.dsc.specs.Units.{or_none, units_of}
 use Rattle.std.proofs.lemmas.Bool.{eqb-true, ne_eqb}
-use Rattle.seams.specs.Seams.{joined, passes, line_unit, no_ends, lf}
+use Rattle.imposed_again.specs.Seams.{joined, passes, line_unit, no_ends, lf}
 use Rattle.imposed_again.specs.Again.{depth_behind, AreShut}
-use Rattle.seams.proofs.UnitsMeet.{first_line}
-use Rattle.seams.proofs.Texts.{Goes, goes_append, units_join, joined_is, units_are}
-use Rattle.seams.proofs.Splits.{at_depth, Through, same_some, passes_cons, passes_append, Opens, up_to_passed, from_passed, up_to_open, from_open}
+use Rattle.imposed_again.proofs.UnitsMeet.{first_line}
+use Rattle.imposed_again.proofs.Texts.{Goes, goes_append, units_join, joined_is, units_are}
+use Rattle.imposed_again.proofs.Splits.{at_depth, Through, same_some, passes_cons, passes_append, Opens, up_to_passed, from_passed, up_to_open, from_open}
 use Rattle.imposed_again.proofs.Recut.{Row, Stands, Recut, recut, loose, head_of}
 use Rattle.imposed_again.proofs.Keeps.{is_dropped, kept_units, kept_bytes, kept_row, kept_passes, mild_with, header_key}
-use Rattle.seams.proofs.Plainly.{text as plain, ◌then◌, number}
+use Rattle.imposed_again.proofs.Plainly.{text as plain, ◌then◌, number}
 use Rattle.imposed_again.proofs.Pieces.{begins_part, Made, Sheet}
 use Rattle.imposed_again.proofs.Pages.{make, page_blind, part_blind, nothing_and}
-use Rattle.seams.proofs.FirstLine.{and_second}
+use Rattle.imposed_again.proofs.FirstLine.{and_second}
 
 -- Sheets in a row.
 

@@ -11,9 +11,9 @@ use Rattle.rules.specs.Parts.{NestedUnit, depth_after, nested_from, bytes_of, is
 use Rattle.rules.specs.Filters.{continues, kept_after, drops_in_page}
 use Rattle.rules.specs.MadeOutput.{drops_with}
 use Rattle.dsc.proofs.Cases.{by_test}
-use Rattle.seams.specs.Seams.{joined, passes}
-use Rattle.seams.proofs.Keys.{not_key}
-use Rattle.seams.proofs.Splits.{at_depth, passes_cons}
+use Rattle.imposed_again.specs.Seams.{joined, passes}
+use Rattle.imposed_again.proofs.Keys.{not_key}
+use Rattle.imposed_again.proofs.Splits.{at_depth, passes_cons}
 use Rattle.imposed_again.proofs.Recut.{Row}
 
 abbrev pub is_dropped : Bool → (List ℕ → Bool) → NestedUnit → Bool

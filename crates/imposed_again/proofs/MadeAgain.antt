@@ -11,12 +11,12 @@ use Rattle.rules.specs.Units.{TextUnit, AreUnits, cut, first_unit}
 use Rattle.rules.specs.Output.{Border}
 use Rattle.dsc.proofs.Reading.{accepted_cut, accepted_opening}
 use Rattle.dsc.specs.Units.{or_none, units_of}
-use Rattle.seams.proofs.Accepted.{accept, some_pages}
-use Rattle.seams.proofs.FirstLine.{IsFirst, first_is}
-use Rattle.seams.proofs.Splits.{at_depth, passes_cons}
-use Rattle.seams.proofs.Texts.{are_units, joined_append, joined_is, units_behind}
-use Rattle.seams.proofs.UnitsMeet.{first_line}
-use Rattle.seams.specs.Seams.{joined, line_unit, passes}
+use Rattle.imposed_again.proofs.Accepted.{accept, some_pages}
+use Rattle.imposed_again.proofs.FirstLine.{IsFirst, first_is}
+use Rattle.imposed_again.proofs.Splits.{at_depth, passes_cons}
+use Rattle.imposed_again.proofs.Texts.{are_units, joined_append, joined_is, units_behind}
+use Rattle.imposed_again.proofs.UnitsMeet.{first_line}
+use Rattle.imposed_again.specs.Seams.{joined, line_unit, passes}
 use Rattle.rules.specs.Dress.{Dress, lines_text}
 use Rattle.rules.specs.Made.{MadeSheet}
 use Rattle.rules.specs.MadeOutput.{dressed_preamble, drops_with, made_output, made_sheet_text, with_lines}

@@ -8,10 +8,10 @@ use Rattle.rules.specs.Filters.{prepared}
 use Rattle.rules.specs.Output.{Border, Frame, opening_text, closing_text, body_text}
 use Rattle.rules.specs.Parts.{depth_after, begins_page, is_outermost_line}
 use Rattle.rules.specs.Units.{TextUnit, first_unit}
-use Rattle.seams.specs.Seams.{joined, line_unit, passes}
-use Rattle.seams.proofs.Splits.{at_depth}
-use Rattle.seams.proofs.Texts.{Goes, goes_append, goes_line}
-use Rattle.seams.proofs.UnitsMeet.{first_line}
+use Rattle.imposed_again.specs.Seams.{joined, line_unit, passes}
+use Rattle.imposed_again.proofs.Splits.{at_depth}
+use Rattle.imposed_again.proofs.Texts.{Goes, goes_append, goes_line}
+use Rattle.imposed_again.proofs.UnitsMeet.{first_line}
 use Rattle.rules.specs.Made.{MadeSlot, Blank, Placed, MadeSheet}
 use Rattle.rules.specs.Dress.{Dress, lines_text}
 use Rattle.rules.specs.MadeOutput.{made_slot_text, made_sheet_text}

@@ -14,10 +14,10 @@ use Rattle.dsc.proofs.Cases.{by_test}
 use Rattle.dsc.proofs.Fronts.{first_unit-take}
 use Rattle.std.proofs.lemmas.Bool.{eqb-true}
 use Rattle.dsc.proofs.Alone.{nested-bytes}
-use Rattle.seams.specs.Seams.{joined, passes, ends}
-use Rattle.seams.proofs.FirstLine.{and_first, page_named}
-use Rattle.seams.proofs.Texts.{units_are, rest_of, joined_append}
-use Rattle.seams.proofs.Splits.{at_depth, passes_cons, passes_append, same_some, Opens, Split, split, up_to_passed, up_to_open}
+use Rattle.imposed_again.specs.Seams.{joined, passes, ends}
+use Rattle.imposed_again.proofs.FirstLine.{and_first, page_named}
+use Rattle.imposed_again.proofs.Texts.{units_are, rest_of, joined_append}
+use Rattle.imposed_again.proofs.Splits.{at_depth, passes_cons, passes_append, same_some, Opens, Split, split, up_to_passed, up_to_open}
 use Rattle.imposed_again.proofs.Recut.{Row, row_of, Blind, Recut, recut, loose, loose_feed, feed_unit}
 use Rattle.imposed_again.proofs.Keeps.{is_dropped, kept_units, kept_bytes, kept_row, kept_passes, page_mild, depth_stays, page_key}
 use Rattle.imposed_again.proofs.Pieces.{begins_part, Made, Body, no_body, AllBodies}

@@ -16,11 +16,11 @@ use Rattle.rules.specs.Numbers.{points_text, scale_text}
 use Rattle.rules.specs.Output.{Border, Frame, point_text, path_text, edge_text, border_text, opening_text, closing_text, body_text, slot_text, sheet_text}
 use Rattle.std.proofs.lemmas.Bool.{eqb-true}
 use Rattle.dsc.proofs.Cases.{and_false, by_test}
-use Rattle.seams.specs.Seams.{passes, no_ends, line_unit, lf, ends}
+use Rattle.imposed_again.specs.Seams.{passes, no_ends, line_unit, lf, ends}
 use Rattle.imposed_again.specs.MadeAgain.{IsTame}
-use Rattle.seams.proofs.Texts.{Goes, goes_append, goes_line, units_join}
-use Rattle.seams.proofs.Splits.{at_depth, passes_cons, passes_append, Through, through_append}
-use Rattle.seams.proofs.Plainly.{no_ends_append, no_ends_points, no_ends_scale, Whole, text as plain, ◌then◌, number, length_of}
+use Rattle.imposed_again.proofs.Texts.{Goes, goes_append, goes_line, units_join}
+use Rattle.imposed_again.proofs.Splits.{at_depth, passes_cons, passes_append, Through, through_append}
+use Rattle.imposed_again.proofs.Plainly.{no_ends_append, no_ends_points, no_ends_scale, Whole, text as plain, ◌then◌, number, length_of}
 
 -- begins a page or the trailer
 abbrev pub begins_part : NestedUnit → Bool

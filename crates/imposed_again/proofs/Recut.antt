@@ -9,11 +9,11 @@ use Rattle.rules.specs.Units.{TextUnit, BlockFault, first_unit, AreUnits}
 use Rattle.rules.specs.Parts.{NestedUnit, depth_after}
 use Rattle.dsc.proofs.Cases.{by_test}
 use Rattle.dsc.proofs.Fronts.{first_unit-take}
-use Rattle.seams.specs.Seams.{joined, passes, line_unit, lf}
-use Rattle.seams.proofs.LinesMeet.{clash}
-use Rattle.seams.proofs.UnitsMeet.{unit_same, fed, fed_unit, first_line}
-use Rattle.seams.proofs.Splits.{at_depth}
-use Rattle.seams.proofs.Texts.{some_unit, rest_of}
+use Rattle.imposed_again.specs.Seams.{joined, passes, line_unit, lf}
+use Rattle.imposed_again.proofs.LinesMeet.{clash}
+use Rattle.imposed_again.proofs.UnitsMeet.{unit_same, fed, fed_unit, first_line}
+use Rattle.imposed_again.proofs.Splits.{at_depth}
+use Rattle.imposed_again.proofs.Texts.{some_unit, rest_of}
 
 -- the unit can be followed by a percent sign, and so by anything but a line feed
 abbrev pub Stands : TextUnit → Type 0

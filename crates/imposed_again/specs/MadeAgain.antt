@@ -8,7 +8,7 @@ use Rattle.rules.specs.Filters.{trailer_text}
 use Rattle.rules.specs.Run.{document_of, most_input_bytes, most_pages}
 use Rattle.rules.specs.Output.{Border}
 use Rattle.dsc.specs.Units.{units_of}
-use Rattle.seams.specs.Seams.{no_ends}
+use Rattle.imposed_again.specs.Seams.{no_ends}
 use Rattle.rules.specs.Made.{MadeSheet}
 use Rattle.rules.specs.Dress.{Dress}
 use Rattle.rules.specs.MadeOutput.{dressed_preamble, made_sheet_text, made_output}

@@ -16,8 +16,8 @@ use Rattle.rules.specs.MadeOutput.{made_output, made_sheet_text, made_slot_text}
 use Rattle.imposed_again.specs.Again.{depth_behind}
 use Rattle.imposed_again.specs.MadeAgain.{IsTameDress, made_texts}
 use Rattle.imposed_again.proofs.MadeAgain.{made_is_document}
-use Rattle.seams.specs.Seams.{no_ends}
-use Rattle.seams.proofs.Plainly.{no_ends_append, no_ends_decimal}
+use Rattle.imposed_again.specs.Seams.{no_ends}
+use Rattle.imposed_again.proofs.Plainly.{no_ends_append, no_ends_decimal}
 use Rattle.papers.specs.Comments.{first_named_in, is_in_head, medium_in, page_head, paper_of_medium, told_by_document, told_by_page}
 use Rattle.papers.specs.Found.{AreQuiet, Finish, IsTellablePaper, PapersAreFound, as_printed, telling_and}
 use Rattle.papers.specs.Media.{box_of, box_paper, comment_fields, comment_value, comment_values, continued, else_take, header, lying_as, media_paper, paper_of_box, trailer_lines, usual_in, value_of}

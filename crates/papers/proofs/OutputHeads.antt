@@ -16,13 +16,13 @@ use Rattle.dsc.specs.Units.{or_none}
 use Rattle.dsc.proofs.LineByLine.{by_line}
 use Rattle.dsc.proofs.LineLengths.{line_len-within}
 use Rattle.dsc.proofs.Reading.{accepted_cut, accepted_opening}
-use Rattle.seams.specs.Seams.{ends, joined, no_ends, passes}
-use Rattle.seams.proofs.Accepted.{some_pages}
-use Rattle.seams.proofs.FirstLine.{IsFirst, first_is, first_no_page}
-use Rattle.seams.proofs.LinesMeet.{go_content, go_line, stop_content, stop_line}
-use Rattle.seams.proofs.Splits.{at_depth, from_passed}
-use Rattle.seams.proofs.Texts.{are_units, joined_is}
-use Rattle.seams.proofs.UnitsMeet.{unit_content, unit_line, unit_same}
+use Rattle.imposed_again.specs.Seams.{ends, joined, no_ends, passes}
+use Rattle.imposed_again.proofs.Accepted.{some_pages}
+use Rattle.imposed_again.proofs.FirstLine.{IsFirst, first_is, first_no_page}
+use Rattle.imposed_again.proofs.LinesMeet.{go_content, go_line, stop_content, stop_line}
+use Rattle.imposed_again.proofs.Splits.{at_depth, from_passed}
+use Rattle.imposed_again.proofs.Texts.{are_units, joined_is}
+use Rattle.imposed_again.proofs.UnitsMeet.{unit_content, unit_line, unit_same}
 use Rattle.rules.specs.Dress.{Dress, lines_text}
 use Rattle.rules.specs.Made.{MadeSheet}
 use Rattle.rules.specs.MadeOutput.{dressed_preamble, drops_with, made_output, made_sheet_text, with_lines}

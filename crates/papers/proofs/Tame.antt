@@ -4,8 +4,8 @@ use Rattle.std.proofs.Common.{◌≡◌, ℕ, List, [], ◌∷◌, ◌++◌, ref
 use Rattle.rules.specs.Papers.{Paper}
 use Rattle.rules.specs.Numbers.{points_text}
 use Rattle.rules.specs.Units.{begins_block, has_key, is_comment}
-use Rattle.seams.proofs.Plainly.{no_ends_append, no_ends_points}
-use Rattle.seams.specs.Seams.{no_ends}
+use Rattle.imposed_again.proofs.Plainly.{no_ends_append, no_ends_points}
+use Rattle.imposed_again.specs.Seams.{no_ends}
 use Rattle.imposed_again.specs.MadeAgain.{AreTame, IsTame, IsTameDress}
 use Rattle.papers.specs.Own.{covering}
 use Rattle.papers.specs.Told.{TellingIsTame, box_line, box_lines, exact_box_line, is_whole, whole_paper, medium_line, medium_text, page_size_lines, papers_told, size_name, size_text, telling_of}

@@ -8,7 +8,7 @@ use Rattle.rules.specs.Parts.{NestedUnit, nested, pages}
 use Rattle.rules.specs.Run.{DocumentFault, InputTooLong, NotPostScript, InputTooManyPages, NoPages, document_of, most_input_bytes, most_pages, with_pages, refuse_if, of_block}
 use Rattle.dsc.specs.Units.{or_none, units_of}
 use Rattle.dsc.proofs.Cases.{by_test}
-use Rattle.seams.proofs.Texts.{units_are}
+use Rattle.imposed_again.proofs.Texts.{units_are}
 
 pub let_through : {A E : Type 0} (t : Bool) (fault : E) (next : Result A E) (x : A) → refuse_if t fault next ≡ Ok x → (t ≡ false) × (next ≡ Ok x)
 let_through true fault next x e = cc

@@ -10,9 +10,9 @@ use Rattle.rules.specs.Bytes.{line}
 use Rattle.rules.specs.Units.{is_end, TextUnit, first_unit, cut, AreUnits}
 use Rattle.rules.proofs.CutUnits.{cut_is_units, unit_some}
 use Rattle.rules.proofs.Whole.{units_make_text}
-use Rattle.seams.specs.Seams.{joined, no_ends, IsLine, line_unit, AreLines, LinesPutIn, UnitsJoin, UnitStays, lf, ends}
-use Rattle.seams.proofs.LinesMeet.{ends_drop, clash}
-use Rattle.seams.proofs.UnitsMeet.{not_end, unit_same, first_line}
+use Rattle.imposed_again.specs.Seams.{joined, no_ends, IsLine, line_unit, AreLines, LinesPutIn, UnitsJoin, UnitStays, lf, ends}
+use Rattle.imposed_again.proofs.LinesMeet.{ends_drop, clash}
+use Rattle.imposed_again.proofs.UnitsMeet.{not_end, unit_same, first_line}
 
 pub are_units : (text : List ℕ) (us : List TextUnit) → cut text ≡ Ok us → AreUnits text us
 are_units text us e = (cut_is_units text us).0 e

@@ -8,10 +8,10 @@ use Rattle.std.proofs.lemmas.Slice.Eq.{bytes_eq-Decides}
 use Rattle.rules.specs.Units.{TextUnit, is_end, is_blank, first_unit, content_of, line_len, key, has_key, is_comment}
 use Rattle.rules.specs.Parts.{NestedUnit, begins_page, is_outermost_line}
 use Rattle.dsc.proofs.Rows.{unit-front}
-use Rattle.seams.proofs.Keys.{key_is}
-use Rattle.seams.proofs.LinesMeet.{go_line}
-use Rattle.seams.proofs.Splits.{at_depth}
-use Rattle.seams.proofs.UnitsMeet.{unit_content}
+use Rattle.imposed_again.proofs.Keys.{key_is}
+use Rattle.imposed_again.proofs.LinesMeet.{go_line}
+use Rattle.imposed_again.proofs.Splits.{at_depth}
+use Rattle.imposed_again.proofs.UnitsMeet.{unit_content}
 
 pub and_first : (a b : Bool) → (a && b) ≡ true → a ≡ true
 and_first true b e = refl

@@ -4,7 +4,7 @@ use Rattle.std.proofs.Common.{◌||◌, Bool, true, false, ◌≡◌, ℕ, List,
 use Rattle.std.proofs.lemmas.Slice.Eq.{bytes_eq-Decides}
 use Rattle.rules.specs.Units.{key, has_key}
 use Rattle.dsc.proofs.Cases.{by_test}
-use Rattle.seams.proofs.LinesMeet.{clash}
+use Rattle.imposed_again.proofs.LinesMeet.{clash}
 
 or_none : (a : Bool) → (a || false) ≡ true → a ≡ true
 or_none true e = refl

@@ -5,7 +5,7 @@ use Rattle.std.proofs.Common.{Bool, true, false, cond, ◌==◌, ◌&&◌, ◌�
 use Rattle.std.proofs.lemmas.List.Sums.{take_while-cons}
 use Rattle.std.proofs.Math.Seq.{drop-append-le}
 use Rattle.rules.specs.Units.{is_end, content_of, end_len, line_len, lines_len}
-use Rattle.seams.specs.Seams.{lf, ends}
+use Rattle.imposed_again.specs.Seams.{lf, ends}
 use Rattle.dsc.proofs.Cases.{by_test}
 use Rattle.dsc.proofs.LineLengths.{content_len, line_len_is, line_len-pos, lines_len-least, line_len-within}
 

@@ -5,7 +5,7 @@ use Rattle.std.proofs.Common.{Bool, true, false, ◌==◌, ◌||◌, ◌&&◌, �
 use Rattle.std.proofs.lemmas.Bool.{ne_eqb}
 use Rattle.rules.specs.Units.{is_end}
 use Rattle.rules.specs.Numbers.{without_last_zeros, decimals_of, fraction_text, sign_text, printed, is_negative, scale_text, points_text, rounded}
-use Rattle.seams.specs.Seams.{no_ends}
+use Rattle.imposed_again.specs.Seams.{no_ends}
 
 both : (a b : Bool) → a ≡ true → b ≡ true → (a && b) ≡ true
 both a b e f = ap (λ t. t && b) e ∙ f

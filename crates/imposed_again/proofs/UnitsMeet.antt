@@ -8,13 +8,13 @@ use Rattle.std.proofs.lemmas.Bool.{ltb-false, le-ltb}
 use Rattle.std.proofs.Math.Seq.{drop-append-le, take-append-le}
 use Rattle.rules.specs.Numbers.{number_of}
 use Rattle.rules.specs.Bytes.{line}
-use Rattle.seams.specs.Seams.{no_ends, IsLine, line_unit, lf, ends}
+use Rattle.imposed_again.specs.Seams.{no_ends, IsLine, line_unit, lf, ends}
 use Rattle.rules.specs.Units.{is_end, TextUnit, BlockFault, content_of, line_len, lines_len, begins_block, fields, counts_lines, or_short, data_len, block, first_unit}
 use Rattle.dsc.specs.Fields.{counted}
 use Rattle.dsc.proofs.Cases.{by_test}
 use Rattle.dsc.proofs.LineLengths.{line_len-within, lines_len-least}
 use Rattle.dsc.proofs.Fronts.{data-within, bytes_or}
-use Rattle.seams.proofs.LinesMeet.{stop_line, go_line, go_content, line_same, ends_drop, lines_same, feed_content, Fed, fed_line, FedLines, fed_lines}
+use Rattle.imposed_again.proofs.LinesMeet.{stop_line, go_line, go_content, line_same, ends_drop, lines_same, feed_content, Fed, fed_line, FedLines, fed_lines}
 
 short_some : (o : Option ℕ) (m : ℕ) → or_short o ≡ Ok m → o ≡ Some m
 short_some None m e = cc

@@ -5,7 +5,7 @@ use Rattle.rules.specs.Units.{TextUnit}
 use Rattle.rules.specs.Parts.{NestedUnit, depth_after, nested_from, nested, begins_page, begins_trailer, up_to, starting_at, split_pages, bytes_of}
 use Rattle.dsc.proofs.Cases.{by_test}
 use Rattle.dsc.proofs.PartMarks.{before-cons, from-cons}
-use Rattle.seams.specs.Seams.{passes, PagesStay}
+use Rattle.imposed_again.specs.Seams.{passes, PagesStay}
 
 abbrev pub at_depth : ℕ → TextUnit → NestedUnit
 at_depth d u = record { depth = d; unit = u }
