@@ -9,7 +9,7 @@ from parts import Document, comments_apart, drops_beside_lines, drops_in_header,
 # `sheet_names` of specs/Sheets; `restore` is checked after each page.
 SHEET_NAMES = b"showpage userdict save put [ ] concat newpath moveto lineto closepath clip gsave setlinewidth stroke grestore".split()
 PUT_NAMES = {b"showpage", b"ImposeSave"}
-# `marking_names`, `sizing_names` and `asking_names` of crates/dressed_pictures: those of a sheet's own strokes, and of the lines that set its size.
+# `marking_names`, `sizing_names` and `asking_names` of crates/open_pictures: those of a sheet's own strokes, and of the lines that set its size.
 MARKING = b"gsave setgray setlinewidth [ ] setdash newpath moveto lineto stroke grestore".split()
 SIZING = b"where pop ifelse systemdict known and if dict dup [ ] put get exec".split()
 ASKING = b"userdict copy true".split()

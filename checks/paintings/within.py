@@ -26,7 +26,7 @@ OF_MATRICES = {b"forall": 2, b"get": 2, b"put": 3, b"aload": 1, b"astore": 1, b"
 # What is a font there is a dictionary here.
 AS_FONTS = {b"findfont", b"scalefont", b"setfont", b"selectfont"}
 OPEN = "open_pictures::laws::"
-DRESSED = "dressed_pictures::laws::"
+DRESSED = "open_pictures::laws::"
 LAWS = {
     (False, None): f"pictures::laws::sheets_show_the_pages, {DRESSED}dressed_sheets_show_the_pages",
     (True, None): f"{OPEN}open_sheets_show_the_pages, {DRESSED}open_dressed_sheets_show_the_pages",

@@ -10,3 +10,5 @@ pub mod Values
 pub mod Points
 pub mod Loops
 pub mod Matrices
+pub mod DressedApplied
+pub mod DressedPlain

@@ -22,3 +22,14 @@ pub mod Silenced
 pub mod Stores
 pub mod Values
 pub mod Examples
+pub mod LinesRead
+pub mod Drawing
+pub mod Sizing
+pub mod SheetsRun
+pub mod AllSheets
+pub mod Unguarded
+pub mod PageRuns
+pub mod Preambles
+pub mod RealDocuments
+pub mod Barcode
+pub mod Groff

@@ -1,4 +1,5 @@
-//! Laws of a machine with further operators. The functions do nothing.
+//! Laws of a machine with further operators; of sheets of several papers, and with marks or lines for notes; of real documents.
+//! The functions do nothing.
 ghost use Rattle.open_pictures.specs.Blindness.{PlacelessRunsPreambles};
 ghost use Rattle.open_pictures.specs.Documents.{OpenMadeSheetsShowThePages, OpenOwnPicture, OpenSheetsShowThePages};
 ghost use Rattle.open_pictures.specs.DocumentRun.{OpenSheetsShowTheDocument};
@@ -12,6 +13,11 @@ ghost use Rattle.open_pictures.specs.Silenced.{OpenSilencedDocumentIsShown, Open
 ghost use Rattle.open_pictures.specs.Stores.{StoresAreBlind, StoresArePlacelessThere, StoresAskForNone, StoresSeeNoMatrices};
 ghost use Rattle.open_pictures.specs.Values.{ValuesAreBlind, ValuesArePlacelessThere};
 ghost use Rattle.open_pictures.specs.Shelter.{AnswersSeeNoMatrices, OpenShelterCommutes, TablesArePlacelessThere};
+ghost use Rattle.open_pictures.specs.DressedDocuments.{DressedDocumentIsShown, OpenDressedDocumentIsShown};
+ghost use Rattle.open_pictures.specs.Sizes.{SizeIsSet};
+ghost use Rattle.open_pictures.specs.Unguarded.{DressedSheetsShowThePages, OpenDressedSheetsShowThePages};
+ghost use Rattle.open_pictures.specs.Barcode.{BarcodeIsShown};
+ghost use Rattle.open_pictures.specs.Groff.{GroffIsShown};
 
 /// With any further operators that are placeless, a machine in a placed state does what it does in the state, placed.
 pub fn open_placing_commutes()
@@ -170,4 +176,40 @@ pub fn values_are_blind()
 /// And it is placeless under the guard.
 pub fn values_are_placeless_there()
     ensures { ValuesArePlacelessThere }
+{}
+
+/// Where sheets have several papers, each calls `setpagedevice` with the size of its own.
+pub fn size_is_set()
+    ensures { SizeIsSet }
+{}
+
+/// A machine prints of all that impose writes of a document, with the guard put in, what the document's pages paint by
+/// themselves, placed, with each sheet's strokes after them.
+pub fn dressed_document_is_shown()
+    ensures { DressedDocumentIsShown }
+{}
+
+/// So it does with further operators that look neither at the place nor at matrices.
+pub fn open_dressed_document_is_shown()
+    ensures { OpenDressedDocumentIsShown }
+{}
+
+/// Without the guard it prints what the document's pages print of themselves, placed, with each sheet's strokes after them.
+pub fn dressed_sheets_show_the_pages()
+    ensures { DressedSheetsShowThePages }
+{}
+
+/// So it does with further operators that don't look at the place.
+pub fn open_dressed_sheets_show_the_pages()
+    ensures { OpenDressedSheetsShowThePages }
+{}
+
+/// Sheets of barcode.ps show its three pages, placed.
+pub fn barcode_is_shown()
+    ensures { BarcodeIsShown }
+{}
+
+/// Sheets of groff.ps show its two pages, placed.
+pub fn groff_is_shown()
+    ensures { GroffIsShown }
 {}

@@ -1,3 +1,0 @@
--- Worked examples.
-pub mod Applied
-pub mod Plain

@@ -1,5 +1,0 @@
-use Rattle.dressed_pictures.proofs.AllSheets.{dressed_document_is_shown}
-use Rattle.dressed_pictures.proofs.laws.dressed_document_is_shown.Goals as goal
-
-pub returns : goal.returns
-returns c = dressed_document_is_shown

@@ -1,5 +1,0 @@
-use Rattle.dressed_pictures.proofs.AllSheets.{open_dressed_document_is_shown}
-use Rattle.dressed_pictures.proofs.laws.open_dressed_document_is_shown.Goals as goal
-
-pub returns : goal.returns
-returns c = open_dressed_document_is_shown

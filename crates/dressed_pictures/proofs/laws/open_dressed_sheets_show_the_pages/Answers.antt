@@ -1,5 +1,0 @@
-use Rattle.dressed_pictures.proofs.Unguarded.{open_dressed_sheets_show_the_pages}
-use Rattle.dressed_pictures.proofs.laws.open_dressed_sheets_show_the_pages.Goals as goal
-
-pub returns : goal.returns
-returns c = open_dressed_sheets_show_the_pages

@@ -1,5 +1,0 @@
-pub mod PageRuns
-pub mod Preambles
-pub mod Shown
-pub mod Barcode
-pub mod Groff
