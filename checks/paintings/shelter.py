@@ -1,6 +1,6 @@
 """The guard put into a document, and the premises of the laws about guarded documents, by running the second machine.
 
-specs/Pages, Shelter, OwnShowpage and Silenced of crates/guarded_pictures have the definitions. A premise has its words, and what is
+specs/Pages, Shelter, OwnShowpage and Silenced of crates/pictures have the definitions. A premise has its words, and what is
 wrong, or None if it is met."""
 import re
 from pathlib import Path

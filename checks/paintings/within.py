@@ -30,11 +30,11 @@ DRESSED = "open_pictures::laws::"
 LAWS = {
     (False, None): f"pictures::laws::sheets_show_the_pages, {DRESSED}dressed_sheets_show_the_pages",
     (True, None): f"{OPEN}open_sheets_show_the_pages, {DRESSED}open_dressed_sheets_show_the_pages",
-    (False, shelter.GUARDED): f"guarded_pictures::laws::guarded_document_is_shown, {DRESSED}dressed_document_is_shown",
+    (False, shelter.GUARDED): f"pictures::laws::guarded_document_is_shown, {DRESSED}dressed_document_is_shown",
     (True, shelter.GUARDED): f"{OPEN}open_guarded_document_is_shown, {DRESSED}open_dressed_document_is_shown",
-    (False, shelter.OWN): "guarded_pictures::laws::own_showpage_is_shown, own_made_document_is_shown",
+    (False, shelter.OWN): "pictures::laws::own_showpage_is_shown, own_made_document_is_shown",
     (True, shelter.OWN): f"{OPEN}open_own_showpage_is_shown, open_own_made_document_is_shown",
-    (False, shelter.SILENCED): "guarded_pictures::laws::silenced_document_is_shown, silenced_made_document_is_shown",
+    (False, shelter.SILENCED): "pictures::laws::silenced_document_is_shown, silenced_made_document_is_shown",
     (True, shelter.SILENCED): f"{OPEN}open_silenced_document_is_shown, open_silenced_made_document_is_shown",
 }
 LOOKS = {

@@ -12,10 +12,10 @@ use Rattle.pictures.specs.Documents.{started, frame_of}
 use Rattle.pictures.proofs.Runs.{AreRuns, free_are_runs, runs_none}
 use Rattle.pictures.proofs.Sheets.{still, fresh}
 use Rattle.pictures.proofs.Output.{free_runs_on}
-use Rattle.guarded_pictures.specs.Pages.{IsGuarded, GuardedPagePaints}
-use Rattle.guarded_pictures.proofs.Placed.{takes_pages}
-use Rattle.guarded_pictures.proofs.Sheets.{page_places, guarded_prints}
-use Rattle.guarded_pictures.proofs.Documents.{body_places, page_again}
+use Rattle.pictures.specs.Pages.{IsGuarded, GuardedPagePaints}
+use Rattle.pictures.proofs.GuardedPlaced.{takes_pages}
+use Rattle.pictures.proofs.GuardedSheets.{page_places, guarded_prints}
+use Rattle.pictures.proofs.Documents.{body_places, page_again}
 use Rattle.open_pictures.specs.Machine.{OpenRuns}
 use Rattle.open_pictures.specs.Documents.{begun}
 use Rattle.open_pictures.proofs.Runs.{open_are_runs}

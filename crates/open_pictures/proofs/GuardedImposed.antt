@@ -20,9 +20,9 @@ use Rattle.pictures.specs.Imposed.{IsQuiet}
 use Rattle.pictures.proofs.Sheets.{still}
 use Rattle.pictures.proofs.Output.{Bodies, on_sheets, undressed_is_quiet, by_specification}
 use Rattle.pictures.proofs.Imposed.{still_document_is_shown}
-use Rattle.guarded_pictures.specs.Pages.{IsGuarded, outline_of}
-use Rattle.guarded_pictures.proofs.Sheets.{guarded_prints}
-use Rattle.guarded_pictures.proofs.Imposed.{telling_is_quiet}
+use Rattle.pictures.specs.Pages.{IsGuarded, outline_of}
+use Rattle.pictures.proofs.GuardedSheets.{guarded_prints}
+use Rattle.pictures.proofs.GuardedImposed.{telling_is_quiet}
 use Rattle.open_pictures.specs.Machine.{Further, OpenRuns}
 use Rattle.open_pictures.specs.Blindness.{RunsPreambles}
 use Rattle.open_pictures.specs.Documents.{begun, OpenPreambleRuns, OpenMadeIsPrinted}

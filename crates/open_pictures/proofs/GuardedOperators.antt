@@ -5,7 +5,7 @@ use Rattle.pictures.specs.Objects.{Token, Name, Bound, Object, Effect, Segments,
 use Rattle.pictures.specs.Operators.{with_operands}
 use Rattle.pictures.specs.Unaware.{no_saved}
 use Rattle.pictures.specs.Machine.{State, Kept, step}
-use Rattle.guarded_pictures.specs.Pages.{Around, placed_at, kept_at}
+use Rattle.pictures.specs.Pages.{Around, placed_at, kept_at}
 use Rattle.open_pictures.specs.Operators.{Sight, sight_of, Stroke, Outcome, Blind, struck, all_struck, after_past, going_on, come_to, blindly, Table, Stop, entry, next_stop, called, looked_up, by_table, TakesOthers, taken_plain, Answer, strokes_of, answered, answers_on}
 use Rattle.open_pictures.proofs.Points.{point_is_placeless}
 use Rattle.open_pictures.proofs.Operators.{never, some_same, stops, acts_in, rest_there, past_there, past}

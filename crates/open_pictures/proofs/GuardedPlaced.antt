@@ -3,10 +3,10 @@ use Rattle.std.proofs.Common.{false, List, ◌++◌}
 use Rattle.pictures.specs.Objects.{Token}
 use Rattle.pictures.specs.Machine.{State}
 use Rattle.pictures.specs.Sheets.{run_of, Numbers, closing_tokens}
-use Rattle.guarded_pictures.specs.Shelter.{sheltered, outline_tokens}
-use Rattle.guarded_pictures.specs.Pages.{Around, around, placed_at}
-use Rattle.guarded_pictures.proofs.Begins.{page_begins}
-use Rattle.guarded_pictures.proofs.Placed.{middle_tokens, placed_from, on_paper}
+use Rattle.pictures.specs.Shelter.{sheltered, outline_tokens}
+use Rattle.pictures.specs.Pages.{Around, around, placed_at}
+use Rattle.pictures.proofs.Begins.{page_begins}
+use Rattle.pictures.proofs.GuardedPlaced.{middle_tokens, placed_from, on_paper}
 use Rattle.open_pictures.specs.Machine.{OpenRuns}
 use Rattle.open_pictures.proofs.Runs.{open_are_runs, open_runs}
 use Rattle.open_pictures.specs.Pages.{OpenGuardedPageIsPlaced}

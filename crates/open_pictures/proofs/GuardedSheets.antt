@@ -11,10 +11,10 @@ use Rattle.pictures.specs.Documents.{numbers_of, page_of, body_of_page}
 use Rattle.pictures.proofs.Sheets.{Places, Stays, still, still_leaves}
 use Rattle.pictures.proofs.Output.{BodyPlaces}
 use Rattle.pictures.proofs.Kept.{kept_runs_alike}
-use Rattle.guarded_pictures.specs.Shelter.{outline_tokens}
-use Rattle.guarded_pictures.specs.Pages.{IsGuarded, TakesPages, outline_of}
-use Rattle.guarded_pictures.proofs.Placed.{takes_pages}
-use Rattle.guarded_pictures.proofs.Sheets.{still_takes}
+use Rattle.pictures.specs.Shelter.{outline_tokens}
+use Rattle.pictures.specs.Pages.{IsGuarded, TakesPages, outline_of}
+use Rattle.pictures.proofs.GuardedPlaced.{takes_pages}
+use Rattle.pictures.proofs.GuardedSheets.{still_takes}
 use Rattle.open_pictures.specs.Machine.{Further, OpenRuns}
 use Rattle.open_pictures.specs.Shelter.{IsPlacelessThere, OpenPaintsSheltered}
 use Rattle.open_pictures.specs.Pages.{OpenGuardedPagePaints}

@@ -22,12 +22,12 @@ use Rattle.pictures.specs.Documents.{FirstHas, OnSheetsFrom, all_sheets}
 use Rattle.pictures.specs.Imposed.{IsQuiet}
 use Rattle.pictures.proofs.Sheets.{Places, fresh, still_leaves}
 use Rattle.pictures.proofs.Output.{undressed_is_quiet}
-use Rattle.guarded_pictures.specs.Shelter.{outline_tokens, sheltered}
-use Rattle.guarded_pictures.specs.Lines.{with_asking}
-use Rattle.guarded_pictures.specs.Pages.{around, shown_at}
-use Rattle.guarded_pictures.specs.OwnShowpage.{HasItsOwn, asking}
-use Rattle.guarded_pictures.proofs.Imposed.{telling_is_quiet}
-use Rattle.guarded_pictures.proofs.OwnShowpage.{own_on_paper, own_page_runs, own_anyway, own_after, same_graphics, own_prints}
+use Rattle.pictures.specs.Shelter.{outline_tokens, sheltered}
+use Rattle.pictures.specs.Lines.{with_asking}
+use Rattle.pictures.specs.Pages.{around, shown_at}
+use Rattle.pictures.specs.OwnShowpage.{HasItsOwn, asking}
+use Rattle.pictures.proofs.GuardedImposed.{telling_is_quiet}
+use Rattle.pictures.proofs.OwnShowpage.{own_on_paper, own_page_runs, own_anyway, own_after, same_graphics, own_prints}
 use Rattle.open_pictures.specs.Machine.{Further, OpenRuns}
 use Rattle.open_pictures.specs.Blindness.{Extends, RunsPreambles}
 use Rattle.open_pictures.specs.Documents.{begun, OpenPreambleRuns}

@@ -11,8 +11,8 @@ use Rattle.pictures.specs.Documents.{started}
 use Rattle.pictures.specs.Unaware.{IsPlainGround, is_in, no_saved, no_saved_in}
 use Rattle.pictures.proofs.Tests.{first, second}
 use Rattle.pictures.proofs.Names.{not_true}
-use Rattle.guarded_pictures.specs.Shelter.{all_absent}
-use Rattle.guarded_pictures.proofs.Absent.{known}
+use Rattle.pictures.specs.Shelter.{all_absent}
+use Rattle.pictures.proofs.Absent.{known}
 
 -- the state that a run has come to
 abbrev pub reached : Option State → State

@@ -4,9 +4,9 @@ use Rattle.std.proofs.Common.{◌≡◌, zero, refl, ap, ◌∙◌, false, List}
 use Rattle.pictures.specs.Machine.{State, step, steps, and_then}
 use Rattle.pictures.specs.Sheets.{Numbers}
 use Rattle.pictures.proofs.Runs.{follow}
-use Rattle.guarded_pictures.specs.Shelter.{Outer, shelter_step, outline_tokens}
-use Rattle.guarded_pictures.specs.Pages.{Around, placed_at, IsOnPaper}
-use Rattle.guarded_pictures.proofs.Sheltering.{shelter_commutes}
+use Rattle.pictures.specs.Shelter.{Outer, shelter_step, outline_tokens}
+use Rattle.pictures.specs.Pages.{Around, placed_at, IsOnPaper}
+use Rattle.pictures.proofs.Sheltering.{shelter_commutes}
 use Rattle.open_pictures.specs.Machine.{Further, or_further, open_step, OpenRuns}
 use Rattle.open_pictures.proofs.Runs.{open_none, open_one, open_runs}
 use Rattle.open_pictures.specs.Shelter.{open_shelter_step, IsPlacelessThere, OpenShelterCommutes}

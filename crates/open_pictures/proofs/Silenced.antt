@@ -22,12 +22,12 @@ use Rattle.pictures.specs.Documents.{FirstHas, OnSheetsFrom, all_sheets}
 use Rattle.pictures.specs.Imposed.{IsQuiet}
 use Rattle.pictures.proofs.Sheets.{Places, fresh, still_leaves}
 use Rattle.pictures.proofs.Output.{undressed_is_quiet}
-use Rattle.guarded_pictures.specs.Shelter.{outline_tokens, sheltered}
-use Rattle.guarded_pictures.specs.Silenced.{IsSilenced, with_showpage, showing}
-use Rattle.guarded_pictures.specs.Pages.{around, shown_at}
-use Rattle.guarded_pictures.proofs.Imposed.{telling_is_quiet}
-use Rattle.guarded_pictures.proofs.Placed.{on_paper, takes_pages}
-use Rattle.guarded_pictures.proofs.Silenced.{silenced_page_runs, silenced_anyway, silenced_prints}
+use Rattle.pictures.specs.Shelter.{outline_tokens, sheltered}
+use Rattle.pictures.specs.Silenced.{IsSilenced, with_showpage, showing}
+use Rattle.pictures.specs.Pages.{around, shown_at}
+use Rattle.pictures.proofs.GuardedImposed.{telling_is_quiet}
+use Rattle.pictures.proofs.GuardedPlaced.{on_paper, takes_pages}
+use Rattle.pictures.proofs.Silenced.{silenced_page_runs, silenced_anyway, silenced_prints}
 use Rattle.open_pictures.specs.Machine.{Further, OpenRuns}
 use Rattle.open_pictures.specs.Blindness.{Extends, RunsPreambles}
 use Rattle.open_pictures.specs.Documents.{begun, OpenPreambleRuns}

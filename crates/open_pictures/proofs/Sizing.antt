@@ -17,13 +17,13 @@ use Rattle.pictures.proofs.Sheets.{fresh}
 use Rattle.pictures.proofs.Tests.{by_test}
 use Rattle.pictures.proofs.Opening.{name_other, is_apart}
 use Rattle.pictures.proofs.Straight.{Known}
-use Rattle.guarded_pictures.specs.Shelter.{means}
-use Rattle.guarded_pictures.specs.Pages.{IsGuarded, HasGuard, defined}
-use Rattle.guarded_pictures.proofs.Steps.{some, by_name}
-use Rattle.guarded_pictures.proofs.Redrawn.{with}
-use Rattle.guarded_pictures.proofs.PutThere.{not_has}
-use Rattle.guarded_pictures.proofs.Ground.{stays_guarded}
-use Rattle.guarded_pictures.proofs.SheetsOfSheets.{operands_old, dictionaries_old}
+use Rattle.pictures.specs.Shelter.{means}
+use Rattle.pictures.specs.Pages.{IsGuarded, HasGuard, defined}
+use Rattle.pictures.proofs.Steps.{some, by_name}
+use Rattle.pictures.proofs.Redrawn.{with}
+use Rattle.pictures.proofs.PutThere.{not_has}
+use Rattle.pictures.proofs.Ground.{stays_guarded}
+use Rattle.pictures.proofs.SheetsOfSheets.{operands_old, dictionaries_old}
 use Rattle.open_pictures.specs.Marks.{marking_names}
 use Rattle.open_pictures.specs.Sizes.{sizing_names, size_by, sized_by, sized, SizeIsSet}
 use Rattle.open_pictures.specs.DressedDocuments.{TakesLines}

@@ -23,8 +23,8 @@ use Rattle.pictures.specs.Imposed.{IsQuiet}
 use Rattle.pictures.proofs.Sheets.{Places, Prints}
 use Rattle.pictures.proofs.Output.{Bodies, on_sheets, by_specification}
 use Rattle.pictures.proofs.Imposed.{document_is_shown}
-use Rattle.guarded_pictures.specs.Shelter.{outline_tokens}
-use Rattle.guarded_pictures.specs.Pages.{shown_at}
+use Rattle.pictures.specs.Shelter.{outline_tokens}
+use Rattle.pictures.specs.Pages.{shown_at}
 use Rattle.open_pictures.specs.Machine.{Further, OpenRuns}
 use Rattle.open_pictures.specs.Blindness.{RunsPreambles}
 use Rattle.open_pictures.specs.Documents.{begun}

@@ -22,10 +22,10 @@ use Rattle.pictures.proofs.Sheets.{fresh, ground_prints}
 use Rattle.pictures.proofs.Straight.{Known}
 use Rattle.pictures.proofs.Own.{page_paints}
 use Rattle.pictures.proofs.Output.{free_runs_on, body_places}
-use Rattle.guarded_pictures.proofs.Steps.{some, by_name}
-use Rattle.guarded_pictures.proofs.Redrawn.{with}
-use Rattle.guarded_pictures.proofs.Ground.{entry_other}
-use Rattle.guarded_pictures.proofs.SheetsOfSheets.{operands_old, dictionaries_old}
+use Rattle.pictures.proofs.Steps.{some, by_name}
+use Rattle.pictures.proofs.Redrawn.{with}
+use Rattle.pictures.proofs.Ground.{entry_other}
+use Rattle.pictures.proofs.SheetsOfSheets.{operands_old, dictionaries_old}
 use Rattle.open_pictures.specs.Machine.{OpenRuns}
 use Rattle.open_pictures.specs.Documents.{begun, OpenPagePrints}
 use Rattle.open_pictures.proofs.Runs.{open_are_runs}

@@ -19,7 +19,7 @@ use Rattle.pictures.specs.Scanner.{tokens}
 use Rattle.pictures.specs.Kept.{comments_apart_with}
 use Rattle.pictures.specs.Sheets.{sheet_picture}
 use Rattle.pictures.specs.Documents.{started, frame_of, shown_sheet, PreambleRuns, OnSlots}
-use Rattle.guarded_pictures.specs.Pages.{IsGuarded, GuardedPagePaints}
+use Rattle.pictures.specs.Pages.{IsGuarded, GuardedPagePaints}
 use Rattle.open_pictures.specs.Machine.{Further, OpenRuns}
 use Rattle.open_pictures.specs.Blindness.{RunsPreambles}
 use Rattle.open_pictures.specs.Documents.{begun, OpenPreambleRuns}

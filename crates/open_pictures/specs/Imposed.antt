@@ -12,8 +12,8 @@ use Rattle.pictures.specs.Operators.{Work}
 use Rattle.pictures.specs.Machine.{State, Painting}
 use Rattle.pictures.specs.Kept.{comments_apart_with}
 use Rattle.pictures.specs.Documents.{frame_of, OnSheets}
-use Rattle.guarded_pictures.specs.Pages.{IsGuarded}
-use Rattle.guarded_pictures.specs.Imposed.{AreToldAsOne}
+use Rattle.pictures.specs.Pages.{IsGuarded}
+use Rattle.pictures.specs.GuardedImposed.{AreToldAsOne}
 use Rattle.open_pictures.specs.Machine.{Further}
 use Rattle.open_pictures.specs.Blindness.{RunsPreambles}
 use Rattle.open_pictures.specs.Documents.{OpenPreambleRuns, OpenMadeIsPrinted}

@@ -17,11 +17,11 @@ use Rattle.pictures.specs.Scanner.{tokens}
 use Rattle.pictures.specs.Kept.{comments_apart_with, preamble_comments_apart}
 use Rattle.pictures.specs.Sheets.{Shown, run_of, placed_tokens, page_picture}
 use Rattle.pictures.specs.Documents.{frame_of, FirstHas, OnSheetsFrom, all_sheets}
-use Rattle.guarded_pictures.specs.Shelter.{outline_tokens}
-use Rattle.guarded_pictures.specs.Lines.{with_asking}
-use Rattle.guarded_pictures.specs.Pages.{shown_at}
-use Rattle.guarded_pictures.specs.Imposed.{AreToldAsOne}
-use Rattle.guarded_pictures.specs.OwnShowpage.{HasItsOwn, asking}
+use Rattle.pictures.specs.Shelter.{outline_tokens}
+use Rattle.pictures.specs.Lines.{with_asking}
+use Rattle.pictures.specs.Pages.{shown_at}
+use Rattle.pictures.specs.GuardedImposed.{AreToldAsOne}
+use Rattle.pictures.specs.OwnShowpage.{HasItsOwn, asking}
 use Rattle.open_pictures.specs.Machine.{Further, OpenRuns}
 use Rattle.open_pictures.specs.Blindness.{RunsPreambles}
 use Rattle.open_pictures.specs.Documents.{begun, OpenPreambleRuns}

@@ -14,8 +14,8 @@ use Rattle.pictures.specs.Scanner.{tokens, IsComplete}
 use Rattle.pictures.specs.Kept.{page_comments_apart, preamble_comments_apart}
 use Rattle.pictures.specs.Sheets.{Shown, run_of, page_picture, placed_tokens}
 use Rattle.pictures.specs.Documents.{frame_of, page_of, OnSheets, all_sheets}
-use Rattle.guarded_pictures.specs.Shelter.{Outer, outline_tokens}
-use Rattle.guarded_pictures.specs.Pages.{IsGuarded, TakesPages, outline_of}
+use Rattle.pictures.specs.Shelter.{Outer, outline_tokens}
+use Rattle.pictures.specs.Pages.{IsGuarded, TakesPages, outline_of}
 use Rattle.open_pictures.specs.Machine.{Further, OpenRuns}
 use Rattle.open_pictures.specs.Blindness.{RunsPreambles}
 use Rattle.open_pictures.specs.Documents.{OpenPreambleRuns, OpenIsPrinted}

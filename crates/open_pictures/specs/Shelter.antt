@@ -3,8 +3,8 @@ use Rattle.std.specs.Prelude.{◌≡◌, ℕ, List, Option, Some, None, false}
 use Rattle.pictures.specs.Objects.{Token, Effect}
 use Rattle.pictures.specs.Machine.{State, Painting, Kept, step, RunsBy}
 use Rattle.pictures.specs.Sheets.{Numbers, LeavesAsItWas}
-use Rattle.guarded_pictures.specs.Shelter.{Outer, sheltered, shelter_step, outline_tokens}
-use Rattle.guarded_pictures.specs.Pages.{Around, placed_at, IsOnPaper}
+use Rattle.pictures.specs.Shelter.{Outer, sheltered, shelter_step, outline_tokens}
+use Rattle.pictures.specs.Pages.{Around, placed_at, IsOnPaper}
 use Rattle.open_pictures.specs.Machine.{Further, or_further, OpenRuns}
 use Rattle.open_pictures.specs.Operators.{Sight, Outcome, Blind, Table, Stop, entry, TakesOthers, by_table, Answer, answering}
 

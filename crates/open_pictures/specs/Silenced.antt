@@ -17,10 +17,10 @@ use Rattle.pictures.specs.Scanner.{tokens}
 use Rattle.pictures.specs.Kept.{comments_apart_with, preamble_comments_apart}
 use Rattle.pictures.specs.Sheets.{Shown, run_of, placed_tokens, page_picture}
 use Rattle.pictures.specs.Documents.{FirstHas, OnSheetsFrom, all_sheets}
-use Rattle.guarded_pictures.specs.Shelter.{outline_tokens}
-use Rattle.guarded_pictures.specs.Pages.{shown_at}
-use Rattle.guarded_pictures.specs.Imposed.{AreToldAsOne}
-use Rattle.guarded_pictures.specs.Silenced.{IsSilenced, with_showpage, showing}
+use Rattle.pictures.specs.Shelter.{outline_tokens}
+use Rattle.pictures.specs.Pages.{shown_at}
+use Rattle.pictures.specs.GuardedImposed.{AreToldAsOne}
+use Rattle.pictures.specs.Silenced.{IsSilenced, with_showpage, showing}
 use Rattle.open_pictures.specs.Machine.{Further, OpenRuns}
 use Rattle.open_pictures.specs.Blindness.{RunsPreambles}
 use Rattle.open_pictures.specs.Documents.{begun, OpenPreambleRuns}

@@ -9,7 +9,7 @@ use Rattle.pictures.specs.Dictionaries.{Entry, system}
 use Rattle.pictures.specs.Machine.{State, push, Runs}
 use Rattle.pictures.specs.Scanner.{tokens}
 use Rattle.pictures.specs.Sheets.{run_of, among}
-use Rattle.guarded_pictures.specs.Shelter.{means}
+use Rattle.pictures.specs.Shelter.{means}
 
 -- these names mean the operators
 abbrev pub MeanOperators : List (List ℕ) → State → Type 0

@@ -24,3 +24,12 @@ pub mod Independence
 pub mod BehindShowpage
 pub mod Calculating
 pub mod Looking
+pub mod Guarded
+pub mod NotCured
+pub mod GuardedApplied
+pub mod AppliedMade
+pub mod AppliedTwice
+pub mod AppliedMadeTwice
+pub mod AppliedNests
+pub mod AppliedOwn
+pub mod AppliedSilenced

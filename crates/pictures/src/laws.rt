@@ -7,6 +7,24 @@ ghost use Rattle.pictures.specs.Readings.{PointsArePut, ReadingFollows};
 ghost use Rattle.pictures.specs.Unaware.{OwnPicture, SheetsShowTheDocument, SheetsShowThePages};
 ghost use Rattle.pictures.specs.Scanner.{TokensJoin};
 ghost use Rattle.pictures.specs.Pictures.{PageIsPlaced, PlacesCompose, PlacingCommutes, SheetsArePrinted};
+ghost use Rattle.pictures.specs.Behind.{GuardDefines};
+ghost use Rattle.pictures.specs.ByItself.{ByItselfAsTheOperators};
+ghost use Rattle.pictures.specs.GuardedImposed.{MadeDocumentIsShown, OnePaperIsToldAsOne, OwnMadeDocumentIsShown};
+ghost use Rattle.pictures.specs.GuardedImposed.{SilencedMadeDocumentIsShown, TellingIsQuiet};
+ghost use Rattle.pictures.specs.NamedPapers.{PaperIsNothing, PapersAreLeft};
+ghost use Rattle.pictures.specs.OwnShowpage.{OwnPageIsPlaced, OwnSheetsArePrinted, OwnShowpageIsShown};
+ghost use Rattle.pictures.specs.Pages.{GuardIsEnough, GuardedDocumentIsShown, GuardedPageIsPlaced};
+ghost use Rattle.pictures.specs.Pages.{GuardedSheetsArePrinted, GuardedSheetsShowThePages, PageBegins};
+ghost use Rattle.pictures.specs.Pages.{ShelterCommutes, StaysGuarded};
+ghost use Rattle.pictures.specs.Silenced.{ShowpageIsPutBack, SilencedDocumentIsShown};
+ghost use Rattle.pictures.specs.Silenced.{SilencedPageIsPlaced, SilencedSheetsArePrinted};
+ghost use Rattle.pictures.specs.SheetsOfSheets.{SheetIsComposed, SheetIsPlaced, SheetsOfSheetsArePrinted};
+ghost use Rattle.pictures.specs.SheetsOfSheets.{NestsArePrinted, SheetsAreTakenWithin};
+ghost use Rattle.pictures.specs.SheetsOfSheets.{GuardTakesSheets, StaysTakingSheets};
+ghost use Rattle.pictures.specs.TwoMadeRuns.{TwoMadeRunsAreShown, TwoRunsAreShown};
+ghost use Rattle.pictures.specs.Lines.{AskingShows, AsksUserdict, ClipIsThePages, DefaultIsThePages};
+ghost use Rattle.pictures.specs.Lines.{DeviceIsHanded, DeviceIsLeft, GraphicsAreThePages, GuardedTwice, LoadedShowpage};
+ghost use Rattle.pictures.specs.Lines.{MatrixIsThePages, OuterIsKept, PageIsLeft, SaveSaves, ShowpageStaysAName};
 
 /// A machine in a placed state does what it does in the state, placed.
 pub fn placing_commutes()
@@ -87,4 +105,241 @@ pub fn preamble_runs_alike()
 /// pages print, placed.
 pub fn made_sheets_show_the_pages()
     ensures { MadeSheetsShowThePages }
+{}
+
+/// After the guard's text each of its names means what is said of it, and all else is as it was.
+pub fn guard_defines()
+    ensures { GuardDefines }
+{}
+
+/// A guard does nothing where there is one.
+pub fn guarded_twice()
+    ensures { GuardedTwice }
+{}
+
+/// `copypage` and `erasepage` leave the sheet as it is.
+pub fn page_is_left()
+    ensures { PageIsLeft }
+{}
+
+/// Within a placed page `setpagedevice` takes its operand, and does nothing.
+pub fn device_is_left()
+    ensures { DeviceIsLeft }
+{}
+
+/// Elsewhere it hands on the keys that say how a printer treats its paper, and nothing else.
+pub fn device_is_handed()
+    ensures { DeviceIsHanded }
+{}
+
+/// The papers' names that are there are made to do nothing, and no others are.
+pub fn papers_are_left()
+    ensures { PapersAreLeft }
+{}
+
+/// A page that names a paper does nothing by that, by itself and in its place.
+pub fn paper_is_nothing()
+    ensures { PaperIsNothing }
+{}
+
+/// `bind` doesn't bind `showpage`.
+pub fn showpage_stays_a_name()
+    ensures { ShowpageStaysAName }
+{}
+
+/// A loaded `showpage` does nothing in a placed page, and prints elsewhere.
+pub fn loaded_showpage()
+    ensures { LoadedShowpage }
+{}
+
+/// `initmatrix` sets the page's own transformation.
+pub fn matrix_is_the_pages()
+    ensures { MatrixIsThePages }
+{}
+
+/// `defaultmatrix` gives the page's own transformation.
+pub fn default_is_the_pages()
+    ensures { DefaultIsThePages }
+{}
+
+/// ImposeClip clips to the outlines of the page and of all pages round it.
+pub fn outer_is_kept()
+    ensures { OuterIsKept }
+{}
+
+/// `initclip` clips to the page's own outline, and to those of the pages round it.
+pub fn clip_is_the_pages()
+    ensures { ClipIsThePages }
+{}
+
+/// `initgraphics` sets the page's own transformation, and clips to these outlines.
+pub fn graphics_are_the_pages()
+    ensures { GraphicsAreThePages }
+{}
+
+/// A document's own `save` saves.
+pub fn save_saves()
+    ensures { SaveSaves }
+{}
+
+/// Where a page begins, a dictionary's own `showpage` is made one that asks userdict.
+pub fn asks_userdict()
+    ensures { AsksUserdict }
+{}
+
+/// And that one does what userdict's does.
+pub fn asking_shows()
+    ensures { AskingShows }
+{}
+
+/// Where a page begins, the sheet's text and the guard have brought the machine to the page's beginning, in its place.
+pub fn page_begins()
+    ensures { PageBegins }
+{}
+
+/// What a page does by itself, the free machine does, with the guard's procedures, in the page's place.
+pub fn shelter_commutes()
+    ensures { ShelterCommutes }
+{}
+
+/// What the guard's names do to a page by itself is what the operators do where nothing is round it.
+pub fn by_itself_as_the_operators()
+    ensures { ByItselfAsTheOperators }
+{}
+
+/// A placed page paints on the sheet what it paints by itself, placed.
+pub fn guarded_page_is_placed()
+    ensures { GuardedPageIsPlaced }
+{}
+
+/// Each sheet is printed with the pictures of its pages, placed.
+pub fn guarded_sheets_are_printed()
+    ensures { GuardedSheetsArePrinted }
+{}
+
+/// A machine prints of an output of a guarded document, sheet by sheet, what its pages paint by themselves, placed.
+pub fn guarded_sheets_show_the_pages()
+    ensures { GuardedSheetsShowThePages }
+{}
+
+/// After the guard's text the state is one in which pages are placed.
+pub fn guard_is_enough()
+    ensures { GuardIsEnough }
+{}
+
+/// It stays so where other names are defined.
+pub fn stays_guarded()
+    ensures { StaysGuarded }
+{}
+
+/// A machine prints of what impose makes of a document, sheet by sheet, what the document's pages paint by themselves,
+/// placed.
+pub fn guarded_document_is_shown()
+    ensures { GuardedDocumentIsShown }
+{}
+
+/// Sheets of one paper are reported as one, in the header alone.
+pub fn one_paper_is_told_as_one()
+    ensures { OnePaperIsToldAsOne }
+{}
+
+/// The lines by which such sheets report their paper are comments.
+pub fn telling_is_quiet()
+    ensures { TellingIsQuiet }
+{}
+
+/// A machine prints of what impose makes of a document on sheets that are reported as one paper, by whatever layout, what the
+/// document's pages paint by themselves, placed.
+pub fn made_document_is_shown()
+    ensures { MadeDocumentIsShown }
+{}
+
+/// A placed page of a document with a showpage of its own paints on the sheet what it paints by itself, placed.
+pub fn own_page_is_placed()
+    ensures { OwnPageIsPlaced }
+{}
+
+/// Each sheet of such a document is printed with the pictures of its pages, placed, if the first one has a page.
+pub fn own_sheets_are_printed()
+    ensures { OwnSheetsArePrinted }
+{}
+
+/// A machine prints of what impose makes of such a document, sheet by sheet, what its pages paint by themselves, placed.
+pub fn own_showpage_is_shown()
+    ensures { OwnShowpageIsShown }
+{}
+
+/// And so it prints what impose makes of such a document on sheets that are reported as one paper, by whatever layout.
+pub fn own_made_document_is_shown()
+    ensures { OwnMadeDocumentIsShown }
+{}
+
+/// Where a page begins and userdict's `showpage` is empty, the guard puts its own there again.
+pub fn showpage_is_put_back()
+    ensures { ShowpageIsPutBack }
+{}
+
+/// A placed page of a document that made it so paints on the sheet what it paints by itself, placed.
+pub fn silenced_page_is_placed()
+    ensures { SilencedPageIsPlaced }
+{}
+
+/// Each sheet of such a document is printed with the pictures of its pages, placed, if the first one has a page.
+pub fn silenced_sheets_are_printed()
+    ensures { SilencedSheetsArePrinted }
+{}
+
+/// A machine prints of what impose makes of such a document, sheet by sheet, what its pages paint by themselves, placed.
+pub fn silenced_document_is_shown()
+    ensures { SilencedDocumentIsShown }
+{}
+
+/// And so it prints what impose makes of such a document on sheets that are reported as one paper, by whatever layout.
+pub fn silenced_made_document_is_shown()
+    ensures { SilencedMadeDocumentIsShown }
+{}
+
+/// After the guard's text the state is one in which sheets of sheets can be placed.
+pub fn guard_takes_sheets()
+    ensures { GuardTakesSheets }
+{}
+
+/// It stays so where other names are defined.
+pub fn stays_taking_sheets()
+    ensures { StaysTakingSheets }
+{}
+
+/// A sheet of another document, placed as a page, paints its own picture, placed.
+pub fn sheet_is_placed()
+    ensures { SheetIsPlaced }
+{}
+
+/// And that is the picture of its pages, each in the one place within the other.
+pub fn sheet_is_composed()
+    ensures { SheetIsComposed }
+{}
+
+/// Sheets of sheets are printed, each with the pictures of its sheets, placed.
+pub fn sheets_of_sheets_are_printed()
+    ensures { SheetsOfSheetsArePrinted }
+{}
+
+/// A machine prints of what impose makes of a run's output the sheets of that run, placed.
+pub fn two_runs_are_shown()
+    ensures { TwoRunsAreShown }
+{}
+
+/// And so it prints two runs that make sheets by whatever layouts, and add no lines but comments.
+pub fn two_made_runs_are_shown()
+    ensures { TwoMadeRunsAreShown }
+{}
+
+/// Where sheets can be placed, they can be placed within a page.
+pub fn sheets_are_taken_within()
+    ensures { SheetsAreTakenWithin }
+{}
+
+/// What was imposed any number of times is printed, each sheet with the pictures of its sheets, placed.
+pub fn nests_are_printed()
+    ensures { NestsArePrinted }
 {}

@@ -13,9 +13,9 @@ use Rattle.pictures.specs.Documents.{started, page_of, all_sheets, sheet_picture
 use Rattle.pictures.proofs.Examples.TwoUp.{far}
 use Rattle.pictures.proofs.Examples.Premises.{document_with, half, frame, outline, placed}
 use Rattle.pictures.proofs.Examples.Applied.{units}
-use Rattle.guarded_pictures.specs.Shelter.{sheltered}
-use Rattle.guarded_pictures.specs.Pages.{IsGuarded, outline_of}
-use Rattle.guarded_pictures.proofs.Examples.Applied.{paper, behind, guarded_behind}
+use Rattle.pictures.specs.Shelter.{sheltered}
+use Rattle.pictures.specs.Pages.{IsGuarded, outline_of}
+use Rattle.pictures.proofs.Examples.GuardedApplied.{paper, behind, guarded_behind}
 use Rattle.open_pictures.specs.Machine.{Further}
 use Rattle.open_pictures.specs.Operators.{Blind, Stop, AtName, AtOperands, Answer, by_table, only_names, entry, answering}
 use Rattle.open_pictures.specs.Documents.{plain_work, OpenPreambleRuns, OpenIsPrinted}

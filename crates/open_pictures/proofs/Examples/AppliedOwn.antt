@@ -13,12 +13,12 @@ use Rattle.pictures.specs.Documents.{started, page_of, all_sheets, sheet_picture
 use Rattle.pictures.proofs.Examples.TwoUp.{far}
 use Rattle.pictures.proofs.Examples.Premises.{document_with, half, frame, outline, placed}
 use Rattle.pictures.proofs.Examples.Applied.{units}
-use Rattle.guarded_pictures.specs.Shelter.{sheltered}
-use Rattle.guarded_pictures.specs.Lines.{with_asking}
-use Rattle.guarded_pictures.specs.Pages.{outline_of, shown_at}
-use Rattle.guarded_pictures.specs.OwnShowpage.{HasItsOwn, asking}
-use Rattle.guarded_pictures.proofs.Examples.Applied.{paper}
-use Rattle.guarded_pictures.proofs.Examples.AppliedOwn.{behind, own_behind}
+use Rattle.pictures.specs.Shelter.{sheltered}
+use Rattle.pictures.specs.Lines.{with_asking}
+use Rattle.pictures.specs.Pages.{outline_of, shown_at}
+use Rattle.pictures.specs.OwnShowpage.{HasItsOwn, asking}
+use Rattle.pictures.proofs.Examples.GuardedApplied.{paper}
+use Rattle.pictures.proofs.Examples.AppliedOwn.{behind, own_behind}
 use Rattle.open_pictures.specs.Machine.{OpenRuns}
 use Rattle.open_pictures.specs.Documents.{begun, plain_work, OpenPreambleRuns}
 use Rattle.open_pictures.proofs.Runs.{open_runs}

@@ -14,11 +14,11 @@ use Rattle.pictures.specs.Machine.{State, Runs}
 use Rattle.pictures.specs.Scanner.{tokens}
 use Rattle.pictures.specs.Documents.{started, page_of}
 use Rattle.pictures.proofs.Examples.Premises.{frame}
-use Rattle.guarded_pictures.specs.Shelter.{sheltered}
-use Rattle.guarded_pictures.specs.Pages.{GuardedPagePaints, outline_of}
-use Rattle.guarded_pictures.proofs.Absent.{known}
-use Rattle.guarded_pictures.proofs.Examples.Applied.{paper, text, us, behind, preamble_runs, picture, at_most}
-use Rattle.guarded_pictures.proofs.Examples.AppliedMade.{stands, wide, own}
+use Rattle.pictures.specs.Shelter.{sheltered}
+use Rattle.pictures.specs.Pages.{GuardedPagePaints, outline_of}
+use Rattle.pictures.proofs.Absent.{known}
+use Rattle.pictures.proofs.Examples.GuardedApplied.{paper, text, us, behind, preamble_runs, picture, at_most}
+use Rattle.pictures.proofs.Examples.AppliedMade.{stands, wide, own}
 use Rattle.open_pictures.specs.Marks.{marking_names}
 use Rattle.open_pictures.specs.Sizes.{sizing_names, sized}
 use Rattle.open_pictures.specs.DressedDocuments.{told_by, TakesLines, dressed_at}

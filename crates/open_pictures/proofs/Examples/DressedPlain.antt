@@ -16,7 +16,7 @@ use Rattle.pictures.specs.Unaware.{IsPlainGround, PagePrints, unaware_step}
 use Rattle.pictures.proofs.Examples.Applied.{page_prints}
 use Rattle.pictures.proofs.Examples.ByHand.{says}
 use Rattle.pictures.proofs.Examples.OnTwoSheets.{document, us, ready, plain, picture}
-use Rattle.guarded_pictures.proofs.Examples.AppliedMade.{stands, wide, own}
+use Rattle.pictures.proofs.Examples.AppliedMade.{stands, wide, own}
 use Rattle.open_pictures.specs.Sizes.{sized}
 use Rattle.open_pictures.specs.DressedDocuments.{told_by, dressed_at}
 use Rattle.open_pictures.specs.Unguarded.{TakesPlainLines}

@@ -1,5 +1,0 @@
-use Rattle.guarded_pictures.proofs.Asking.{asking_shows}
-use Rattle.guarded_pictures.proofs.laws.asking_shows.Goals as goal
-
-pub returns : goal.returns
-returns c = asking_shows

@@ -1,5 +1,0 @@
-use Rattle.guarded_pictures.proofs.Lines.{device_is_left}
-use Rattle.guarded_pictures.proofs.laws.device_is_left.Goals as goal
-
-pub returns : goal.returns
-returns c = device_is_left

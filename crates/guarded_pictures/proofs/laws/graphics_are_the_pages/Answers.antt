@@ -1,5 +1,0 @@
-use Rattle.guarded_pictures.proofs.Lines.{graphics_are_the_pages}
-use Rattle.guarded_pictures.proofs.laws.graphics_are_the_pages.Goals as goal
-
-pub returns : goal.returns
-returns c = graphics_are_the_pages

@@ -1,5 +1,0 @@
-use Rattle.guarded_pictures.proofs.Ground.{guard_is_enough}
-use Rattle.guarded_pictures.proofs.laws.guard_is_enough.Goals as goal
-
-pub returns : goal.returns
-returns c = guard_is_enough

@@ -1,5 +1,0 @@
-use Rattle.guarded_pictures.proofs.Taking.{guard_takes_sheets}
-use Rattle.guarded_pictures.proofs.laws.guard_takes_sheets.Goals as goal
-
-pub returns : goal.returns
-returns c = guard_takes_sheets

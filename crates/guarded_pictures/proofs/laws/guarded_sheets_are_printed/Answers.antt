@@ -1,5 +1,0 @@
-use Rattle.guarded_pictures.proofs.Sheets.{guarded_sheets_are_printed}
-use Rattle.guarded_pictures.proofs.laws.guarded_sheets_are_printed.Goals as goal
-
-pub returns : goal.returns
-returns c = guarded_sheets_are_printed

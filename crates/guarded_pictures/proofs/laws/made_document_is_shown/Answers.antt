@@ -1,5 +1,0 @@
-use Rattle.guarded_pictures.proofs.Imposed.{made_document_is_shown}
-use Rattle.guarded_pictures.proofs.laws.made_document_is_shown.Goals as goal
-
-pub returns : goal.returns
-returns c = made_document_is_shown

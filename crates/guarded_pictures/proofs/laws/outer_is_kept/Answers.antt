@@ -1,5 +1,0 @@
-use Rattle.guarded_pictures.proofs.Lines.{outer_is_kept}
-use Rattle.guarded_pictures.proofs.laws.outer_is_kept.Goals as goal
-
-pub returns : goal.returns
-returns c = outer_is_kept

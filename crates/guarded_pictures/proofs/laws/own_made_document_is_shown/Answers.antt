@@ -1,5 +1,0 @@
-use Rattle.guarded_pictures.proofs.Imposed.{own_made_document_is_shown}
-use Rattle.guarded_pictures.proofs.laws.own_made_document_is_shown.Goals as goal
-
-pub returns : goal.returns
-returns c = own_made_document_is_shown

@@ -1,5 +1,0 @@
-use Rattle.guarded_pictures.proofs.OwnShowpage.{own_page_is_placed}
-use Rattle.guarded_pictures.proofs.laws.own_page_is_placed.Goals as goal
-
-pub returns : goal.returns
-returns c = own_page_is_placed

@@ -1,5 +1,0 @@
-use Rattle.guarded_pictures.proofs.OwnShowpage.{own_showpage_is_shown}
-use Rattle.guarded_pictures.proofs.laws.own_showpage_is_shown.Goals as goal
-
-pub returns : goal.returns
-returns c = own_showpage_is_shown

@@ -1,5 +1,0 @@
-use Rattle.guarded_pictures.proofs.Begins.{page_begins}
-use Rattle.guarded_pictures.proofs.laws.page_begins.Goals as goal
-
-pub returns : goal.returns
-returns c = page_begins

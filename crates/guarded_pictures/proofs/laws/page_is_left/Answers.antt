@@ -1,5 +1,0 @@
-use Rattle.guarded_pictures.proofs.Lines.{page_is_left}
-use Rattle.guarded_pictures.proofs.laws.page_is_left.Goals as goal
-
-pub returns : goal.returns
-returns c = page_is_left

@@ -1,5 +1,0 @@
-use Rattle.guarded_pictures.proofs.NamedPapers.{paper_is_nothing}
-use Rattle.guarded_pictures.proofs.laws.paper_is_nothing.Goals as goal
-
-pub returns : goal.returns
-returns c = paper_is_nothing

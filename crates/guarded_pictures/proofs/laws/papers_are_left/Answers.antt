@@ -1,5 +1,0 @@
-use Rattle.guarded_pictures.proofs.NamedPapers.{papers_are_left}
-use Rattle.guarded_pictures.proofs.laws.papers_are_left.Goals as goal
-
-pub returns : goal.returns
-returns c = papers_are_left

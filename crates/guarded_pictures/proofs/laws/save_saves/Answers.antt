@@ -1,5 +1,0 @@
-use Rattle.guarded_pictures.proofs.Lines.{save_saves}
-use Rattle.guarded_pictures.proofs.laws.save_saves.Goals as goal
-
-pub returns : goal.returns
-returns c = save_saves

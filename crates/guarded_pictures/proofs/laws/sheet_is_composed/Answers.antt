@@ -1,5 +1,0 @@
-use Rattle.guarded_pictures.proofs.SheetsOfSheets.{sheet_is_composed}
-use Rattle.guarded_pictures.proofs.laws.sheet_is_composed.Goals as goal
-
-pub returns : goal.returns
-returns c = sheet_is_composed

@@ -1,5 +1,0 @@
-use Rattle.guarded_pictures.proofs.SheetsOfSheets.{sheet_is_placed}
-use Rattle.guarded_pictures.proofs.laws.sheet_is_placed.Goals as goal
-
-pub returns : goal.returns
-returns c = sheet_is_placed

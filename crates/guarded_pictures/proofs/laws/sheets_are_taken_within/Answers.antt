@@ -1,5 +1,0 @@
-use Rattle.guarded_pictures.proofs.Nests.{sheets_are_taken_within}
-use Rattle.guarded_pictures.proofs.laws.sheets_are_taken_within.Goals as goal
-
-pub returns : goal.returns
-returns c = sheets_are_taken_within

@@ -1,5 +1,0 @@
-use Rattle.guarded_pictures.proofs.SheetsOfSheets.{sheets_of_sheets_are_printed}
-use Rattle.guarded_pictures.proofs.laws.sheets_of_sheets_are_printed.Goals as goal
-
-pub returns : goal.returns
-returns c = sheets_of_sheets_are_printed

@@ -1,5 +1,0 @@
-use Rattle.guarded_pictures.proofs.Sheltering.{shelter_commutes}
-use Rattle.guarded_pictures.proofs.laws.shelter_commutes.Goals as goal
-
-pub returns : goal.returns
-returns c = shelter_commutes

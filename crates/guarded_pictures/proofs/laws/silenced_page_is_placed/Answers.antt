@@ -1,5 +1,0 @@
-use Rattle.guarded_pictures.proofs.Silenced.{silenced_page_is_placed}
-use Rattle.guarded_pictures.proofs.laws.silenced_page_is_placed.Goals as goal
-
-pub returns : goal.returns
-returns c = silenced_page_is_placed

@@ -1,5 +1,0 @@
-use Rattle.guarded_pictures.proofs.Silenced.{silenced_sheets_are_printed}
-use Rattle.guarded_pictures.proofs.laws.silenced_sheets_are_printed.Goals as goal
-
-pub returns : goal.returns
-returns c = silenced_sheets_are_printed

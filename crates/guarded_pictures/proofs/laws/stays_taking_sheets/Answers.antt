@@ -1,5 +1,0 @@
-use Rattle.guarded_pictures.proofs.Taking.{stays_taking_sheets}
-use Rattle.guarded_pictures.proofs.laws.stays_taking_sheets.Goals as goal
-
-pub returns : goal.returns
-returns c = stays_taking_sheets

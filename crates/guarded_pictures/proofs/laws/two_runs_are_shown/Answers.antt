@@ -1,5 +1,0 @@
-use Rattle.guarded_pictures.proofs.TwoMadeRuns.{two_runs_are_shown}
-use Rattle.guarded_pictures.proofs.laws.two_runs_are_shown.Goals as goal
-
-pub returns : goal.returns
-returns c = two_runs_are_shown
