@@ -28,11 +28,11 @@ use Rattle.dressing.specs.Numbered.{Drawn, drawn_on}
 use Rattle.row_runs.specs.SheetsRuns.{told_output}
 use Rattle.sheet_plan.specs.OfSheets.{made_plan}
 use Rattle.sheet_plan.specs.Places.{born_complete}
-use Rattle.planned_runs.specs.Gathering.{ReportsOf}
-use Rattle.planned_runs.specs.Outcomes.{AfterError}
-use Rattle.planned_runs.specs.declared.outcome.Report.{Report}
-use Rattle.planned_runs.specs.declared.outcome.RunError.{RunError}
-use Rattle.planned_runs.specs.declared.outcome.RunError.TheVariants as run
+use Rattle.imposer.specs.Gathering.{ReportsOf}
+use Rattle.imposer.specs.Outcomes.{AfterError}
+use Rattle.imposer.specs.declared.outcome.Report.{Report}
+use Rattle.imposer.specs.declared.outcome.RunError.{RunError}
+use Rattle.imposer.specs.declared.outcome.RunError.TheVariants as run
 use Rattle.impose_cli.specs.RowRuns.{ReportsOn}
 use Rattle.impose_cli.specs.Abouts.{finished_by, reported_by}
 use Rattle.impose_cli.specs.Endings.{AfterWrite, BreaksOff, Comes, Edge, HasFirst, Holds, IsNotCreated, IsSaidOf, WritesJob, shown}

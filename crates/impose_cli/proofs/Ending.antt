@@ -18,11 +18,11 @@ use Rattle.sheet_text.specs.Jobs.{JobView, is_border, of_frame}
 use Rattle.sheet_writer.specs.Sinks.{fresh_sink}
 use Rattle.imposer.proofs.Answered.{job_answers}
 use Rattle.imposer.proofs.Refusals.{refused_plan}
-use Rattle.planned_runs.specs.Outcomes.{of_plan}
+use Rattle.imposer.specs.Outcomes.{of_plan}
 use Rattle.imposer.specs.Runs.{Accepted, Reports, frame_of}
 use Rattle.imposer.specs.Options.{AreOptions}
-use Rattle.planned_runs.specs.Workers.{AreWorkers}
-use Rattle.planned_runs.specs.declared.outcome.RunError.{RunError}
+use Rattle.imposer.specs.Workers.{AreWorkers}
+use Rattle.imposer.specs.declared.outcome.RunError.{RunError}
 use Rattle.impose_said.specs.declared.fault.ImposeFault.{ImposeFault}
 use Rattle.impose_said.specs.declared.fault.ImposeFault.TheVariants as fault
 use Rattle.impose_said.specs.declared.finished.Done.{Done}
@@ -31,7 +31,7 @@ use Rattle.impose_cli.specs.Endings.{Edge, Comes, IsImposed, RefusesImposing, Re
 use Rattle.impose_cli.specs.Refusals.{RefusesTask}
 use Rattle.impose_cli.specs.declared.runs.About.{About}
 use Rattle.impose_cli.proofs.Coming.{comes_as, comes_refused, comes_reported}
-use Rattle.planned_runs.specs.declared.outcome.Report.{Report}
+use Rattle.imposer.specs.declared.outcome.Report.{Report}
 use Rattle.impose_cli.specs.Claims.{IsToldBy}
 use Rattle.impose_said.specs.declared.finished.Told.{Told}
 use Rattle.impose_cli.specs.Tasks.{FinishesSpec, IsPlaced, IsSpec, IsTask, asked_by}

@@ -5,7 +5,7 @@ use Rattle.std.specs.Prelude.{⊤, ◌⊎◌, option_map, string_bytes}
 use Rattle.std.specs.Io.KnownBytes.{Appends}
 use Rattle.world.specs.Outputs.{OutputView, fresh_output, told_if}
 use Rattle.impose_cli.specs.Endings.{AfterWrite, Edge, IsSaidOf, IsUncreated, Runs, has_output, shown}
-use Rattle.planned_runs.specs.declared.outcome.RunError.TheVariants as run
+use Rattle.imposer.specs.declared.outcome.RunError.TheVariants as run
 use Rattle.world.specs.Input.{IsFirst, most_bytes}
 use Rattle.world.specs.Worlds.{WorldView}
 use Rattle.impose_cli.specs.Looks.{MayBeMade, TellsRow}

@@ -3,7 +3,7 @@ use Rattle.std.proofs.Common.{◌≡◌, ◌∙◌, ap, sym, subst, refl, inl, i
 use Rattle.std.specs.Prelude.{IfSome, option_map, string_bytes}
 use Rattle.rows.specs.Sewing.{MayBeSewn}
 use Rattle.rules.specs.Run.{document_of}
-use Rattle.planned_runs.specs.declared.outcome.Report.{Report}
+use Rattle.imposer.specs.declared.outcome.Report.{Report}
 use Rattle.row_runs.specs.declared.by_spec.SpecJob.{SpecJob}
 use Rattle.impose_cli.specs.RowRuns.{ImposesBySpec}
 use Rattle.impose_cli.specs.Abouts.{reported_by}

@@ -12,11 +12,11 @@ use Rattle.sheet_writer.specs.Sinks.{SinkView}
 use Rattle.world.specs.Outputs.{OutputView, named, told_if}
 use Rattle.world.specs.Worlds.{HasRefused, WorldView, creating}
 pub use Rattle.world.specs.Rests.{has_output, shown}
-use Rattle.planned_runs.specs.Gathering.{ReportsOf}
+use Rattle.imposer.specs.Gathering.{ReportsOf}
 use Rattle.imposer.specs.Runs.{Accepted, IsRefusal, IsUnwritten, Reports, frame_of}
-use Rattle.planned_runs.specs.declared.outcome.Report.{Report}
-use Rattle.planned_runs.specs.declared.outcome.RunError.{RunError}
-use Rattle.planned_runs.specs.declared.outcome.RunError.TheVariants as run
+use Rattle.imposer.specs.declared.outcome.Report.{Report}
+use Rattle.imposer.specs.declared.outcome.RunError.{RunError}
+use Rattle.imposer.specs.declared.outcome.RunError.TheVariants as run
 use Rattle.row_runs.specs.Runs.{RefusesRun, page_count}
 use Rattle.row_runs.specs.declared.error.AskedError.{AskedError}
 use Rattle.row_runs.specs.declared.run.RowJob.{RowJob}

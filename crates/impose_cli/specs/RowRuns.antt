@@ -7,7 +7,7 @@ use Rattle.rules.specs.Made.{MadeSheet}
 use Rattle.rules.specs.MadePlans.{made_layout}
 use Rattle.sheet_plan.specs.Places.{born_complete}
 use Rattle.dressing.specs.Numbered.{Drawn, nothing_drawn}
-use Rattle.planned_runs.specs.declared.outcome.Report.{Report}
+use Rattle.imposer.specs.declared.outcome.Report.{Report}
 use Rattle.row_runs.specs.SheetsRuns.{told_output}
 use Rattle.row_runs.specs.Runs.{ArePlanned, border_on, drawn_of, output_on}
 use Rattle.row_runs.specs.BySpec.{AreSpecPlan, border_by_spec, output_by_spec}

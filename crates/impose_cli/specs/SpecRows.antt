@@ -6,7 +6,7 @@ use Rattle.rules.specs.Run.{document_of}
 use Rattle.rows.specs.Choices.{choice_of}
 use Rattle.rows.specs.Sewing.{MayBeSewn}
 use Rattle.sheet_text.specs.Jobs.{is_border}
-use Rattle.planned_runs.specs.declared.outcome.Report.{Report}
+use Rattle.imposer.specs.declared.outcome.Report.{Report}
 use Rattle.row_runs.specs.BySpec.{RefusesBySpec, pages_of}
 use Rattle.impose_cli.specs.RowRuns.{ImposesBySpec}
 use Rattle.row_runs.specs.declared.by_spec.SpecJob.{SpecJob}

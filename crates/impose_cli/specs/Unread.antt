@@ -9,7 +9,7 @@ use Rattle.rules.specs.Choice.{NotARange, row_of_text}
 use Rattle.rows.specs.declared.error.RowError.TheVariants as row
 use Rattle.pagespec.specs.Refusals.{IsPlaced, IsRefusal}
 use Rattle.pagespec.specs.declared.error.SpecError.{SpecError}
-use Rattle.planned_runs.specs.Outcomes.{of_spec}
+use Rattle.imposer.specs.Outcomes.{of_spec}
 use Rattle.impose_cli.specs.RowTasks.{cells_in, cells_paper, sheet_paper_in, why_not_laid}
 use Rattle.impose_cli.specs.Refusals.{RefusesLaying}
 use Rattle.impose_words.specs.declared.request.Spacing.{Spacing}

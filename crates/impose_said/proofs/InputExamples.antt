@@ -2,7 +2,7 @@
 use Rattle.std.proofs.Common.{◌≡◌, [], ◌∷◌, refl, map}
 use Rattle.std.specs.Prelude.{codes}
 use Rattle.dsc.specs.declared.errors.DscError.TheVariants.{NoMemory, NoPages, NotPostScript, TooLong}
-use Rattle.planned_runs.specs.declared.outcome.RunError.TheVariants as run
+use Rattle.imposer.specs.declared.outcome.RunError.TheVariants as run
 use Rattle.impose_said.specs.declared.fault.ImposeFault.TheVariants as fault
 use Rattle.impose_said.specs.declared.fault.Packing.TheVariants.{Gzip, Bzip2, Xz, Zip}
 use Rattle.impose_said.specs.Inputs.{of_document}

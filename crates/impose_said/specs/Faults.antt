@@ -1,7 +1,7 @@
 -- What an error of a part makes of a request, before anything was written.
 use Rattle.layouts.specs.declared.error.ArrangementError.{ArrangementError}
 use Rattle.layouts.specs.declared.error.ArrangementError.TheVariants as layout
-use Rattle.planned_runs.specs.Outcomes.{no_memory}
+use Rattle.imposer.specs.Outcomes.{no_memory}
 use Rattle.impose_said.specs.declared.fault.ImposeFault.{ImposeFault}
 use Rattle.impose_said.specs.declared.fault.ImposeFault.TheVariants as fault
 

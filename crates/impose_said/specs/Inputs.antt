@@ -3,7 +3,7 @@ use Rattle.std.specs.Prelude.{ℕ, ◌==◌, Bool, ◌||◌, Option, Some, None,
 use Rattle.std.specs.List.{starts_with}
 use Rattle.dsc.specs.declared.errors.DscError.{DscError}
 use Rattle.dsc.specs.declared.errors.DscError.TheVariants.{NoPages, NotPostScript, TooLong}
-use Rattle.planned_runs.specs.Outcomes.{of_document as of_read}
+use Rattle.imposer.specs.Outcomes.{of_document as of_read}
 use Rattle.impose_said.specs.declared.fault.Packing.{Packing}
 use Rattle.impose_said.specs.declared.fault.Packing.TheVariants as packing
 use Rattle.impose_said.specs.declared.fault.ImposeFault.{ImposeFault}

@@ -19,7 +19,7 @@ use Rattle.papers.specs.declared.media.Comment.TheVariants as comment
 use Rattle.papers.specs.declared.boxes.Edges.{Edges}
 use Rattle.papers.specs.declared.cuts.Cut.{Cut}
 use Rattle.papers.specs.declared.reach.Reach.{Reach}
-use Rattle.planned_runs.specs.declared.outcome.Report.{Report}
+use Rattle.imposer.specs.declared.outcome.Report.{Report}
 use Rattle.impose_said.specs.Statuses.{words_status}
 use Rattle.impose_words.specs.declared.fault.RequestFault.TheVariants as command
 use Rattle.impose_said.specs.declared.fault.ImposeFault.{ImposeFault}

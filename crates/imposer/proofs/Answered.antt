@@ -14,17 +14,17 @@ use Rattle.sheet_plan.specs.Plans.{planned_in}
 use Rattle.sheet_plan.specs.Places.{born_complete}
 use Rattle.sheet_text.specs.Jobs.{JobView, of_frame, output_of}
 use Rattle.sheet_text.proofs.OnePaper.{output_is}
-use Rattle.planned_runs.specs.Outcomes.{FailedIn}
+use Rattle.imposer.specs.Outcomes.{FailedIn}
 use Rattle.imposer.specs.Options.{AreOptions}
 use Rattle.sheet_writer.specs.Sinks.{SinkView}
 use Rattle.sheet_writer.specs.Writing.{WroteFirst}
-use Rattle.planned_runs.specs.Gathering.{Answers, ReportsOf, WrotePartOf}
+use Rattle.imposer.specs.Gathering.{Answers, ReportsOf, WrotePartOf}
 use Rattle.imposer.specs.Runs.{Request, frame_of, IsAccepted, Accepted, Reports, IsRefusal, IsUnwritten, HasWritten, WrotePart, IsGiven, AnswersRequest}
 use Rattle.imposer.specs.declared.options.Options.{Options}
 use Rattle.imposer.specs.declared.runs.Given.{Given}
-use Rattle.planned_runs.specs.declared.outcome.RunError.{RunError}
-use Rattle.planned_runs.specs.declared.outcome.RunError.TheVariants as error
-use Rattle.planned_runs.specs.declared.outcome.Report.{Report}
+use Rattle.imposer.specs.declared.outcome.RunError.{RunError}
+use Rattle.imposer.specs.declared.outcome.RunError.TheVariants as error
+use Rattle.imposer.specs.declared.outcome.Report.{Report}
 
 pub accepted_of : (r : Request) (s : Spec) (us : List NestedUnit) (n : ℕ) → AreOptions r.options → Takes most_slots r.spec s → document_of r.input ≡ Ok us → n ≡ length (pages us)
     → plan_in r.options.sides s n ≡ Ok (sheets_in r.options.sides s n) → IsAccepted r s us

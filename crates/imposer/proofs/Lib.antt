@@ -3,3 +3,19 @@ pub mod Refusals
 pub mod Answered
 pub mod RunStatuses
 pub mod Piped
+pub mod WindowExamples
+pub mod Made
+pub mod Held
+pub mod ByRight
+mod RoomForAll
+pub mod OwnPages
+pub mod TextBytes
+pub mod Texts
+pub mod Holdings
+pub mod HandedOn
+pub mod Ends
+pub mod Pushed
+pub mod Given
+pub mod OneBit
+pub mod Passing
+pub mod Counted

@@ -11,7 +11,7 @@ use Rattle.rules.specs.Run.{DocumentFault, document_of}
 use Rattle.dsc.specs.Faults.{fault_told}
 use Rattle.dsc.specs.Units.{units_of}
 use Rattle.imposer.specs.Runs.{Request, frame_of, IsAccepted, Reports}
-use Rattle.planned_runs.specs.declared.outcome.Report.{Report}
+use Rattle.imposer.specs.declared.outcome.Report.{Report}
 use Rattle.imposed_again.specs.Again.{depth_behind, IsAgain}
 use Rattle.imposed_again.proofs.Again.{imposed_again}
 use Rattle.imposer.specs.Again.{RunIsDocument, RunsGoOn}

@@ -7,7 +7,7 @@ use Rattle.rules.specs.Parts.{NestedUnit, pages}
 use Rattle.rules.specs.Admissible.{Takes, most_slots}
 use Rattle.sheet_plan.specs.Refusals as plan_said
 use Rattle.imposer.specs.Options.{AreOptions}
-use Rattle.planned_runs.specs.Outcomes.{of_plan}
+use Rattle.imposer.specs.Outcomes.{of_plan}
 use Rattle.imposer.specs.Runs.{Request, IsRefusal, IsUnwritten}
 use Rattle.sheet_plan.specs.declared.error.PlanError.{PlanError}
 use Rattle.sheet_plan.specs.declared.error.PlanError.TheVariants as plan

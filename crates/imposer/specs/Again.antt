@@ -8,8 +8,8 @@ use Rattle.rules.specs.Run.{document_of, most_input_bytes}
 use Rattle.dsc.specs.Units.{units_of}
 use Rattle.dsc.specs.declared.errors.DscError.{DscError}
 use Rattle.imposer.specs.Runs.{Request, frame_of, Accepted, IsRefusal, Reports}
-use Rattle.planned_runs.specs.declared.outcome.Report.{Report}
-use Rattle.planned_runs.specs.declared.outcome.RunError.TheVariants as error
+use Rattle.imposer.specs.declared.outcome.Report.{Report}
+use Rattle.imposer.specs.declared.outcome.RunError.TheVariants as error
 use Rattle.imposed_again.specs.Again.{depth_behind, IsAgain}
 
 -- a run on this request returned Ok with this report, and appended these bytes to none: this is what `run` promises

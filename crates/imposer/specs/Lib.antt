@@ -1,6 +1,21 @@
--- Read in this order. What is said of threads is in the crate `planned_runs`, and of a delivery and an imposition in `run_steps`.
+-- Read in this order: a run; a run on planned sheets, of which who asks what `gather` leaves may stop after `Listening`; its
+-- workers; their threads, which know no pages; numbers that an imposer holds. What a delivery and an imposition call is in
+-- `run_steps`.
 pub mod Options
 pub mod Faults
 pub mod Statuses
 pub mod Runs
 pub mod Again
+pub mod Workers
+pub mod Outcomes
+pub mod Gathering
+pub mod Listening
+pub mod Tokens
+pub mod Rooms
+pub mod Windows
+pub mod Joining
+pub mod Desks
+pub mod Promises
+pub mod Growth
+pub mod HandlePromises
+pub mod SheetNumbers

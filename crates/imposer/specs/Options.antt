@@ -2,7 +2,7 @@
 use Rattle.std.specs.Prelude.{◌≡◌, true}
 use Rattle.rules.specs.Signatures.{AreSidesIfGiven}
 use Rattle.sheet_text.specs.Jobs.{is_border}
-use Rattle.planned_runs.specs.Workers.{AreWorkers}
+use Rattle.imposer.specs.Workers.{AreWorkers}
 use Rattle.imposer.specs.declared.options.Options.{Options}
 
 -- the options are taken

@@ -16,11 +16,11 @@ use Rattle.pagespec.specs.Refusals.{IsPlaced}
 use Rattle.sheet_plan.specs.Plans.{planned_in}
 use Rattle.sheet_plan.specs.Places.{born_complete}
 use Rattle.imposer.specs.Faults.{plan_fault_told}
-use Rattle.planned_runs.specs.Outcomes.{AfterError, FailedIn}
-use Rattle.planned_runs.specs.declared.outcome.RunError.{RunError}
-use Rattle.planned_runs.specs.declared.outcome.RunError.TheVariants as error
+use Rattle.imposer.specs.Outcomes.{AfterError, FailedIn}
+use Rattle.imposer.specs.declared.outcome.RunError.{RunError}
+use Rattle.imposer.specs.declared.outcome.RunError.TheVariants as error
 use Rattle.imposer.specs.declared.options.Options.{Options}
-use Rattle.planned_runs.specs.declared.outcome.Report.{Report}
+use Rattle.imposer.specs.declared.outcome.Report.{Report}
 use Rattle.imposer.specs.declared.runs.Given.{Given}
 
 -- how pages are placed

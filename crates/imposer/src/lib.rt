@@ -1,19 +1,49 @@
-//! A run: a document and a page specification in, the sheets out.
+//! A run: a document and a page specification in, the sheets out. Sheets that were planned are imposed by threads that share a
+//! table, a shelf and a queue; a set of sheet numbers has one bit for each.
 #![tactic(auto)]
 
+mod bits;
+mod channel;
+mod collector;
+mod gate;
+mod gathering;
+mod imposing;
+mod join;
 pub mod laws;
+mod listener;
 mod options;
+mod outcome;
+mod planned;
+mod preparing;
+mod rooms;
 mod runs;
+mod setup;
+mod shared;
+mod sheet_set;
+mod spent;
+mod start;
 mod statuses;
+mod thread_work;
+mod threads;
+mod tokens;
+mod turns;
+mod window;
+mod work;
+mod worker_counts;
 
+pub use gate::{Gate, Look, Open, Step};
+pub use gathering::{Gathered, gather};
+pub use listener::{GatheredPlan, Listener, Nobody};
 pub use options::Options;
-pub use planned_runs::{
-    Gate, Gathered, GatheredPlan, Listener, Look, Nobody, Open, Report, RunError, Step, Workers,
-    gather, run_plan,
-};
+pub use outcome::{Report, RunError};
+pub use planned::run_plan;
 pub use run_steps::{DeliverError, Delivered, ImposeError, Imposed, deliver, impose};
 pub use runs::run;
+pub use sheet_set::SheetSet;
 pub use sheet_text::{Dress, Job, Lines, Numbers, sheet_text};
 pub use sheet_writer::{MemorySink, Sink, SinkFault, WriteSink};
 pub use statuses::run_status;
 pub use std::alloc::AllocError as NoMemory;
+pub use thread_work::{Collector, Imposing, Work};
+pub use threads::{Crew, Supplies, gather_by};
+pub use worker_counts::Workers;

@@ -4,8 +4,8 @@ ghost use Rattle.rules.specs.Signatures.{AreSidesIfGiven};
 ghost use Rattle.sheet_text.specs.Jobs.{is_border};
 ghost use Rattle.imposer.specs.Options.{AreOptions};
 
+use crate::worker_counts::Workers;
 use lengths::{Grains, Paper};
-use planned_runs::Workers;
 use sheet_plan::are_sides;
 
 /// The paper that pages are made for, the width of a border round each placed page, if one is asked for, the number of

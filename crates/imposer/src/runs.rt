@@ -9,13 +9,16 @@ ghost use Rattle.sheet_plan.specs.Refusals.{RefusesIn};
 ghost use Rattle.sheet_writer.specs.Sinks.{IsCountable};
 ghost use Rattle.imposer.specs.Options.{AreOptions};
 ghost use Rattle.imposer.specs.Runs.{Request, request, frame_of, Accepted, IsRefusal, HasWritten, Reports};
-ghost use Rattle.planned_runs.specs.Outcomes.{FailedIn};
+ghost use Rattle.imposer.specs.Outcomes.{FailedIn};
 ghost use Rattle.imposer.specs.Runs.{IsUnwritten, IsGiven, AnswersRequest};
 
+use crate::gate::Gate;
+use crate::listener::Nobody;
 use crate::options::{Options, are_valid};
+use crate::outcome::{Report, RunError};
+use crate::planned::run_plan;
 use dsc::Document;
 use pagespec::{Spec, read_spec};
-use planned_runs::{Gate, Nobody, Report, RunError, run_plan};
 use sheet_plan::{Plan, PlanError};
 use sheet_text::Job;
 use sheet_writer::Sink;

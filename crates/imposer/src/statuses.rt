@@ -2,9 +2,9 @@
 ghost use Rattle.std.specs.Prelude.{◌≡◌};
 ghost use Rattle.imposer.specs.Statuses.{run_status};
 
+use crate::outcome::RunError;
 use dsc::DscError;
 use pagespec::SpecError;
-use planned_runs::RunError;
 use sheet_plan::PlanError;
 
 /// The exit status of a run's error: 1 if the specification, the document or the plan is refused, 2 if the options are, 3

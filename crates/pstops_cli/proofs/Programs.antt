@@ -5,11 +5,11 @@ use Rattle.std.specs.Io.KnownBytes.{Appends, Keeps}
 use Rattle.std.proofs.KnownBytes.{Appends-kept}
 use Rattle.rules.specs.Output.{output}
 use Rattle.imposer.specs.Runs.{Accepted, frame_of}
-use Rattle.planned_runs.specs.declared.outcome.Report.{Report}
-use Rattle.planned_runs.specs.declared.outcome.RunError.{RunError}
-use Rattle.planned_runs.specs.declared.outcome.RunError.TheVariants as run
+use Rattle.imposer.specs.declared.outcome.Report.{Report}
+use Rattle.imposer.specs.declared.outcome.RunError.{RunError}
+use Rattle.imposer.specs.declared.outcome.RunError.TheVariants as run
 use Rattle.world.specs.Outputs.{IsFrontOf, told_if}
-use Rattle.planned_runs.specs.Outcomes.{FailedIn}
+use Rattle.imposer.specs.Outcomes.{FailedIn}
 use Rattle.imposer.specs.Runs as runs
 use Rattle.pstops_cli.specs.Messages.{fault_status}
 use Rattle.sheet_writer.specs.Sinks.{SinkView}

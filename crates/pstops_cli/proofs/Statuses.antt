@@ -3,8 +3,8 @@ use Rattle.std.proofs.Common.{◌≡◌, ℕ, List, Option, Result, Ok, Err, IfO
 use Rattle.std.specs.Io.KnownBytes.{Appends}
 use Rattle.rules.specs.Output.{output}
 use Rattle.imposer.specs.Runs.{Accepted, Reports, Request, frame_of}
-use Rattle.planned_runs.specs.declared.outcome.Report.{Report}
-use Rattle.planned_runs.specs.declared.outcome.RunError.{RunError}
+use Rattle.imposer.specs.declared.outcome.Report.{Report}
+use Rattle.imposer.specs.declared.outcome.RunError.{RunError}
 use Rattle.imposer.proofs.RunStatuses.{run_status-above}
 use Rattle.pstops_cli.specs.RequestRuns.{outcome_status}
 

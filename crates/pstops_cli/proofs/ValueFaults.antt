@@ -3,7 +3,7 @@ use Rattle.std.proofs.Common.{◌≡◌, ◌∙◌, ap, sym, subst, ok_or, ℕ, 
 use Rattle.std.specs.Prelude.{codes, ⊤}
 use Rattle.clap.specs.Words.{Row, Text, first_of, matches_of}
 use Rattle.imposer.specs.declared.options.Options.{Options}
-use Rattle.planned_runs.specs.declared.worker_counts.Workers.{Workers}
+use Rattle.imposer.specs.declared.worker_counts.Workers.{Workers}
 use Rattle.command_words.specs.Borders.{border_named}
 use Rattle.pstops_cli.specs.declared.command.CommandFault.{CommandFault}
 use Rattle.pstops_cli.specs.declared.command.CommandFault.TheVariants.{BadLength, BadWords, NoMemory, UnknownPaper}

@@ -28,7 +28,7 @@ use Rattle.clap.proofs.CallerLemmas.{entry_by_id, same_rules_by_id}
 use Rattle.clap.proofs.CallerReads.{signed_reads}
 use Rattle.clap.proofs.SimpleLemmas.{plain_fields}
 use Rattle.clap.proofs.WalkLemmas.{one_text-rows}
-use Rattle.planned_runs.specs.Workers.{AreWorkers}
+use Rattle.imposer.specs.Workers.{AreWorkers}
 use Rattle.command_words.specs.Arguments.{are_distinct, fits}
 use Rattle.command_words.specs.Matches.{number_named, number_of}
 use Rattle.command_words.proofs.Chain.{distinct, each_fits}

@@ -13,8 +13,8 @@ use Rattle.clap.specs.declared.builder.value_parser.ValueParser.TheVariants.{Sig
 use Rattle.clap.specs.declared.parser.matches.ArgMatches.{ArgMatches}
 use Rattle.rules.specs.Signatures.{most_sides}
 use Rattle.imposer.specs.declared.options.Options.{Options}
-use Rattle.planned_runs.specs.declared.worker_counts.Workers.{Workers}
-use Rattle.planned_runs.specs.Workers.{AreWorkers}
+use Rattle.imposer.specs.declared.worker_counts.Workers.{Workers}
+use Rattle.imposer.specs.Workers.{AreWorkers}
 use Rattle.command_words.specs.Matches.{has_true, number_named}
 use Rattle.pstops_cli.specs.declared.command.Request.{Request}
 use Rattle.pstops_cli.specs.declared.command.CommandFault.{CommandFault}

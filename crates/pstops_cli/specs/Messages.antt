@@ -7,9 +7,9 @@ use Rattle.dsc.specs.declared.errors.DscError.{DscError}
 use Rattle.dsc.specs.declared.errors.DscError.TheVariants as document
 use Rattle.sheet_plan.specs.declared.error.PlanError.{PlanError}
 use Rattle.sheet_plan.specs.declared.error.PlanError.TheVariants as plan
-use Rattle.planned_runs.specs.declared.outcome.RunError.{RunError}
-use Rattle.planned_runs.specs.declared.outcome.RunError.TheVariants as run
-use Rattle.planned_runs.specs.declared.outcome.Report.{Report}
+use Rattle.imposer.specs.declared.outcome.RunError.{RunError}
+use Rattle.imposer.specs.declared.outcome.RunError.TheVariants as run
+use Rattle.imposer.specs.declared.outcome.Report.{Report}
 use Rattle.world.specs.declared.read.ReadFault.{ReadFault}
 use Rattle.world.specs.declared.read.ReadFault.TheVariants as read
 use Rattle.imposer.specs.Statuses.{run_status}

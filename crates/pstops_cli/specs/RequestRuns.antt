@@ -5,10 +5,10 @@ use Rattle.std.specs.Io.KnownBytes.{Appends}
 use Rattle.rules.specs.Output.{output}
 use Rattle.sheet_writer.specs.Sinks.{SinkView}
 use Rattle.imposer.specs.Runs.{Accepted, HasWritten, IsRefusal, Reports, frame_of, request}
-use Rattle.planned_runs.specs.Outcomes.{FailedIn}
+use Rattle.imposer.specs.Outcomes.{FailedIn}
 use Rattle.imposer.specs.Runs as runs
-use Rattle.planned_runs.specs.declared.outcome.Report.{Report}
-use Rattle.planned_runs.specs.declared.outcome.RunError.{RunError}
+use Rattle.imposer.specs.declared.outcome.Report.{Report}
+use Rattle.imposer.specs.declared.outcome.RunError.{RunError}
 use Rattle.imposer.specs.Statuses.{run_status}
 use Rattle.pstops_cli.specs.declared.command.Request.{Request}
 use Rattle.pstops_cli.specs.Messages.{report_text, run_text, said}

@@ -5,7 +5,7 @@ use Rattle.rules.specs.Signatures.{most_sides}
 use Rattle.rules.specs.Papers.{Paper, is_side, paper_named}
 use Rattle.lengths.specs.Lengths.{length_named}
 use Rattle.imposer.specs.declared.options.Options.{Options}
-use Rattle.planned_runs.specs.declared.worker_counts.Workers.{Workers}
+use Rattle.imposer.specs.declared.worker_counts.Workers.{Workers}
 use Rattle.command_words.specs.Borders.{border_named}
 use Rattle.command_words.specs.Matches.{number_named}
 use Rattle.pstops_cli.specs.declared.command.CommandFault.{CommandFault}

@@ -1,7 +1,7 @@
 //! What the words after the program's name ask for.
 ghost use Rattle.std.specs.Prelude.{◌≡◌, IfOk, IfErr, codes, is_some, map, true, string_bytes};
 ghost use Rattle.clap.specs.Words.{first_value, found_of, matches_of, one_of, rows_of, rule_of};
-ghost use Rattle.planned_runs.specs.Workers.{AreWorkers};
+ghost use Rattle.imposer.specs.Workers.{AreWorkers};
 ghost use Rattle.rules.specs.Signatures.{most_sides};
 ghost use Rattle.pstops_cli.specs.Command.{Finds, IsChain, ParseRefuses, Reads, RefusesFound, Refuses, Takes};
 ghost use Rattle.pstops_cli.specs.Command.{counted_rule, flag_rule, options_found, positional_rule, pstops};

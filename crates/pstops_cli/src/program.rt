@@ -2,7 +2,7 @@
 ghost use Rattle.std.specs.Prelude.{◌≡◌, ◌<◌, ◌⊎◌, IfOk, IfErr, map, option_map, string_bytes};
 ghost use Rattle.std.specs.IoError.{error_kind};
 ghost use Rattle.std.specs.declared.io.ErrorKind.TheVariants.{OutOfMemory};
-ghost use Rattle.planned_runs.specs.declared.outcome.RunError.TheVariants as runs;
+ghost use Rattle.imposer.specs.declared.outcome.RunError.TheVariants as runs;
 ghost use Rattle.pstops_cli.specs.declared.messages.Fault.TheVariants as faults;
 ghost use Rattle.pstops_cli.specs.Programs.{CarriesOut, CreatesAndRuns, EndsProgram, HasGiven, HasRead, IsSaid};
 ghost use Rattle.pstops_cli.specs.Programs.{IsUnread, StopsBefore};

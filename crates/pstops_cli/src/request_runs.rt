@@ -4,8 +4,8 @@ ghost use Rattle.std.specs.Io.KnownBytes.{Appends};
 ghost use Rattle.rules.specs.Output.{output};
 ghost use Rattle.sheet_writer.specs.Sinks.{IsCountable};
 ghost use Rattle.imposer.specs.Runs.{Accepted, frame_of};
-ghost use Rattle.planned_runs.specs.declared.outcome.Report.{Report as ReportValue};
-ghost use Rattle.planned_runs.specs.declared.outcome.RunError.{RunError as RunErrorValue};
+ghost use Rattle.imposer.specs.declared.outcome.Report.{Report as ReportValue};
+ghost use Rattle.imposer.specs.declared.outcome.RunError.{RunError as RunErrorValue};
 ghost use Rattle.pstops_cli.specs.RequestRuns.{Ends, IsSaidOf, asked_by, is_silent, outcome_line, outcome_status};
 
 use crate::command::Request;

@@ -4,13 +4,13 @@ ghost use Rattle.std.specs.Prelude.{◌≡◌, ⊤};
 
 use super::checks::assert_that;
 use super::wait_for;
+use imposer::{Collector, Crew, Imposing, Supplies, Work, gather_by};
 use std::alloc::{AllocError, Global};
 use std::process::Abort;
 use std::sync::Wait;
 use std::sync::atomic::AtomicUsize;
 use std::sync::atomic::Ordering::SeqCst;
 use std::thread::Threads;
-use workers::{Collector, Crew, Imposing, Supplies, Work, gather_by};
 
 /// The number of workers of each kind.
 const WORKERS: u32 = 3;

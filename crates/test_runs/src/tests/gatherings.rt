@@ -1,6 +1,6 @@
 //! Gatherings, into sinks that fail too: what is written and reported, and that seat and pass come back whole.
 ghost use Rattle.std.specs.Prelude.{◌≤◌, length};
-ghost use Rattle.planned_runs.specs.Gathering.{IsFreshPass};
+ghost use Rattle.imposer.specs.Gathering.{IsFreshPass};
 
 use super::{WHOLE, table_and_shelf};
 use crate::tests::checks::{assert_bytes, assert_that, done};

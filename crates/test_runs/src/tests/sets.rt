@@ -1,6 +1,6 @@
 //! Sets of a few numbers.
 use super::checks::{assert_that, done};
-use sheet_set::SheetSet;
+use imposer::SheetSet;
 
 /// Takes the first number before each of these ends. Returns whether they are the expected ones.
 fn are_taken(set: &mut SheetSet, wanted: &[(u32, Option<u32>)]) -> bool {

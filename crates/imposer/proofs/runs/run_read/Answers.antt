@@ -1,7 +1,7 @@
 use Rattle.std.proofs.Common.{sym, subst}
 use Rattle.sheet_plan.specs.Refusals.{RefusesIn}
 use Rattle.imposer.specs.declared.options.Options.{Options}
-use Rattle.planned_runs.specs.Outcomes.{of_plan}
+use Rattle.imposer.specs.Outcomes.{of_plan}
 use Rattle.imposer.specs.Runs.{AnswersRequest}
 use Rattle.std.specs.Prelude.{Err}
 use Rattle.imposer.proofs.Answered.{refused_answers, job_answers, job_clauses}

@@ -2,7 +2,7 @@ use Rattle.std.proofs.Common.{map, sym, subst}
 use Rattle.std.specs.Prelude.{string_bytes}
 use Rattle.std.proofs.lemmas.Result.{IfErr-weaker, IfOk-weaker}
 use Rattle.clap.specs.Words.{found_of, rows_of}
-use Rattle.planned_runs.specs.Workers.{AreWorkers}
+use Rattle.imposer.specs.Workers.{AreWorkers}
 use Rattle.pstops_cli.specs.Command.{Reads, Refuses}
 use Rattle.pstops_cli.specs.Values.{AreInRange}
 use Rattle.pstops_cli.proofs.ValueFaults.{refuses_words, sides_stay, workers_stay}

@@ -1,6 +1,6 @@
 use Rattle.std.proofs.Common.{◌≡◌, ◌∙◌, ap, refl, sym, ok_or, ℕ, ℤ, List, Option, Ok, Err}
 use Rattle.rules.specs.Papers.{Paper}
-use Rattle.planned_runs.specs.declared.worker_counts.Workers.{Workers}
+use Rattle.imposer.specs.declared.worker_counts.Workers.{Workers}
 use Rattle.command_words.specs.Borders.{border_named}
 use Rattle.pstops_cli.specs.declared.command.CommandFault.{CommandFault}
 use Rattle.pstops_cli.specs.declared.command.CommandFault.TheVariants.{BadLength, UnknownPaper}

@@ -1,0 +1,125 @@
+//! What the collector needs and keeps, and how it takes what the workers finish.
+ghost use Rattle.std.specs.Prelude.{◌≡◌, None, IsTrue};
+ghost use Rattle.sheet_writer.specs.Sinks.{IsCountable};
+ghost use Rattle.crossbeam_channel.specs.Claims.{IsSeatAt};
+ghost use Rattle.crossbeam_channel.specs.Ends.{receives_on};
+ghost use Rattle.sheet_writer.specs.Writing.{Stands, GoesOn};
+ghost use Rattle.imposer.specs.Desks.{IsDeskOf};
+
+use crate::channel::{SheetRule, SheetTexts};
+use crate::gate::{Gate, Look};
+use crate::setup::Desk;
+use crate::shared::RunInput;
+use crate::spent::Written;
+use crate::thread_work::Collector;
+use crate::window::Idling;
+use sheet_writer::{Progress, Sink, write_early, write_text};
+use std::sync::Wait;
+use std::sync::atomic::Ordering::SeqCst;
+
+/// What the collector writes to, its desk, and how far it is. It owns no memory, so that what becomes of the sink is known
+/// to whom it belongs.
+#[derive(Drop)]
+pub(crate) struct CollectorState<'a, 'r, S> {
+    pub(crate) sink: &'a mut S,
+    pub(crate) desk: &'a mut Desk<'r>,
+    pub(crate) progress: Progress,
+}
+
+impl<'s, 'r, 't, 'd, 'a, T: SheetTexts, G: Gate, S: Sink> Collector<CollectorState<'a, 'r, S>>
+    for RunInput<'s, 'r, 't, 'd, T, G> {
+    ghost reference = { λ input state. state.sink.ghost_name };
+
+    ghost is_ready_to_collect = { λ input state. IsSeatAt (receives_on input.channel.now.receiver) state.desk.now.receiving
+        × IsDeskOf input.shared.now.floor.job.now state.desk.now
+        × (state.progress ≡ record { next = 0; written = 0; swept = 0; halted = None })
+        × IsCountable (S.seen state.sink.now) };
+
+    ghost collected = { λ input old new.
+        Stands input.shared.now.floor.job.now (S.seen old.sink.now) (S.seen new.sink.now) new.progress
+        × IsDeskOf input.shared.now.floor.job.now new.desk.now };
+
+    fn collect<R: Wait>(&self, rt: &R, state: &mut CollectorState<'a, 'r, S>) {
+        state.progress = write_text(state.sink, state.progress, state.desk.header.as_slice());
+        if state.progress.halted.is_none() {
+            take_all(rt, self, state);
+        }
+    }
+}
+
+/// Takes finished sheets until all imposers have ended, or nothing more is to be written.
+fn take_all<'r, R: Wait, T: SheetTexts, G: Gate, S: Sink>(
+    rt: &R,
+    input: &RunInput<'_, 'r, '_, '_, T, G>,
+    state: &mut CollectorState<'_, 'r, S>,
+)
+    requires countable { IsCountable (S.seen state.old.sink.now) }
+    requires ticket { IsSeatAt (receives_on input.now.channel.now.receiver) state.old.desk.now.receiving }
+    requires going { state.old.progress.halted ≡ None }
+    requires desk { IsDeskOf input.now.shared.now.floor.job.now state.old.desk.now }
+    ensures desk { IsDeskOf input.now.shared.now.floor.job.now state.new.desk.now }
+    ensures same { state.new.sink.ghost_name ≡ state.old.sink.ghost_name }
+    ensures goes_on { GoesOn input.now.shared.now.floor.job.now (S.seen state.old.sink.now) (S.seen state.new.sink.now)
+        state.old.progress state.new.progress }
+{
+    let mut idling = input.shared.window.idling();
+    for _ in rt.forever() {
+        if !take_turn(rt, input, &mut idling, state) {
+            break;
+        }
+    }
+}
+
+/// Takes a batch of finished sheets and writes those whose turn it is now, or sleeps a little if none was there. False if
+/// nothing is to come, or nothing more is to be written.
+fn take_turn<'r, R: Wait, T: SheetTexts, G: Gate, S: Sink>(
+    rt: &R,
+    input: &RunInput<'_, 'r, '_, '_, T, G>,
+    idling: &mut Idling,
+    state: &mut CollectorState<'_, 'r, S>,
+) -> bool
+    requires countable { IsCountable (S.seen state.old.sink.now) }
+    requires ticket { IsSeatAt (receives_on input.now.channel.now.receiver) state.old.desk.now.receiving }
+    requires going { state.old.progress.halted ≡ None }
+    requires desk { IsDeskOf input.now.shared.now.floor.job.now state.old.desk.now }
+    ensures ticket { IsSeatAt (receives_on input.now.channel.now.receiver) state.new.desk.now.receiving }
+    ensures going { IsTrue result → state.new.progress.halted ≡ None }
+    ensures desk { IsDeskOf input.now.shared.now.floor.job.now state.new.desk.now }
+    ensures same { state.new.sink.ghost_name ≡ state.old.sink.ghost_name }
+    ensures goes_on { GoesOn input.now.shared.now.floor.job.now (S.seen state.old.sink.now) (S.seen state.new.sink.now)
+        state.old.progress state.new.progress }
+    ensures steady { IsTrue result → (S.seen state.new.sink.now).failures ≡ (S.seen state.old.sink.now).failures }
+{
+    let shared = input.shared;
+    let channel = input.channel;
+    // Asked before the channel is: what the last imposer sent is there then.
+    let none_left = shared.imposers_left.load(SeqCst) == 0;
+    shared.floor.gate.before_look(Look::Channel);
+    let received = channel
+        .receiver
+        .try_recv_as::<SheetRule<T>, R>(rt, &mut state.desk.receiving);
+    shared.floor.gate.after_look(Look::Channel);
+    let Ok(batch) = received else {
+        if none_left {
+            return false;
+        }
+        shared.window.move_to(state.progress.next);
+        shared.window.rest(rt, idling);
+        return true;
+    };
+    state.desk.early.put(batch);
+    let mut written = Written {
+        rt,
+        queue: &channel.spent,
+    };
+    state.progress = write_early(
+        shared.floor.job,
+        state.sink,
+        state.progress,
+        &mut state.desk.early,
+        &mut written,
+    );
+    shared.window.come_to(state.progress.next);
+    idling.end();
+    state.progress.halted.is_none()
+}

@@ -1,0 +1,389 @@
+//! The part of a run in which all its workers start and end.
+ghost use Rattle.std.specs.Prelude.{◌≡◌, ℕ, ◌+◌, ◌-◌, ◌<◌, ◌≤◌, List, Option, None, Err, length, IfOk, IfErr, IfSome, IsNone};
+ghost use Rattle.std.specs.Prelude.{IsSome, IsTrue, OnOk};
+ghost use Rattle.std.specs.Io.KnownBytes.{Appends};
+ghost use Rattle.crossbeam_channel.specs.Claims.{IsSeatAt};
+ghost use Rattle.crossbeam_channel.specs.Ends.{receives_on, sends_on};
+ghost use Rattle.rules.specs.Sheets.{layout};
+ghost use Rattle.rules.specs.Seats.{whole_share};
+ghost use Rattle.handover.specs.Passes.{IsPassOf};
+ghost use Rattle.handover.specs.Shelves.{IsOn};
+ghost use Rattle.imposer.specs.declared.outcome.RunError.TheVariants.{NoMemory};
+ghost use Rattle.sheet_text.specs.Jobs.{text_of, output_of};
+ghost use Rattle.imposer.specs.Workers.{AreWorkers};
+ghost use Rattle.imposer.specs.Outcomes.{FailedIn};
+ghost use Rattle.run_steps.specs.Delivery.{HandedOn};
+ghost use Rattle.sheet_writer.specs.Places.{not_come};
+ghost use Rattle.sheet_writer.specs.Sinks.{IsCountable};
+ghost use Rattle.imposer.specs.Tokens.{AreTokens, AreUnused};
+ghost use Rattle.run_steps.specs.Gathered.{HasPages, IsGathered, IsHandedOn, AreAllPut};
+ghost use Rattle.imposer.specs.Desks.{IsDeskOf};
+ghost use Rattle.imposer.specs.Promises.{HavePutBlankSheets, IsEnough, IsHeld};
+ghost use Rattle.imposer.specs.Rooms.{HasRoomForAll};
+ghost use Rattle.imposer.specs.Gathering.{IsFreshSeat, IsFreshPass, ReportsOf, WrotePartOf, AreWhole, TokensComeBack};
+ghost use Rattle.imposer.specs.Gathering.{Concludes, EndsOn, HandsBack, GivesUp};
+
+use crate::channel::{RuledJob, SheetTexts, Ticket};
+use crate::collector::CollectorState;
+use crate::gate::Gate;
+use crate::outcome::{Report, RunError};
+use crate::rooms::most_puts_in_all;
+use crate::setup::{Desk, Setup};
+use crate::shared::{Floor, RunInput, Shared};
+use crate::threads::{Crew, Supplies, gather_by};
+use crate::tokens::{Holding, Tokens};
+use crate::turns::Turns;
+use crate::window::{Window, bytes_of_pages};
+use crate::worker_counts::Workers;
+use gather_table::{GatherTable, Seat};
+use handover::{Overflow, Pass, Ready, Shelf};
+use sheet_text::Job;
+use sheet_writer::{Halt, Progress, Sink, write_rest};
+use std::alloc::Global;
+use std::marker::{Brand, PhantomData};
+use std::sync::Wait;
+use std::sync::atomic::AtomicU32;
+use std::thread::Threads;
+
+/// What a run is when all its workers have ended.
+#[derive(Debug, Drop)]
+pub struct Gathered<'d> {
+    /// What the run answers; out of memory and a failed write are its only errors.
+    pub outcome: Result<Report, RunError>,
+    /// The token of one page for which the shelf gave no receipt, if there was one; none after out of memory.
+    pub unshelved: Option<Overflow<'d>>,
+    /// The joined seats and passes of all workers; none after out of memory.
+    pub tokens: Option<(Seat, Pass)>,
+}
+
+/// Lets preparers deliver the document's pages and imposers impose the sheets, while the caller's thread writes them
+/// in order, each as soon as all before it are written. What no imposer sent is made at the end, in its place.
+///
+/// The table is one of the job's plan, seat and pass have seen nothing yet, and the queue has room for every sheet.
+/// Each worker has a seat and a pass of its own, which are joined when it ends. If the pass has room by right for all puts
+/// that the preparers may make, each of them gets what it needs of it, and the queue refuses none. A pass by right with less
+/// room has puts refused, even if the queue has room; those sheets are made at the end.
+pub fn gather<'j, 'd, R: Threads + Wait + Sync, G: Gate + Sync, S: Sink>(
+    rt: &R,
+    alloc: Global,
+    job: &Job<'j, 'd>,
+    table: &GatherTable<'j>,
+    seat: Seat,
+    shelf: &Shelf<'d>,
+    ready: &Ready,
+    pass: Pass,
+    workers: Workers,
+    gate: &G,
+    sink: &mut S,
+) -> Gathered<'d>
+    requires table { table.now.layout ≡ layout job.now.plan }
+    requires seat { IsFreshSeat table.now seat }
+    requires pass { IsFreshPass ready.now pass }
+    requires room { length job.now.plan.sheets ≤ ready.now.capacity }
+    requires workers { AreWorkers workers }
+    requires countable { IsCountable (S.seen sink.old) }
+
+    // At Ok exactly the output was appended, and the report has its numbers.
+    ensures finished { IfOk result.outcome (λ report. Appends (S.seen sink.old).bytes (S.seen sink.new).bytes (output_of job.now)
+        × ReportsOf job.now report) }
+
+    // After an error the sink has taken as much of the output as the error says.
+    ensures written { IfErr result.outcome (WrotePartOf job.now (S.seen sink.old) (S.seen sink.new)) }
+    ensures steady { OnOk result.outcome ((S.seen sink.new).failures ≡ (S.seen sink.old).failures) }
+    ensures failed { IfErr result.outcome (λ e. FailedIn e (S.seen sink.old) (S.seen sink.new)) }
+
+    // Seat and pass come back whole, but after out of memory.
+    ensures handed_back { TokensComeBack result }
+    ensures whole { IfSome result.tokens (λ t. AreWhole table.now ready.now t.0 t.1) }
+
+    // One publish for each page, one mark for each needed slot, one closing for each group of a wide sheet that has
+    // such a slot, and exactly one completing call for each sheet that has pages.
+    ensures gathered { OnOk result.outcome (IsNone result.unshelved
+        → IfSome result.tokens (λ t. IsGathered table.now.layout t.0.front)) }
+
+    // A token that comes back is that of an entry of this shelf.
+    ensures unshelved { IfSome result.unshelved (IsOn shelf.now) }
+
+    // No sheet was put on the queue twice, and what was taken and what is left is what was put. If the pass has room for
+    // all puts, every complete sheet was put exactly once.
+    ensures handed_on { IfSome result.tokens (λ t. IsHandedOn t.1.front
+        × (HasRoomForAll table.now.layout workers.preparers pass → AreAllPut table.now.layout t.0.front t.1.front)) }
+{
+    let floor = Floor {
+        alloc,
+        gate: &*gate,
+        job: &*job,
+        table: &*table,
+        shelf,
+        is_of_document: false,
+        ready: &*ready,
+    };
+    gather_on(rt, floor, Tokens { seat, pass }, workers, sink)
+}
+
+/// `gather` on this floor, whose shelf may be that of the job's document: then pages are put as the document's own, and
+/// imposers don't compare them.
+pub(crate) fn gather_on<'d, R: Threads + Wait + Sync, G: Gate + Sync, S: Sink>(
+    rt: &R,
+    floor: Floor<'_, '_, '_, 'd, G>,
+    tokens: Tokens,
+    workers: Workers,
+    sink: &mut S,
+) -> Gathered<'d>
+    requires seat { IsFreshSeat floor.table.now tokens.seat }
+    requires pass { IsFreshPass floor.ready.now tokens.pass }
+    requires workers { AreWorkers workers }
+    requires countable { IsCountable (S.seen sink.old) }
+    ensures { EndsOn floor.entry (HasRoomForAll floor.entry.table.now.layout workers.preparers tokens.pass)
+        (S.seen sink.old) (S.seen sink.new) result }
+{
+    // Each shows that it keeps what every seat and every pass keeps.
+    tokens.seat.share();
+    tokens.pass.share();
+    let job = floor.job;
+    let room = tokens.pass.room();
+    let by_right = most_puts_in_all(job.plan(), workers.preparers) <= u64::from(room);
+    let (of_pages, of_slots) = bytes_of_pages(job);
+    let page_len = of_pages / (job.plan().pages() as usize).max(1);
+    let shared = Shared {
+        floor,
+        by_right,
+        preparers_left: AtomicU32::new(workers.preparers),
+        imposers_left: AtomicU32::new(workers.imposers),
+        window: Window::new(job, workers, of_slots),
+        preparing: Turns::new(page_len),
+        imposing: Turns::new(page_len),
+    };
+    gather_as::<Brand, R, G, S>(rt, &shared, tokens, workers, sink)
+}
+
+/// `gather`, with the texts of the channel's rule chosen.
+fn gather_as<
+    'r,
+    'd,
+    T: SheetTexts + Send + Sync,
+    R: Threads + Wait + Sync,
+    G: Gate + Sync,
+    S: Sink,
+>(
+    rt: &R,
+    shared: &Shared<'_, 'r, '_, 'd, G>,
+    tokens: Tokens,
+    workers: Workers,
+    sink: &mut S,
+) -> Gathered<'d>
+    requires texts { (s : ℕ) → T.text s ≡ text_of shared.now.floor.job.now s }
+    requires tokens { AreTokens shared.now.floor.table.now shared.now.floor.ready.now whole_share tokens × AreUnused tokens }
+    requires workers { AreWorkers workers }
+    requires room { IsTrue shared.now.by_right
+        → HasRoomForAll shared.now.floor.table.now.layout workers.preparers tokens.pass }
+    requires countable { IsCountable (S.seen sink.old) }
+    ensures { EndsOn shared.now.floor (IsTrue shared.now.by_right) (S.seen sink.old) (S.seen sink.new) result }
+{
+    let job = shared.floor.job;
+    let mut tokens = tokens;
+    put_blank_sheets(rt, shared, job.plan().born_complete(), &mut tokens.pass);
+    let Ok(setup) = Setup::<'r, T>::new(shared.floor.alloc, job, shared.window.len) else {
+        return out_of_memory(0);
+    };
+    let Setup {
+        mut desk,
+        channel,
+        sending,
+    } = setup;
+    let supplies = Supplies {
+        crew: Crew {
+            alloc: shared.floor.alloc,
+            preparers: workers.preparers,
+            imposers: workers.imposers,
+        },
+        held: Holding {
+            tokens,
+            unshelved: None,
+        },
+        ticket: sending,
+    };
+    let ruled = RuledJob {
+        job: &*job,
+        of: PhantomData,
+    };
+    let input = RunInput {
+        shared: &*shared,
+        channel: &channel,
+        ruled: &ruled,
+    };
+    let gathered = gather_at(rt, &input, &mut desk, supplies, sink);
+    // By calls, so that what becomes of the parts is proved once, and not here.
+    drop(desk);
+    drop(channel);
+    gathered
+}
+
+/// `gather`, once the sheets without pages are on the queue: the workers work with these supplies, the collector writes
+/// at this desk what they finish, and when all have ended the run is answered. The collector's state is taken apart, so that
+/// what became of the sink is known.
+fn gather_at<
+    'r,
+    'd,
+    T: SheetTexts + Send + Sync,
+    R: Threads + Wait + Sync,
+    G: Gate + Sync,
+    S: Sink,
+>(
+    rt: &R,
+    input: &RunInput<'_, 'r, '_, 'd, T, G>,
+    desk: &mut Desk<'r>,
+    supplies: Supplies<Holding<'d>, Ticket<'r>>,
+    sink: &mut S,
+) -> Gathered<'d>
+    requires pages { HasPages input.now.shared.now.floor.table.now.layout }
+    requires crew { (0 < supplies.crew.preparers)
+        × (supplies.crew.preparers + supplies.crew.imposers < whole_share) }
+    requires held { IsHeld input.now.shared.now whole_share supplies.held }
+    requires blank_sheets { HavePutBlankSheets input.now.shared.now supplies.held.tokens }
+    requires enough { IsEnough input.now.shared.now supplies.crew.preparers 0 supplies.held }
+    requires sending { IsSeatAt (sends_on input.now.channel.now.sender) supplies.ticket }
+    requires receiving { IsSeatAt (receives_on input.now.channel.now.receiver) desk.old.receiving }
+    requires desk { IsDeskOf input.now.shared.now.floor.job.now desk.old }
+    requires countable { IsCountable (S.seen sink.old) }
+    ensures { EndsOn input.now.shared.now.floor (IsTrue input.now.shared.now.by_right) (S.seen sink.old) (S.seen sink.new)
+        result }
+{
+    let floor = &input.shared.floor;
+    let state = CollectorState {
+        sink,
+        desk,
+        progress: Progress {
+            next: 0,
+            written: 0,
+            swept: 0,
+            halted: None,
+        },
+    };
+    let mut ended = None;
+    let mut state = gather_by(rt, &*input, &*input, supplies, state, &mut ended);
+    let gathered = finish(floor.alloc, floor.job, &mut state, ended);
+    let CollectorState {
+        sink: _,
+        desk: _,
+        progress: _,
+    } = state;
+    gathered
+}
+
+/// Puts the sheets without pages on the queue: no preparer completes them.
+fn put_blank_sheets<R: Wait, G: Gate>(
+    rt: &R,
+    shared: &Shared<'_, '_, '_, '_, G>,
+    sheets: &[u32],
+    pass: &mut Pass,
+)
+    requires pass { IsPassOf shared.now.floor.ready.now pass.old }
+    ensures pass { IsPassOf shared.now.floor.ready.now pass.new }
+    ensures put { (back : List ℕ) × HandedOn shared.now.floor.ready.now sheets.now back pass.old pass.new }
+{
+    for k in 0..sheets.len() {
+        // What the queue hands back is made by the collector, so its turn isn't waited for.
+        if shared.floor.ready.put(rt, pass, sheets[k]).is_err() {
+            shared.window.lift();
+        }
+    }
+}
+
+/// The answer if memory was refused.
+fn out_of_memory<'d>(written: u64) -> Gathered<'d>
+    ensures { GivesUp written result }
+{
+    Gathered {
+        outcome: Err(RunError::NoMemory { written }),
+        unshelved: None,
+        tokens: None,
+    }
+}
+
+/// Answers when all workers have ended: out of memory if one of them met it, else what the collector came to.
+fn finish<'d, S: Sink>(
+    alloc: Global,
+    job: &Job<'_, 'd>,
+    state: &mut CollectorState<'_, '_, S>,
+    ended: Option<Holding<'d>>,
+) -> Gathered<'d>
+    requires countable { IsSome ended → state.old.progress.halted ≡ None → IsCountable (S.seen state.old.sink.now) }
+    requires next { IsSome ended → state.old.progress.halted ≡ None
+        → state.old.progress.next ≤ length job.now.plan.sheets }
+    requires desk { IsSome ended → IsDeskOf job.now state.old.desk.now }
+    ensures same_sink { state.new.sink.ghost_name ≡ state.old.sink.ghost_name }
+    ensures ended { IsSome ended.entry → Concludes job.now (S.seen state.old.sink.now) (S.seen state.new.sink.now)
+        state.old.progress result.outcome }
+    ensures tokens { IfSome ended.entry (λ e. HandsBack e result) }
+    ensures missing { IsNone ended.entry → GivesUp state.old.progress.written result
+        × (S.seen state.new.sink.now ≡ S.seen state.old.sink.now) }
+{
+    match ended {
+        Some(ended) => conclude(alloc, job, state, ended),
+        None => out_of_memory(state.progress.written),
+    }
+}
+
+/// Writes what is left when all workers have ended, and answers.
+fn conclude<'d, S: Sink>(
+    alloc: Global,
+    job: &Job<'_, 'd>,
+    state: &mut CollectorState<'_, '_, S>,
+    ended: Holding<'d>,
+) -> Gathered<'d>
+    requires countable { state.old.progress.halted ≡ None → IsCountable (S.seen state.old.sink.now) }
+    requires next { state.old.progress.halted ≡ None → state.old.progress.next ≤ length job.now.plan.sheets }
+    requires desk { IsDeskOf job.now state.old.desk.now }
+    ensures same_sink { state.new.sink.ghost_name ≡ state.old.sink.ghost_name }
+    ensures ended { Concludes job.now (S.seen state.old.sink.now) (S.seen state.new.sink.now) state.old.progress
+        result.outcome }
+    ensures tokens { HandsBack ended.entry result }
+
+    // The report counts the sheets that hadn't come.
+    ensures swept { IfOk result.outcome (λ report. report.swept ≡ not_come state.old.desk.now.early
+        state.old.progress.next (length job.now.plan.sheets - state.old.progress.next)) }
+{
+    let progress = state.progress;
+    let desk = &*state.desk;
+    let trailer = desk.trailer.as_slice();
+    let rest = write_rest(alloc, job, state.sink, progress, &desk.early, trailer);
+    let Holding { tokens, unshelved } = ended;
+    let Tokens { seat, pass } = tokens;
+    let written = rest.written;
+    match rest.halted {
+        None => Gathered {
+            outcome: Ok(report_on(job, rest)),
+            unshelved,
+            tokens: Some((seat, pass)),
+        },
+        Some(why) => match why {
+            Halt::Failed => Gathered {
+                outcome: Err(RunError::Write { written }),
+                unshelved,
+                tokens: Some((seat, pass)),
+            },
+            Halt::NoMemory => Gathered {
+                outcome: Err(RunError::NoMemory { written }),
+                unshelved,
+                tokens: None,
+            },
+        },
+    }
+}
+
+/// The numbers of a job whose whole output was written.
+fn report_on(job: &Job<'_, '_>, rest: Progress) -> Report
+    requires swept { rest.swept ≤ length job.now.plan.sheets }
+    ensures numbers { rest.written ≡ length (output_of job.now) → ReportsOf job.now result }
+    ensures swept { result.swept ≡ rest.swept }
+{
+    let plan = job.plan();
+    Report {
+        pages: plan.pages(),
+        sheets: plan.sheets(),
+        born: plan.born_complete().len() as u32,
+        swept: rest.swept,
+        bytes: rest.written,
+    }
+}

@@ -1,0 +1,37 @@
+//! Who hears how a run ended.
+ghost use Rattle.std.specs.Prelude.{List, Option, None};
+ghost use Rattle.imposer.specs.Listening.{Hears};
+ghost use Rattle.imposer.specs.declared.listener.GatheredPlan.{GatheredPlan};
+
+use crate::gathering::Gathered;
+use gather_table::GatherTable;
+use handover::Ready;
+
+/// A run that has ended, with the table and the queue that it made: they show all that its workers called.
+#[derive(Drop)]
+pub struct GatheredPlan<'j, 'd> {
+    pub table: GatherTable<'j>,
+    pub queue: Ready,
+    pub gathered: Gathered<'d>,
+}
+
+/// Hears how a run ended, once.
+pub trait Listener {
+    // What it has heard, if it remembers that.
+    ghost heard: { Self → Option (List GatheredPlan) };
+
+    fn ended(&mut self, ended: GatheredPlan<'_, '_>)
+        ensures { Hears (heard self.old) (heard self.new) ended.entry };
+}
+
+/// The listener that does nothing.
+#[derive(Clone, Copy, Debug)]
+pub struct Nobody;
+
+impl Listener for Nobody {
+    ghost heard = { λ _. None };
+
+    fn ended(&mut self, ended: GatheredPlan<'_, '_>) {
+        drop(ended);
+    }
+}

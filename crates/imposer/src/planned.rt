@@ -1,0 +1,136 @@
+//! A run on sheets that were planned.
+ghost use Rattle.std.specs.Prelude.{◌≡◌, ◌+◌, ◌<◌, ◌≤◌, IfOk, IfErr, OnOk, Ok};
+ghost use Rattle.std.specs.Io.KnownBytes.{Appends};
+ghost use Rattle.rules.specs.Output.{output};
+ghost use Rattle.rules.specs.Sheets.{layout};
+ghost use Rattle.sheet_writer.specs.Sinks.{IsCountable};
+ghost use Rattle.sheet_text.specs.Jobs.{output_of};
+ghost use Rattle.imposer.specs.Gathering.{Answers, IsFreshPass, IsFreshSeat, ReportsOf, WrotePartOf};
+ghost use Rattle.imposer.specs.Listening.{HearsOfRun, IsOfJob};
+ghost use Rattle.imposer.specs.Outcomes.{FailedIn, IsNoRefusal};
+ghost use Rattle.imposer.specs.Rooms.{HasRoomForAll};
+ghost use Rattle.imposer.specs.Workers.{AreWorkers};
+
+use crate::gate::Gate;
+use crate::gathering::gather_on;
+use crate::listener::{GatheredPlan, Listener};
+use crate::outcome::{Report, RunError};
+use crate::rooms::ready_for;
+use crate::shared::Floor;
+use crate::tokens::Tokens;
+use crate::worker_counts::Workers;
+use gather_table::GatherTable;
+use handover::{Ready, Shelf};
+use sheet_plan::Plan;
+use sheet_text::Job;
+use sheet_writer::Sink;
+use std::alloc::{AllocError, Global};
+use std::sync::Wait;
+use std::thread::Threads;
+
+/// Hands the sink the sheets of a job, whose document was read and whose sheets were planned before: those of a
+/// specification, or sheets that were made, with the lines of a dress.
+///
+/// The only errors are `NoMemory` and `Write`, after which the sink has taken the first `written` bytes of the output.
+/// The sink isn't flushed. At the end the listener gets the table and the queue, with the tokens of all calls on them.
+///
+/// Preparers and imposers run in threads of their own, and the caller's thread writes the sheets in order, each as soon
+/// as all before it are written.
+pub fn run_plan<R: Threads + Wait + Sync, G: Gate + Sync, S: Sink, L: Listener>(
+    rt: &R,
+    alloc: Global,
+    job: &Job<'_, '_>,
+    workers: Workers,
+    gate: &G,
+    sink: &mut S,
+    listener: &mut L,
+) -> Result<Report, RunError>
+    requires workers { AreWorkers workers }
+    requires countable { IsCountable (S.seen sink.old) }
+    // Exactly the output was appended, and the report has its numbers.
+    ensures finished { IfOk result (λ report.
+        Appends (S.seen sink.old).bytes (S.seen sink.new).bytes (output_of job.now) × ReportsOf job.now report) }
+    ensures refused { IfErr result IsNoRefusal }
+    // After an error the sink has taken as much of the output as the error says.
+    ensures written { IfErr result (WrotePartOf job.now (S.seen sink.old) (S.seen sink.new)) }
+    // At Ok the sink didn't fail in the call, and after an error as often as the error allows: at Write once.
+    ensures steady { OnOk result ((S.seen sink.new).failures ≡ (S.seen sink.old).failures) }
+    ensures failed { IfErr result (λ e. FailedIn e (S.seen sink.old) (S.seen sink.new)) }
+    // The listener heard once of the job's own table, with all calls on it; or of nothing, if memory ran out before that.
+    ensures heard { HearsOfRun job.now (L.heard listener.old) (L.heard listener.new) result }
+{
+    match gather_plan(rt, alloc, job, workers, gate, sink) {
+        Ok(ended) => {
+            let outcome = ended.gathered.outcome;
+            listener.ended(ended);
+            outcome
+        }
+        Err(AllocError) => Err(RunError::NoMemory { written: 0 }),
+    }
+}
+
+/// `run_plan`, which hands back what its listener gets. Out of memory it fails before there is a table, and has written
+/// nothing.
+fn gather_plan<'j, 'd, R: Threads + Wait + Sync, G: Gate + Sync, S: Sink>(
+    rt: &R,
+    alloc: Global,
+    job: &Job<'j, 'd>,
+    workers: Workers,
+    gate: &G,
+    sink: &mut S,
+) -> Result<GatheredPlan<'j, 'd>, AllocError>
+    requires workers { AreWorkers workers }
+    requires countable { IsCountable (S.seen sink.old) }
+    ensures answers { IfOk result (λ ended.
+        Answers job.now (S.seen sink.old) (S.seen sink.new) ended.gathered.outcome) }
+    ensures unwritten { IfErr result (λ e. S.seen sink.new ≡ S.seen sink.old) }
+    ensures of_job { IfOk result (IsOfJob job.now) }
+{
+    let shelf = Shelf::of_document(alloc, job.document())?;
+    let (table, queue, tokens) = table_and_queue(alloc, job.plan(), workers.preparers)?;
+    let floor = Floor {
+        alloc,
+        gate: &*gate,
+        job: &*job,
+        table: &table,
+        shelf: &shelf,
+        is_of_document: true,
+        ready: &queue,
+    };
+    keep_blocks(alloc);
+    let gathered = gather_on(rt, floor, tokens, workers, sink);
+    // By a call, so that what becomes of its parts is proved once, and not here.
+    drop(shelf);
+    Ok(GatheredPlan {
+        table,
+        queue,
+        gathered,
+    })
+}
+
+/// A table of this plan and a queue that has room for all puts of so many preparers, with fresh tokens of both.
+fn table_and_queue<'j>(
+    alloc: Global,
+    plan: &Plan<'j>,
+    preparers: u32,
+) -> Result<(GatherTable<'j>, Ready, Tokens), AllocError>
+    requires preparers { (0 < preparers) × (preparers ≤ 16) }
+    ensures table { IfOk result (λ made. made.0.layout ≡ layout plan.now) }
+    ensures seat { IfOk result (λ made. IsFreshSeat made.0 made.2.seat) }
+    ensures pass { IfOk result (λ made. IsFreshPass made.1 made.2.pass) }
+    ensures room { IfOk result (λ made. HasRoomForAll (layout plan.now) preparers made.2.pass) }
+{
+    let (queue, pass) = ready_for(alloc, plan, preparers)?;
+    let (table, seat) = GatherTable::new(alloc, plan)?;
+    Ok((table, queue, Tokens { seat, pass }))
+}
+
+/// How large the blocks are that are kept.
+const KEPT_BLOCK: usize = 4_194_304;
+
+/// Makes a block and gives it back. From then on the C library keeps blocks up to this size that workers give back, in
+/// place of handing them to the system and asking for new ones, which must be cleared. Lists that were made before are
+/// still handed to the system. Without it a run is only slower.
+fn keep_blocks(alloc: Global) {
+    drop(Vec::<u8>::with_capacity(alloc, KEPT_BLOCK));
+}

@@ -1,0 +1,78 @@
+//! How many puts there are at most, and a queue that has room for all of them.
+ghost use Rattle.std.specs.Prelude.{◌≡◌, ◌+◌, ◌<◌, ◌≤◌, length, min, IfOk};
+ghost use Rattle.rules.specs.Sheets.{layout};
+ghost use Rattle.sheet_plan.specs.Places.{places_of};
+ghost use Rattle.handover.specs.Passes.{puts_in};
+ghost use Rattle.run_steps.specs.Duty.{most_puts, most_puts_in_all};
+ghost use Rattle.imposer.specs.Rooms.{HasRoomForAll};
+ghost use Rattle.imposer.specs.Gathering.{IsFreshPass};
+
+use crate::gate::Gate;
+use crate::shared::Shared;
+use handover::{Pass, Ready};
+use sheet_plan::Plan;
+use std::alloc::{AllocError, Global};
+
+impl<'s, 'r, 't, 'd, G: Gate> Shared<'s, 'r, 't, 'd, G> {
+    /// How much of the pass's room preparer `number` of `count` gets: what it needs, as far as there is so much.
+    pub(crate) fn room_for(&self, pass: &Pass, number: u32, count: u32) -> u32
+        requires number { number < count }
+        ensures { result ≡ min (most_puts self.now.floor.table.now.layout count number) (puts_in pass.now.room) }
+    {
+        let job = self.floor.job;
+        most_puts(job.plan(), number, count).min(pass.room())
+    }
+}
+
+/// How many puts preparer `number` of `count` makes at most: it completes no more sheets than its pages have places, and
+/// no more than there are.
+pub(crate) fn most_puts(plan: &Plan<'_>, number: u32, count: u32) -> u32
+    requires number { number < count }
+    ensures { result ≡ most_puts (layout plan.now) count number }
+{
+    let mut puts = 0;
+    // Its own pages lie as far apart as there are preparers.
+    for page in (number..plan.pages()).step_by(count as usize) {
+        puts = with_page(plan, page, puts);
+    }
+    puts
+}
+
+/// The same with one page more.
+fn with_page(plan: &Plan<'_>, page: u32, puts: u32) -> u32
+    requires page { page < plan.now.pages }
+    ensures { result ≡ min (puts + length (places_of (layout plan.now) page)) (length plan.now.sheets) }
+{
+    let places = plan.slots_of_page(page).len();
+    (puts as usize)
+        .saturating_add(places)
+        .min(plan.sheets() as usize) as u32
+}
+
+/// How many puts so many preparers make at most, with the sheets without pages.
+pub(crate) fn most_puts_in_all(plan: &Plan<'_>, count: u32) -> u64
+    requires count { (0 < count) × (count ≤ 16) }
+    ensures { result ≡ most_puts_in_all (layout plan.now) count }
+{
+    let mut puts = 0;
+    for number in 0..count {
+        puts += u64::from(most_puts(plan, number, count));
+    }
+    puts + plan.born_complete().len() as u64
+}
+
+/// A queue for the sheets of this plan, and its pass: so many preparers may put every sheet, and none is refused.
+pub(crate) fn ready_for(
+    alloc: Global,
+    plan: &Plan<'_>,
+    preparers: u32,
+) -> Result<(Ready, Pass), AllocError>
+    requires preparers { (0 < preparers) × (preparers ≤ 16) }
+    ensures room { IfOk result (λ made. HasRoomForAll (layout plan.now) preparers made.1) }
+    ensures sheets { IfOk result (λ made. length plan.now.sheets ≤ made.0.capacity) }
+    ensures pass { IfOk result (λ made. IsFreshPass made.0 made.1) }
+{
+    let sheets = plan.sheets();
+    let puts = most_puts_in_all(plan, preparers) as u32;
+    Ready::by_right(alloc, puts.max(sheets).max(1))
+}

@@ -1,0 +1,79 @@
+//! What is made before the workers of a run start.
+ghost use Rattle.std.specs.Prelude.{IfOk, ◌<◌};
+ghost use Rattle.crossbeam_channel.specs.Claims.{IsSeatAt};
+ghost use Rattle.crossbeam_channel.specs.Ends.{sends_on, receives_on};
+ghost use Rattle.imposer.specs.Desks.{IsDeskOf};
+
+use crate::channel::{Channel, SheetRule, SheetTexts, Ticket};
+use crossbeam_channel::bounded_with;
+use crossbeam_queue::ArrayQueue;
+use sheet_text::Job;
+use sheet_writer::Early;
+use std::alloc::{AllocError, Global};
+
+/// What the collector has before it: the texts round the sheets, places for sheets that come before their turn, and its
+/// ticket for receiving.
+#[derive(Drop)]
+pub(crate) struct Desk<'r> {
+    pub(crate) header: Vec<u8>,
+    pub(crate) trailer: Vec<u8>,
+    pub(crate) early: Early<'r>,
+    pub(crate) receiving: Ticket<'r>,
+}
+
+/// The collector's desk, and the channel of finished sheets with a ticket for the imposers.
+#[derive(Drop)]
+pub(crate) struct Setup<'r, T: SheetTexts> {
+    pub(crate) desk: Desk<'r>,
+    pub(crate) channel: Channel<'r, T>,
+    pub(crate) sending: Ticket<'r>,
+}
+
+impl<'r, T: SheetTexts> Setup<'r, T> {
+    /// Places, channel and the queue of written sheets have room for all sheets of a window of this many, so that no
+    /// imposer waits.
+    pub(crate) fn new(alloc: Global, job: &Job<'_, '_>, window: u32) -> Result<Self, AllocError>
+        ensures desk { IfOk result (λ s. IsDeskOf job.now s.desk) }
+        ensures receiving { IfOk result (λ s. IsSeatAt (receives_on s.channel.receiver) s.desk.receiving) }
+        ensures sending { IfOk result (λ s. IsSeatAt (sends_on s.channel.sender) s.sending) }
+    {
+        let header = job.document().dressed_preamble(job.sheets(), job.header())?;
+        let trailer = job.document().trailer_text()?;
+        let room = job.sheets().min(window).max(1);
+        let early = Early::new(alloc, room)?;
+        let (channel, sending, receiving) = channel_of(alloc, room as usize)?;
+        let desk = Desk {
+            header,
+            trailer,
+            early,
+            receiving,
+        };
+        Ok(Setup {
+            desk,
+            channel,
+            sending,
+        })
+    }
+}
+
+/// A channel for so many messages, with a ticket for sending and one for receiving.
+fn channel_of<'r, T: SheetTexts>(
+    alloc: Global,
+    room: usize,
+) -> Result<(Channel<'r, T>, Ticket<'r>, Ticket<'r>), AllocError>
+    requires room { 0 < room }
+    ensures sending { IfOk result (λ made. IsSeatAt (sends_on made.0.sender) made.1) }
+    ensures receiving { IfOk result (λ made. IsSeatAt (receives_on made.0.receiver) made.2) }
+{
+    let spent = ArrayQueue::new(alloc, room)?;
+    let (sender, receiver, mut receiving) = bounded_with::<_, _, SheetRule<T>, Global>(
+        alloc, room,
+    )?;
+    let sending = sender.another::<SheetRule<T>>(&mut receiving);
+    let channel = Channel {
+        sender,
+        receiver,
+        spent,
+    };
+    Ok((channel, sending, receiving))
+}

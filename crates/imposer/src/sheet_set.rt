@@ -1,0 +1,90 @@
+//! The set.
+ghost use Rattle.std.specs.Prelude.{◌≡◌, ℕ, ◌<◌, ◌≤◌, ◌↔◌, true, IfSome, IfNone, OnOk, OnErr, IsTrue};
+ghost use Rattle.std.specs.Ordering.{nat_cmp};
+ghost use Rattle.std.specs.Coded.{coded_ℕ};
+ghost use Rattle.std.specs.FinSet as set;
+ghost use Rattle.imposer.specs.SheetNumbers.{IsFirst, HasNoneBelow, numbers, AreCounted};
+
+use crate::bits::{BITS, clear_bit, cover, has_bit, next_filled, set_bit};
+use std::alloc::{AllocError, Global};
+use std::marker::Model;
+
+/// A set of sheet numbers. It has a bit for each number up to the greatest, whether the number is in the set or
+/// not.
+#[derive(Drop)]
+pub struct SheetSet {
+    words: Vec<u64>,
+    /// No bit is set before this word.
+    first: usize,
+    /// The number of bits that are set.
+    count: u64,
+}
+
+impl Model for SheetSet {
+    ghost Value = { set.FinSet nat_cmp };
+
+    ghost coded = { set.code coded_ℕ };
+
+    ghost view = { λ s. numbers s.words.items };
+
+    ghost invariant = { λ s. AreCounted s.words.items s.first s.count };
+}
+
+impl SheetSet {
+    /// The empty set.
+    pub fn new(alloc: Global) -> Self
+        ensures { result ≡ set.empty }
+    {
+        SheetSet {
+            words: Vec::new(alloc),
+            first: 0,
+            count: 0,
+        }
+    }
+
+    /// Whether no number is in the set.
+    pub fn is_empty(&self) -> bool
+        ensures { IsTrue result ↔ self.now ≡ set.empty }
+    {
+        self.count == 0
+    }
+
+    /// Adds a number to the set. If there is no memory for it, the set is unchanged.
+    pub fn insert(&mut self, sheet: u32) -> Result<(), AllocError>
+        ensures inserted { OnOk result (self.new ≡ set.insert self.old sheet) }
+        ensures refused { OnErr result (self.new ≡ self.old) }
+    {
+        cover(&mut self.words, sheet)?;
+        if !has_bit(&self.words, sheet) {
+            set_bit(&mut self.words, sheet);
+            self.first = self.first.min(sheet as usize / BITS);
+            self.count += 1;
+        }
+        Ok(())
+    }
+
+    /// Removes the smallest number from the set, if it is below this end. Otherwise the set is unchanged.
+    pub fn take_first_before(&mut self, end: u32) -> Option<u32>
+        ensures first { IfSome result (IsFirst self.old) }
+        ensures before { IfSome result (λ sheet. sheet < end) }
+        ensures taken { IfSome result (λ sheet. self.new ≡ set.remove self.old sheet) }
+        ensures none { IfNone result (HasNoneBelow self.old end) }
+        ensures same { IfNone result (self.new ≡ self.old) }
+    {
+        self.first = next_filled(&self.words, self.first, end);
+        if self.first >= self.words.len() {
+            return None;
+        }
+        let bits = self.words[self.first];
+        if bits == 0 {
+            return None;
+        }
+        let sheet = self.first as u32 * 64 + bits.trailing_zeros();
+        if sheet >= end {
+            return None;
+        }
+        clear_bit(&mut self.words, sheet);
+        self.count -= 1;
+        Some(sheet)
+    }
+}

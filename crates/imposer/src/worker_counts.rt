@@ -1,0 +1,19 @@
+//! How many threads a run has.
+ghost use Rattle.std.specs.Prelude.{◌↔◌, IsTrue};
+ghost use Rattle.imposer.specs.Workers.{AreWorkers};
+
+/// How many threads prepare pages and how many impose sheets, from 1 to 16 each.
+#[derive(Clone, Copy, Debug, PartialEq, Eq)]
+pub struct Workers {
+    pub preparers: u32,
+    pub imposers: u32,
+}
+
+impl Workers {
+    /// Both counts lie from 1 to 16.
+    pub fn are_valid(self) -> bool
+        ensures { IsTrue result ↔ AreWorkers self }
+    {
+        (1..=16).contains(&self.preparers) && (1..=16).contains(&self.imposers)
+    }
+}

@@ -1,6 +1,0 @@
-use Rattle.std.proofs.Common.{arith, ap, length}
-use Rattle.planned_runs.proofs.Made.{born_few}
-use Rattle.planned_runs.proofs.gathering.report_on.Goals as goal
-
-pub overflow_cast-result : goal.overflow_cast-result
-overflow_cast-result c = omega (arith, c.sheets.ensures.sound.few_sheets, born_few c.plan-plan.result.now, ap (λ xs. length xs) c.born_complete.ensures.value)

@@ -1,9 +1,0 @@
-use Rattle.sheet_writer.specs.Writing.{HaveTexts}
-use Rattle.planned_runs.specs.Promises.{OnlyImposes}
-use Rattle.planned_runs.proofs.shared.RunInput.impose_batch.Given as goal
-
-abbrev pub invariant-loop : goal.invariant-loop
-invariant-loop g l = record {
-  imposes : OnlyImposes l.self.shared.now l.fn.tokens l.tokens;
-  texts : HaveTexts g.T.SheetTexts.text l.batch;
-}

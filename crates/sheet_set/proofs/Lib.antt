@@ -1,3 +1,0 @@
-pub mod OneBit
-pub mod Passing
-pub mod Counted

@@ -1,5 +1,0 @@
-use Rattle.sheet_set.proofs.Counted.{none_yet}
-use Rattle.sheet_set.proofs.set.SheetSet.new.Goals as goal
-
-pub invariant_of-result : goal.invariant_of-result
-invariant_of-result c = rw c.new.ensures.items none_yet
