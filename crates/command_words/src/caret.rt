@@ -1,7 +1,7 @@
 //! A text with a caret below the place of a fault.
 use std::alloc::{AllocError, Global};
 
-/// How much of a long text is shown before and after the place, in bytes.
+/// The number of bytes of a long text that are shown before and after the place.
 const SHOWN_BEFORE: usize = 50;
 
 const SHOWN_BEHIND: usize = 20;
@@ -48,7 +48,7 @@ pub fn range_place(text: &str, start: usize) -> usize {
     text.len().saturating_sub(left.len())
 }
 
-/// What comes after the place, or the blank page, that a text begins with.
+/// The text after the place, or the blank page, that it begins with.
 fn behind_place(text: &str) -> &str {
     if let Some(behind) = text.strip_prefix("last") {
         return behind;
@@ -78,7 +78,7 @@ pub fn group_place(text: &str, group: u32) -> usize {
     place_behind(text.as_bytes(), group, false)
 }
 
-/// The place after so many items, or groups, and after the modulo.
+/// The place after this number of items, or groups, and after the modulo.
 fn place_behind(text: &[u8], count: u32, of_items: bool) -> usize {
     let mut start = 0usize;
     let mut left = count;

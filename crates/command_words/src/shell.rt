@@ -50,7 +50,7 @@ fn append_number(number: Number, unit: &[u8], out: &mut Vec<u8>) -> Result<(), A
     out.extend_from_slice(unit)
 }
 
-/// A length as a number of a unit, of which 10^-9 is so many grains.
+/// A length as a number of a unit, 10^-9 of which is this number of grains.
 fn number_in(length: Grains, grains: u128) -> Option<Number>
     requires { 0 < grains }
     ensures { result ≡ meaning.number_in length grains }
@@ -70,7 +70,7 @@ fn number_in(length: Grains, grains: u128) -> Option<Number>
     Number::new(billionths as i64)
 }
 
-/// Appends the option for so many sides of a signature, if there are signatures.
+/// Appends the option for the number of sides of a signature, if there are signatures.
 pub fn append_sides(sides: Option<u32>, out: &mut Vec<u8>) -> Result<(), AllocError>
     ensures { OnOk result (out.new.items ≡ out.old.items ++ meaning.sides_text sides) }
 {

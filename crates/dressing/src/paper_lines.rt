@@ -154,7 +154,7 @@ fn push_continued(alloc: Global, lines: &mut Lines, paper: &Paper) -> Result<(),
     Ok(())
 }
 
-/// What follows the name of a medium: its sides, and that nothing else is known.
+/// The text after the name of a medium: its sides, and that nothing else is known.
 fn append_medium(line: &mut Vec<u8>, paper: &Paper) -> Result<(), AllocError>
     ensures { OnOk result (line.new.items ≡ line.old.items ++ medium_text [] paper.now) }
 {

@@ -33,7 +33,7 @@ fn push_row(room: &Room, grid: Grid, row: u32, lines: &mut Vec<Stroke>) -> Resul
     Ok(())
 }
 
-/// How many lines a cell has.
+/// The number of lines of a cell.
 fn line_count(room: &Room, grid: Grid) -> u32
     ensures value { result ≡ count_of room.now grid }
     ensures few { result ≤ 10_000_000 }

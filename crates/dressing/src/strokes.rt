@@ -124,7 +124,7 @@ fn has_room(edge: u64, gap: u64) -> bool
     edge != 0 && gap <= 2 * edge
 }
 
-/// Adds the marks between so many cells side by side.
+/// Adds the marks between cells side by side.
 fn push_upright_between(
     room: &Room,
     parts: u32,
@@ -139,7 +139,7 @@ fn push_upright_between(
     Ok(())
 }
 
-/// Adds the marks between so many cells one above another.
+/// Adds the marks between cells one above another.
 fn push_level_between(room: &Room, parts: u32, strokes: &mut Vec<Stroke>) -> Result<(), AllocError>
     requires { 0 < parts }
     ensures { OnOk result (strokes.new.items ≡ strokes.old.items ++ level_between room.now parts) }
@@ -150,7 +150,7 @@ fn push_level_between(room: &Room, parts: u32, strokes: &mut Vec<Stroke>) -> Res
     Ok(())
 }
 
-/// Adds the strokes along the line before a cell of so many side by side.
+/// Adds the strokes along the line before one of several cells side by side.
 fn push_upright(
     room: &Room,
     parts: u32,
@@ -173,7 +173,7 @@ fn push_upright(
     Ok(())
 }
 
-/// Adds the strokes along the line below a cell of so many one above another.
+/// Adds the strokes along the line below one of several cells one above another.
 fn push_level(room: &Room, parts: u32, k: u32, strokes: &mut Vec<Stroke>) -> Result<(), AllocError>
     requires some { 0 < parts }
     requires part { k ≤ parts }

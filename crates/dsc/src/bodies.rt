@@ -77,7 +77,7 @@ fn cut_body<'d>(alloc: Global, page: &'d [u8]) -> Result<Body<'d>, CutError>
     Ok(body)
 }
 
-/// What was kept, with a line end at its end.
+/// The text that was kept, with a line end at its end.
 fn body_of<'d>(alloc: Global, kept: Kept<'d>) -> Result<Body<'d>, AllocError>
     ensures { IfOk result (λ b. b ≡ ended ((kept.entry.copied.items ++ kept.entry.held.now) ++ kept.entry.run.now)) }
 {

@@ -18,7 +18,7 @@ pub(crate) enum Section {
     Trailer,
 }
 
-/// What follows the colon of the first `%%BoundingBox:` of the trailer, outside embedded documents and data. None
+/// The text after the colon of the first `%%BoundingBox:` of the trailer, outside embedded documents and data. None
 /// if the text has a faulty data block.
 pub fn trailer_box(text: &[u8]) -> Option<&[u8]>
     ensures { option_map (λ value. fields_in value.now) result ≡ box_of_trailer (units_of text.now) }
@@ -79,7 +79,7 @@ fn found_by<'d>(
     }
 }
 
-/// What follows the colon of a `%%BoundingBox:` outside embedded documents.
+/// The text after the colon of a `%%BoundingBox:` outside embedded documents.
 fn box_in<'d>(unit: &LineOrBlock<'d>, depth: usize) -> Option<&'d [u8]>
     ensures { option_map (λ value. fields_in value.now) result ≡ told_box (at_depth depth (unit_of unit.now)) }
 {

@@ -6,7 +6,7 @@ ghost use Rattle.dsc.specs.Fields.{fields_in};
 
 use crate::keys::key_of;
 
-/// What follows the colon, if a line with this content is a comment with this key.
+/// The text after the colon, if a line with this content is a comment with this key.
 pub fn comment_value<'t>(content: &'t [u8], key: &[u8], with_colon: &[u8]) -> Option<&'t [u8]>
     requires { with_colon.now ≡ key.now ++ colon ∷ [] }
     ensures { MatchOption result (is_comment key.now content.now ≡ false) (λ value.

@@ -194,7 +194,7 @@ impl<'d> Document<'d> {
         Some(start - starts[p as usize])
     }
 
-    /// What is kept of the preamble, ending with a line end. A line with `%%Pages: ` and the number of sheets is
+    /// The part of the preamble that is kept, ending with a line end. A line with `%%Pages: ` and the number of sheets is
     /// added after the first line. Outermost lines with the keys `%%Pages`, `%%PageOrder`, `%%BoundingBox`,
     /// `%%HiResBoundingBox`, `%%DocumentMedia` and `%%Orientation` are dropped, and the `%%+` lines after them.
     pub fn preamble_text(&self, sheets: u32) -> Result<Vec<u8>, AllocError>
@@ -220,7 +220,7 @@ impl<'d> Document<'d> {
         Ok(text)
     }
 
-    /// What is kept of the trailer: the same lines are dropped as from a preamble.
+    /// The part of the trailer that is kept: the same lines are dropped as from a preamble.
     pub fn trailer_text(&self) -> Result<Vec<u8>, AllocError>
         ensures text { IfOk result (λ v. v.items ≡ trailer_text self.now) }
     {

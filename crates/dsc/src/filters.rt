@@ -81,8 +81,8 @@ pub fn drops_unit(drops: Drops, was: bool, unit: &LineOrBlock<'_>, depth: usize)
     (depth == 0 && drops_line(drops, unit.content)) || (was && unit.content.starts_with(b"%%+"))
 }
 
-/// What is kept of a text: bytes that were copied, followed by two runs of the text that weren't. The second one
-/// may still grow: it has `run_len` bytes, and after these comes what hasn't been read yet.
+/// The kept part of a text: bytes that were copied, followed by two runs of the text that weren't. The second one
+/// may still grow: it has `run_len` bytes, and the unread text follows them.
 #[derive(Drop)]
 pub struct Kept<'d> {
     pub copied: Vec<u8>,
@@ -152,7 +152,7 @@ fn copy(copied: &mut Vec<u8>, part: &[u8], room: usize) -> Result<(), AllocError
     copied.extend_from_slice(part)
 }
 
-/// What is kept of the text, after what was copied before.
+/// The kept part of the text, after the bytes that were copied before.
 pub fn filter<'d>(copied: Vec<u8>, drops: Drops, text: &'d [u8]) -> Result<Kept<'d>, CutError>
     ensures { Gives (λ k. (k.copied.items ++ k.held.now) ++ k.run.now) block_fault_told result
         (filter_on drops copied.items false 0 0 text.now) }
@@ -173,7 +173,8 @@ pub fn filter<'d>(copied: Vec<u8>, drops: Drops, text: &'d [u8]) -> Result<Kept<
     Ok(kept)
 }
 
-/// What is dropped from a preamble with these lines: names of papers too, if there are lines, as they report the papers.
+/// The comments that are dropped from a preamble with these lines: names of papers too if there are lines, because these
+/// report the papers.
 pub fn drops_with(lines: &[u8]) -> Drops
     ensures { (rows : List (List ℕ)) → lines.now ≡ lines_text rows → drops_of result ≡ drops_with rows }
 {
@@ -195,8 +196,8 @@ pub fn filter_header(front: Vec<u8>, drops: Drops, text: &[u8]) -> Result<Vec<u8
     }
 }
 
-/// A document's first line, the number of its sheets in a line after it, and then more lines, with room for so many bytes
-/// after them.
+/// A document's first line, the number of its sheets in a line after it, and then more lines, with room for a further
+/// `room` bytes.
 pub fn with_count(
     alloc: Global,
     first: &[u8],

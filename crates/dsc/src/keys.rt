@@ -36,7 +36,7 @@ pub fn comment_letter(content: &[u8]) -> Option<u8>
     }
 }
 
-/// What a unit means for the parts: whether it begins a page or the trailer, and the depth after it.
+/// The meaning of a unit for the parts: whether it begins a page or the trailer, and the depth after it.
 #[derive(Clone, Copy)]
 pub struct Meaning {
     pub is_page: bool,
@@ -44,7 +44,7 @@ pub struct Meaning {
     pub depth: usize,
 }
 
-/// What a line means. Its letter shows whether its key has to be compared.
+/// The meaning of a line. Its letter shows whether its key has to be compared.
 fn meaning_of_line(content: &[u8], depth: usize) -> Meaning
     requires { depth < usize.MAX }
     ensures page { result.is_page ≡ begins_page (at_depth depth (comment_line content.now)) }
@@ -97,7 +97,7 @@ fn meaning_of_key(content: &[u8], depth: usize) -> Meaning
     }
 }
 
-/// What a unit means, if this is the depth before it.
+/// The meaning of a unit, if this is the depth before it.
 pub fn meaning_of(unit: &LineOrBlock<'_>, depth: usize) -> Meaning
     requires { depth < usize.MAX }
     ensures page { result.is_page ≡ begins_page (at_depth depth (unit_of unit.now)) }

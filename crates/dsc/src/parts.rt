@@ -7,7 +7,7 @@ ghost use Rattle.dsc.specs.Later.{later, later_found};
 /// them, if it differs only in what comes before the first page.
 #[derive(Drop)]
 pub struct Parts {
-    /// How many bytes the document has.
+    /// The number of bytes of the document.
     pub(crate) len: usize,
     pub(crate) starts: Vec<u32>,
     /// For each page the byte at which its body begins, or 0.
@@ -15,7 +15,7 @@ pub struct Parts {
     pub(crate) stop: usize,
 }
 
-/// Moves the starts of pages so many bytes on.
+/// Moves the starts of pages on by this number of bytes.
 pub(crate) fn move_starts(starts: &mut Vec<u32>, by: u32)
     requires room { (p : ℕ) → p < length starts.old.items → slice_index_or starts.old.items p 0 + by ≤ most_input_bytes }
     ensures { starts.new.items ≡ map (later by) starts.old.items }
@@ -25,7 +25,7 @@ pub(crate) fn move_starts(starts: &mut Vec<u32>, by: u32)
     }
 }
 
-/// Moves the starts of bodies so many bytes on. One that wasn't found stays 0.
+/// Moves the starts of bodies on by this number of bytes. One that wasn't found stays 0.
 pub(crate) fn move_bodies(bodies: &mut Vec<u32>, by: u32)
     requires room { (p : ℕ) → p < length bodies.old.items → slice_index_or bodies.old.items p 0 + by ≤ most_input_bytes }
     ensures { bodies.new.items ≡ map (later_found by) bodies.old.items }

@@ -16,14 +16,14 @@ pub struct LineOrBlock<'d> {
     pub is_block: bool,
 }
 
-/// What is wrong with a data block: its count is no number, or passes the end of the text.
+/// The fault of a data block: its count is no number, or passes the end of the text.
 #[derive(Debug, Clone, Copy)]
 pub enum UnitError {
     BadCount,
     ShortData,
 }
 
-/// What follows the colon of a line that begins data, and whether lines may be counted.
+/// The text after the colon of a line that begins data, and whether lines may be counted.
 fn data_heading(content: &[u8]) -> Option<(&[u8], bool)>
     ensures { MatchOption result (begins_block content.now ≡ false) (λ h.
         (begins_block content.now ≡ true) × (fields content.now ≡ fields_in h.0.now)

@@ -3,8 +3,8 @@ use atomic_table::TableRule;
 use sheet_plan::Plan;
 use std::marker::Model;
 
-/// What a seat knows: a history that its caller has seen, and the caller's own calls in it. No value of this type
-/// is ever made.
+/// A seat's knowledge: a history that its caller has seen, and the caller's own calls in it. No value of this type is
+/// ever made.
 pub struct SeatKnowledge {
     nothing: (),
 }

@@ -28,7 +28,7 @@ impl Model for Seat {
 }
 
 impl Seat {
-    /// How many of the table's 2^32 shares the seat has. With all of them it is the table's only seat.
+    /// The number of the table's 2^32 shares that the seat has. With all of them it is the table's only seat.
     pub fn share(&self) -> u64
         ensures value { result ≡ self.now.share }
         ensures seat { IsSeat self.now }

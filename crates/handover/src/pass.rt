@@ -15,7 +15,7 @@ pub(crate) const WHOLE_SHARE: u64 = 4_294_967_296;
 pub struct Pass {
     pub(crate) token: crossbeam_queue::Pass<u32, PassKnowledge>,
     pub(crate) share: u64,
-    /// How many puts it may make that won't be refused. None if puts aren't made by right.
+    /// The number of puts that will still be accepted; None if puts aren't made by right.
     pub(crate) room: Option<u32>,
 }
 
@@ -32,7 +32,7 @@ impl Model for Pass {
 }
 
 impl Pass {
-    /// How many of the queue's 2^32 shares the pass has. With all of them it is the queue's only pass.
+    /// The number of the queue's 2^32 shares that the pass has. With all of them it is the queue's only pass.
     pub fn share(&self) -> u64
         ensures value { result ≡ self.now.share }
         ensures pass { IsPass self.now }
@@ -40,7 +40,7 @@ impl Pass {
         self.share
     }
 
-    /// How many puts it may make that won't be refused.
+    /// The number of puts that will still be accepted.
     pub fn room(&self) -> u32
         ensures { result ≡ puts_in self.now.room }
     {

@@ -18,7 +18,7 @@ pub(crate) fn may_put(room: Option<u32>, share: u64) -> bool
     }
 }
 
-/// What is left after a put.
+/// The room that is left after a put.
 pub(crate) fn room_after_put(room: Option<u32>) -> Option<u32>
     ensures { (sheet : ℕ) → result ≡ room_after (Put sheet) room }
 {

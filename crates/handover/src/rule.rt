@@ -2,8 +2,8 @@
 use crossbeam_queue::protocol::Protocol;
 use std::marker::Model;
 
-/// What a pass knows: a history that its caller has seen, the caller's own moves in it, and how many puts it may
-/// make by right. No value of this type is ever made.
+/// A pass's knowledge: a history that its caller has seen, the caller's own moves in it, and the number of puts that it
+/// may make by right. No value of this type is ever made.
 pub struct PassKnowledge {
     nothing: (),
 }

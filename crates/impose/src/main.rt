@@ -45,7 +45,7 @@ fn main(rt: HostRuntime) -> ExitCode {
     ExitCode::from(tell(&mut rt.stderr(), text.as_slice(), status))
 }
 
-/// What is said of how the program ended, and its status. It takes the end by value, so the output is closed before
+/// Says how the program ended, and gives its status. It takes the end by value, so the output is closed before
 /// anything is said: if standard error was closed, the output has its number.
 fn said<W: World>(
     alloc: Global,

@@ -11,7 +11,7 @@ use lengths::Paper;
 use papers::{Comment, document_paper, first_comment, first_name, is_at_end};
 use row_runs::told_pages;
 
-/// What a document says of itself, as far as it is reported. It needs no memory.
+/// A document's claims about itself, as far as they are reported. It needs no memory.
 pub(crate) fn told_by(request: &ImposeRequest, input: &[u8]) -> Told
     ensures { meaning.IsToldBy request.now input.now result }
 {
@@ -82,7 +82,7 @@ fn is_name(comment: Comment) -> bool
     }
 }
 
-/// What comes after the colon of the first `%%DocumentPaperSizes:` among these lines.
+/// The text after the colon of the first `%%DocumentPaperSizes:` among these lines.
 fn names_value(lines: &[u8]) -> Option<&[u8]>
     ensures { option_map (λ value. value.now) result ≡ comment_value (codes "%%DocumentPaperSizes") (contents lines.now) }
 {

@@ -1,7 +1,7 @@
 //! Laws of what impose wrote. The functions do nothing.
 ghost use Rattle.impose_cli.specs.Laws.{GuardIsOfFirst, WroteDocument};
 
-/// What was appended for a request that was carried out is a document again, unless it has more than 2^30 bytes: its
+/// The bytes appended for a request that was carried out are a document again, unless they are more than 2^30: its
 /// preamble and trailer are those that were written, and its pages are the sheets if the last page of the document that
 /// was imposed leaves no embedded document open, or if that document has a trailer.
 pub fn wrote_document()

@@ -94,7 +94,7 @@ pub(crate) fn check_sheets(
     }
 }
 
-/// What is kept free on the sheets of a layout that has cells.
+/// The margins and gaps of a layout that has cells.
 fn kept_free(layout: &Layout, spacing: &Spacing) -> Option<Free>
     ensures { result ≡ kept_free_in layout.now spacing.now }
 {
@@ -291,7 +291,7 @@ pub(crate) fn is_drawn(border: Option<Grains>) -> bool
     }
 }
 
-/// Whether a signature may have so many sides, if a number is named.
+/// Whether a signature may have this number of sides, if one is named.
 fn may_be_sewn(signing: Signing) -> bool
     ensures { IsTrue result ↔ MayBeSewn signing }
 {

@@ -5,7 +5,7 @@ ghost use Rattle.world.specs.declared.rest.Rest.TheVariants as rests;
 use impose_said::ImposeFault;
 use world::{Rest, World};
 
-/// What came of something that is to be written, with what is left of the world.
+/// The outcome of something that is to be written, with what is left of the world.
 #[derive(Drop)]
 pub(crate) struct Left<W: World, T> {
     pub outcome: Result<T, ImposeFault>,

@@ -17,10 +17,10 @@ use imposer::RunError;
 use row_runs::{Asked, AskedError, RowJob, row_plan, row_preview};
 use std::alloc::Global;
 
-/// How many sheets or leaves are listed, or sheets drawn.
+/// The most sheets or leaves that are listed, or sheets that are drawn.
 const MOST_TOLD: u32 = 40;
 
-/// What is reported of sheets in place of imposing them.
+/// The list or the drawing that is made of sheets in place of imposing them.
 #[derive(Clone, Copy, Debug, PartialEq, Eq)]
 pub enum Overview {
     /// Line by line which page is where.

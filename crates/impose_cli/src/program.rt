@@ -32,9 +32,9 @@ use world::{Output, ReadFault, ReadSource, Rest, World, read_front, read_input_b
 /// How the program ended.
 #[derive(Drop)]
 pub struct Ended<W: World> {
-    /// What the words ask for, if they ask for something.
+    /// The words' request, if they make one.
     pub request: Option<ImposeRequest>,
-    /// What was done, or why nothing, or not all.
+    /// The result, or why there is none or only a part of it.
     pub outcome: Result<Done, ImposeFault>,
     /// The world, if no output was created in it, or the output.
     pub rest: Rest<W, W::Output>,
@@ -68,7 +68,7 @@ pub fn impose<R: Threads + Wait + Sync, W: World>(
     requires countable { (W.seen world).failures + 1 < u64.MAX }
     ensures ended { EndsProgram W.seen (map string_bytes words.now) paper_size.now (W.gives world) (W.regular world)
         (edge (W.tells world) W.seen W.Output.seen) result.request result.outcome world result.rest (shown W.Output.seen result.rest) }
-    // What is refused has created no output, and has the world back. An output that exists has all that was to be
+    // A refusal has created no output, and gives the world back. An output that exists has all that was to be
     // written, or a write failed or memory ran out.
     ensures created { IsCreatedFor result.outcome result.rest }
 {
@@ -103,7 +103,7 @@ fn at_home(request: ImposeRequest, home: Paper) -> ImposeRequest
 /// The file that names the paper at home.
 const HOME_FILE: &str = "/etc/papersize";
 
-/// How many of its bytes are read.
+/// The most of its bytes that are read.
 const HOME_BYTES: usize = 4_096;
 
 /// The paper at home, by the value of `PAPERSIZE` and by what the file begins with. What can't be read, or is no regular
@@ -295,7 +295,7 @@ fn write_text<W: World>(name: Option<&str>, text: &[u8], done: Done, world: W) -
     }
 }
 
-/// A write failed after so many bytes.
+/// A write failed after this number of bytes.
 fn failed_at(written: usize, cause: Option<io::Error>) -> ImposeFault
     ensures { result ≡ faults.Write written cause }
 {

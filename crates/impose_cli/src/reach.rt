@@ -14,7 +14,7 @@ use papers::{PlacedPages, Reach, own_papers, reach_beyond};
 use rows::{RowError, imposed_row};
 use std::alloc::{AllocError, Global};
 
-/// What pages have of their own: those that name no paper have the one that is named for all, else the document's.
+/// The papers of pages: those that name none have the one that is named for all, else the document's.
 fn told_own(
     alloc: Global,
     request: &ImposeRequest,

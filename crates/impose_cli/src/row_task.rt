@@ -45,7 +45,7 @@ use std::sync::Wait;
 use std::thread::Threads;
 use world::World;
 
-/// What is imposed of a row of pages, and how.
+/// A row of pages to impose, and how.
 #[derive(Drop)]
 pub struct RowTask {
     /// The document, with the guard in it if it is asked for.
@@ -58,7 +58,7 @@ pub struct RowTask {
     pub(crate) cut: Option<Cut>,
     /// The pages that reach beyond the papers by which they are placed.
     pub(crate) reach: Option<Reach>,
-    /// How many pages follow its trailer.
+    /// The number of pages after its trailer.
     pub(crate) behind: usize,
     pub(crate) laying: Laying,
     pub(crate) signing: Option<Signing>,
@@ -101,7 +101,7 @@ pub(crate) fn row_task(
 /// The papers of a document's pages.
 #[derive(Drop)]
 struct FoundPapers {
-    /// How many they are.
+    /// Their number.
     pages: u32,
     /// The paper for which sheets and cells are made.
     page_paper: Paper,
@@ -113,7 +113,7 @@ struct FoundPapers {
     cut: Option<Cut>,
     /// The pages that reach beyond those papers.
     reach: Option<Reach>,
-    /// How many pages follow the trailer.
+    /// The number of pages after the trailer.
     behind: usize,
 }
 
@@ -376,7 +376,7 @@ pub(crate) fn impose_task<R: Threads + Wait + Sync, W: World>(
     impose_job(rt, alloc, &job, name_of(&request.outfile), world)
 }
 
-/// What an error of the run is for a document with so many pages.
+/// The fault that an error of the run is, for a document with this number of pages.
 pub(crate) fn asked_fault_of(error: AskedError, pages: u32) -> ImposeFault
     ensures { result ≡ asked_fault pages error }
 {

@@ -278,7 +278,7 @@ fn read_task<'t>(
     Ok((spec, document))
 }
 
-/// What is reported of a run beside its numbers.
+/// The facts that are reported of a run beside its numbers.
 #[derive(Drop)]
 struct About {
     page_paper: Paper,
@@ -289,7 +289,7 @@ struct About {
     told: Told,
 }
 
-/// What came of a run, with what is reported of it.
+/// The outcome of a run, with the facts that are reported of it.
 fn reported(outcome: Result<Report, ImposeFault>, about: About) -> Result<Done, ImposeFault>
     ensures { result ≡ reported_by about outcome }
 {
@@ -309,7 +309,7 @@ fn reported(outcome: Result<Report, ImposeFault>, about: About) -> Result<Done, 
 
 // ---- what is written
 
-/// How much of the output is written at once, in bytes, if sheets are smaller.
+/// The number of bytes that are written at once, if sheets are smaller.
 const WRITTEN_AT_ONCE: usize = 16_384;
 
 /// Writes the sheets of a job into the output of this name, which is created when their first byte is to be written. Nothing

@@ -26,7 +26,7 @@ use std::sync::Wait;
 use std::thread::Threads;
 use world::World;
 
-/// What is imposed by a specification on a row of pages.
+/// A row of pages to impose by a specification.
 #[derive(Drop)]
 pub struct SpecRowTask {
     /// The document, with the guard in it if it is asked for.
@@ -36,7 +36,7 @@ pub struct SpecRowTask {
     pub(crate) page_paper: Paper,
     pub(crate) sheet_paper: Paper,
     pub(crate) origin: PaperOrigin,
-    /// What was counted of the document's pages.
+    /// The counts of the document's pages.
     pub(crate) counted: CountedPages,
 }
 

@@ -88,7 +88,7 @@ fn paper_if(is_taken: bool, own: &Paper, other: &Paper) -> Paper
     if is_taken { *own } else { *other }
 }
 
-/// Which of so many pages the row takes.
+/// The pages that the row takes, of a document with this number of pages.
 pub(crate) fn pages_taken(
     alloc: Global,
     row: &[Option<u32>],

@@ -35,7 +35,7 @@ use papers::{Reach, document_paper};
 use rows::{Signing, auto_sides};
 use std::alloc::{AllocError, Global};
 
-/// What is imposed, and how.
+/// A task: the pages to impose, and how.
 #[derive(Drop)]
 pub struct Task {
     /// The document, with the guard in it if it is asked for.
@@ -45,22 +45,22 @@ pub struct Task {
     pub options: Options,
     /// Where the paper of the pages was found.
     pub origin: PaperOrigin,
-    /// What was counted of the document's pages.
+    /// The counts of the document's pages.
     pub counted: CountedPages,
 }
 
-/// What is counted of a document's pages, where all are placed by one paper.
+/// The counts of a document's pages, where all are placed by one paper.
 #[derive(Clone, Copy)]
 pub struct CountedPages {
-    /// How many they are.
+    /// Their number.
     pub pages: u32,
-    /// How many follow the trailer.
+    /// The number of those after the trailer.
     pub behind: usize,
     /// Those that reach beyond the paper.
     pub reach: Option<Reach>,
 }
 
-/// As many preparers and imposers as `pstops` has.
+/// The numbers of preparers and imposers, the same as those of `pstops`.
 pub(crate) const WORKERS: Workers = Workers {
     preparers: 2,
     imposers: 2,
@@ -229,7 +229,7 @@ pub(crate) fn paper_of_sheets<'p>(named: &'p Option<Paper>, page_paper: &'p Pape
     }
 }
 
-/// What is counted of a document's pages, if all are placed by this paper, and where its parts begin.
+/// The counts of a document's pages, if all are placed by this paper, and where its parts begin.
 pub(crate) fn pages_of(
     alloc: Global,
     request: &ImposeRequest,
@@ -362,7 +362,7 @@ fn written(alloc: Global, spec: &Spec, sides: Option<u32>) -> Result<PlacedItem,
     Ok((write_spec(alloc, spec)?, sides))
 }
 
-/// How many sides a signature of a specification's row has, if the row goes into signatures.
+/// The number of sides of a signature of a specification's row, if the row goes into signatures.
 fn row_sides(signing: Option<Signing>, pages: u32) -> Option<u32>
     requires some { 0 < pages }
     requires few { pages ≤ most_pages }
@@ -374,7 +374,7 @@ fn row_sides(signing: Option<Signing>, pages: u32) -> Option<u32>
     }
 }
 
-/// How many sides a signature has, for so many pages.
+/// The number of sides of a signature, for this number of pages.
 fn sides_of(signing: Signing, pages: u32) -> u32
     requires some { 0 < pages }
     requires few { pages ≤ most_pages }

@@ -43,7 +43,7 @@ pub enum ImposeFault {
     Poster(PosterError),
     /// There is no such row of pages.
     Row(RowError),
-    /// The document has only so many pages, and not all of the range at this place of the text.
+    /// The document has only this number of pages, and not all of the range at this place of the text.
     NoSuchPage {
         place: usize,
         pages: u32,
@@ -80,7 +80,7 @@ pub enum ImposeFault {
     JobLanguage,
     /// The input is longer than a document may be.
     TooLong,
-    /// The output couldn't be created, or not be written after so many bytes, and why, if the system said it.
+    /// The output couldn't be created, or not be written after this number of bytes, and why, if the system said it.
     Write {
         written: u64,
         cause: Option<io::Error>,

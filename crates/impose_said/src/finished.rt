@@ -17,10 +17,10 @@ pub enum PaperOrigin {
     FirstPage,
 }
 
-/// What the document says of itself, as far as it is reported.
+/// The document's claims about itself, as far as they are reported.
 #[derive(Drop)]
 pub struct Told {
-    /// How many pages it has, if it says so.
+    /// The number of pages that it declares, if it does.
     pub pages: Option<usize>,
     /// The name of its paper as it is shown, if that isn't known.
     pub unknown: Option<ShownName>,
@@ -38,13 +38,13 @@ pub struct Finished {
     pub cut: Option<Cut>,
     /// The pages that reach beyond the papers by which they are placed.
     pub reach: Option<Reach>,
-    /// How many pages follow the document's trailer, which aren't imposed.
+    /// The number of pages after the document's trailer, which aren't imposed.
     pub behind: usize,
-    /// What the document says of itself.
+    /// The document's claims about itself.
     pub told: Told,
 }
 
-/// What was done.
+/// The result of a request.
 #[derive(Drop)]
 pub enum Done {
     /// The pages were imposed.

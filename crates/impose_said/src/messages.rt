@@ -20,7 +20,7 @@ use std::io;
 
 const OUT_OF_MEMORY: &str = "out of memory";
 
-/// What is said of a fault, without a line end after it. The request is there once the command line is taken.
+/// The message about a fault, without a line end after it. The request is there once the command line is taken.
 pub fn fault_text(
     alloc: Global,
     fault: &ImposeFault,
@@ -93,7 +93,7 @@ fn read_text(
     }
 }
 
-/// An output that couldn't be written after so many bytes.
+/// An output that couldn't be written after this number of bytes.
 fn write_text(
     alloc: Global,
     written: u64,
@@ -118,7 +118,7 @@ const SEVERAL_PAPERS: &str =
 const OVER_INPUT: &str =
     ", which is read: name another file, as sheets.svg, or - for standard output";
 
-/// What is said of an option that would do nothing, or not what it says.
+/// The message about an option that would do nothing, or not what it says.
 fn idle_message(option: IdleOption) -> &'static str {
     match option {
         IdleOption::Sheet => {
@@ -136,7 +136,7 @@ fn idle_message(option: IdleOption) -> &'static str {
     }
 }
 
-/// What is said of an input that isn't read as a document, after its name.
+/// The message about an input that isn't read as a document, after its name.
 fn input_message(fault: &ImposeFault) -> Option<&'static str> {
     let message = match fault {
         ImposeFault::NoInput => " is empty; name a file with a PostScript document, or pipe one in",
@@ -188,7 +188,7 @@ fn file_name(alloc: Global, name: Option<&str>, stream: &str) -> Result<String, 
     }
 }
 
-/// A failed write after so many bytes.
+/// A failed write after this number of bytes.
 fn written_text(alloc: Global, written: u64, context: &Context<'_>) -> Result<String, AllocError> {
     let name = file_name(alloc, context.written, "standard output")?;
     let name = name.as_str();
@@ -206,7 +206,7 @@ fn with_cause(alloc: Global, text: &str, cause: &Option<io::Error>) -> Result<St
     }
 }
 
-/// What is said of a command line that is refused; nothing of words that the command doesn't take, which `words_text` has.
+/// The message about a command line that is refused; nothing of words that the command doesn't take, which `words_text` has.
 pub fn command_text(alloc: Global, fault: &RequestFault) -> Result<String, AllocError> {
     let message = match fault {
         RequestFault::Words(_) => "",
@@ -240,7 +240,7 @@ fn shown(alloc: Global, message: &str, text: &str, place: usize) -> Result<Strin
     joined(alloc, &[message, caret.as_str()])
 }
 
-/// What is said of ranges that name no row.
+/// The message about ranges that name no row.
 fn row_text(alloc: Global, error: &RowError, context: &Context<'_>) -> Result<String, AllocError> {
     let ranges = context.ranges;
     let (message, place) = match error {
@@ -261,7 +261,7 @@ fn row_text(alloc: Global, error: &RowError, context: &Context<'_>) -> Result<St
 const NO_ENTRIES: &str =
     "page ranges: no page is left by --odd or --even; pages are counted from 1";
 
-/// What is said of ranges that can't go on at this place. A file may be where those of a selection are to be.
+/// The message about ranges that can't go on at this place. A file may be where those of a selection are to be.
 fn no_range_text(alloc: Global, context: &Context<'_>, place: usize) -> Result<String, AllocError> {
     let ranges = context.ranges;
     if context.is_selection && looks_like_file(ranges) {
@@ -277,7 +277,7 @@ fn no_range_text(alloc: Global, context: &Context<'_>, place: usize) -> Result<S
 const NO_RANGES: &str =
     "page ranges: they come before the file, and 1- are all pages: impose select 1- in.ps out.ps";
 
-/// What is said of pages that can't be laid out so: of a scale that is asked for something else than of one that is found.
+/// The message about pages that can't be laid out so: of a scale that is asked for something else than of one that is found.
 fn layout_text(
     alloc: Global,
     error: &ArrangementError,
@@ -323,7 +323,7 @@ fn fold_text(alloc: Global, context: &Context<'_>) -> Result<String, AllocError>
 const FOLD: &str =
     " would fold along its longer edge: name another sheet, as --sheet a4, or use nup 2";
 
-/// What is said of pages that can't be such a poster.
+/// The message about pages that can't be such a poster.
 fn poster_message(error: &PosterError) -> &'static str {
     match error {
         PosterError::TilesOutOfRange =>
@@ -338,7 +338,7 @@ fn poster_message(error: &PosterError) -> &'static str {
     }
 }
 
-/// What is said of a row that takes too many sheets.
+/// The message about a row that takes too many sheets.
 fn sheets_message(error: &MadeError) -> &'static str {
     match error {
         MadeError::TooManyPages => "the document has more than 1,000,000 pages: split it first",
@@ -379,7 +379,7 @@ fn plan_message(error: &PlanError) -> &'static str {
     }
 }
 
-/// What is said of a document that is refused. That it is too long the run says only of one that its guard makes so.
+/// The message about a document that is refused. That it is too long the run says only of one that its guard makes so.
 fn document_text(
     alloc: Global,
     error: &DscError,
@@ -444,7 +444,7 @@ fn spec_message(error: &SpecError, spec: &str) -> &'static str {
     }
 }
 
-/// How many sheets a specification has at most.
+/// The most sheets of a specification.
 const MOST_GROUPS: u32 = 10_000;
 
 /// Where a specification is at fault, if that is at one place.

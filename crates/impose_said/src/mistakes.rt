@@ -10,7 +10,7 @@ use clap::error::ErrorKind;
 use std::alloc::{AllocError, Global};
 use strsim::osa_distance;
 
-/// What is said of words that the command doesn't take, of which the first is the program's name: clap's text, with a tip on
+/// The message about words that the command doesn't take, of which the first is the program's name: clap's text, with a tip on
 /// the word that it refuses in place of its own. No control character of a word is left, and long words are cut.
 pub fn words_text(alloc: Global, error: &Error, words: &[String]) -> Result<String, AllocError> {
     let mut text = format!(in alloc; "{error}")?;
@@ -123,7 +123,7 @@ fn distance(alloc: Global, word: &str, name: &str) -> Result<Option<usize>, Allo
 /// Longer words are like no name.
 const MOST_COMPARED: usize = 30;
 
-/// What to do at a mistake of this kind in these words, if more can be said than clap says.
+/// The cure for a mistake of this kind in these words, if more can be said than clap says.
 fn tip(kind: ErrorKind, text: &str, words: &[String]) -> Option<&'static str> {
     let [_, command, behind @ ..] = words else {
         return None;

@@ -52,7 +52,7 @@ fn push_sheet(said: &mut ReportText, sheet: &Paper)
     said.push(b" pt");
 }
 
-/// How many pages, blanks, sheets and leaves there are, and how many bytes.
+/// The numbers of pages, blanks, sheets, leaves and bytes.
 fn push_counts(said: &mut ReportText, report: &Report, request: &ImposeRequest)
     requires room { length said.old + 352 ≤ most_said }
     ensures text { said.new ≡ said.old ++ counts_text report.now request.now }
@@ -68,7 +68,7 @@ fn push_counts(said: &mut ReportText, report: &Report, request: &ImposeRequest)
     said.push_number(u128::from(report.bytes));
 }
 
-/// How many places of the sheets have no page, where all sheets have equally many and each page has one.
+/// The number of places without a page, where all sheets have equally many and each page has one.
 fn blanks_of(request: &ImposeRequest, report: &Report) -> u128
     ensures { result ≡ blanks_in request.now report.now }
 {
@@ -79,7 +79,7 @@ fn blanks_of(request: &ImposeRequest, report: &Report) -> u128
     places.saturating_sub(u128::from(report.pages))
 }
 
-/// How many places each sheet has, where all have equally many.
+/// The number of places of a sheet, where all have equally many.
 fn places_on(layout: &Layout) -> u64
     ensures { result ≡ places_in layout.now }
 {
@@ -105,7 +105,7 @@ fn push_blanks(said: &mut ReportText, blanks: u128)
     said.push_number(blanks);
 }
 
-/// How many leaves of paper it takes, where sheets are printed on both sides.
+/// The number of leaves of paper, where sheets are printed on both sides.
 fn push_leaves(said: &mut ReportText, request: &ImposeRequest, sheets: u32)
     requires room { length said.old + 160 ≤ most_said }
     ensures text { said.new ≡ said.old ++ (if are_sides_of request.now.layout request.now.spacing
@@ -119,7 +119,7 @@ fn push_leaves(said: &mut ReportText, request: &ImposeRequest, sheets: u32)
     push_counted(said, u128::from(leaves), b" (1 leaf)", b" (", b" leaves)");
 }
 
-/// So many of something: a text of its own for one, or else the number with these texts before and after it.
+/// A number of things: a text of its own for one, or else the number with these texts before and after it.
 fn push_counted(said: &mut ReportText, count: u128, one: &[u8], before: &[u8], behind: &[u8])
     requires few { length one.now + length before.now + length behind.now ≤ 120 }
     requires room { length said.old + 160 ≤ most_said }
@@ -213,7 +213,7 @@ fn push_cut_pages(said: &mut ReportText, cut: &Cut)
     }
 }
 
-/// So many of the pages from the first to the last.
+/// A number of pages, from the first to the last of them.
 fn push_some_pages(said: &mut ReportText, pages: usize, first: u128, last: u128)
     requires room { length said.old + 136 ≤ most_said }
     ensures text { said.new ≡ said.old ++ some_pages_text pages first last }
@@ -286,7 +286,7 @@ fn push_corners(said: &mut ReportText, edges: &Edges)
     push_sides(said, edges.right, edges.top);
 }
 
-/// How many more pages reach beyond their papers.
+/// The number of other pages that reach beyond their papers.
 fn push_others(said: &mut ReportText, pages: usize)
     requires room { length said.old + 160 ≤ most_said }
     ensures text { said.new ≡ said.old ++ others_text pages }

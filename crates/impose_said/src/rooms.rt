@@ -45,7 +45,7 @@ fn leaves_some(room: &Room) -> bool
     0 < width.get() && 0 < height.get()
 }
 
-/// Two lengths of so many 10^-5 of a point.
+/// Two lengths in 10^-5 of a point.
 fn lengths_text(alloc: Global, across: u64, up: u64) -> Result<String, AllocError>
     requires across { across ≤ 20_000_000_000 }
     requires up { up ≤ 20_000_000_000 }
@@ -54,7 +54,7 @@ fn lengths_text(alloc: Global, across: u64, up: u64) -> Result<String, AllocErro
     sides_text(alloc, in_grains(across), in_grains(up))
 }
 
-/// What so many 10^-5 of a point leave of a side.
+/// The rest of a side without this length in 10^-5 of a point.
 fn left_of(length: Grains, taken: u64) -> Grains
     requires side { IsTrue (is_side length) }
     requires taken { taken ≤ 20_000_000_000 }

@@ -13,8 +13,8 @@ use impose_words::{ImposeRequest, RequestFault};
 use std::alloc::{AllocError, Global};
 use std::io::ErrorKind;
 
-/// What is said on standard error of how the program ended with these words: of sheets the report, and after it what else
-/// there is to say of them, unless the request is quiet; of a fault its message, unless whoever reads the output has
+/// The text for standard error, when the program has ended with these words: for sheets the report and the lines after
+/// it, unless the request is quiet; of a fault its message, unless whoever reads the output has
 /// closed it; and nothing of anything else. Help and the version, which go to standard output, aren't said here.
 ///
 /// The report comes into a text that was made before the run, and so it is whole.
@@ -38,7 +38,7 @@ pub fn text_said(
     }
 }
 
-/// What is said of a finished run: all its lines.
+/// The message about a finished run: all its lines.
 fn text_of_run(report: ReportText, done: &Finished, request: &ImposeRequest) -> Vec<u8>
     requires empty { report ≡ [] }
     ensures { SaysRun done.now request.now result.items }
@@ -52,7 +52,7 @@ fn text_of_run(report: ReportText, done: &Finished, request: &ImposeRequest) -> 
     said.into_bytes()
 }
 
-/// What is said of a fault. Without memory for it that is nothing.
+/// The message about a fault. Without memory for it that is nothing.
 pub fn text_of_fault(
     alloc: Global,
     fault: &ImposeFault,
@@ -71,7 +71,7 @@ pub fn text_of_fault(
     said
 }
 
-/// What is said of words that the command doesn't take; nothing of a call for help or for the version.
+/// The message about words that the command doesn't take; nothing of a call for help or for the version.
 fn text_of_words(alloc: Global, error: &WordsError, words: &[String]) -> String
     ensures { SaysWords error.now (string_bytes result) }
 {

@@ -9,7 +9,7 @@ use impose_words::{
 use papers::{PaperError, read_paper};
 use std::alloc::{AllocError, Global};
 
-/// What is said of a text that is no value of the option or argument.
+/// The message about a text that is no value of the option or argument.
 pub(crate) fn value_text(alloc: Global, option: Opt, text: &str) -> Result<String, AllocError> {
     let pointed = with_points(alloc, text)?;
     if pointed.as_str() != text && is_value(option, pointed.as_str()) {
@@ -64,7 +64,7 @@ fn is_value(option: Opt, text: &str) -> bool {
     }
 }
 
-/// What is said of a text that is a value once its decimals come after points.
+/// The message about a text that is a value once its decimals come after points.
 fn decimals_text(
     alloc: Global,
     option: Opt,
@@ -85,7 +85,7 @@ fn decimals_text(
 
 const UNITS_IN_LISTS: &str = "; in a list each length has its unit, 0 too";
 
-/// What is said of a text that is no length, or no list of lengths. It may be one but for a unit.
+/// The message about a text that is no length, or no list of lengths. It may be one but for a unit.
 fn length_text(alloc: Global, option: Opt, text: &str) -> Result<String, AllocError> {
     match part_without_unit(text, matches!(option, Opt::Margin | Opt::Gap)) {
         Some(part) => no_unit_text(alloc, option, text, part),
@@ -113,7 +113,7 @@ fn part_without_unit(text: &str, may_be_list: bool) -> Option<&str> {
     None
 }
 
-/// What is said of a text that lacks the unit of this part of it.
+/// The message about a text that lacks the unit of this part of it.
 fn no_unit_text(alloc: Global, option: Opt, text: &str, part: &str) -> Result<String, AllocError> {
     let (is_list, is_whole) = (text.contains(","), part == text);
     let text = shown_word(alloc, text)?;
@@ -134,7 +134,7 @@ fn no_unit_text(alloc: Global, option: Opt, text: &str, part: &str) -> Result<St
     Ok(said)
 }
 
-/// What is said of a text that names no margins. An edge may be named twice.
+/// The message about a text that names no margins. An edge may be named twice.
 fn margin_text(alloc: Global, text: &str) -> Result<String, AllocError> {
     let Some(edge) = edge_named_twice(text) else {
         return length_text(alloc, Opt::Margin, text);
@@ -144,7 +144,7 @@ fn margin_text(alloc: Global, text: &str) -> Result<String, AllocError> {
     format!(in alloc; "'{shown}' after --margin names {edge} twice: name each edge once")
 }
 
-/// What is said of a text that is no first number, or one without numbers.
+/// The message about a text that is no first number, or one without numbers.
 fn first_number_text(alloc: Global, text: &str) -> Result<String, AllocError> {
     if number_in(text).is_none() {
         return refused_text(alloc, Opt::NumbersFrom, text);
@@ -184,7 +184,7 @@ fn refused_text(alloc: Global, option: Opt, text: &str) -> Result<String, AllocE
     )
 }
 
-/// What a value of the option isn't, and what to do.
+/// The thing that a value of the option has to be, and the cure.
 fn refusal(option: Opt) -> (&'static str, &'static str) {
     match option {
         Opt::Paper | Opt::Sheet => ("size", "a side is zero, negative or too long"),
@@ -224,7 +224,7 @@ fn refusal(option: Opt) -> (&'static str, &'static str) {
     }
 }
 
-/// What is said of pages after `-p`, which names them for psselect.
+/// The message about pages after `-p`, which names them for psselect.
 fn ranges_text(alloc: Global, text: &str) -> Result<String, AllocError> {
     let text = shown_word(alloc, text)?;
     format!(in alloc;
@@ -232,7 +232,7 @@ fn ranges_text(alloc: Global, text: &str) -> Result<String, AllocError> {
     )
 }
 
-/// What is said of a size without a unit.
+/// The message about a size without a unit.
 fn no_size_unit_text(alloc: Global, option: Opt, text: &str) -> Result<String, AllocError> {
     let text = shown_word(alloc, text)?;
     let id = option.id();
@@ -241,7 +241,7 @@ fn no_size_unit_text(alloc: Global, option: Opt, text: &str) -> Result<String, A
     )
 }
 
-/// What is said of a text that means no paper.
+/// The message about a text that means no paper.
 fn paper_text(alloc: Global, option: Opt, text: &str) -> Result<String, AllocError> {
     match read_paper(text.as_bytes()) {
         Err(PaperError::NoUnit) if may_have_unit(alloc, text)? => {
@@ -274,7 +274,7 @@ fn may_have_unit(alloc: Global, text: &str) -> Result<bool, AllocError> {
     Ok(read_paper(with_unit.as_str().as_bytes()).is_ok())
 }
 
-/// What is said of an option in the place of a file.
+/// The message about an option in the place of a file.
 fn outfile_text(alloc: Global, text: &str) -> Result<String, AllocError> {
     let text = shown_word(alloc, text)?;
     let text = text.as_str();
@@ -283,7 +283,7 @@ fn outfile_text(alloc: Global, text: &str) -> Result<String, AllocError> {
     joined(alloc, &["OUTFILE '", text, advice, text])
 }
 
-/// What is said of marks for sheets that aren't a booklet's.
+/// The message about marks for sheets that aren't a booklet's.
 fn cut_marks_text(alloc: Global, text: &str) -> Result<String, AllocError> {
     let shown = shown_word(alloc, text)?;
     let shown = shown.as_str();
@@ -297,7 +297,7 @@ fn cut_marks_text(alloc: Global, text: &str) -> Result<String, AllocError> {
     )
 }
 
-/// What is said of a text that names no signature.
+/// The message about a text that names no signature.
 fn signature_text(alloc: Global, text: &str) -> Result<String, AllocError> {
     match number_in(text) {
         Some(sides) if 4 < sides && sides < 1_000_000 => {
@@ -311,7 +311,7 @@ fn signature_text(alloc: Global, text: &str) -> Result<String, AllocError> {
     }
 }
 
-/// What is said of a text after a command that names no cells. A file may be where they are to be.
+/// The message about a text after a command that names no cells. A file may be where they are to be.
 fn cells_text(alloc: Global, command: GridCommand, text: &str) -> Result<String, AllocError> {
     let shown = shown_word(alloc, text)?;
     let shown = shown.as_str();
@@ -348,7 +348,7 @@ fn named(command: GridCommand) -> (&'static str, &'static str, &'static str, &'s
     )
 }
 
-/// What a text after a command is to be, and what is such a text.
+/// The kind of text that has to follow a command, and an example.
 fn bad_cells(command: GridCommand, is_grid: bool) -> (&'static str, &'static str) {
     match command {
         GridCommand::Notes => ("bad number of pages", "one from 1 to 512, as 3"),

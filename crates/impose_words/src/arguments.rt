@@ -9,7 +9,7 @@ ghost use Rattle.impose_words.specs.Tables.{app_in, rule_in, rules_in, with_app,
 use clap::{Arg, ArgAction, Command};
 use std::alloc::{AllocError, Global};
 
-/// What help ends in.
+/// The end of the help.
 const PAPERS_AND_EXAMPLES: &str = "Papers:
   a0, a1, a2, a3, a4, a5, a6, a7, b0, b1, b2, b3, b4, b5, b6, c4, c5, c6, dl, jisb4, jisb5, ra3, ra4, sra3,
   sra4, letter, legal, tabloid, ledger, statement, executive, folio, quarto, 10x14; or a size, such as
@@ -141,7 +141,7 @@ const DUPLEX: [Argument; 1] = [Argument::Flag(
     "For sheets that are printed on both sides",
 )];
 
-/// What commands have that lay pages in cells, after the number of these.
+/// The options of commands that lay pages in cells, after the number of these.
 const CELLS: [Argument; 11] = [
     Argument::Valued(
         "order",

@@ -20,7 +20,7 @@ pub fn cells_named(text: &str) -> Option<Cells>
     }
 }
 
-/// So many cells or more.
+/// At least this number of cells.
 fn at_least(count: u32) -> Option<Cells>
     ensures { result ≡ meaning.at_least count }
 {
@@ -31,7 +31,7 @@ fn at_least(count: u32) -> Option<Cells>
     }
 }
 
-/// So many columns, and as many rows as the text says.
+/// Columns, and the number of rows that the text names.
 fn with_rows(columns: u32, text: &[u8]) -> Option<Cells>
     ensures { result ≡ meaning.with_rows columns (meaning.digits_at text.now) }
 {

@@ -53,7 +53,7 @@ pub fn read_command(alloc: Global, words: &[String]) -> Result<ImposeRequest, Re
     ensures home { IfOk result (λ request. request.home_paper ≡ a4) }
     // A fault is the first that there is.
     ensures refused { IfErr result (Refuses (map string_bytes words.now)) }
-    // What the command takes and finds is a function of the words, since it is a simple one.
+    // The command is a simple one: the words alone decide whether it takes them and what it finds in them.
     ensures simple { is_simple impose ≡ true }
 {
     let matches = parse(alloc, words)?;
@@ -63,7 +63,7 @@ pub fn read_command(alloc: Global, words: &[String]) -> Result<ImposeRequest, Re
     }
 }
 
-/// What the command finds among the words.
+/// The values that the command finds among the words.
 fn parse<'a>(alloc: Global, words: &'a [String]) -> Result<ArgMatches<'a>, RequestFault>
     ensures taken { IfOk result (λ _. fault_of impose (map string_bytes words.entry.now) ≡ []) }
     ensures found { IfOk result (λ m. subcommand_rows_of m ≡ subcommand_of impose (map string_bytes words.entry.now)) }
@@ -344,7 +344,7 @@ fn asks_for_row(found: &ArgMatches<'_>) -> bool
         || is_set(found, "reverse")
 }
 
-/// What is kept free on the sheets of the layout, in which order one reads them, and at which scale the pages are.
+/// The margins and gaps of the layout's sheets, the order in which these are read, and the scale of the pages.
 fn spacing_of(layout: &Layout, found: &ArgMatches<'_>) -> Result<Spacing, Opt>
     ensures read { IfOk result (SpacesBy (keeps_room layout.now) (rows_of (found_of found.now))) }
     ensures refused { IfErr result (λ option.
@@ -388,7 +388,7 @@ fn spacing_of(layout: &Layout, found: &ArgMatches<'_>) -> Result<Spacing, Opt>
     })
 }
 
-/// What is kept free along the edges of a sheet; nothing if `--margin` isn't there.
+/// The margins of a sheet; none if `--margin` isn't there.
 fn margins_of(found: &ArgMatches<'_>) -> Option<Margins>
     ensures { result ≡ margins_found (rows_of (found_of found.now)) }
 {
@@ -398,7 +398,7 @@ fn margins_of(found: &ArgMatches<'_>) -> Option<Margins>
     }
 }
 
-/// What is kept free between cells; nothing if `--gap` isn't there.
+/// The gaps between cells; none if `--gap` isn't there.
 fn gaps_of(found: &ArgMatches<'_>) -> Option<Free>
     ensures { result ≡ gaps_found (rows_of (found_of found.now)) }
 {
@@ -597,7 +597,7 @@ fn outfile_of(alloc: Global, found: &ArgMatches<'_>) -> Result<Option<String>, R
     }
 }
 
-/// What is made. By a layout that doesn't lay rows no plan and no picture is asked for.
+/// The product. No plan or picture is asked for of a layout that doesn't lay rows.
 fn product_of(
     alloc: Global,
     layout: &Layout,

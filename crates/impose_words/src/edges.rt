@@ -6,7 +6,7 @@ use crate::sizes::length_in;
 use layouts::Free;
 use lengths::Grains;
 
-/// What is kept free along the edges of a sheet.
+/// The margins of a sheet.
 #[derive(Clone, Copy)]
 pub struct Margins {
     pub free: Free,
@@ -38,7 +38,7 @@ impl Edges {
         }
     }
 
-    /// What is kept free along these edges, and nothing along the others.
+    /// The margins along these edges, and none along the others.
     fn margins(&self) -> Margins
         ensures { result ≡ meaning.along_edges self.now }
     {

@@ -19,7 +19,7 @@ pub enum Opt {
     Sheet,
     Border,
     Turn,
-    /// What comes after such a command.
+    /// The word after such a command.
     Count(GridCommand),
     Signature,
     Margin,

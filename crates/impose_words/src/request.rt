@@ -26,11 +26,11 @@ pub enum Layout {
         cells: Cells,
         duplex: bool,
     },
-    /// So many pages, one below another, and beside each of them a cell with lines for notes.
+    /// Pages one below another, and beside each of them a cell with lines for notes.
     Notes {
         pages: u32,
     },
-    /// Each page over so many columns and rows of sheets.
+    /// Each page over columns and rows of sheets.
     Poster {
         columns: u32,
         rows: u32,
@@ -90,7 +90,7 @@ impl Layout {
     }
 }
 
-/// What is kept free on sheets, how far leaves creep, in which order one reads sheets, and at which scale the pages are.
+/// The margins and gaps of sheets, how far leaves creep, the order in which sheets are read, and the scale of the pages.
 #[derive(Clone, Copy)]
 pub struct Spacing {
     pub free: Free,
@@ -148,7 +148,7 @@ impl Spacing {
         }
     }
 
-    /// Two columns of so many cells, with this kept free: filled one after the other, so that as many pages fill the left one.
+    /// Two columns of `pages` cells with these margins and gaps, filled one after the other, so the pages fill the left one.
     pub fn notes(&self, pages: u32) -> Arrangement
         ensures { result ≡ notes_in self.now pages }
     {
@@ -206,7 +206,7 @@ impl Spacing {
     }
 }
 
-/// What is kept free on leaves: the inner margin on both sides of the fold, if there is one.
+/// The margins and gaps of leaves: the inner margin on both sides of the fold, if there is one.
 fn at_fold(inner: Option<Grains>, free: Free) -> Free
     ensures { result ≡ free_at_fold inner free }
 {
@@ -219,7 +219,7 @@ fn at_fold(inner: Option<Grains>, free: Free) -> Free
     }
 }
 
-/// A gap with so much on both sides of it. What is no length gives one below 0, which is none either.
+/// A gap with a margin on both sides of it. A margin that is no length gives a gap below 0, which is none either.
 fn fold_gap(gap: Grains, inner: Grains) -> Grains
     ensures { result ≡ gap_at_fold gap inner }
 {
@@ -291,7 +291,7 @@ fn ranges_of(ranges: &Option<String>) -> Option<&[u8]>
     }
 }
 
-/// What is made.
+/// The product of a request.
 #[derive(Drop)]
 pub enum Product {
     /// The sheets.
@@ -304,11 +304,11 @@ pub enum Product {
     Picture(Option<String>),
 }
 
-/// What a command line asks for.
+/// A command line's request.
 #[derive(Drop)]
 pub struct ImposeRequest {
     pub layout: Layout,
-    /// What is kept free, order and scale; for a selection or a specification nothing is asked for.
+    /// Margins, gaps, order and scale; a selection or a specification asks for none.
     pub spacing: Spacing,
     /// Which pages are laid out; those of a specification are all.
     pub choice: PageChoice,
@@ -326,7 +326,7 @@ pub struct ImposeRequest {
     pub marks: Marks,
     /// Whether the guard is put in.
     pub is_guarded: bool,
-    /// What is made: the sheets, or in place of them a report on them.
+    /// The product: the sheets, or in place of them a report on them.
     pub product: Product,
     /// Whether the report is left out.
     pub is_quiet: bool,

@@ -16,7 +16,7 @@ pub fn signing_named(text: &str) -> Option<Signing>
     }
 }
 
-/// In signatures of so many sides, if leaves have so many.
+/// Signatures of this number of sides; None unless it is a multiple of four from 4 to 1,000,000.
 fn of_sides(sides: Option<u32>) -> Option<Signing>
     ensures { result ≡ signing_of_sides sides }
 {

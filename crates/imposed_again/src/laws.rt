@@ -26,7 +26,7 @@ pub fn pages_stay()
     ensures { PagesStay }
 {}
 
-/// What is written of an accepted document, with any sheets, is accepted again unless it is too long. Its preamble
+/// The output of an accepted document, with any sheets, is accepted again unless it is too long. Its preamble
 /// and trailer are those that were written. Its pages are the sheets exactly if each sheet but the last leaves no
 /// embedded document open.
 pub fn written_is_document()

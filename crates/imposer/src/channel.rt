@@ -54,7 +54,7 @@ pub(crate) struct RuledJob<'s, 'r, 'd, T: SheetTexts> {
     ghost texts: { (s : ℕ) → T.text s ≡ text_of job.now s },
 }
 
-/// What a thread needs to send or to receive.
+/// A token for sending or receiving.
 pub(crate) type Ticket<'r> = Pass<Texts<'r>, ()>;
 
 pub(crate) type SheetSender<'r, T> = RuledSender<Texts<'r>, (), SheetRule<T>>;

@@ -17,8 +17,8 @@ use sheet_writer::{Progress, Sink, write_early, write_text};
 use std::sync::Wait;
 use std::sync::atomic::Ordering::SeqCst;
 
-/// What the collector writes to, its desk, and how far it is. It owns no memory, so that what becomes of the sink is known
-/// to whom it belongs.
+/// The collector's sink, its desk, and how far it is. It owns no memory, so that the owner of the sink knows what becomes
+/// of it.
 #[derive(Drop)]
 pub(crate) struct CollectorState<'a, 'r, S> {
     pub(crate) sink: &'a mut S,

@@ -45,10 +45,10 @@ use std::sync::Wait;
 use std::sync::atomic::AtomicU32;
 use std::thread::Threads;
 
-/// What a run is when all its workers have ended.
+/// A run whose workers have all ended.
 #[derive(Debug, Drop)]
 pub struct Gathered<'d> {
-    /// What the run answers; out of memory and a failed write are its only errors.
+    /// The run's answer; out of memory and a failed write are its only errors.
     pub outcome: Result<Report, RunError>,
     /// The token of one page for which the shelf gave no receipt, if there was one; none after out of memory.
     pub unshelved: Option<Overflow<'d>>,
@@ -283,7 +283,7 @@ fn put_blank_sheets<R: Wait, G: Gate>(
     ensures put { (back : List ℕ) × HandedOn shared.now.floor.ready.now sheets.now back pass.old pass.new }
 {
     for k in 0..sheets.len() {
-        // What the queue hands back is made by the collector, so its turn isn't waited for.
+        // The collector makes a sheet that the queue hands back, so its turn isn't waited for.
         if shared.floor.ready.put(rt, pass, sheets[k]).is_err() {
             shared.window.lift();
         }

@@ -17,7 +17,7 @@ pub struct GatheredPlan<'j, 'd> {
 
 /// Hears how a run ended, once.
 pub trait Listener {
-    // What it has heard, if it remembers that.
+    // The runs that it has heard of, if it remembers them.
     ghost heard: { Self → Option (List GatheredPlan) };
 
     fn ended(&mut self, ended: GatheredPlan<'_, '_>)

@@ -108,7 +108,7 @@ fn gather_plan<'j, 'd, R: Threads + Wait + Sync, G: Gate + Sync, S: Sink>(
     })
 }
 
-/// A table of this plan and a queue that has room for all puts of so many preparers, with fresh tokens of both.
+/// A table of this plan, and a queue with room for all puts of `preparers` threads, with fresh tokens of both.
 fn table_and_queue<'j>(
     alloc: Global,
     plan: &Plan<'j>,

@@ -14,7 +14,7 @@ use sheet_plan::Plan;
 use std::alloc::{AllocError, Global};
 
 impl<'s, 'r, 't, 'd, G: Gate> Shared<'s, 'r, 't, 'd, G> {
-    /// How much of the pass's room preparer `number` of `count` gets: what it needs, as far as there is so much.
+    /// The part of the pass's room that preparer `number` of `count` gets: what it needs, or what is left.
     pub(crate) fn room_for(&self, pass: &Pass, number: u32, count: u32) -> u32
         requires number { number < count }
         ensures { result ≡ min (most_puts self.now.floor.table.now.layout count number) (puts_in pass.now.room) }
@@ -24,8 +24,8 @@ impl<'s, 'r, 't, 'd, G: Gate> Shared<'s, 'r, 't, 'd, G> {
     }
 }
 
-/// How many puts preparer `number` of `count` makes at most: it completes no more sheets than its pages have places, and
-/// no more than there are.
+/// The most puts that preparer `number` of `count` makes: it completes no more sheets than its pages have places, and no
+/// more than there are.
 pub(crate) fn most_puts(plan: &Plan<'_>, number: u32, count: u32) -> u32
     requires number { number < count }
     ensures { result ≡ most_puts (layout plan.now) count number }
@@ -49,7 +49,7 @@ fn with_page(plan: &Plan<'_>, page: u32, puts: u32) -> u32
         .min(plan.sheets() as usize) as u32
 }
 
-/// How many puts so many preparers make at most, with the sheets without pages.
+/// The most puts that `count` preparers make, with those for sheets without pages.
 pub(crate) fn most_puts_in_all(plan: &Plan<'_>, count: u32) -> u64
     requires count { (0 < count) × (count ≤ 16) }
     ensures { result ≡ most_puts_in_all (layout plan.now) count }
@@ -61,7 +61,7 @@ pub(crate) fn most_puts_in_all(plan: &Plan<'_>, count: u32) -> u64
     puts + plan.born_complete().len() as u64
 }
 
-/// A queue for the sheets of this plan, and its pass: so many preparers may put every sheet, and none is refused.
+/// A queue for the sheets of this plan, and its pass, with room for all puts of `preparers` threads.
 pub(crate) fn ready_for(
     alloc: Global,
     plan: &Plan<'_>,

@@ -61,7 +61,7 @@ pub fn run<R: Threads + Wait + Sync, G: Gate + Sync, S: Sink>(
     run_read(rt, alloc, &read, options, gate, sink)
 }
 
-/// What a run was given, once it is read.
+/// The specification and the document of a run, once they are read.
 #[derive(Drop)]
 struct Given<'d> {
     spec: Spec,

@@ -11,8 +11,8 @@ use sheet_text::Job;
 use sheet_writer::Early;
 use std::alloc::{AllocError, Global};
 
-/// What the collector has before it: the texts round the sheets, places for sheets that come before their turn, and its
-/// ticket for receiving.
+/// The collector's state: the texts round the sheets, places for sheets that come before their turn, and its ticket for
+/// receiving.
 #[derive(Drop)]
 pub(crate) struct Desk<'r> {
     pub(crate) header: Vec<u8>,
@@ -56,7 +56,7 @@ impl<'r, T: SheetTexts> Setup<'r, T> {
     }
 }
 
-/// A channel for so many messages, with a ticket for sending and one for receiving.
+/// A channel for this number of messages, with a ticket for sending and one for receiving.
 fn channel_of<'r, T: SheetTexts>(
     alloc: Global,
     room: usize,

@@ -28,15 +28,15 @@ pub(crate) struct Floor<'s, 'r, 't, 'd, G> {
     ghost same_plan: { table.now.layout ≡ layout job.now.plan },
 }
 
-/// What all threads of one run share.
+/// The objects that all threads of one run share.
 #[derive(Drop)]
 pub(crate) struct Shared<'s, 'r, 't, 'd, G> {
     pub(crate) floor: Floor<'s, 'r, 't, 'd, G>,
     /// Whether the queue has room by right for all puts: then it refuses none.
     pub(crate) by_right: bool,
-    /// How many preparers haven't ended.
+    /// The number of preparers that haven't ended.
     pub(crate) preparers_left: AtomicU32,
-    /// How many imposers haven't ended.
+    /// The number of imposers that haven't ended.
     pub(crate) imposers_left: AtomicU32,
     /// The sheets that may be imposed now.
     pub(crate) window: Window,
@@ -45,7 +45,8 @@ pub(crate) struct Shared<'s, 'r, 't, 'd, G> {
     pub(crate) imposing: Turns,
 }
 
-/// What the threads of a run need, the caller's among them: what all share, and the channel of finished sheets.
+/// The objects that the threads of a run need, the caller's among them: those that all share, and the channel of finished
+/// sheets.
 #[derive(Drop)]
 pub(crate) struct RunInput<'s, 'r, 't, 'd, T: SheetTexts, G> {
     pub(crate) shared: &'s Shared<'s, 'r, 't, 'd, G>,

@@ -47,7 +47,7 @@ pub trait Work<H> {
         ensures back { IfOk result (is_back self.now) }
         ensures prepared { IfOk result (has_prepared self.now count number) };
 
-    /// What the preparer of this number, one of `count`, holds: one of the caller's shares, and what it needs.
+    /// The tokens of preparer `number` of `count`: one of the caller's shares, and the room that it needs.
     fn split_preparer(&self, held: &mut H, number: u32, count: u32) -> H
         requires held { is_held self.now held.old }
         requires share { 1 < share self.now held.old }
@@ -59,7 +59,7 @@ pub trait Work<H> {
         ensures enough { is_enough self.now count (number + 1) held.new }
         ensures given { is_new_preparer self.now count number result };
 
-    /// What one more worker holds: one of the caller's shares.
+    /// The tokens of one more worker: one of the caller's shares.
     fn split(&self, held: &mut H) -> H
         requires held { is_held self.now held.old }
         requires share { 1 < share self.now held.old }
@@ -100,7 +100,7 @@ pub trait Imposing<H, T>: Work<H> {
         ensures given { sends self.now result };
 }
 
-/// What is done on the caller's thread while the workers run, with a state S.
+/// The work of the caller's thread while the workers run, with a state S.
 pub trait Collector<S> {
     // The state is as required at the start.
     ghost is_ready_to_collect: { Self → S → Type 0 };
@@ -119,7 +119,7 @@ pub trait Collector<S> {
         ensures collected { collected self.now state.old state.new };
 }
 
-/// What a preparer's thread promises.
+/// The promise of a preparer's thread.
 #[derive(Drop)]
 pub(crate) struct Prepares<'a, W> {
     pub(crate) shared: &'a W,
@@ -131,7 +131,7 @@ impl<'a, H, W: Work<H>> Promise<Result<H, AllocError>> for Prepares<'a, W> {
     ghost kept_by = { λ p r. IfOk r (λ h. W.is_back p.shared.now h × W.has_prepared p.shared.now p.count p.number h) };
 }
 
-/// What an imposer's thread promises.
+/// The promise of an imposer's thread.
 #[derive(Drop)]
 pub(crate) struct Imposes<'a, W> {
     pub(crate) shared: &'a W,

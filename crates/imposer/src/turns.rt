@@ -11,13 +11,13 @@ const BYTES_OF_A_STINT: usize = 524_288;
 /// About how many bytes the work has that comes with each page, however small.
 const BYTES_BESIDE: usize = 512;
 
-/// How many pages, or batches of sheets, a stint has at most.
+/// The most pages, or batches of sheets, of a stint.
 const LONGEST_STINT: usize = 512;
 
 /// With fewer pages in a stint, pages are so large that workers don't get in each other's way.
 const FEWEST_IN_TURN: u32 = 32;
 
-/// How many naps a worker takes before it goes on without a turn, and how long one is.
+/// The number of naps that a worker takes before it goes on without a turn, and the length of one.
 const MOST_NAPS: u32 = 20;
 
 const MICROSECONDS_OF_A_NAP: u64 = 500;
@@ -30,11 +30,11 @@ const MICROSECONDS_OF_A_NAP: u64 = 500;
 pub(crate) struct Turns {
     /// 1 while somebody has the turn.
     taken: CachePadded<AtomicU64>,
-    /// How many pages, or batches, a stint has.
+    /// The number of pages, or batches, of a stint.
     len: u32,
 }
 
-/// What a worker knows of its stint.
+/// A worker's place in its stint.
 #[derive(Drop)]
 pub(crate) struct Stint {
     has_turn: bool,

@@ -26,11 +26,11 @@ const BYTES_ROUND_A_PAGE: usize = 256;
 /// About how many bytes the work has that comes with each sheet, however small.
 const BYTES_BESIDE: usize = 32;
 
-/// How many sheets there are in a window at most.
+/// The most sheets of a window.
 const MOST_SHEETS: usize = 4_096;
 
-/// With at least so many sheets in a window it is moved by a quarter at a time, and who finds nothing to do sleeps at
-/// once.
+/// A window of at least this number of sheets is moved by a quarter at a time, and a worker that finds nothing to do
+/// sleeps at once.
 const MANY_SHEETS: u32 = 256;
 
 /// An imposer sends an eighth of a window's sheets together at most, and an eighth of its share of all sheets: so
@@ -52,15 +52,15 @@ pub(crate) struct Window {
     /// No turn is waited for: the sheet that is written next may never come.
     lifted: AtomicBool,
     pub(crate) len: u32,
-    /// How many sheets are written before it moves.
+    /// The number of sheets that are written before it moves.
     step: u32,
-    /// How many sheets an imposer sends together at most.
+    /// The most sheets that an imposer sends together.
     pub(crate) batch: u32,
 }
 
 impl Window {
-    /// A window of about three quarters of a megabyte of text, of a job whose slots have so many bytes of text. Two
-    /// sheets at least, and one for each imposer, lie in it.
+    /// A window of about three quarters of a megabyte of text, for a job whose slots have this number of bytes of text.
+    /// It has at least two sheets, and one for each imposer.
     ///
     /// A run's end rests on the step: all sheets of a window may be imposed without a word, so a step that is no longer is
     /// reached, and then the window moves on.
@@ -168,8 +168,7 @@ impl Idling {
     }
 }
 
-/// How many bytes all pages have together, and about how many the texts of all slots: the largest `usize`, if there are
-/// more.
+/// The number of bytes of all pages, and about that of the texts of all slots; the largest `usize` if there are more.
 pub(crate) fn bytes_of_pages(job: &Job<'_, '_>) -> (usize, usize)
     ensures pages { result.0 ≡ min (bytes_together (pages job.now.units)) usize.MAX }
     ensures texts { result.1 ≡ min (bytes_of_texts job.now) usize.MAX }

@@ -2,7 +2,7 @@
 ghost use Rattle.std.specs.Prelude.{◌↔◌, IsTrue};
 ghost use Rattle.imposer.specs.Workers.{AreWorkers};
 
-/// How many threads prepare pages and how many impose sheets, from 1 to 16 each.
+/// The numbers of threads that prepare pages and that impose sheets, from 1 to 16 each.
 #[derive(Clone, Copy, Debug, PartialEq, Eq)]
 pub struct Workers {
     pub preparers: u32,

@@ -12,19 +12,19 @@ pub struct Papers {
     pub sheet: Paper,
 }
 
-/// How many cells a sheet has.
+/// The number of cells of a sheet.
 #[derive(Clone, Copy, Debug, PartialEq, Eq)]
 pub enum Cells {
-    /// So many or more: the grid that takes the largest pages; of these the one with the fewest cells; then upright
-    /// pages; then the fewest columns. A sheet has so many pages, and the cells that stay empty come last.
+    /// At least this number: the grid that takes the largest pages; of these the one with the fewest cells; then upright
+    /// pages; then the fewest columns. A sheet has this number of pages, and the cells that stay empty come last.
     AtLeast(u32),
-    /// So many columns and rows, as one reads the sheet, with upright pages unless turned ones are larger. Which are larger
+    /// Columns and rows, as one reads the sheet, with upright pages unless turned ones are larger. Which are larger
     /// is found in exact parts of the sheet, and in whole 10^-9.
     Exactly { columns: u32, rows: u32 },
 }
 
 impl Cells {
-    /// How many pages a sheet has.
+    /// The number of pages of a sheet.
     pub fn count(self) -> u64
         ensures { result ≡ count_of self }
     {
@@ -42,7 +42,7 @@ pub enum Run {
     Columns,
 }
 
-/// What is on the pages is upright, or lies on its side: to read it one turns them to the left, or to the right.
+/// Whether the text of the pages is upright, or lies on its side: to read it one turns them to the left or the right.
 #[derive(Clone, Copy, Debug, PartialEq, Eq)]
 pub enum Turned {
     Upright,
@@ -59,7 +59,7 @@ pub struct Order {
     pub turned: Turned,
 }
 
-/// What is kept free on a sheet, as it lies before one turns it, and what is trimmed of its pages. Margins and gaps are
+/// The margins and gaps of a sheet, as it lies before one turns it, and the trim of its pages. Margins and gaps are
 /// kept exactly, but for parts of 10^-5 of a point, which are kept whole.
 #[derive(Clone, Copy, Debug, PartialEq, Eq)]
 pub struct Free {
@@ -76,7 +76,7 @@ pub struct Free {
     pub trim: Grains,
 }
 
-/// What a sheet looks like.
+/// The form of a sheet.
 #[derive(Clone, Copy, Debug, PartialEq, Eq)]
 pub struct Arrangement {
     pub cells: Cells,
@@ -86,7 +86,7 @@ pub struct Arrangement {
     pub scale: Option<Number>,
 }
 
-/// What a booklet's leaves look like. As much is kept free along opposite edges.
+/// The form of a booklet's leaves. Opposite margins are alike.
 #[derive(Clone, Copy, Debug, PartialEq, Eq)]
 pub struct Binding {
     pub free: Free,

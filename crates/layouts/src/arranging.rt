@@ -23,7 +23,7 @@ use lengths::{Number, Paper};
 use pagespec::{Item, Spec};
 use std::alloc::{AllocError, Global};
 
-/// How many pages a sheet takes at most.
+/// The most pages of a sheet.
 pub const MOST_ON_SHEET: u64 = 1_024;
 
 /// Pages on each sheet as they are asked for, each in the middle of its cell: as many as there are cells, or as many as
@@ -255,7 +255,7 @@ fn positive(n: i64) -> u128
     if n < 0 { 0 } else { n as u128 }
 }
 
-/// Whether something is left of the page.
+/// Whether trimming leaves something of the page.
 pub fn is_shown(page: &Paper, room: &Room) -> bool
     ensures { result ≡ are_shown page.now room.now }
 {

@@ -14,7 +14,7 @@ pub enum ArrangementError {
     /// A margin, a gap or a trim is below 0, or has 100,000 points or more.
     #[error("a margin, a gap or a trim is below 0, or 100,000 points or more")]
     LengthOutOfRange,
-    /// What is trimmed takes the whole page.
+    /// The trim leaves nothing of the page.
     #[error("nothing is left of a trimmed page")]
     NothingLeftOfPage,
     /// As much isn't kept free along opposite edges of a leaf.

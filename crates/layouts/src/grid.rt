@@ -30,7 +30,7 @@ impl Model for Grid {
 }
 
 impl Grid {
-    /// The grid of n cells or more with so many columns, and with no row too many.
+    /// The grid of at least n cells with this number of columns, and with no row too many.
     pub fn of(turned: bool, n: u32, columns: u32) -> Grid
         requires some { 0 < columns }
         requires cells { 0 < n }
@@ -44,7 +44,7 @@ impl Grid {
         }
     }
 
-    /// The grid of so many columns and rows as one reads the sheet.
+    /// The grid of these columns and rows, as one reads the sheet.
     pub fn formed(reading: Turned, turned: bool, columns: u32, rows: u32) -> Grid
         requires { (0 < columns) × (0 < rows) }
         ensures { result ≡ formed_of reading turned columns rows }
@@ -74,7 +74,7 @@ impl Grid {
         }
     }
 
-    /// How many cells it has.
+    /// The number of its cells.
     pub fn size(self) -> u64
         ensures value { result ≡ size_of self }
         ensures some { 0 < result }

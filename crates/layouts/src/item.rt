@@ -239,7 +239,7 @@ fn trimmed(room: &Room, scale: u64) -> u64
     (u128::from(scale) * u128::from(room.trim) / 1_000_000_000) as u64
 }
 
-/// How many whole 10^-5 of a point a side has.
+/// A side in whole 10^-5 of a point.
 fn whole(length: Grains) -> i64
     requires { IsTrue (is_side length) }
     ensures { result ≡ pos (whole_of (nat_abs length)) }
@@ -247,7 +247,7 @@ fn whole(length: Grains) -> i64
     (side(length) / HUNDRED_THOUSANDTH) as i64
 }
 
-/// Whether the corners of pages of which so much is trimmed are within reach.
+/// Whether the corners of pages with this trim are within reach.
 pub fn is_near(room: &Room, scale: u128) -> bool
     requires { scale ≤ greatest_scale }
     ensures { result ≡ are_near room.now scale }
@@ -258,7 +258,7 @@ pub fn is_near(room: &Room, scale: u128) -> bool
     width + back < 10_000_000_000 && height + back < 10_000_000_000
 }
 
-/// So many 10^-9.
+/// A number of 10^-9.
 pub fn number(billionths: u64) -> Number
     requires { billionths ≤ greatest_number }
     ensures { result ≡ pos billionths }
@@ -269,7 +269,7 @@ pub fn number(billionths: u64) -> Number
     }
 }
 
-/// So many grains, which are known to be in range.
+/// A length in grains that is known to be in range.
 pub fn grains(count: i128) -> Grains
     requires { FitsGrains count }
     ensures { result ≡ count }

@@ -91,12 +91,12 @@ pub fn fitted_is_in_order()
     ensures { FittedIsInOrder }
 {}
 
-/// What is arranged for pages of one paper is each of them fitted into its cell.
+/// For pages of one paper, `arrange` fits each into its cell.
 pub fn arranged_is_fitted()
     ensures { ArrangedIsFitted }
 {}
 
-/// What is bound for pages of one paper is each of them fitted into its half.
+/// For pages of one paper, `bind` fits each into its half.
 pub fn bound_is_fitted()
     ensures { BoundIsFitted }
 {}

@@ -58,7 +58,7 @@ impl Model for Room {
     } };
 }
 
-/// What is kept free along one side of a sheet: before its cells, after them, and between them; and what is trimmed of
+/// The margins and the gap along one side of a sheet: before its cells, after them, and between them; and the trim of
 /// its pages. Contracts see it as the definitions do.
 #[derive(Clone, Copy, Debug, PartialEq, Eq)]
 pub struct Along {
@@ -83,7 +83,7 @@ impl Model for Along {
 }
 
 impl Room {
-    /// The sheet on which so much is kept free.
+    /// The sheet that has these margins and gaps.
     pub fn of(sheet: Paper, free: &Free) -> Room
         requires { IsTrue (may_be_lengths free.now) }
         ensures { result ≡ room_of sheet free.now }
@@ -100,7 +100,7 @@ impl Room {
         }
     }
 
-    /// What is kept free along its width.
+    /// The margins and the gap along its width.
     pub fn along_width(&self) -> Along
         ensures { result ≡ along_width self.now }
     {
@@ -124,7 +124,7 @@ impl Room {
         }
     }
 
-    /// What is kept free across and down, as one holds the sheet for its pages to be upright.
+    /// The margins and gaps across and down, with the sheet held so that its pages are upright.
     pub fn held(&self, turned: bool) -> (Along, Along)
         ensures across { result.0 ≡ across_of turned self.now }
         ensures down { result.1 ≡ down_of turned self.now }

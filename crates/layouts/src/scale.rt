@@ -27,7 +27,7 @@ pub fn side(side: Grains) -> u64
     side.get() as u64
 }
 
-/// What is kept of a length, in 10^-5 of a point: one more if pages are trimmed, since how far they are moved back is
+/// A margin or gap in 10^-5 of a point: one more if pages are trimmed, since how far they are moved back is
 /// rounded.
 pub fn kept(trim: u64, length: u64) -> u64
     requires { length ≤ 10_000_000_000 }
@@ -37,7 +37,7 @@ pub fn kept(trim: u64, length: u64) -> u64
     if trim == 0 { length } else { length + 1 }
 }
 
-/// What the margins leave of a side, in grains.
+/// The part of a side between its margins, in grains.
 pub fn left_free(along: &Along, side: u64) -> u64
     requires { side ≤ longest_side }
     ensures value { result ≡ left_free_of along.now side }
@@ -48,7 +48,7 @@ pub fn left_free(along: &Along, side: u64) -> u64
     )
 }
 
-/// From where a cell begins to where the next one begins, if a side is cut into so many.
+/// The distance from one cell's beginning to the next one's, if a side is cut into this number of cells.
 pub fn step(along: &Along, side: u64, parts: u32) -> u64
     requires some { 0 < parts }
     requires in_range { side ≤ longest_side }
@@ -97,7 +97,7 @@ pub fn cells(room: &Room, grid: Grid) -> (u64, u64)
     )
 }
 
-/// What counts of a page's side, in grains.
+/// The part of a page's side that counts, without the trim, in grains.
 pub fn counted(room: &Room, length: Grains) -> u64
     requires { IsTrue (is_side length) }
     ensures value { result ≡ counted_of room.now length }
@@ -126,7 +126,7 @@ pub fn scale_in(page: &Paper, room: &Room, grid: Grid) -> u128
     ))
 }
 
-/// The largest scale, in 10^-9, that so many equal parts of what the margins and the gaps leave of a side allow.
+/// The largest scale, in 10^-9, that this number of equal cells of a side allows, between its margins and gaps.
 fn exact_along(along: &Along, side: u64, parts: u32, page: u64) -> u128
     requires some { 0 < parts }
     requires shown { 0 < page }

@@ -114,7 +114,7 @@ impl Setting {
         Ok(number(found))
     }
 
-    /// What a page of this paper leaves free of the width of its cell at each end, in 10^-5 of a point.
+    /// The room that a page of this paper leaves at each end of its cell's width, in 10^-5 of a point.
     pub fn slack(&self, page_paper: &Paper) -> Result<u128, ArrangementError>
         ensures value { IfOk result (λ n. n
             ≡ slack_x page_paper.now self.now.room self.now.grid (scale_on self.now page_paper.now)) }

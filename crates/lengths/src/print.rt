@@ -22,8 +22,8 @@ pub fn print_points(grains: Grains, out: &mut Vec<u8>) -> Result<(), AllocError>
     print_grains(grains.get(), out)
 }
 
-/// Appends so many grains in points, rounded likewise: a length, or what is between two. If memory is refused, nothing is
-/// appended.
+/// Appends a number of grains in points, rounded likewise: a length, or the difference of two. If memory is refused,
+/// nothing is appended.
 pub fn print_grains(grains: i128, out: &mut Vec<u8>) -> Result<(), AllocError>
     requires { nat_abs grains ≤ 2 * 10 ^ 23 }
     ensures appended { OnOk result (out.new.items ≡ out.old.items ++ points_text grains) }

@@ -34,7 +34,7 @@ pub fn open_sheets_are_printed()
     ensures { OpenSheetsArePrinted }
 {}
 
-/// What a page prints of itself, after the preamble, is what it paints by itself.
+/// A page prints by itself, after the preamble, the picture that it paints by itself.
 pub fn open_own_picture()
     ensures { OpenOwnPicture }
 {}
@@ -81,7 +81,7 @@ pub fn open_sheets_show_the_document()
 
 // Under the guard.
 
-/// What a page does by itself, with further operators, the free machine does in the page's place.
+/// With further operators too, the free machine does in the page's place what the page does by itself.
 pub fn open_shelter_commutes()
     ensures { OpenShelterCommutes }
 {}
@@ -101,7 +101,7 @@ pub fn open_guarded_sheets_show_the_pages()
     ensures { OpenGuardedSheetsShowThePages }
 {}
 
-/// What impose makes of a document with the guard put in shows the pages of the document, with any further operators that are placeless there.
+/// The sheets that impose makes of a guarded document show its pages, with any further operators that are placeless there.
 pub fn open_guarded_document_is_shown()
     ensures { OpenGuardedDocumentIsShown }
 {}

@@ -20,7 +20,7 @@ pub struct Stuck {
     pub left: usize,
 }
 
-/// What is left after something was read.
+/// The text that is left after something was read.
 #[derive(Clone, Copy)]
 pub struct Rest<'t> {
     pub text: &'t [u8],
@@ -170,7 +170,7 @@ fn split_unit(bytes: &[u8]) -> (Unit, &[u8])
     }
 }
 
-/// What follows the first letter of a unit of two letters, if the text begins with one.
+/// The text after the first letter of a unit of two letters, if it begins with one.
 fn past_letter(bytes: &[u8]) -> &[u8]
     ensures { result.now ≡ past_letter bytes.now }
 {
@@ -191,7 +191,7 @@ pub fn rest_at(text: &[u8]) -> Rest<'_>
     }
 }
 
-/// What follows this byte, if the text begins with it.
+/// The text after this byte, if it begins with it.
 pub fn read_byte(byte: u8, bytes: &[u8]) -> Option<&[u8]>
     ensures { MatchOption result (byte_at byte bytes.now ≡ None) (λ rest. byte_at byte bytes.now ≡ Some rest.now) }
 {
@@ -215,7 +215,7 @@ fn stuck_in_number(bytes: &[u8]) -> Stuck
     }
 }
 
-/// What follows a sign, if the text begins with one.
+/// The text after a sign, if it begins with one.
 fn past_sign(bytes: &[u8]) -> &[u8]
     ensures { result.now ≡ unsigned bytes.now }
 {

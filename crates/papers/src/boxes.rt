@@ -7,7 +7,7 @@ use crate::fields::{is_zero, points_of};
 use dsc::next_field;
 use lengths::{Grains, Paper};
 
-/// By so much, 15 points, programs' sizes of one paper may differ.
+/// Programs' sizes of one paper may differ by 15 points.
 const NEARNESS: i128 = 15 * 127_000_000_000;
 
 /// The grains of one point, the shortest side.
@@ -93,7 +93,7 @@ fn paper_round(edges: &Edges) -> Option<Paper>
     shorter_paper(sum(edges.left, edges.right), sum(edges.bottom, edges.top))
 }
 
-/// So many grains are both lengths together.
+/// The sum of both lengths, in grains.
 fn sum(one: Grains, other: Grains) -> i128
     ensures { result ≡ one +ℤ other }
 {
@@ -139,7 +139,7 @@ pub(crate) fn paper_of(width: Option<Grains>, height: Option<Grains>) -> Option<
     paper_of_sides(width?.get(), height?.get())
 }
 
-/// The paper with sides of so many grains, if they may be a paper's, and none is shorter than a point.
+/// The paper with these sides in grains, if a paper may have them and none is shorter than a point.
 fn paper_of_sides(width: i128, height: i128) -> Option<Paper>
     ensures { result ≡ meaning.paper_of_sides width height }
 {

@@ -6,7 +6,7 @@ ghost use Rattle.papers.specs.Media.{comment_values, contents, continued, value_
 
 use dsc::{comment_value, first_content, line_end_after};
 
-/// What follows the colon of the first comment with this key, and the lines after it.
+/// The text after the colon of the first comment with this key, and the lines after it.
 pub fn first_comment<'t>(
     header: &'t [u8],
     key: &[u8],
@@ -28,7 +28,7 @@ pub fn first_comment<'t>(
     None
 }
 
-/// What follows the colon, if a line with this content is a comment with this key.
+/// The text after the colon, if a line with this content is a comment with this key.
 pub(crate) fn value_after<'t>(content: &'t [u8], key: &[u8], with_colon: &[u8]) -> Option<&'t [u8]>
     requires { with_colon.now ≡ key.now ++ colon ∷ [] }
     ensures { MatchOption result (is_comment key.now content.now ≡ false) (λ value.
@@ -41,7 +41,7 @@ pub(crate) fn value_after<'t>(content: &'t [u8], key: &[u8], with_colon: &[u8]) 
     Some(value)
 }
 
-/// What the first line adds to a comment before it, if it continues one, and the lines after it.
+/// The text that the first line adds to a comment before it, if it continues one, and the lines after it.
 pub fn continuation(text: &[u8]) -> Option<(&[u8], &[u8])>
     ensures value { MatchOption result (continued (contents text.now) ≡ []) (λ p.
         continued (contents text.now) ≡ p.0.now ∷ continued (contents p.1.now)) }

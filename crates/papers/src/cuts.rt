@@ -7,7 +7,7 @@ ghost use Rattle.papers.specs.Cuts.{cut_of, is_cut as is_cut_by, with_page as wi
 use crate::covering;
 use lengths::Paper;
 
-/// So many grains, 15 points, two sides may differ that count as one.
+/// Two sides that differ by at most this number of grains, 15 points, count as one.
 const NEARNESS: u128 = 15 * 127_000_000_000;
 
 /// Pages of a document that a paper cuts.
@@ -17,7 +17,7 @@ pub struct Cut {
     pub first: usize,
     /// The last of them.
     pub last: usize,
-    /// How many they are.
+    /// Their number.
     pub pages: usize,
     /// The least paper that covers the own ones of all of them.
     pub paper: Paper,

@@ -34,7 +34,7 @@ pub fn own_papers(
     }
 }
 
-/// So many pages of one paper.
+/// A number of pages of one paper.
 fn one_paper(alloc: Global, pages: u32, paper: Paper) -> Result<Vec<Paper>, AllocError>
     ensures { IfOk result (λ papers. papers.items ≡ replicate pages paper) }
 {
@@ -73,7 +73,7 @@ fn document_or(text: &[u8], other: &Paper) -> Paper
     }
 }
 
-/// What each page says itself, with the media of these header comments that pages name, and else this paper.
+/// Each page's own declaration, with the media of these header comments that pages name, and else this paper.
 fn each_or(
     alloc: Global,
     document: &Document<'_>,
@@ -87,7 +87,7 @@ fn each_or(
     each_with(alloc, document, &known, other)
 }
 
-/// What each page says itself, with these media, and else this paper.
+/// Each page's own declaration, with these media, and else this paper.
 fn each_with(
     alloc: Global,
     document: &Document<'_>,

@@ -52,7 +52,7 @@ fn is_used(paper: &Paper, own: &[Paper]) -> bool
     own.iter().any(|page| is_near(paper, page))
 }
 
-/// The kinds of these papers, if there is room for so many.
+/// The kinds of these papers, if there is room for them.
 fn kinds_of(alloc: Global, room: usize, papers: &[Paper]) -> Result<Vec<PaperKind>, AllocError>
     ensures { IfOk result (λ kinds. kinds.items ≡ kinds_with room papers.now) }
 {

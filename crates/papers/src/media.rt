@@ -14,7 +14,7 @@ use dsc::{header_len, next_field, trailer_box};
 use lengths::{Grains, Paper};
 use paper_names::paper_by_name;
 
-/// By so much, 15 points, programs' sizes of one paper may differ.
+/// Programs' sizes of one paper may differ by 15 points.
 const NEARNESS: u128 = 15 * 127_000_000_000;
 
 /// What gives the paper: a comment, or else the setup.
@@ -151,7 +151,7 @@ fn media_in(header: &[u8]) -> Option<Paper>
     media_paper(text_of(header, b"%%DocumentMedia", b"%%DocumentMedia:")?)
 }
 
-/// What follows the colon of the first box among the comments, which may be in the trailer.
+/// The text after the colon of the first box among the comments, which may be in the trailer.
 pub(crate) fn box_of<'t>(header: &'t [u8], text: &'t [u8]) -> Option<&'t [u8]>
     ensures { option_map (λ value. fields_in value.now) result
         ≡ meaning.box_of (meaning.contents header.now) (meaning.trailer_lines (units_of text.now)) }
@@ -182,7 +182,7 @@ pub fn is_at_end(value: &[u8]) -> bool
     }
 }
 
-/// What follows the colon of the first comment with this key.
+/// The text after the colon of the first comment with this key.
 #[tactic(auto, using(crate::proofs::Contents::none_said, crate::proofs::Contents::first_said))]
 fn text_of<'t>(header: &'t [u8], key: &[u8], with_colon: &[u8]) -> Option<&'t [u8]>
     requires { with_colon.now ≡ key.now ++ colon ∷ [] }

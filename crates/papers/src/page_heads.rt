@@ -10,7 +10,7 @@ use crate::comments::value_after;
 use crate::fields::name_and_rest;
 use dsc::{first_content, is_header, key_of, line_end_after};
 
-/// What follows the first line.
+/// The text after the first line.
 pub(crate) fn behind_first_line(text: &[u8]) -> &[u8]
     ensures { result.now ≡ drop (line_len text.now) text.now }
 {
@@ -27,7 +27,7 @@ fn first_line_len(text: &[u8]) -> usize
         .count()
 }
 
-/// What follows the colon of the first comment with this key, in the run of comments at the front.
+/// The text after the colon of the first comment with this key, in the run of comments at the front.
 fn text_in_head<'t>(text: &'t [u8], key: &[u8], with_colon: &[u8]) -> Option<&'t [u8]>
     requires { with_colon.now ≡ key.now ++ colon ∷ [] }
     ensures { option_map (λ value. value.now) result ≡ comment_value key.now (head_of (length text.now) text.now) }

@@ -65,7 +65,7 @@ pub struct Reach {
     pub paper: Paper,
     /// How far it reaches.
     pub edges: Edges,
-    /// How many pages there are.
+    /// The number of pages.
     pub pages: usize,
 }
 

@@ -46,7 +46,7 @@ pub fn tokens_join()
     ensures { TokensJoin }
 {}
 
-/// What comes before a placed page is cut into the tokens of the sheet's text.
+/// The text before a placed page is cut into the tokens of the sheet's text.
 pub fn opening_is_cut()
     ensures { OpeningIsCut }
 {}
@@ -66,7 +66,7 @@ pub fn points_are_put()
     ensures { PointsArePut }
 {}
 
-/// What a page prints by itself, after the preamble, is what it paints by itself.
+/// A page prints by itself, after the preamble, the picture that it paints by itself.
 pub fn own_picture()
     ensures { OwnPicture }
 {}
@@ -197,12 +197,12 @@ pub fn page_begins()
     ensures { PageBegins }
 {}
 
-/// What a page does by itself, the free machine does, with the guard's procedures, in the page's place.
+/// With the guard's procedures, the free machine does in the page's place what the page does by itself.
 pub fn shelter_commutes()
     ensures { ShelterCommutes }
 {}
 
-/// What the guard's names do to a page by itself is what the operators do where nothing is round it.
+/// The guard's names do to a page by itself what the operators do where nothing is round it.
 pub fn by_itself_as_the_operators()
     ensures { ByItselfAsTheOperators }
 {}
@@ -339,7 +339,7 @@ pub fn sheets_are_taken_within()
     ensures { SheetsAreTakenWithin }
 {}
 
-/// What was imposed any number of times is printed, each sheet with the pictures of its sheets, placed.
+/// Sheets that were imposed any number of times are printed, each with the pictures of its sheets, placed.
 pub fn nests_are_printed()
     ensures { NestsArePrinted }
 {}

@@ -44,7 +44,7 @@ impl Coordinate {
         }
     }
 
-    /// What is between two lengths.
+    /// The difference of two lengths.
     fn between(from: Grains, to: Grains) -> Coordinate
         ensures { result ≡ to -ℤ from }
     {

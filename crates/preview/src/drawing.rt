@@ -37,7 +37,7 @@ pub fn preview_text(
     Ok(text)
 }
 
-/// All sheets, of which there are so many, or the first of them.
+/// All `count` sheets, or the first of them.
 fn append_all(
     sheets: &MadeSheets,
     sides: Sides,
@@ -74,14 +74,14 @@ fn append_first(
     Ok(())
 }
 
-/// The height of so many sheets.
+/// The height of a drawing of `count` sheets.
 fn height_of(count: u32) -> u64
     ensures { result ≡ (count + 3) / 4 * 260 }
 {
     (u64::from(count) + 3) / 4 * 260
 }
 
-/// The beginning of a picture with so many sheets.
+/// The beginning of a drawing of `count` sheets.
 fn append_opening(count: u32, out: &mut Vec<u8>) -> Result<(), AllocError>
     ensures { OnOk result (out.new.items ≡ out.old.items ++ opening count) }
 {
@@ -100,7 +100,7 @@ const STYLE: &[u8] =
 /// On it all else is drawn.
 const GROUND: &[u8] = b"<rect width='100%' height='100%' fill='white'/>\n";
 
-/// How many sheets aren't drawn, below those that are.
+/// The number of sheets that aren't drawn, below those that are.
 fn append_left_out(count: u32, more: u32, out: &mut Vec<u8>) -> Result<(), AllocError>
     ensures { OnOk result (out.new.items ≡ out.old.items ++ left_out count more) }
 {

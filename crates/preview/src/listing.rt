@@ -35,7 +35,7 @@ pub fn plan_text(
     Ok(text)
 }
 
-/// How many lines so many sheets have.
+/// The number of lines of this number of sheets.
 fn row_count(sides: Sides, sheets: u32) -> u32
     ensures { result ≡ row_count_of sides sheets }
 {
@@ -45,7 +45,7 @@ fn row_count(sides: Sides, sheets: u32) -> u32
     }
 }
 
-/// The lines of all sheets, of which there are so many; or of the first and the last ones.
+/// The lines of all `count` sheets, or of the first and the last ones.
 fn append_shortened(
     sheets: &MadeSheets,
     reading: &Reading,
@@ -166,7 +166,7 @@ fn append_back(
     Ok(())
 }
 
-/// The line in the place of so many others.
+/// The line in the place of `count` others.
 fn append_left_out(count: u32, out: &mut Vec<u8>) -> Result<(), AllocError>
     ensures { OnOk result (out.new.items ≡ out.old.items ++ left_out_line count) }
 {
@@ -176,7 +176,7 @@ fn append_left_out(count: u32, out: &mut Vec<u8>) -> Result<(), AllocError>
     Ok(())
 }
 
-/// How many sheets, leaves and blank places there are.
+/// The numbers of sheets, leaves and blank places.
 fn append_totals(
     sheets: &MadeSheets,
     sides: Sides,
@@ -195,7 +195,7 @@ fn append_totals(
     Ok(())
 }
 
-/// How many leaves so many sheets are, if they are printed on both sides.
+/// The number of leaves that these sheets are, if they are printed on both sides.
 fn append_leaves(sides: Sides, sheets: u32, out: &mut Vec<u8>) -> Result<(), AllocError>
     ensures { OnOk result (out.new.items ≡ out.old.items ++ leaves_text sides sheets) }
 {
@@ -239,7 +239,7 @@ fn edge_name(edge: Edge) -> &'static [u8]
     }
 }
 
-/// How many places of these sheets are blank, of which there are so many.
+/// The number of blank places of the first `count` sheets.
 fn count_blanks(sheets: &MadeSheets, count: u32) -> u64
     requires { count ≡ length sheets.now }
     ensures { result ≡ blanks_of sheets.now }
@@ -251,7 +251,7 @@ fn count_blanks(sheets: &MadeSheets, count: u32) -> u64
     blanks
 }
 
-/// How many places of a sheet are blank.
+/// The number of blank places of a sheet.
 fn count_blanks_on(sheets: &MadeSheets, sheet: u32) -> u32
     requires { sheet < length sheets.now }
     ensures { result ≡ blanks_on (slots_at sheets.now sheet) }
@@ -263,7 +263,7 @@ fn count_blanks_on(sheets: &MadeSheets, sheet: u32) -> u32
     blanks
 }
 
-/// How many blanks a slot is.
+/// The number of blanks in a slot: one, or none.
 fn blank(placed: Option<PlacedSlot<'_>>) -> u32
     ensures value { result ≡ blank_in (placed_of placed.entry) }
     ensures few { result ≤ 1 }

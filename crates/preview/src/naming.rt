@@ -22,7 +22,7 @@ pub enum Sides {
     Both { flip: Edge },
 }
 
-/// How many sheets there are. More than a `u32` can count are reported as out of memory, as are their lines.
+/// The number of sheets. More than a `u32` can count are reported as out of memory, as are their lines.
 pub(crate) fn count_of(sheets: &MadeSheets) -> Result<u32, AllocError>
     ensures value { IfOk result (λ count. count ≡ length sheets.now) }
     ensures many { OnErr result (u32.MAX < length sheets.now) }

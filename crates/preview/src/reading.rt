@@ -13,7 +13,7 @@ use sheet_plan::{MadeSheets, PlacedSlot};
 use std::alloc::AllocError;
 
 /// Where the places of a sheet are: in the cells of a grid, in this order; or it has one place, a tile of a page that goes
-/// over sheets in so many rows and columns, row by row from the head, and each from the left.
+/// over sheets in rows and columns, row by row from the head, and each from the left.
 #[derive(Clone, Copy)]
 pub enum Places {
     Cells { grid: Grid, order: Order },
@@ -100,7 +100,7 @@ impl<'s> CellSheet<'s> {
         Ok(())
     }
 
-    /// What is in a cell, and before it.
+    /// The text of a cell, and the sign before it.
     fn append_cell(&self, row: u32, column: u32, out: &mut Vec<u8>) -> Result<(), AllocError>
         requires number { self.now.number < length self.now.sheets.now }
         requires row { row < self.now.grid.rows }
@@ -115,14 +115,14 @@ impl<'s> CellSheet<'s> {
     }
 }
 
-/// What is before a row.
+/// The sign before a row.
 fn slash(row: u32) -> &'static [u8]
     ensures { result.now ≡ slash_of row }
 {
     if row == 0 { b"" } else { b" / " }
 }
 
-/// What is before a cell.
+/// The sign before a cell.
 fn bar(column: u32) -> &'static [u8]
     ensures { result.now ≡ bar_of column }
 {
@@ -163,7 +163,7 @@ fn place_at(order: &Order, grid: Grid, row: u32, column: u32) -> u64
     }
 }
 
-/// What is in the place of this number, which the sheet may not have.
+/// The text of the place with this number, which the sheet may not have.
 fn append_slot(
     sheets: &MadeSheets,
     sheet: u32,
@@ -182,7 +182,7 @@ fn append_slot(
     Ok(())
 }
 
-/// What is in a place.
+/// The text of a place.
 fn append_place(placed: Option<PlacedSlot<'_>>, out: &mut Vec<u8>) -> Result<(), AllocError>
     ensures { OnOk result (out.new.items ≡ out.old.items ++ place_text (placed_of placed.entry)) }
 {

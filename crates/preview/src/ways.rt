@@ -12,7 +12,7 @@ use lengths::{Number, Paper, print_scale};
 use sheet_plan::{MadeSheets, PlacedSlot};
 use std::alloc::{AllocError, Global};
 
-/// How many ways are listed.
+/// The most ways that are listed.
 const MOST_TOLD: usize = 16;
 
 /// How a page lies on a sheet: their papers, and the page's scale.
@@ -23,7 +23,7 @@ pub(crate) struct Way {
     pub(crate) scale: Number,
 }
 
-/// A line for each way in which pages lie on these sheets, of which there are so many.
+/// A line for each way in which pages lie on the first `count` sheets.
 pub(crate) fn append_ways(
     alloc: Global,
     sheets: &MadeSheets,
@@ -65,7 +65,7 @@ fn append_line(number: usize, way: &Way, out: &mut Vec<u8>) -> Result<(), AllocE
     Ok(())
 }
 
-/// What the line says of the way with this number.
+/// The text of the line of the way with this number.
 fn append_told(number: usize, way: &Way, out: &mut Vec<u8>) -> Result<(), AllocError>
     ensures { OnOk result (out.new.items ≡ out.old.items ++ way_told number way.now) }
 {
@@ -88,8 +88,7 @@ fn append_way(way: &Way, out: &mut Vec<u8>) -> Result<(), AllocError>
     Ok(())
 }
 
-/// The different ways in which pages lie on these sheets, of which there are so many. One more is kept than are listed,
-/// and no others.
+/// The different ways in which pages lie on the first `count` sheets. One more is kept than are listed, and no others.
 fn different_ways(alloc: Global, sheets: &MadeSheets, count: u32) -> Result<Vec<Way>, AllocError>
     requires { count ≡ length sheets.now }
     ensures { IfOk result (λ ways. ways.items ≡ ways_of sheets.now) }

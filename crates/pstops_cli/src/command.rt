@@ -17,7 +17,7 @@ use command_words::{is_set, number_of, owned, text_of};
 use imposer::{Options, Workers};
 use std::alloc::{AllocError, Global};
 
-/// What a command line asks for.
+/// A command line's request.
 #[derive(Debug, Drop)]
 pub struct Request {
     /// The page specification, as it was written.
@@ -26,7 +26,7 @@ pub struct Request {
     pub infile: Option<String>,
     /// The file that is written; standard output if there is none.
     pub outfile: Option<String>,
-    /// What else a run is given.
+    /// The other options of a run.
     pub options: Options,
     /// Whether the report line is left out.
     pub quiet: bool,
@@ -81,7 +81,7 @@ pub fn read_command(alloc: Global, words: &[String]) -> Result<Request, CommandF
     request_of(alloc, &matches)
 }
 
-/// What the command finds among the words.
+/// The values that the command finds among the words.
 fn parse<'a>(alloc: Global, words: &'a [String]) -> Result<ArgMatches<'a>, CommandFault>
     ensures taken { IfOk result (λ _. Takes (map string_bytes words.entry.now)) }
     ensures found { IfOk result (Finds (map string_bytes words.entry.now)) }
@@ -134,7 +134,7 @@ fn options_of(matches: &ArgMatches<'_>) -> Result<Options, CommandFault>
     )
 }
 
-/// As many workers as the matches name.
+/// The workers that the matches name.
 fn workers_of(matches: &ArgMatches<'_>) -> Workers
     ensures { result ≡ workers_found (rows_of (found_of matches.now)) }
 {
@@ -144,7 +144,7 @@ fn workers_of(matches: &ArgMatches<'_>) -> Workers
     }
 }
 
-/// As many sides of a signature as the matches name.
+/// The number of sides that `-s` names.
 fn sides_of(matches: &ArgMatches<'_>) -> Option<u32>
     ensures { result ≡ sides_found (rows_of (found_of matches.now)) }
 {

@@ -3,7 +3,7 @@ ghost use Rattle.std.specs.Prelude.{◌≡◌, true};
 ghost use Rattle.clap.specs.Words.{is_simple};
 ghost use Rattle.pstops_cli.specs.Command.{pstops};
 
-/// What the command takes of words, and what it finds among them, is a function of the words: it is a simple command.
+/// The command is a simple one: the words alone decide whether it takes them and what it finds among them.
 #[tactic(auto, using(crate::proofs::SimpleCommand::pstops_is_simple))]
 pub fn the_command_is_simple()
     ensures { is_simple pstops ≡ true }

@@ -118,7 +118,7 @@ fn stop<W: World>(alloc: Global, fault: &Fault, rest: Rest<W, W::Output>) -> Exi
     ExitReport { status, line, rest }
 }
 
-/// How much of the output is written at once, in bytes, if sheets are smaller.
+/// The number of bytes that are written at once, if sheets are smaller.
 const WRITTEN_AT_ONCE: usize = 16_384;
 
 /// Creates the output, runs the request into it, and flushes what it wrote.

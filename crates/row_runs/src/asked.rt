@@ -36,11 +36,11 @@ pub enum Laying {
 /// In which cells of the sheets the entries of a row are.
 #[derive(Clone, Copy)]
 pub enum Scheme {
-    /// In so many of a sheet, from cell to cell and from sheet to sheet.
+    /// In this number of cells, from cell to cell and from sheet to sheet.
     Grid { cells: u32 },
-    /// Each in so many of a sheet.
+    /// Each in this number of cells.
     Cards { cells: u32 },
-    /// In so many of a sheet, from sheet to sheet and from cell to cell.
+    /// In this number of cells, from sheet to sheet and from cell to cell.
     Stack { cells: u32 },
     /// The same on both sides of leaves, in all cells.
     Leaves,
@@ -53,7 +53,7 @@ pub enum Scheme {
     Zine,
 }
 
-/// What is imposed of a document, and how: which pages, in signatures or not, laid so on sheets.
+/// A request for sheets of a document: which pages, in signatures or not, and how they are laid.
 #[derive(Clone, Copy)]
 pub struct Asked<'t> {
     pub choice: Choice<'t>,
@@ -63,7 +63,7 @@ pub struct Asked<'t> {
     pub same_scale: bool,
 }
 
-/// The sheets that are asked for of a document with so many pages, whose papers are in their order. A page whose paper
+/// The sheets that are asked for of a document, whose pages' papers are in their order. A page whose paper
 /// isn't known has the sheet's. What is wrong with the row is refused first, then the first page that fits no cell, or
 /// can't be a poster, then cards and posters that pass a limit of a plan: none of their sheets is made.
 pub fn asked_sheets(
@@ -96,7 +96,7 @@ pub fn asked_sheets(
     laid(alloc, &laying, leaves, papers, entries)
 }
 
-/// How many leaves a signature of the row has; none if it isn't put into signatures.
+/// The number of leaves of a signature of the row; none if it isn't put into signatures.
 pub(crate) fn leaves_in(signing: Option<Signing>, row: &[Option<u32>]) -> u32
     requires sewn { IfSome signing MayBeSewn }
     requires some { 0 < length row.now }
@@ -109,7 +109,7 @@ pub(crate) fn leaves_in(signing: Option<Signing>, row: &[Option<u32>]) -> u32
     }
 }
 
-/// What a refusal of the row is called.
+/// The name of a refusal of the row.
 pub(crate) fn row_error(error: RowError) -> AskedError
     ensures { result ≡ of_row error }
 {
@@ -119,7 +119,7 @@ pub(crate) fn row_error(error: RowError) -> AskedError
     }
 }
 
-/// What a refusal of the cells is called.
+/// The name of a refusal of the cells.
 fn arrangement_error(error: ArrangementError) -> AskedError
     ensures { result ≡ of_arrangement error }
 {
@@ -129,7 +129,7 @@ fn arrangement_error(error: ArrangementError) -> AskedError
     }
 }
 
-/// What a refusal of a poster is called.
+/// The name of a refusal of a poster.
 fn poster_error(error: PosterError) -> AskedError
     ensures { result ≡ of_poster error }
 {
@@ -139,7 +139,7 @@ fn poster_error(error: PosterError) -> AskedError
     }
 }
 
-/// The row on sheets; if it is in signatures, each has so many leaves.
+/// The row on sheets; if it is in signatures, each has this number of leaves.
 pub(crate) fn laid(
     alloc: Global,
     laying: &Laying,

@@ -11,7 +11,7 @@ use dsc::{
 use memchr::memmem::FinderRev;
 use papers::first_comment;
 
-/// How many pages a document says that it has, by the first `%%Pages:` of its header; if that is `(atend)`, by the first one
+/// The number of pages that a document declares, by the first `%%Pages:` of its header; if that is `(atend)`, by the first one
 /// after the last `%%Trailer` that is in no embedded document (DSC 3.0, 5.1).
 pub fn told_pages(text: &[u8]) -> Option<usize>
     ensures { result ≡ meaning.told_pages text.now }
@@ -20,7 +20,7 @@ pub fn told_pages(text: &[u8]) -> Option<usize>
     count_by(pages_field(header)?, text)
 }
 
-/// What a field of the header says of the number of pages of this document.
+/// The number of pages that a field of this document's header declares.
 fn count_by(field: &[u8], text: &[u8]) -> Option<usize>
     ensures { result ≡ meaning.count_by field.now (meaning.last_lines text.now) }
 {
@@ -94,7 +94,7 @@ fn first_field(value: &[u8]) -> Option<&[u8]>
     Some(field)
 }
 
-/// What comes after the colon of the first `%%Pages:` among these lines.
+/// The text after the colon of the first `%%Pages:` among these lines.
 fn pages_value(lines: &[u8]) -> Option<&[u8]>
     ensures { option_map (λ value. fields_in value.now) result ≡ comment_fields (codes "%%Pages") (contents lines.now) }
 {
@@ -104,7 +104,7 @@ fn pages_value(lines: &[u8]) -> Option<&[u8]>
     }
 }
 
-/// What comes after the last `%%Trailer`; all, if there is none. It is searched for from the end, where it is in most documents.
+/// The text after the last `%%Trailer`; all, if there is none. It is searched for from the end, where it is in most documents.
 fn last_lines(text: &[u8]) -> &[u8]
     ensures { contents result.now ≡ meaning.last_lines text.now }
 {
@@ -142,7 +142,7 @@ fn begins_line(text: &[u8], at: usize) -> bool
     before == b'\r' || before == b'\n'
 }
 
-/// What comes after the line that begins at this byte.
+/// The text after the line that begins at this byte.
 fn after_line(text: &[u8], at: usize) -> &[u8]
     requires { at ≤ length text.now }
     ensures { result.now ≡ drop (line_len (drop at text.now)) (drop at text.now) }

@@ -31,7 +31,7 @@ pub enum AskedError {
     NoMemory,
 }
 
-/// What an error of the plan is called.
+/// The name of an error of the plan.
 pub fn plan_error(error: MadeError) -> AskedError
     ensures { result ≡ of_plan error }
 {

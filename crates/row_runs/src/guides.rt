@@ -157,7 +157,7 @@ fn push_between(
     Ok(())
 }
 
-/// Adds the lines between so many cells side by side.
+/// Adds the lines between cells side by side.
 fn push_upright(
     kind: GuideKind,
     room: &Room,
@@ -173,7 +173,7 @@ fn push_upright(
     Ok(())
 }
 
-/// Adds the lines between so many cells one above another.
+/// Adds the lines between cells one above another.
 fn push_level(
     kind: GuideKind,
     room: &Room,
@@ -189,7 +189,7 @@ fn push_level(
     Ok(())
 }
 
-/// The line before a cell of so many side by side.
+/// The line before one of several cells side by side.
 fn upright_line(kind: GuideKind, room: &Room, parts: u32, k: u32) -> Guide
     requires { k < parts }
     ensures { result ≡ upright_line_of kind room.now parts k }
@@ -198,7 +198,7 @@ fn upright_line(kind: GuideKind, room: &Room, parts: u32, k: u32) -> Guide
     upright(kind, &room.paper, x)
 }
 
-/// The line below a cell of so many one above another.
+/// The line below one of several cells one above another.
 fn level_line(kind: GuideKind, room: &Room, parts: u32, k: u32) -> Guide
     requires { k < parts }
     ensures { result ≡ level_line_of kind room.now parts k }

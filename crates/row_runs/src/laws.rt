@@ -27,7 +27,7 @@ pub fn turned_stands()
     ensures { TurnedStands }
 {}
 
-/// What lies in a room, inside and apart, does so on fronts, and with left and right margins exchanged on backs, if pages are
+/// Pages that lie in a room, inside and apart, do so on fronts, and with left and right margins exchanged on backs, if pages are
 /// moved by points, as those are that are fitted into cells.
 pub fn mirrored_stands()
     ensures stands { MirroredStands }
@@ -45,7 +45,7 @@ pub fn turned_stays_in_cell()
     ensures { TurnedStaysInCell }
 {}
 
-/// What is written keeps its place. If no page is turned, the sheets stand as they are laid, each back between the margins of its
+/// Sheets as they are written keep their places. If no page is turned, the sheets stand as they are laid, each back between the margins of its
 /// side (`stand`), and in their places (`places`). Turned or not, each page lies in its cell (`cells`), and untrimmed ones between
 /// the margins and apart (`room`); cells, stacks and zines (`read`) and booklets (`bound`) are read in the order of the row.
 pub fn written_keeps_place()

@@ -11,7 +11,7 @@ const MOST_SLOTS: u128 = 4_096;
 
 const MOST_PLACES: u128 = 4_000_000;
 
-/// The limit of a plan that the sheets of so many entries would pass. Only cards and posters have more places than there
+/// The limit of a plan that the sheets of this number of entries would pass. Only cards and posters have more places than there
 /// are entries, but for the last sheet.
 pub(crate) fn limit_in(laying: &Laying, entries: usize) -> Option<MadeError>
     ensures { result ≡ limit_of_laying laying.now entries }
@@ -29,7 +29,7 @@ pub(crate) fn limit_in(laying: &Laying, entries: usize) -> Option<MadeError>
     }
 }
 
-/// The first limit that so many sheets would pass, with so many places on each.
+/// The first limit that this number of sheets would pass, with this number of places on each.
 fn limit_passed(sheets: u128, places: u128) -> Option<MadeError>
     requires { places < 2 ^ 32 }
     ensures { result ≡ first_passed sheets places }

@@ -100,7 +100,7 @@ fn planned_sheets(alloc: Global, job: &RowJob<'_, '_>) -> Result<MadeSheets, Ask
     }
 }
 
-/// Whether these sheets can be planned, on so many pages.
+/// Whether these sheets can be planned, on this number of pages.
 fn check_plan(alloc: Global, pages: u32, sheets: &MadeSheets) -> Result<(), MadeError>
     ensures planned { OnOk result (made_plan_of pages sheets.now ≡ Ok sheets.now) }
     ensures refused { IfErr result (RefusesMade pages sheets.now) }

@@ -19,7 +19,7 @@ use sheet_plan::MadeSheets;
 use sheet_text::Numbers;
 use std::alloc::{AllocError, Global};
 
-/// The numbers that are asked for of a document with so many pages, if any are, which are moved on backs as their pages are, if
+/// The numbers asked for of a document with this number of pages, if any are. On backs they are moved as their pages are, if
 /// they can be.
 pub(crate) fn numbers_of(
     alloc: Global,

@@ -225,7 +225,7 @@ fn long(scale: Number, side: Grains) -> i64
     ((length + 1_269_999_999_999_999) / 1_270_000_000_000_000) as i64
 }
 
-/// So many 10^-5 of a point farther, if that can be written.
+/// This many 10^-5 of a point farther, if that can be written.
 pub(crate) fn farther(by: i64, measure: Measure) -> Option<Measure>
     requires { nat_abs by ≤ 10 ^ 17 }
     ensures value { IfSome result (λ moved. measure_of moved ≡ meaning.farther by (measure_of measure)) }

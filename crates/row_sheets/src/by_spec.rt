@@ -44,7 +44,7 @@ pub fn spec_sheets(alloc: Global, on: &SpecOnRow<'_>) -> Result<MadeSheets, Made
     Ok(made)
 }
 
-/// How many blocks the row takes, if its sheets keep to the limits.
+/// The number of blocks that the row takes, if its sheets keep to the limits.
 fn blocks_in(on: &SpecOnRow<'_>) -> Result<u32, MadeError>
     ensures value { IfOk result (λ n. n ≡ blocks_of on.now.spec.now.modulo (length on.now.row.now)) }
     ensures few { IfOk result (λ n. n ≤ most_sheets) }
@@ -63,7 +63,7 @@ fn blocks_in(on: &SpecOnRow<'_>) -> Result<u32, MadeError>
     Ok(blocks as u32)
 }
 
-/// How many slots one block has.
+/// The number of slots of one block.
 fn slots_in_block(groups: &[Vec<Item>]) -> u128
     requires { sum_by length (groups_of groups.now) < 2 ^ 64 }
     ensures { result ≡ sum_by length (groups_of groups.now) }

@@ -28,7 +28,7 @@ use std::alloc::Global;
 pub struct Creep {
     /// How far pages of the innermost leaf are moved towards the fold, in 10^-5 of a point. The outermost leaf stays.
     pub innermost: u64,
-    /// How many leaves a signature has.
+    /// The number of leaves of a signature.
     pub leaves: u32,
 }
 
@@ -99,7 +99,7 @@ fn creep_on(creep: Creep, s: u32) -> u64
     (u128::from(leaf) * u128::from(creep.innermost) / u128::from(creep.leaves - 1)) as u64
 }
 
-/// What is in a half of the same side of the leaf before, if that leaf creeps as far.
+/// The page in a half of the same side of the leaf before, if that leaf creeps as far.
 fn half_before(made: &MadeSheets, creep: Creep, s: u32, cell: u32) -> Option<PlacedSlot<'_>>
     requires sheet { s ≤ length made.now }
     requires cell { 2 ≤ s → cell < length (slots_at made.now (s - 2)) }
@@ -220,7 +220,7 @@ fn towards_fold(right_to_left: bool, by_half: bool, cell: u32, creep: u64) -> i6
     if by_half { -up } else { up }
 }
 
-/// A page that is moved up by so many 10^-5 of a point; its offset is in points.
+/// A page that is moved up by a length in 10^-5 of a point; its offset is in points.
 fn moved_up(item: Item, by: i64) -> Item
     requires by { nat_abs by < 10_000_000_000 }
     requires reach { nat_abs ((item_of item).y.number +ℤ (pos 10_000 *ℤ by)) ≤ greatest_number }
@@ -242,7 +242,7 @@ fn moved_up(item: Item, by: i64) -> Item
     }
 }
 
-/// So many 10^-5 of a point, in 10^-9 of a point.
+/// A length in 10^-5 of a point, in 10^-9 of a point.
 fn in_billionths(by: i64) -> i64
     requires { nat_abs by < 10_000_000_000 }
     ensures { result ≡ pos 10_000 *ℤ by }

@@ -34,7 +34,7 @@ enum CellKind {
     Zine,
 }
 
-/// So many sheets, and so many cells of each.
+/// A number of sheets, and the number of cells of each.
 #[derive(Clone, Copy, Debug, PartialEq, Eq)]
 struct Shape {
     kind: CellKind,
@@ -42,7 +42,7 @@ struct Shape {
     cells: u32,
 }
 
-/// The row on sheets of so many cells, from cell to cell and from sheet to sheet. A page whose paper isn't known has the
+/// The row on sheets of this number of cells, from cell to cell and from sheet to sheet. A page whose paper isn't known has the
 /// sheet's.
 pub fn grid_sheets(
     alloc: Global,
@@ -133,7 +133,7 @@ pub fn zine_sheets(
     in_cells(alloc, setting, papers, row, CellKind::Zine, 8)
 }
 
-/// The row in so many cells of each sheet.
+/// The row in this number of cells of each sheet.
 fn in_cells(
     alloc: Global,
     setting: &Setting,
@@ -174,7 +174,7 @@ fn refusal(setting: &Setting, papers: &[Paper], row: &[Option<u32>]) -> Arrangem
     }
 }
 
-/// How many sheets the row takes.
+/// The number of sheets that the row takes.
 fn sheets_for(kind: CellKind, cells: u32, row: &[Option<u32>]) -> Result<u32, ArrangementError>
     requires { 0 < cells }
     ensures value { IfOk result (λ n. n ≡ sheet_count kind cells (length row.now)) }
@@ -194,7 +194,7 @@ fn sheets_for(kind: CellKind, cells: u32, row: &[Option<u32>]) -> Result<u32, Ar
     }
 }
 
-/// How many blocks of so many the entries of a row take.
+/// The number of blocks that the entries of a row take.
 pub fn blocks_of(row: &[Option<u32>], entries: u64) -> Result<u32, ArrangementError>
     requires { 0 < entries }
     ensures value { IfOk result (λ n. n ≡ blocks entries (length row.now)) }
@@ -273,7 +273,7 @@ fn fill_slots(
     Ok(())
 }
 
-/// What is in a cell of the sheet before, if there is one.
+/// The page in a cell of the sheet before, if there is one.
 fn placed_before(made: &MadeSheets, s: u32, cell: u32) -> Option<PlacedSlot<'_>>
     requires sheet { s ≤ length made.now }
     requires cell { 0 < s → cell < length (slots_at made.now (s - 1)) }

@@ -59,7 +59,7 @@ pub fn cells_lie_behind()
     ensures { CellsLieBehind }
 {}
 
-/// What is behind a cell is in its row, and as far from the other side.
+/// The cell behind a cell is in its row, and as far from the other side.
 pub fn behind_is_mirror()
     ensures { BehindIsMirror }
 {}
@@ -184,7 +184,7 @@ pub fn booklet_is_specified()
     ensures { BookletIsSpecified }
 {}
 
-/// What is read of the specification that is printed for a grid makes the sheets of all pages.
+/// The specification that is printed for a grid, read again, makes the sheets of all pages.
 pub fn printed_is_imposed()
     ensures { PrintedIsImposed }
 {}

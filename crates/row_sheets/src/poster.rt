@@ -16,7 +16,7 @@ use sheet_plan::{MadeSheets, MadeSlot};
 use std::alloc::Global;
 use thiserror::Error;
 
-/// So many columns and rows of sheets of a paper.
+/// Columns and rows of sheets of a paper.
 #[derive(Clone, Copy, Debug, PartialEq, Eq)]
 pub struct Poster {
     pub sheet: Paper,
@@ -37,7 +37,7 @@ pub enum PosterError {
     /// A side of the sheets' paper, or of the whole poster, has 100,000 points or more.
     #[error("a side of a poster or of its sheets is 100,000 points or more")]
     SideTooLong,
-    /// What the margins leave of a sheet is no longer than the overlap.
+    /// The margins leave no more of a sheet than the overlap.
     #[error("the margins leave no more of a sheet than the overlap")]
     NothingButOverlap,
     /// The scale of the page would be 0, or above 99,999.
@@ -160,7 +160,7 @@ fn laid_on(poster: &Poster, page_paper: &Paper) -> Result<Laid, PosterError>
     })
 }
 
-/// What the margins leave of a side of so many grains, in 10^-5 of a point.
+/// The part of a side between its margins, in 10^-5 of a point; the side is in grains.
 fn tile(side: u64, edge: u64) -> u64
     ensures { result ≡ tile_of side edge }
 {
@@ -169,7 +169,7 @@ fn tile(side: u64, edge: u64) -> u64
         .saturating_sub(edge)
 }
 
-/// How long so many tiles are.
+/// The length of this number of tiles.
 fn length(tile: u64, stride: u64, tiles: u32) -> u128
     requires { 0 < tiles }
     ensures { result ≡ (tiles - 1) * stride + tile }

@@ -6,7 +6,7 @@ use thiserror::Error;
 /// byte in the text.
 #[derive(Clone, Copy, Debug, PartialEq, Eq, Error)]
 pub enum RowError {
-    /// What begins here is not a range.
+    /// The text here begins no range.
     #[error("pages: no range at byte {0}")]
     NotARange(usize),
     /// The document lacks an end of this range.

@@ -42,7 +42,7 @@ pub(crate) fn entry_count(pages: u32, text: &[u8]) -> Result<usize, RowError>
     }
 }
 
-/// What is known of all ranges, or where the first piece begins that is not a range.
+/// The tally of all ranges, or where the first piece begins that is not a range.
 fn tally_ranges(pages: u32, text: &[u8]) -> Result<Tally, usize>
     ensures value { result ≡ tally_from most_entries pages 0 (pieces_of text.now) no_tally }
     ensures few { IfOk result (λ t. t.entries ≤ most_entries) }
@@ -65,7 +65,7 @@ fn tally_ranges(pages: u32, text: &[u8]) -> Result<Tally, usize>
     Ok(tally)
 }
 
-/// What is known with one more range, which begins at this byte.
+/// The tally with one more range, which begins at this byte.
 fn counted(tally: Tally, at: usize, range: Found) -> Tally
     requires { tally.entries ≤ most_entries }
     ensures value { result ≡ counted most_entries at range tally }

@@ -133,7 +133,7 @@ pub fn ranges_are_read()
     ensures { RangesAreRead }
 {}
 
-/// What `1-`, `last-1` and `_k` name.
+/// The pages that `1-`, `last-1` and `_k` name.
 pub fn ranges_of_all()
     ensures { RangesOfAll }
 {}

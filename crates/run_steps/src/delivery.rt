@@ -18,7 +18,7 @@ use std::fmt;
 use std::fmt::Debug;
 use std::sync::Wait;
 
-/// What a delivery did.
+/// The result of a delivery.
 #[derive(Debug, Drop)]
 pub struct Delivered<'d> {
     /// By which the page is read from the shelf.
@@ -227,7 +227,7 @@ impl<'f, 'p, 't, 'd> Delivery<'f, 'p, 't, 'd> {
     }
 }
 
-/// What a delivery is answered at the places of a page, and the sheets that are handed back; and the memory for them.
+/// The answers to a delivery at the places of a page, and the sheets that are handed back, with the memory for them.
 #[derive(Drop)]
 pub struct Answers {
     replies: Vec<Reply>,

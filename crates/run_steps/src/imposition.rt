@@ -72,8 +72,8 @@ pub fn impose<'d>(
     Ok(Imposed { sheet, text })
 }
 
-/// What sheets are imposed of: a job, the table of its plan, and the shelf on which the pages lie. The texts of the
-/// sheets have long bodies in them that stay on the shelf.
+/// The sources of imposed sheets: a job, the table of its plan, and the shelf on which the pages lie. The texts of the
+/// sheets refer to long bodies, which stay on the shelf.
 #[derive(Drop)]
 pub struct Imposition<'s, 'r, 't, 'd> {
     pub job: &'s Job<'r, 'd>,

@@ -135,7 +135,7 @@ impl<'j, 'd> Job<'j, 'd> {
         self.document
     }
 
-    /// How many sheets it has.
+    /// The number of its sheets.
     pub fn sheets(&self) -> u32
         ensures { result ≡ length self.now.plan.sheets }
     {
@@ -174,7 +174,7 @@ impl<'j, 'd> Job<'j, 'd> {
         }
     }
 
-    /// What is in a slot; None is a blank.
+    /// The page in a slot; None is a blank.
     pub(crate) fn placed(&self, sheet: u32, slot: u16) -> Option<PlacedSlot<'_>>
         requires sheet { sheet < length self.now.plan.sheets }
         requires slot { slot < length (pages_on self.now.plan sheet) }

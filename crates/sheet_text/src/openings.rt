@@ -11,7 +11,7 @@ use placement::opening_within;
 use std::alloc::{AllocError, Global};
 use std::marker::Model;
 
-/// How many texts are kept at most.
+/// The most texts that are kept.
 const MOST_KEPT: usize = 64;
 
 /// The texts before placed pages, each printed once and kept, 64 of them at most. Sheets have few items, and repeat them.
@@ -32,8 +32,8 @@ impl Model for Openings {
     ghost invariant = { λ o. vec_len o.kept ≤ 64 };
 }
 
-/// What is written before a page that is placed by this item on this paper, with a border of this width so far within its
-/// edges, if there is one.
+/// The text before a page that is placed by this item on this paper, with a border of this width within its edges, if
+/// there is one.
 #[derive(Drop)]
 struct Opening {
     item: Item,

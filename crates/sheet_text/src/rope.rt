@@ -56,7 +56,7 @@ impl<'r> Rope<'r> {
         self.slices.clear();
     }
 
-    /// Makes room for so many more bytes of its own.
+    /// Makes room for this number of further bytes of its own.
     pub fn reserve(&mut self, count: usize) -> Result<(), AllocError>
         ensures { self.new ≡ self.old }
     {
@@ -102,7 +102,7 @@ impl<'r> Rope<'r> {
         print_points(length, &mut self.own)
     }
 
-    /// The same of so many grains.
+    /// Appends a number of grains likewise.
     pub(crate) fn append_grains(&mut self, grains: i128) -> Result<(), AllocError>
         requires { nat_abs grains ≤ 2 * 10 ^ 23 }
         ensures { OnOk result (self.new ≡ self.old ++ points_text grains) }
@@ -163,7 +163,7 @@ impl<'p, 'r> Model for Pieces<'p, 'r> {
 }
 
 impl<'p, 'r> Pieces<'p, 'r> {
-    /// How many bytes they have. None if there are more than a number can count: one slice may be among them often.
+    /// The total length; None if it passes `usize::MAX`, which can happen because one slice may occur many times.
     pub fn len(&self) -> Option<usize>
         ensures counted { IfSome result (λ count. count ≡ length self.now) }
         ensures uncounted { IsNone result → usize.MAX < length self.now }

@@ -97,7 +97,7 @@ fn likely_slot_len(job: &Job<'_, '_>, sheet: u32, slot: u16) -> usize
     copied_len(body).saturating_add(256)
 }
 
-/// How many of these bytes are copied, if they may be borrowed.
+/// The number of these bytes that are copied, if they may be borrowed.
 fn copied_len(bytes: &[u8]) -> usize
     ensures { result ≤ length bytes.now }
 {

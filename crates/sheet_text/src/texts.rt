@@ -78,7 +78,7 @@ impl<'r> Texts<'r> {
         Ok(())
     }
 
-    /// How many they are.
+    /// Their number.
     pub fn len(&self) -> usize
         ensures { result ≡ length self.now }
     {

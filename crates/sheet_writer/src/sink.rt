@@ -166,7 +166,7 @@ impl MemorySink {
         })
     }
 
-    /// What it has taken.
+    /// The bytes that it has taken.
     pub fn bytes(&self) -> &[u8]
         ensures { result.now ≡ self.now.bytes }
     {

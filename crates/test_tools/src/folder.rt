@@ -24,7 +24,7 @@ pub struct Folder<'a> {
 }
 
 impl<'a> Folder<'a> {
-    /// One of these files, whose output takes so much. It was asked for nothing yet.
+    /// A world of these files, whose output takes this much. It was asked for nothing yet.
     pub fn new(alloc: Global, files: &'a [GivenFile<'a>], takes: Takes) -> Folder<'a>
         ensures gives { ⟦<Folder<'a> as World>⟧.gives result ≡ (λ name. Some (read_by files.now name)) }
         ensures asked { (⟦<Folder<'a> as World>⟧.seen result).asked ≡ Some [] }
@@ -39,7 +39,7 @@ impl<'a> Folder<'a> {
         }
     }
 
-    /// What it was asked for, if it remembers all of it.
+    /// The requests that it got, if it remembers all of them.
     pub fn trace(&self) -> &Trace
         ensures { accesses_in result.now ≡ (⟦<Folder<'a> as World>⟧.seen self.now).asked }
     {

@@ -7,12 +7,12 @@ use std::alloc::Global;
 use std::io;
 use std::io::{ErrorKind, Write};
 
-/// What an output takes.
+/// The bytes that an output takes.
 #[derive(Clone, Copy)]
 pub enum Takes {
-    /// So many bytes; a write of more fails.
+    /// This number of bytes; a write of more fails.
     Bytes(usize),
-    /// Every byte, but only so many in a call.
+    /// Every byte, but only this number in a call.
     Pieces(usize),
     /// Each byte, but flushing fails.
     NoFlush,

@@ -12,7 +12,7 @@ pub struct Asked {
     pub name: Option<String>,
 }
 
-/// What a world was asked for, in order. It has no memory of it once there was no room for it.
+/// The requests that a world got, in order. It remembers none once there was no room for one.
 #[derive(Drop)]
 pub struct Trace {
     pub all: Option<Vec<Asked>>,

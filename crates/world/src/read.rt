@@ -11,13 +11,13 @@ use std::alloc::{AllocError, Global};
 /// The most bytes that are read: one more than an input may have, so that a longer input is seen to be too long.
 pub const MOST_BYTES: usize = 1_073_741_825;
 
-/// How much room the source is offered first. Most documents are small, and memory that is touched costs time.
+/// The room that the source is offered first. Most documents are small, and memory that is touched costs time.
 const FIRST_PIECE: usize = 16_384;
 
-/// How much room the source is offered at least, after the first piece.
+/// The least room that the source is offered, after the first piece.
 const LEAST_ROOM: usize = 65_536;
 
-/// How much is zeroed at once ahead of what was read: little enough to be still in the cache when it is read into.
+/// The number of bytes that are zeroed at once ahead of reading: few enough to be still in the cache when they are read.
 const PIECE: usize = 262_144;
 
 /// From this length on an input is large: room for the longest one is asked for at once, so that no byte is moved again.
@@ -151,7 +151,7 @@ fn make_room(bytes: &mut Vec<u8>, filled: usize, most: usize) -> Result<(), Allo
     Ok(())
 }
 
-/// How much room is wanted in a buffer of this length. The first piece is filled to its end.
+/// The room that is wanted in a buffer of this length. The first piece is filled to its end.
 fn least_room(len: usize) -> usize
     ensures some { 0 < result }
     ensures few { result ≤ 65_536 }

@@ -1,6 +1,6 @@
 //! What is left of the world.
 
-/// What is left of the world.
+/// The rest of the world.
 #[derive(Drop)]
 pub enum Rest<W, O> {
     /// No output was created: the world is there again.

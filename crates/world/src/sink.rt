@@ -10,7 +10,7 @@ use std::alloc::Global;
 use std::io;
 use std::io::ErrorKind;
 
-/// The output of this name, which is created, with a buffer of so many bytes before it. If there is no memory for the buffer,
+/// Creates the output of this name, with a buffer of this number of bytes before it. If there is no memory for the buffer,
 /// the very world comes back, unasked. If the world refuses the output, it comes back with nothing created in it.
 pub fn created<W: World>(
     alloc: Global,

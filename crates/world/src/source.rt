@@ -8,7 +8,7 @@ use std::io::Read;
 #[derive(Clone, Copy, Debug, PartialEq, Eq)]
 pub struct SourceFault;
 
-/// What bytes are read from.
+/// A source of bytes.
 pub trait Source {
     ghost use Rattle.world.specs.Input.{Counts, Fills, SourceView};
 

@@ -10,7 +10,7 @@ use crate::source::ReadSource;
 use std::io;
 use std::io::Read;
 
-/// What a program may do to the files and standard streams around it.
+/// The files and standard streams around a program, and what it may do to them.
 ///
 /// A name is that of a file, and none is the standard stream. Creating an output takes the world: so whoever
 /// still has it has created none, and nobody creates two.
