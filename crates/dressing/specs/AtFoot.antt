@@ -27,7 +27,7 @@ twice_foot Left cell = record { x = pos (2 * (cell.left + cell.width)) -ℤ pos 
 twice_foot Half cell = record { x = pos (2 * cell.left + cell.width); y = pos (2 * (cell.bottom + cell.height)) -ℤ pos 3_600_000 }
 twice_foot Right cell = record { x = pos (2 * cell.left + 3_600_000); y = pos (2 * cell.bottom + cell.height) }
 
--- so many grains are half of so many 10^-5 of a point, but for 2 of these
+-- a length in grains is half of one in 10^-5 of a point, but for 2 of these
 abbrev pub IsHalfOf : (twice grains : ℤ) → Type 0
 IsHalfOf twice grains = ((pos 2 *ℤ grains) ≤ℤ ((pos 1_270_000 *ℤ twice) +ℤ pos 5_080_000))
     × ((pos 1_270_000 *ℤ twice) ≤ℤ ((pos 2 *ℤ grains) +ℤ pos 5_080_000))
@@ -40,7 +40,7 @@ pub record IsAtFoot (turn : Turn) (cell : Cell) (p : Point) : Type 0 where
   pub in_cell : (high : ℕ) → high ≤ above_foot → 3_600_000 ≤ high_as_held turn cell
       → LiesInCell cell 2 (finer (moved p (turned turn (record { x = pos 0; y = pos high }))))
 
--- so does the number of each page that is in the middle of its cell, as by `impose nup 4 --numbers 9pt`: a law
+-- the number of each page that is in the middle of its cell is at its foot, as by `impose nup 4 --numbers 9pt`: a law
 abbrev pub NumbersAreAtFoot : Type 0
 NumbersAreAtFoot = (turn : Turn) (page : Paper) (cell : Cell) (item : Item) (scale : ℕ) → IsPaper page → item.turn ≡ turn
     → item.scale ≡ pos scale → IsInMiddle page cell item

@@ -60,7 +60,7 @@ pub record MarksUpright (room : Room) (g : Grid) (k : ℕ) (strokes : List Strok
   pub at_lower : IsAtEdge room.bottom lower.start.1 lower.end.1
   pub at_upper : IsAtEdge room.top (room.paper.height -ℤ upper.start.1) (room.paper.height -ℤ upper.end.1)
 
--- those of level line k: along it, at the left and at the right edge
+-- the marks of level line k: along it, at the left and at the right edge
 pub record MarksLevel (room : Room) (g : Grid) (k : ℕ) (strokes : List Stroke) : Type 0 where
   pub left : Stroke
   pub right : Stroke

@@ -20,7 +20,7 @@ abbrev pub PiecesAreLike : Type 0
 PiecesAreLike = (a : Along) (side parts k : ℕ) → a.gap ≤ 2 * a.before
     → gap_at a side parts (k + 1) ≡ gap_at a side parts k + grains_in (step a side parts)
 
--- both ends of a stroke, measured in one direction, are at most so much, or at least
+-- both ends of a stroke, measured in one direction, are at most this far
 abbrev pub AreAtMost : (one other : ℤ) → (most : ℤ) → Type 0
 AreAtMost one other most = (one ≤ℤ most) × (other ≤ℤ most)
 
@@ -34,12 +34,12 @@ IsOutside left right bottom top s =
     (AreAtMost s.start.0 s.end.0 left ⊎ AreAtLeast s.start.0 s.end.0 right)
     ⊎ (AreAtMost s.start.1 s.end.1 bottom ⊎ AreAtLeast s.start.1 s.end.1 top)
 
--- so it goes over nothing of the cell
+-- a stroke goes over nothing of a cell
 abbrev pub IsOutsideCell : Cell → Stroke → Type 0
 IsOutsideCell cell s = IsOutside (pos (grains_in cell.left)) (pos (grains_in (cell.left + cell.width)))
     (pos (grains_in cell.bottom)) (pos (grains_in (cell.bottom + cell.height))) s
 
--- it goes over nothing of what the margins leave of the sheet
+-- a stroke goes over nothing between the margins of a sheet
 abbrev pub IsInMargin : Room → Stroke → Type 0
 IsInMargin room s = IsOutside (pos (grains_in room.left)) (room.paper.width -ℤ pos (grains_in room.right))
     (pos (grains_in room.bottom)) (room.paper.height -ℤ pos (grains_in room.top)) s
@@ -54,7 +54,7 @@ MarksAreOutside = (room : Room) (g : Grid) (row column : ℕ) → 0 < wide room 
     → row < g.rows → column < g.columns
     → AllByRecursion (IsOutsideCell (cell_at room g row column)) (all_marks room g)
 
--- so many grains, in 10^-9 of a grain
+-- a number of grains, in 10^-9 of a grain
 abbrev pub in_billionths : ℤ → ℤ
 in_billionths grains = pos 1_000_000_000 *ℤ grains
 
@@ -65,7 +65,7 @@ IsPast s p =
     (AreAtMost (in_billionths s.start.0) (in_billionths s.end.0) p.x ⊎ AreAtLeast (in_billionths s.start.0) (in_billionths s.end.0) p.x)
     ⊎ (AreAtMost (in_billionths s.start.1) (in_billionths s.end.1) p.y ⊎ AreAtLeast (in_billionths s.start.1) (in_billionths s.end.1) p.y)
 
--- it goes over no point of a placed page
+-- a stroke goes over no point of a placed page
 abbrev pub GoesPast : Room → (page : Paper) → Item → Stroke → Type 0
 GoesPast room page item s = (p : Point) → IsOfPage room.trim page p → IsPast s (stands page item p)
 

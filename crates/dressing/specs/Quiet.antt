@@ -17,7 +17,7 @@ use Rattle.sheet_text.specs.declared.numbers.Numbers.{Numbers}
 use Rattle.dressing.specs.Drawn.{mark_lines}
 use Rattle.dressing.specs.Numbered.{Drawn, drawn_on}
 
--- these lines at the end of sheet s, and after them those of its numbers, if there are some
+-- the lines at the end of sheet s, followed by those of its numbers, if there are some
 abbrev pub with_numbers : Option Numbers → (lines : List (List ℕ)) → (s : ℕ) → List (List ℕ)
 with_numbers None lines s = lines
 with_numbers (Some n) lines s = lines ++ number_lines n s
@@ -31,8 +31,8 @@ abbrev pub DrawnIsQuiet : Type 0
 DrawnIsQuiet = (drawn : Drawn) (all : List MadeSheet)
     → (drawn_on drawn (telling all) ≡ telling_and (drawing_lines drawn) all) × AreQuiet (drawing_lines drawn)
 
--- so in what is written of sheets, which report their papers, and on which this is drawn, each one's own paper is found, as it
--- is printed, if the document's last page leaves no embedded document open: a law
+-- in an output whose sheets report their papers, and on which this is drawn, each sheet's own paper is found, as it is
+-- printed, if the document's last page leaves no embedded document open: a law
 abbrev pub DrawnAreFound : Type 0
 DrawnAreFound =
     (named : List ℕ → Option Paper) (home : Paper) (border : Option Border) (drawn : Drawn) (all : List MadeSheet)

@@ -14,7 +14,7 @@ longest = 1_800_000
 abbrev pub far_end : (edge : ℕ) → ℕ
 far_end edge = grains_in (if edge == 0 then longest else edge)
 
--- and where they begin: they are as long as the margin is wide, but no longer than the longest
+-- where strokes at the near edge begin: they are as long as the margin is wide, but no longer than the longest
 abbrev pub near_end : (edge : ℕ) → ℕ
 near_end edge = far_end edge - grains_in longest
 
@@ -55,7 +55,7 @@ level_between room parts = flat_map (level_at room parts) (range_with_len 1 (par
 abbrev pub marks_between : Room → Grid → List Stroke
 marks_between room g = upright_between room (cells_across g) ++ level_between room (cells_up g)
 
--- and round all cells, as far from them as the middle of a gap
+-- marks round all cells, as far from them as the middle of a gap
 abbrev pub marks_round : Room → Grid → List Stroke
 marks_round room g =
     (upright_at room (cells_across g) 0 ++ upright_at room (cells_across g) (cells_across g))
@@ -79,6 +79,6 @@ fold_marks room g = marks_between room g
 abbrev pub outer_cut_marks : Room → Grid → List Stroke
 outer_cut_marks room g = if has_room_round room then marks_round room g else []
 
--- and any other one between them, too
+-- marks round all cells, and between them
 abbrev pub cut_marks : Room → Grid → List Stroke
 cut_marks room g = marks_between room g ++ outer_cut_marks room g

@@ -37,7 +37,7 @@ own_calls seat = own_entries seat
 abbrev pub Made : SeatView → Entry → SeatView → Type 0
 Made = Rattle.rules.specs.SeatCalls.Made IsLegal
 
--- these calls were made, one after the other, and no others
+-- a seat's view after exactly these calls, one after the other
 abbrev pub Makes : SeatView → List Entry → SeatView → Type 0
 Makes = Rattle.rules.specs.SeatCalls.Makes IsLegal
 
@@ -45,7 +45,7 @@ Makes = Rattle.rules.specs.SeatCalls.Makes IsLegal
 abbrev pub Agree : SeatView → SeatView → Type 0
 Agree = Rattle.rules.specs.SeatCalls.Agree
 
--- both fronts become the longer one
+-- after a meeting both seats have the longer front
 abbrev pub Met : SeatView → SeatView → SeatView → SeatView → Type 0
 Met = Rattle.rules.specs.SeatCalls.Met IsLegal
 

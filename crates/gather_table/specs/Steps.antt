@@ -18,7 +18,7 @@ abbrev pub publishes : Step Unit → Me Unit Sight → ℕ → Me Unit Sight →
 publishes st me found new = (new.1 ≡ me.1) × (found ≤ 2 ^ 32)
     × Adds me.0 (Publish st.word (st.second - 1) (publish_reply (index_in found))) new.0
 
--- the same for a look-up
+-- a look-up as a step
 abbrev pub finds : Step Unit → Me Unit Sight → ℕ → Me Unit Sight → Type 0
 finds st me found new = (new.1 ≡ me.1) × (found ≤ 2 ^ 32) × Adds me.0 (PageAt st.word (index_in found)) new.0
 
@@ -33,7 +33,7 @@ mark_of layout s k found = Mark s k (reply_in (lane_found layout s found) (2 ^ k
 abbrev pub look_of : Layout → ℕ → ℕ → Entry
 look_of layout s found = Look s (2 ^ slot_count layout s - 1 - lane_found layout s found)
 
--- the same for a wide sheet, given the word of the group, and the closing word
+-- a mark of a wide sheet, given the word of the group, and the closing word
 abbrev pub wide_mark_of : Layout → ℕ → ℕ → ℕ → Entry
 wide_mark_of layout s k found =
     Mark s k (group_reply (k / 64)

@@ -19,7 +19,7 @@ NeverOverfull = (capacity : ℕ) (log : List Move) → IsQueueHistory capacity l
 abbrev pub WholePassMadeAll : Type 0
 WholePassMadeAll = WholeSeatMadeAll IsQueueHistory
 
--- so the sheets that it took, and those left, are those that it put, each as often
+-- the sheets that a pass with all shares took, and those left, are those that it put, each as often
 abbrev pub WholePassLosesNone : Type 0
 WholePassLosesNone = (pass : PassView) (s : ℕ) → IsPass pass → pass.share ≡ whole_share
     → times s (sheets_taken (own_moves pass)) + times s (content pass.front) ≡ times s (sheets_put (own_moves pass))
@@ -34,7 +34,7 @@ OwnMovesAreKept = OwnEntriesAreKept IsQueueHistory
 abbrev pub MovesStandInOneHistory : Type 0
 MovesStandInOneHistory = CallsStandInOneHistory IsQueueHistory
 
--- the same for the moves of a caller that splits its pass, makes moves with both parts, and joins them again
+-- the moves of a caller that splits its pass, makes moves with both parts, and joins them again, are in one history
 abbrev pub SplitMovesStandInOneHistory : Type 0
 SplitMovesStandInOneHistory = CoursesStandInOneHistory IsQueueHistory
 

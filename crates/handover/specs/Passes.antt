@@ -22,7 +22,7 @@ pub record PassView : Type 0 where
   -- how many puts it may make that won't be refused, for a queue in which puts are made by right
   pub room : Option ℕ
 
--- the same without its room: a seat of the queue's history
+-- a pass without its room: a seat of the queue's history
 abbrev pub seat_of : PassView → SeatView ℕ Move
 seat_of p = record { table = p.table; key = p.key; front = p.front; own = p.own; share = p.share }
 
@@ -34,7 +34,7 @@ abbrev pub opening_pass : QueueView → PassView
 opening_pass q =
     record { table = q.queue; key = q.capacity; front = []; own = []; share = whole_share; room = None }
 
--- the same for a queue in which puts are made by right: it has all of the queue's room
+-- the first pass of a queue in which puts are made by right: it has all of the queue's room
 abbrev pub opening_pass_by_right : QueueView → PassView
 opening_pass_by_right q = record (opening_pass q) { room = Some q.capacity }
 
@@ -80,7 +80,7 @@ Made old m new =
     Rattle.rules.specs.SeatCalls.Made IsQueueHistory (seat_of old) m (seat_of new)
     × (new.room ≡ room_after m old.room)
 
--- these moves were made, one after the other, and no others
+-- a pass's view after exactly these moves, one after the other
 abbrev pub Makes : PassView → List Move → PassView → Type 0
 Makes old [] new = old ≡ new
 Makes old (m ∷ ms) new = (mid : PassView) × Made old m mid × Makes mid ms new

@@ -73,7 +73,7 @@ pub record IsKept (items : List ℕ) (views : List Sight) (capacity : ℕ) (log 
 abbrev pub Kept : List ℕ → List Sight → Type 0
 Kept items views = (capacity : ℕ) × (log : List Move) × IsKept items views capacity log
 
--- this is the capacity of the passes' queue, as each pass with a share knows it: its key
+-- the capacity of the passes' queue, as each pass with a share knows it: its key
 abbrev pub IsCapacityOf : List Sight → ℕ → Type 0
 IsCapacityOf views capacity = (id : ℕ) (v : Sight) → get_elem? views id ≡ some v → 0 < v.seat.share → v.seat.key ≡ capacity
 

@@ -20,11 +20,11 @@ use Rattle.pagespec.specs.declared.item.Turn.TheVariants as turn
 
 -- ---- cells: a number of them, or columns and rows with an x between them
 
--- so many or more, if a sheet takes so many
+-- at least this number of cells, if a sheet takes it
 abbrev pub at_least : ℕ → Option Cells
 at_least n = if is_count n then Some (AtLeast n) else None
 
--- so many columns and rows, if a sheet takes so many cells
+-- these columns and rows, if a sheet takes that number of cells
 abbrev pub exactly : (columns rows : ℕ) → Option Cells
 exactly columns rows = if is_count (columns * rows) then Some (Exactly columns rows) else None
 
@@ -32,7 +32,7 @@ exactly columns rows = if is_count (columns * rows) then Some (Exactly columns r
 abbrev pub digits_at : List ℕ → Option (ℕ × List ℕ)
 digits_at text = if is_empty (digits text) then None else Some (number_of (digits text), past_digits text)
 
--- so many columns, and as many rows as the digits say that are all of the text after them
+-- these columns, and the number of rows that the digits name which are all of the text after them
 abbrev pub with_rows : (columns : ℕ) → Option (ℕ × List ℕ) → Option Cells
 with_rows columns None = None
 with_rows columns (Some (rows, [])) = exactly columns rows
@@ -53,7 +53,7 @@ exact_alone None = None
 exact_alone (Some (AtLeast n)) = None
 exact_alone (Some (Exactly columns rows)) = Some (Exactly columns rows)
 
--- so many, if a sheet takes as many again beside them, for notes; and a number alone is one of pages
+-- this number of pages, if a sheet takes as many cells again beside them, for notes; a number alone is one of pages
 abbrev pub with_notes : ℕ → Option Cells
 with_notes n = if is_count (2 * n) then Some (AtLeast n) else None
 

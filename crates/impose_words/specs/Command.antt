@@ -20,7 +20,7 @@ option_rule id = record (positional_rule id) { long = Some id }
 abbrev pub flag_rule : Text → Rule
 flag_rule id = record (new_rule id) { long = Some id; action = Some SetTrue }
 
--- it has a letter too
+-- a rule with a letter too
 abbrev pub lettered : (letter : ℕ) → Rule → Rule
 lettered letter rule = record rule { short = Some letter }
 
@@ -138,7 +138,7 @@ spec_rules = required_rule (codes "specs") ∷ option_rule (codes "signature") �
 abbrev pub spec_app : App
 spec_app = subcommand_app (codes "spec") spec_rules (option_rule (codes "pages") ∷ [])
 
--- those with cells that are cut or folded, and the others
+-- the commands with cells that are cut or folded
 abbrev pub first_apps : List App
 first_apps = nup_app ∷ booklet_app ∷ zine_app ∷ cards_app ∷ stack_app ∷ []
 

@@ -149,7 +149,7 @@ wrong_for layout found =
 abbrev pub text_given : Opt → (found : List Row) → Text
 text_given option found = unwrap_or (given option found) []
 
--- this is wrong with what was found, as the fault says, unless it is that memory is short
+-- a fault says what is wrong with what was found, unless it is that memory is short
 abbrev pub Says : (found : List Row) → RequestFault → Option Wrong → Type 0
 Says found (fault.BadValue option text) wrong = (wrong ≡ Some (NoValue option)) × (text_given option found ≡ string_bytes text)
 Says found fault.Lacking wrong = wrong ≡ Some Missing

@@ -45,12 +45,13 @@ nothing_kept =
 abbrev pub on_fronts : Spacing → Free
 on_fronts s = record s.free { left = unwrap_or s.inner s.free.left }
 
--- and on backs it is the right one: left and right margins are exchanged. Booklets alone have another inner edge
+-- the inner margin is the right one on backs: left and right margins are exchanged there. Booklets alone have another
+-- inner edge
 abbrev pub is_mirrored : Layout → Spacing → Bool
 is_mirrored (layout.NUp cells) s = is_some s.inner
 is_mirrored other s = false
 
--- these cells
+-- the arrangement of these cells, with the margins and gaps of a request
 abbrev pub arrangement_in : Spacing → Cells → Arrangement
 arrangement_in s cells = record { cells = cells; free = on_fronts s; order = s.order; scale = s.scale }
 

@@ -278,7 +278,7 @@ SpacesBy true found s = (free_found found ≡ Some s.free) × (length_found opt.
     × (has_flag (codes "same-scale") found ≡ s.same_scale)
     × (option_map (λ m. m.inner) (margins_found found) ≡ Some s.inner)
 
--- this is made by what was found; by a layout that doesn't lay rows no plan and no picture is
+-- the product that is made by what was found; of a layout that doesn't lay rows no plan and no picture is made
 pub record MakesBy (rows : Bool) (found : List Row) (p : Product) : Type 0 where
   pub printed : has_flag (codes "print-spec") found ≡ is_specification p
   pub planned : (rows && has_flag (codes "plan") found) ≡ is_plan p
@@ -290,7 +290,7 @@ pub record NamesPicture (name : Text) (p : Product) : Type 0 where
   pub pictured : Some (file_of name) ≡ picture_in p
   pub is_picture : is_picture_file (file_of name) ≡ true
 
--- these papers, this border and this turn are asked for
+-- the papers, the border and the turn that are asked for
 pub record ReadsSizes (found : List Row) (page_paper sheet_paper : Option Paper) (border : Option ℤ) (turn : Turn) : Type 0 where
   pub page_paper_is : size_found opt.Paper found ≡ Some page_paper
   pub sheet_paper_is : size_found opt.Sheet found ≡ Some sheet_paper

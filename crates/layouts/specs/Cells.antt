@@ -49,7 +49,7 @@ along_width room = record { before = room.left; after = room.right; gap = room.g
 abbrev pub along_height : Room → Along
 along_height room = record { before = room.bottom; after = room.top; gap = room.gap_up; trim = room.trim }
 
--- and so as one holds it
+-- the margins and the gap across a sheet, with the sheet held as it is read
 abbrev pub held_across : Bool → Room → Along
 held_across false room = along_width room
 held_across true room = along_height room
@@ -178,7 +178,7 @@ to_right page room g s row column =
 abbrev pub to_top : (page : Paper) → Room → Grid → (scale row column : ℕ) → ℤ
 to_top page room g s row column = pos (corner_y page room g s row column) -ℤ pos (trimmed room s)
 
--- so many 10^-5 of a point
+-- a length in 10^-5 of a point, as a measure
 abbrev pub in_points : ℤ → Measure
 in_points z = record { number = pos 10_000 *ℤ z; unit = Pt }
 
@@ -227,8 +227,8 @@ abbrev pub read_column : Run → (right_to_left : Bool) → Turned → Grid → 
 read_column run right_to_left t g k =
     if right_to_left then read_columns t g - (nth_column run t g k + 1) else nth_column run t g k
 
--- and as one holds it for its pages to be upright: one that is read when it is turned to the left has its first row in
--- its last column, and its first column in its first row
+-- the row of a cell, with the sheet held so that its pages are upright: a sheet that is read when it is turned to the
+-- left has its first row in its last column, and its first column in its first row
 abbrev pub held_row : Turned → Grid → (row column : ℕ) → ℕ
 held_row sideways.Upright g row column = row
 held_row sideways.Left g row column = column
@@ -255,7 +255,7 @@ in_grid page room g o s n = record { modulo = n; groups = map (item_in page room
 
 -- ---- sheets that are turned by half
 
--- so many whole 10^-5 of a point a side has
+-- a side in whole 10^-5 of a point
 abbrev pub whole : ℕ → ℕ
 whole side = side / 1_270_000
 

@@ -60,7 +60,7 @@ why_no_scale_on t page =
     (first_of (is_shown page t.room) why.NothingLeftOfPage
     (why_no_scale t.room (scale_on t page) (scale_in page t.room t.grid)))
 
--- and why they can't stand in them
+-- why pages of this paper can't be in the cells of a setting
 abbrev pub why_not_fitted : Setting → (page : Paper) → Option ArrangementError
 why_not_fitted t page = if is_whole t page then None else why_no_scale_on t page
 
@@ -93,7 +93,7 @@ FittedIsApart =
     → why_not_fitted t page ≡ None → why_not_fitted t page' ≡ None → k < size t.grid → l < size t.grid → k ≢ l
     → AreApart t.room page (fitted t page k) page' (fitted t page' l)
 
--- and in order, as one reads the sheet: a law
+-- fitted pages are in order, as one reads the sheet: a law
 abbrev pub FittedIsInOrder : Type 0
 FittedIsInOrder =
     (t : Setting) (page page' : Paper) (k l : ℕ) → IsPaper page → IsPaper page' → IsPaper t.room.paper

@@ -41,7 +41,7 @@ best_of page room turned n (suc k) = better page room (best_of page room turned 
 abbrev pub best_grid : (page : Paper) → Room → ℕ → Grid
 best_grid page room n = better page room (best_of page room false n n) (best_of page room true n n)
 
--- so many columns and rows as one reads the sheet
+-- a grid of these columns and rows, as one reads the sheet
 abbrev pub formed : Turned → Bool → (columns rows : ℕ) → Grid
 formed sideways.Upright turned columns rows = record { rows = rows; columns = columns; turned = turned }
 formed sideways.Left turned columns rows = record { rows = columns; columns = rows; turned = turned }
@@ -119,7 +119,7 @@ is_itself page sheet a =
 abbrev pub in_cells : (page : Paper) → Room → Grid → Arrangement → Spec
 in_cells page room g a = in_grid page room g a.order (scale_for a.scale (scale_in page room g)) (count_of a.cells)
 
--- so many pages on each sheet; on a sheet of its own paper one page is left as it is
+-- the specification of an arrangement; on a sheet of its own paper one page is left as it is
 abbrev pub arranged : (page sheet : Paper) → Arrangement → Spec
 arranged page sheet a =
     let room = room_of sheet a.free in

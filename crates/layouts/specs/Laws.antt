@@ -210,7 +210,7 @@ pub record IsInOrder (page : Paper) (room : Room) (o : Order) (run : ℕ) (one o
   pub next : one.page / run < other.page / run
       → ComesInRunBefore o.run room o.turned o.right_to_left page one page other
 
--- it has this turn and this scale, in 10^-9, and counts pages from the start
+-- an item has this turn and this scale, in 10^-9, and counts pages from the start
 pub record IsLike (turn : Turn) (scale : ℕ) (i : Item) : Type 0 where
   pub turn_is : i.turn ≡ turn
   pub scale_is : i.scale ≡ pos scale
@@ -225,7 +225,7 @@ pub record IsLaidOut (page : Paper) (room : Room) (o : Order) (turn : Turn) (sca
   pub in_order : EachTwo (IsInOrder page room o run) items
   pub exact : AllByRecursion (IsExact page) items
 
--- these pages of a block, in order
+-- the items of a block are these pages, in order
 abbrev pub ArePages : (first n : ℕ) → List Item → Type 0
 ArePages first n items = map (λ i. i.page) items ≡ range_with_len first n
 

@@ -15,7 +15,7 @@ times n p = record { x = n *ℤ p.x; y = n *ℤ p.y }
 abbrev pub finer : Point → Point
 finer p = times (pos 1_000_000_000) p
 
--- so many 10^-5 of a point, in 10^-9 of a grain
+-- a length in 10^-5 of a point, in 10^-9 of a grain
 abbrev pub fine : ℕ → ℤ
 fine n = pos (1_270_000_000_000_000 * n)
 
@@ -99,8 +99,8 @@ held Left p = record { x = p.y; y = neg_ℤ p.x }
 held Half p = record { x = neg_ℤ p.x; y = neg_ℤ p.y }
 held Right p = record { x = neg_ℤ p.y; y = p.x }
 
--- and as one turns it further, if what stands on the pages lies on its side: to the left if one turns a page to the left
--- to read it
+-- a point as one turns the sheet further, if the text of the pages lies on its side: to the left if one turns a page to
+-- the left to read it
 abbrev pub read : Turned → Point → Point
 read sideways.Upright p = p
 read sideways.Left p = held Right p

@@ -39,7 +39,7 @@ pub record Shows (ms : List Modifier) (s : Modifiers) : Type 0 where
   pub large : s.too_large ≡ list_any has_large ms
   pub known : s.too_large ≡ false → Known ms s
 
--- these are the modifiers at the front, and this is their result
+-- the modifiers at the front of a text, and their result
 abbrev pub ModifiersRead : List ℕ → Modifiers → List ℕ → Type 0
 ModifiersRead bytes s rest = (ms : List Modifier) × (modifiers_at (length bytes) bytes ≡ (ms, rest)) × Shows ms s
 
@@ -48,6 +48,6 @@ pub record ItemShows (i : WrittenItem) (k : ParsedItem) : Type 0 where
   pub page : k.page ≡ min least_large i.page
   pub modifiers : Shows i.modifiers k.modifiers
 
--- this item is at the front
+-- the item at the front of a text
 abbrev pub ItemRead : List ℕ → ParsedItem → List ℕ → Type 0
 ItemRead bytes k rest = (i : WrittenItem) × (item_at bytes ≡ Some (i, rest)) × ItemShows i k

@@ -7,7 +7,7 @@ use Rattle.rules.specs.Specification.{WrittenSpec, Modifier, IsSpec, AreModifier
 abbrev pub IsBeginning : List ℕ → Type 0
 IsBeginning front = (more : List ℕ) × (spec : WrittenSpec) × IsSpec (front ++ more) spec
 
--- this is the length of the longest beginning of the text with which some text of the grammar begins
+-- the length of the longest beginning of a text with which some text of the grammar begins
 unfoldable pub IsPlaceIn : List ℕ → ℕ → Type 0
 IsPlaceIn text at = (at ≤ length text) × IsBeginning (take at text)
     × ((n : ℕ) → at < n → n ≤ length text → IsBeginning (take n text) → ⊥)
@@ -23,15 +23,15 @@ pub record IsStuck (Begun Fails : List ℕ → Type 0) (bytes : List ℕ) (left 
   pub begun : Begun (front ++ more)
   pub fails : (b : ℕ) (tail : List ℕ) → back ≡ b ∷ tail → (after : List ℕ) → Fails (front ++ b ∷ after)
 
--- it reads nothing
+-- a reader reads nothing, and this many bytes are left
 abbrev pub StuckIn : {X Y : Type 0} → (List ℕ → X → Type 0) → (List ℕ → Option Y) → List ℕ → ℕ → Type 0
 StuckIn {X = X} R part bytes left = (part bytes ≡ None) × IsStuck (λ t. (x : X) × R t x) (λ t. part t ≡ None) bytes left
 
--- it reads something before a rest that begins with the same byte
+-- a reader reads something before a rest that begins with the same byte
 abbrev pub ReadsBefore : {X : Type 0} → List ℕ → Option (X × List ℕ) → Type 0
 ReadsBefore {X = X} rest o = (x : X) × (after : List ℕ) × (o ≡ Some (x, after)) × (take 1 after ≡ take 1 rest)
 
--- it read something before this rest, and can't read more
+-- a reader read something before this rest, and can't read more
 abbrev pub StuckAfter : {X : Type 0} → (List ℕ → X → Type 0) → (List ℕ → Option (X × List ℕ)) → List ℕ → List ℕ → ℕ
     → Type 0
 StuckAfter {X = X} R part bytes rest left =

@@ -6,7 +6,7 @@ use Rattle.pagespec.specs.declared.error.SpecError.TheVariants.{Syntax}
 use Rattle.pagespec.specs.Faults.{fault_named}
 use Rattle.pagespec.specs.Places.{IsPlaceIn}
 
--- this is the text's first fault; out of memory says only that the text isn't too long
+-- a text's first fault; out of memory says only that the text isn't too long
 abbrev pub NamesFault : List ℕ → Option Fault → Type 0
 NamesFault text None = length text ≤ most_spec_bytes
 NamesFault text (Some fault) = Refuses most_slots text fault

@@ -24,7 +24,7 @@ abbrev pub split_by : {X : Type 0} → List ℕ → List X → List (List X)
 split_by [] xs = []
 split_by (n ∷ ns) xs = take n xs ∷ split_by ns (drop n xs)
 
--- these are the lengths
+-- a list has consecutive parts of these lengths
 abbrev pub AreLengths : {X : Type 0} → List ℕ → List X → Type 0
 AreLengths [] xs = Unit {0}
 AreLengths (n ∷ ns) xs = (n ≤ length xs) × AreLengths ns (drop n xs)

@@ -14,7 +14,7 @@ abbrev pub IsMeasureOf : Option Measure → rules.Measure → Type 0
 IsMeasureOf None a = is_large a.number ≡ true
 IsMeasureOf (Some m) a = (a ≡ measure_of m) × (is_large a.number ≡ false)
 
--- this measure is at the front
+-- the measure at the front of a text
 abbrev pub MeasureRead : List ℕ → Option Measure → List ℕ → Type 0
 MeasureRead bytes m rest = (a : rules.Measure) × (measure_at bytes ≡ Some (a, rest)) × IsMeasureOf m a
 
@@ -24,6 +24,6 @@ Stands (Scale n) m = (m ≡ rules.Scaled n) × (has_large m ≡ false)
 Stands (Offset x y) m = (m ≡ rules.Moved (measure_of x) (measure_of y)) × (has_large m ≡ false)
 Stands TooLarge m = has_large m ≡ true
 
--- this modifier is at the front
+-- the modifier at the front of a text
 abbrev pub ModifierRead : List ℕ → Modifier → List ℕ → Type 0
 ModifierRead bytes part rest = (m : rules.Modifier) × (modifier_at bytes ≡ Some (m, rest)) × Stands part m

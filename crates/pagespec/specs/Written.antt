@@ -12,7 +12,7 @@ abbrev pub ModuloRead : List ℕ → Option (List ℕ) → ℕ → List ℕ → 
 ModuloRead bytes None modulo rest = (modulo ≡ 1) × (rest ≡ bytes)
 ModuloRead bytes (Some behind) modulo rest = (modulo ≡ min least_large (number_of (digits bytes))) × (rest ≡ behind)
 
--- this was parsed of the text's meaning
+-- the groups that were parsed of a text, by its meaning
 pub record WrittenRead (bytes : List ℕ) (modulo : ℕ) (parsed : ParsedGroups) : Type 0 where
   pub spec : WrittenSpec
   pub found : spec_at bytes ≡ Some spec

@@ -76,12 +76,12 @@ pub record IsLargestLeft (taken : List Paper) (ks : List PaperKind) (i : ℕ) (d
   pub none_larger : (p : Paper) → Contains taken p → ((h : ℕ) → h < i → is_near p (slice_index_or ks h d).first ≡ false)
       → is_larger p (slice_index_or ks i d).first ≡ false
 
--- so it is of each kind: a law
+-- each kind of papers consists of those near to its largest: a law
 abbrev pub KindsAreOfLargest : Type 0
 KindsAreOfLargest = (taken : List Paper) (i : ℕ) (d : PaperKind) → i < length (kinds most_kinds taken)
     → IsLargestLeft taken (kinds most_kinds taken) i d
 
--- the same papers, in another order or more often, count as the same: a law
+-- papers in another order, or more often, count as the same kinds: a law
 abbrev pub OrderIsNothing : Type 0
 OrderIsNothing = (taken others own : List Paper) → ((p : Paper) → Contains taken p ↔ Contains others p)
     → as_one taken own ≡ as_one others own

@@ -77,7 +77,7 @@ abbrev pub split_name : (text : List ℕ) → Option (List ℕ × List ℕ)
 split_name [] = None
 split_name (b ∷ rest) = let n = name_len (b ∷ rest) in Some (name_in (take n (b ∷ rest)), drop n (b ∷ rest))
 
--- the same after blanks
+-- the name at the front of a value, after blanks, and the text after it
 abbrev pub name_and_rest : (value : List ℕ) → Option (List ℕ × List ℕ)
 name_and_rest value = split_name (drop (prefix_len is_blank value) value)
 
@@ -168,7 +168,7 @@ is_long side = not (int_lt side (pos 12_700_000_000_000_000))
 abbrev pub shorter_paper : (width height : ℤ) → Option Paper
 shorter_paper width height = if is_long width || is_long height then None else paper_of_sides width height
 
--- it reaches over a paper to the right or above
+-- a box reaches over a paper to the right or above
 abbrev pub reaches_over : Paper → Edges → Bool
 reaches_over paper box = is_past paper.width box.right || is_past paper.height box.top
 

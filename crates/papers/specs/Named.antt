@@ -39,6 +39,6 @@ IsKept known page = IfSome (medium_told (page_head page)) (λ name. found_at kno
 abbrev pub Knows : KnownMedia → List Medium → (page : List ℕ) → Type 0
 Knows known media page = IfSome (medium_told (page_head page)) (λ name. known_paper known name ≡ paper_of_medium name media)
 
--- so have all of these pages
+-- the known media are those of all of these pages
 abbrev pub KnowsAll : KnownMedia → List Medium → (pages : List (List ℕ)) → Type 0
 KnowsAll known media pages = (k : ℕ) → k < length pages → Knows known media (slice_index_or pages k [])

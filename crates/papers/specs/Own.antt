@@ -49,6 +49,6 @@ larger a b = if int_le a b then b else a
 abbrev pub covering : Paper → Paper → Paper
 covering a b = record { width = larger a.width b.width; height = larger a.height b.height }
 
--- it covers it: no side is shorter
+-- a paper covers another one: no side is shorter
 abbrev pub covers : (large small : Paper) → Bool
 covers large small = int_le small.width large.width && int_le small.height large.height

@@ -66,7 +66,7 @@ whole paper = record { left = pos 0; bottom = pos 0; right = paper.width; top = 
 abbrev pub extent_of : (cut_apart : Bool) → (placed own : Paper) → (box : Option Edges) → Option Edges
 extent_of apart placed own box = if is_cut placed own then (if apart then None else Some (whole own)) else box
 
--- the same of those that are taken
+-- how far a page reaches beyond its paper, if it is taken
 abbrev pub extent : Placing → (page : ℕ) → (placed : Paper) → Option Edges
 extent pages n placed = if pages.taken n
     then extent_of pages.cut_apart placed (get_or pages.own n placed) (get_or pages.boxes n None) else None
@@ -86,7 +86,7 @@ abbrev pub with_page : Option Reach → (page : ℕ × Paper × Edges) → Reach
 with_page None page = record { first = page.0; paper = page.1; edges = page.2; pages = 1 }
 with_page (Some r) page = record { first = r.first; paper = r.paper; edges = r.edges; pages = r.pages + 1 }
 
--- the same of at most one page more
+-- the reach with that of the first of these pages, if there is one
 abbrev pub with_all : Option Reach → List (ℕ × Paper × Edges) → Option Reach
 with_all reach [] = reach
 with_all reach (page ∷ more) = Some (with_page reach page)

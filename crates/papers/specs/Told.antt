@@ -11,7 +11,7 @@ use Rattle.rules.specs.Dress.{Dress, undressed}
 use Rattle.imposed_again.specs.MadeAgain.{IsTameDress}
 use Rattle.papers.specs.Own.{covering}
 
--- both sides, in points
+-- both sides of a paper, in points
 abbrev pub size_text : Paper → List ℕ
 size_text paper = points_text paper.width ++ (codes " " ++ points_text paper.height)
 

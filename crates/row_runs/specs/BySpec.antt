@@ -25,13 +25,13 @@ pages_of j = length (pages j.document.now)
 abbrev pub row_by : SpecJob → Result Row RowFault
 row_by j = chosen (pages_of j) (choice_of j.choice)
 
--- these are the sheets of the specification on that row, in signatures if there are to be some
+-- the sheets of a specification on the chosen row, in signatures if there are to be some
 pub record AreBySpec (j : SpecJob) (made : List MadeSheet) : Type 0 where
   pub row : Row
   pub is_chosen : row_by j ≡ Ok row
   pub are_made : made ≡ by_spec j.spec.now j.sheet j.page (signed (option_map signing_of j.signing) row)
 
--- and they can be planned
+-- the sheets of a specification on the chosen row, which can be planned
 pub record AreSpecPlan (j : SpecJob) (made : List MadeSheet) : Type 0 where
   pub sheets : AreBySpec j made
   pub planned : made_plan_of (pages_of j) made ≡ Ok made

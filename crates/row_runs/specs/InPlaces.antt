@@ -24,8 +24,8 @@ use Rattle.row_runs.specs.declared.asked.Laying.{Laying}
 use Rattle.row_runs.specs.declared.asked.Laying.TheVariants as laying
 use Rattle.row_runs.specs.declared.asked.Scheme.TheVariants as scheme
 
--- these sheets show all of the page of entry i: the poster has tiles, which are longer than they overlap, and each point of
--- the page is shown on one of the entry's sheets
+-- these sheets show all of the page of entry i: the poster has tiles, which are longer than they overlap, and each
+-- point of the page is shown on one of the entry's sheets
 pub record IsShownOn (p : Poster) (papers : List Paper) (i page : ℕ) (made : List MadeSheet) : Type 0 where
   pub has_tiles : HasTiles p
   pub shown : (at : Point) → IsOfPage 0 (poster_paper p papers page) at → IsOnTile p made i page (poster_paper p papers page) at
@@ -53,7 +53,7 @@ StandInPlaces (laying.InCells t (scheme.Booklet turned_backs creep)) papers row 
 StandInPlaces (laying.InCells t scheme.Zine) papers row made = AreReadFolded row made × LieInZines t made
 StandInPlaces (laying.Poster p) papers row made = (i page : ℕ) → entry_of row i ≡ Some page → IsShownOn p papers i page made
 
--- it is so on the sheets that are asked for: a law
+-- the sheets that are asked for are in their places: a law
 abbrev pub AskedStandInPlaces : Type 0
 AskedStandInPlaces = (pages : ℕ) (papers : List Paper) (a : Asked) (made : List MadeSheet) → MayBeAsked a
     → (asked : AreAsked pages papers a made)

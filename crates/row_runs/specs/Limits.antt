@@ -29,7 +29,7 @@ pub record AreFew (made : List MadeSheet) : Type 0 where
   pub sheets : length made ≤ most_sheets
   pub places : sum_by slot_count made ≤ most_places
 
--- those of cards and posters do
+-- the sheets of cards and posters keep to the limits of a plan
 abbrev pub AreFewAsLaid : Laying → List MadeSheet → Type 0
 AreFewAsLaid (laying.InCells setting (scheme.Cards cells)) made = AreFew made
 AreFewAsLaid (laying.Poster poster) made = AreFew made

@@ -13,15 +13,15 @@ use Rattle.row_runs.specs.declared.asked.Scheme.TheVariants as scheme
 abbrev pub cut_if : (asked : Bool) → Setting → List Stroke
 cut_if asked setting = if asked then cut_marks setting.room setting.grid else []
 
--- or folded there
+-- the marks where sheets are folded, if they are asked for
 abbrev pub fold_if : (asked : Bool) → Setting → List Stroke
 fold_if asked setting = if asked then fold_marks setting.room setting.grid else []
 
--- or cut round its cells alone
+-- the marks where sheets are cut round their cells alone, if they are asked for
 abbrev pub outer_cut_if : (asked : Bool) → Setting → List Stroke
 outer_cut_if asked setting = if asked then outer_cut_marks setting.room setting.grid else []
 
--- or lines for notes are drawn in the last column of its cells
+-- the lines for notes in the last column of the cells, if they are asked for
 abbrev pub ruled_if : (asked : Bool) → Setting → List Stroke
 ruled_if asked setting = if asked then note_lines setting.room setting.grid else []
 

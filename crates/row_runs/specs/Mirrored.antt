@@ -13,7 +13,7 @@ use Rattle.row_runs.specs.Turning.{farther}
 use Rattle.row_runs.specs.declared.asked.Laying.{Laying}
 use Rattle.row_runs.specs.declared.asked.Laying.TheVariants as laying
 
--- the same sheet with left and right exchanged
+-- a sheet with its left and right margins exchanged
 abbrev pub exchanged : Room → Room
 exchanged room = record room { left = room.right; right = room.left }
 

@@ -18,13 +18,14 @@ abbrev pub SlotIsNumbered : Turn → Cell → (below : Option ℤ) → MadeSlot 
 SlotIsNumbered turn cell below Blank = ⊤
 SlotIsNumbered turn cell below (Placed place item paper) = IsAtFoot turn cell (number_point below paper item)
 
--- so do those of pages in cells, as of `impose nup 4 --numbers 9pt`: a law
+-- the numbers of pages in cells lie in these, as of `impose nup 4 --numbers 9pt`: a law
 abbrev pub NumbersInCells : Type 0
 NumbersInCells = (f : Filling) (cells c : ℕ) (entry : Option ℕ) → c < size f.setting.grid → EntryFits f entry
     → SlotIsNumbered (turn_in f.setting.grid) (cell_at f.setting.room f.setting.grid (row_of f.setting.order f.setting.grid c) (column_of f.setting.order f.setting.grid c))
     (below_middle (laying.InCells f.setting (scheme.Grid cells))) (slot_in f c entry)
 
--- and those of booklets, whose halves creep with their leaves, as of `impose booklet --numbers 9pt`: a law
+-- the numbers of a booklet's pages lie in the halves, which creep with their leaves, as of `impose booklet --numbers
+-- 9pt`: a law
 abbrev pub NumbersInHalves : Type 0
 NumbersInHalves = (f : Filling) (turned_backs by_half : Bool) (k creep : ℕ) (entry : Option ℕ) → k < 2 → AreHalves f.setting → EntryCreeps f creep entry
     → SlotIsNumbered (side_turn by_half) (creeping_half f.setting by_half k creep) (below_middle (laying.InCells f.setting (scheme.Booklet turned_backs creep)))

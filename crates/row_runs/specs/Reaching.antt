@@ -23,11 +23,11 @@ abbrev pub is_moved_near : Option Room → Item → Bool
 is_moved_near None item = true
 is_moved_near (Some room) item = is_near (moved_item (Some room) item).x
 
--- and once it is turned
+-- an item is within reach once it is turned
 abbrev pub is_turned_near : Turn → (paper : Paper) → Item → Bool
 is_turned_near turn paper item = let turned = turned_item turn paper item in is_near turned.x && is_near turned.y
 
--- and so the page of a slot, if there is one
+-- the page of a slot, if there is one, is within reach once it is moved and turned
 abbrev pub is_item_reached : Turn → Option Room → (paper : Paper) → Item → Bool
 is_item_reached turn mirror paper item = is_moved_near mirror item && is_turned_near turn paper (moved_item mirror item)
 
@@ -35,7 +35,7 @@ abbrev pub is_slot_reached : Turn → Option Room → MadeSlot → Bool
 is_slot_reached turn mirror Blank = true
 is_slot_reached turn mirror (Placed page item paper) = is_item_reached turn mirror paper item
 
--- so has each page of these sheets, of which the first is sheet s
+-- each page of these sheets, the first of which is sheet s, is within reach once it is moved and turned
 abbrev pub are_reached_from : Turn → Option Room → (s : ℕ) → List MadeSheet → Bool
 are_reached_from turn mirror s [] = true
 are_reached_from turn mirror s (sheet ∷ made) =

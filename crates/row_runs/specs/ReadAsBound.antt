@@ -23,7 +23,7 @@ AreReadAs right_to_left turned_backs sides row made = (let signatures = blocks s
     flat_map (read_bound right_to_left (sides / 4) (faces_on right_to_left turned_backs made)) (range_with_len 0 signatures)
     ≡ map (entry_of row) (range_with_len 0 (signatures * sides)))
 
--- so the booklet that is asked for is read in the order of the row that is chosen: a law
+-- the booklet that is asked for is read in the order of the row that is chosen: a law
 abbrev pub AskedIsRead : Type 0
 AskedIsRead = (pages : ℕ) (papers : List Paper) (a : Asked) (made : List MadeSheet) (t : Setting) (turned_backs : Bool) (creep : ℕ) (how : Signing)
     → MayBeAsked a → (asked : AreAsked pages papers a made) → a.laying ≡ laying.InCells t (scheme.Booklet turned_backs creep) → a.signing ≡ Some how

@@ -31,7 +31,7 @@ page_count j = length (pages j.document.now)
 abbrev pub mirror_for : RowJob → Option Room
 mirror_for j = mirror_in j.mirrored j.asked.laying
 
--- the same sheets with left and right exchanged on backs, and with their pages turned, as is asked for
+-- sheets with left and right exchanged on backs, and with their pages turned, as is asked for
 abbrev pub turned_on : RowJob → List MadeSheet → List MadeSheet
 turned_on j laid = map (turned_sheet (turn_of j.turn)) (mirrored (mirror_for j) laid)
 
@@ -39,12 +39,12 @@ turned_on j laid = map (turned_sheet (turn_of j.turn)) (mirrored (mirror_for j) 
 abbrev pub are_laid_in_reach : RowJob → (laid : List MadeSheet) → Bool
 are_laid_in_reach j laid = are_reached (turn_of j.turn) (mirror_for j) laid
 
--- and each number once it is moved
+-- each number of a page is within reach once it is moved
 abbrev pub have_numbers_in_reach : RowJob → Bool
 have_numbers_in_reach j = are_numbers_reached (page_count j) j.papers.now j.asked (mirror_for j) j.marks.numbers
 
--- these sheets are asked for, with pages of the papers that they have once they are turned, which lie as they are to be laid;
--- and then backs are moved, and they are turned, which brings none out of reach
+-- these sheets are asked for, with pages of the papers that they have once they are turned, which lie as they are to be
+-- laid; then backs are moved, and pages turned, which brings none out of reach
 pub record AreTurned (j : RowJob) (made : List MadeSheet) : Type 0 where
   pub may : MayBeAsked j.asked
   pub laid : List MadeSheet
@@ -53,7 +53,7 @@ pub record AreTurned (j : RowJob) (made : List MadeSheet) : Type 0 where
   pub reached : are_laid_in_reach j laid ≡ true
   pub turned : made ≡ turned_on j laid
 
--- and they can be planned
+-- the sheets that are asked for, moved and turned, which can be planned
 pub record ArePlanned (j : RowJob) (made : List MadeSheet) : Type 0 where
   pub are : AreTurned j made
   pub planned : made_plan_of (page_count j) made ≡ Ok made
@@ -62,7 +62,7 @@ pub record ArePlanned (j : RowJob) (made : List MadeSheet) : Type 0 where
 abbrev pub strokes_on : RowJob → List Stroke
 strokes_on j = strokes_in j.marks j.asked.laying
 
--- and the numbers of their pages
+-- the numbers of the pages, moved on backs as the pages are
 abbrev pub numbers_on : RowJob → Option Numbers
 numbers_on j = numbers_asked (page_count j) j.papers.now j.asked (mirror_for j) j.marks.numbers
 

@@ -31,8 +31,8 @@ use Rattle.row_runs.specs.declared.asked.Scheme.TheVariants as scheme
 use Rattle.row_runs.specs.declared.error.AskedError.{AskedError}
 use Rattle.row_runs.specs.declared.error.AskedError.TheVariants as error
 
--- so many cells are some, and the sheet has them; those of a booklet are its halves, those of a zine two rows of four; a poster has no more sheets than it may
--- have, and no wider margins
+-- a way of laying has at least one cell, and the sheet has all of them; those of a booklet are its halves, those of a
+-- zine two rows of four; a poster has no more sheets than it may have, and no wider margins
 abbrev pub MayBeLaid : Laying → Type 0
 MayBeLaid (laying.AsTheyAre blank) = ⊤
 MayBeLaid (laying.InCells t (scheme.Grid cells)) = (0 < cells) × (cells ≤ size t.grid)
@@ -43,7 +43,7 @@ MayBeLaid (laying.InCells t (scheme.Booklet turned_backs creep)) = AreHalves t
 MayBeLaid (laying.InCells t scheme.Zine) = AreZineCells t
 MayBeLaid (laying.Poster poster) = (poster.rows * poster.columns ≤ most_tiles) × (poster.edge ≤ 10_000_000_000)
 
--- and a signature may have so many sides
+-- sheets may be asked for: they may be laid, and a signature may have its number of sides
 pub record MayBeAsked (a : Asked) : Type 0 where
   pub laid : MayBeLaid a.laying
   pub sewn : IfSome a.signing MayBeSewn
@@ -127,8 +127,8 @@ why_not_asked papers a row = let printed = signed (sewn a) row in
     option_or (option_map error.Arrangement (why_not_even_if a.same_scale a.laying papers printed))
     (why_not_laid (laying_for a papers row) (leaves_in (sewn a) row) papers printed)
 
--- these are the sheets that are asked for: the row that is chosen, in signatures if there are to be some, laid as is asked,
--- and no page of it had to be refused
+-- the sheets that are asked for: the row that is chosen, in signatures if there are to be some, laid as is asked, with
+-- no page of it refused
 pub record AreAsked (pages : ℕ) (papers : List Paper) (a : Asked) (made : List MadeSheet) : Type 0 where
   pub row : Row
   pub is_chosen : row_chosen pages a ≡ Ok row

@@ -39,7 +39,7 @@ corner Right width height = record { x = pos 0; y = height }
 abbrev pub long : (scale side : ℤ) → ℕ
 long scale side = (nat_abs scale * nat_abs side + 1_269_999_999_999_999) / 1_270_000_000_000_000
 
--- so many 10^-5 of a point farther, of what is moved by points
+-- a measure of something that is moved by this number of 10^-5 of a point
 abbrev pub farther : ℤ → Measure → Measure
 farther by m = record { number = m.number +ℤ (pos 10_000 *ℤ by); unit = m.unit }
 
@@ -84,7 +84,7 @@ on_turned turn paper p = moved (corner turn paper.width paper.height) (turned tu
 abbrev pub excess : (scale side : ℕ) → ℤ
 excess scale side = fine (long (pos scale) (pos side)) -ℤ pos (scale * side)
 
--- it is less than 10^-5 of a point
+-- a length is less than 10^-5 of a point
 pub record IsLittle (z : ℤ) : Type 0 where
   pub some : pos 0 ≤ℤ z
   pub less : (z +ℤ pos 1) ≤ℤ fine 1

@@ -58,12 +58,13 @@ StandAsWritten true (laying.InCells t scheme.Leaves) made = StandOnSides t.room 
 StandAsWritten true other made = StandAsLaid other made
 StandAsWritten false l made = StandAsLaid l made
 
--- so do the sheets that are written, if no page is turned, as in `impose nup 4 --margin inner=1cm`: a law
+-- the sheets that are written are inside and apart if no page is turned, as in `impose nup 4 --margin inner=1cm`: a law
 abbrev pub WrittenStand : Type 0
 WrittenStand = (j : RowJob) (made : List MadeSheet) → AreTurned j made → turn_of j.turn ≡ Upright
     → StandAsWritten j.mirrored j.asked.laying made
 
--- and they are in order, stacks and zines can be cut, and posters show their pages, if no margins are exchanged either: a law
+-- the sheets that are written are in order, stacks and zines can be cut, and posters show their pages, if no page is
+-- turned and no margins are exchanged: a law
 abbrev pub WrittenInPlaces : Type 0
 WrittenInPlaces = (j : RowJob) (made : List MadeSheet) → (are : AreTurned j made) → turn_of j.turn ≡ Upright → mirror_for j ≡ None
     → StandInPlaces (laying_for j.asked j.papers.now are.asked.row) j.papers.now (signed (sewn j.asked) are.asked.row) made
@@ -80,12 +81,12 @@ AreReadInOrder (laying.InCells t scheme.Leaves) row made = ArePiledLeaves t row 
 AreReadInOrder (laying.InCells t scheme.Zine) row made = AreReadFolded row made
 AreReadInOrder other row made = ⊤
 
--- so it is of the sheets that are written, as by `impose nup 4 --turn left`: a law
+-- the sheets that are written are read in order, as by `impose nup 4 --turn left`: a law
 abbrev pub WrittenAreRead : Type 0
 WrittenAreRead = (j : RowJob) (made : List MadeSheet) → (are : AreTurned j made)
     → AreReadInOrder (laying_for j.asked j.papers.now are.asked.row) (signed (sewn j.asked) are.asked.row) made
 
--- and the booklet that is written is read in the order of the row that is chosen, as by `impose booklet --turn left`: a law
+-- the booklet that is written is read in the order of the row that is chosen, as by `impose booklet --turn left`: a law
 abbrev pub WrittenIsBound : Type 0
 WrittenIsBound = (j : RowJob) (made : List MadeSheet) (t : Setting) (turned_backs : Bool) (creep : ℕ) (how : Signing) → (are : AreTurned j made)
     → j.asked.laying ≡ laying.InCells t (scheme.Booklet turned_backs creep) → j.asked.signing ≡ Some how
@@ -117,7 +118,7 @@ abbrev pub AreInCells : Turn → (exchanged : Bool) → Setting → List MadeShe
 AreInCells turn exchanged t made = (s c : ℕ) (sheet : MadeSheet) (d : MadeSlot) → s < length made → c < length (slice_index_or made s sheet).slots
     → SlotIsInCell turn t (side_room exchanged t.room s) c (slice_index_or (slice_index_or made s sheet).slots c d)
 
--- so on zines, where pages of the first row are upside down
+-- a page lies in its cell of a zine, where pages of the first row are upside down
 abbrev pub SlotIsInZine : Turn → Setting → (c : ℕ) → MadeSlot → Type 0
 SlotIsInZine turn t c Blank = ⊤
 SlotIsInZine turn t c (Placed page item paper) = (item.turn ≡ both turn (zine_turn t c))
@@ -126,7 +127,7 @@ SlotIsInZine turn t c (Placed page item paper) = (item.turn ≡ both turn (zine_
 abbrev pub AreInZines : Turn → Setting → List MadeSheet → Type 0
 AreInZines turn t made = All (λ sheet. (c : ℕ) (d : MadeSlot) → c < length sheet.slots → SlotIsInZine turn t c (slice_index_or sheet.slots c d)) made
 
--- and on the sides of a booklet, in halves that creep with their leaves
+-- a page lies in its half of a side of a booklet, which creeps with its leaf
 abbrev pub SlotIsInHalf : Turn → Setting → (by_half : Bool) → (k creep : ℕ) → MadeSlot → Type 0
 SlotIsInHalf turn t by_half k creep Blank = ⊤
 SlotIsInHalf turn t by_half k creep (Placed page item paper) = (item.turn ≡ both turn (side_turn by_half))
@@ -146,7 +147,7 @@ AreInTheirCells turn exchanged (laying.InCells t (scheme.Booklet turned_backs cr
 AreInTheirCells turn exchanged (laying.InCells t scheme.Zine) leaves made = AreInZines turn t made
 AreInTheirCells turn exchanged other leaves made = ⊤
 
--- so it is of the sheets that are written, as by `impose booklet --turn left`: a law
+-- the pages of the sheets that are written lie in their cells, as by `impose booklet --turn left`: a law
 abbrev pub WrittenInCells : Type 0
 WrittenInCells = (j : RowJob) (made : List MadeSheet) → (are : AreTurned j made)
     → AreInTheirCells (turn_of j.turn) j.mirrored (laying_for j.asked j.papers.now are.asked.row) (leaves_in (sewn j.asked) are.asked.row) made
@@ -174,7 +175,7 @@ pub record KeepFold (t : Setting) (turned_backs : Bool) (made : List MadeSheet) 
       → SlotKeepsFold (is_before t.order.right_to_left (is_turned turned_backs s) k) t.room (fold_on t.room (is_turned turned_backs s) twice)
       (slice_index_or (slice_index_or made s sheet).slots k d)
 
--- and so does each side of a booklet, with what its leaf leaves of the gap as it creeps
+-- each side of a booklet keeps margins, fold and what its leaf leaves of the gap as it creeps
 abbrev pub KeepLeaves : Setting → (turned_backs : Bool) → (creep leaves : ℕ) → List MadeSheet → Type 0
 KeepLeaves t turned_backs creep leaves made = t.room.trim ≡ 0 → StandCrept t.room creep leaves made × KeepFold t turned_backs made
 
@@ -186,7 +187,7 @@ KeepTheirRoom exchanged (laying.InCells t scheme.Leaves) leaves made = KeepRoom 
 KeepTheirRoom exchanged (laying.InCells t (scheme.Booklet turned_backs creep)) leaves made = KeepLeaves t turned_backs creep leaves made
 KeepTheirRoom exchanged other leaves made = ⊤
 
--- so it is of the sheets that are written, as by `impose nup 4 --gap 1cm --turn left`: a law
+-- the sheets that are written keep margins and gaps, as by `impose nup 4 --gap 1cm --turn left`: a law
 abbrev pub WrittenKeepRoom : Type 0
 WrittenKeepRoom = (j : RowJob) (made : List MadeSheet) → (are : AreTurned j made)
     → KeepTheirRoom j.mirrored (laying_for j.asked j.papers.now are.asked.row) (leaves_in (sewn j.asked) are.asked.row) made

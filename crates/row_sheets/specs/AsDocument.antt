@@ -11,7 +11,7 @@ use Rattle.row_sheets.specs.RowSheets.{selected}
 use Rattle.row_sheets.specs.SameScale.{at_one_scale}
 use Rattle.row_sheets.specs.Shapes.{filling}
 
--- the same sheets, with other numbers of pages
+-- a slot with another number of its page
 abbrev pub renamed_slot : (number : ℕ → ℕ) → MadeSlot → MadeSlot
 renamed_slot number Blank = Blank
 renamed_slot number (Placed page item paper) = Placed (number page) item paper

@@ -38,7 +38,8 @@ PrintedIsImposed = (page sheet : Paper) (a : Arrangement) (spec : Spec) (papers 
     → made_on sheet page (sheets spec (length papers))
     ≡ grid_sheets (filling (setting_of page sheet a) papers) (count_of a.cells) (all_pages (length papers))
 
--- and so are those of a booklet that doesn't creep, and is flipped on its short edge, in signatures of so many sides
+-- the sheets of a booklet that doesn't creep, and is flipped on its short edge, in signatures, are those of its printed
+-- specification: a law
 abbrev pub PrintedBookletIsImposed : Type 0
 PrintedBookletIsImposed = (page sheet : Paper) (b : Binding) (sides leaves : ℕ) (spec : Spec) (papers : List Paper)
     → why_not_bound page sheet b ≡ None → b.long_edge ≡ false → HaveOnePaper page papers → IsReadAs (bound page sheet b) spec
@@ -58,7 +59,8 @@ abbrev pub NothingIsWrittenOfNumbers : Type 0
 NothingIsWrittenOfNumbers = (border : Option Border) (dress : Dress) (pages : List (List ℕ)) (s : ℕ) (sheet : MadeSheet)
     → made_sheet_text border dress pages s (unnumbered sheet) ≡ made_sheet_text border dress pages s sheet
 
--- and so are those of one that is flipped on its long edge, in signatures of whole leaves, but for the pages that items name
+-- the sheets of a booklet that is flipped on its long edge, in signatures of whole leaves, are those of its printed
+-- specification, but for the pages that items name: a law
 abbrev pub PrintedBacksAreImposed : Type 0
 PrintedBacksAreImposed = (page sheet : Paper) (b : Binding) (k leaves : ℕ) (spec : Spec) (papers : List Paper)
     → why_not_bound page sheet b ≡ None → b.long_edge ≡ true → HaveOnePaper page papers → IsReadAs (bound page sheet b) spec

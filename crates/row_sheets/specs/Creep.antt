@@ -48,7 +48,7 @@ abbrev pub leaf_item : (page : Paper) → Room → (right_to_left : Bool) → (s
 leaf_item page room right_to_left s creep k =
     moved_up (to_fold right_to_left k creep) (item_in page room (beside true) (leaf_order right_to_left) s k)
 
--- it is the page of a leaf that doesn't creep, moved towards the fold: a law
+-- a page of a creeping leaf is that of a leaf that doesn't creep, moved towards the fold: a law
 abbrev pub CreepMoves : Type 0
 CreepMoves = (page : Paper) (room : Room) (right_to_left : Bool) (s creep k : ℕ) (p : Point)
     → ((stands page (leaf_item page room right_to_left s creep k) p).x
@@ -117,7 +117,7 @@ creeping_slot f by_half k creep None = Blank
 creeping_slot f by_half k creep (Some page) =
     let paper = f.paper_of page in Placed page (creeping f.setting by_half paper k creep) paper
 
--- so many sides of leaves that creep so far, in signatures of so many leaves
+-- sides of leaves that creep, in signatures of `leaves` leaves
 abbrev pub creeping_sides : Filling → (turned_backs : Bool) → (creep leaves sheets : ℕ) → Row → List MadeSheet
 creeping_sides f turned_backs creep leaves sheets row = map (λ s. record {
   paper = f.setting.room.paper;
@@ -125,7 +125,7 @@ creeping_sides f turned_backs creep leaves sheets row = map (λ s. record {
       (range_with_len 0 2);
 }) (range_with_len 0 sheets)
 
--- those of a booklet
+-- the sheets of a booklet whose leaves creep
 abbrev pub creeping_sheets : Filling → (turned_backs : Bool) → (creep leaves : ℕ) → Row → List MadeSheet
 creeping_sheets f turned_backs creep leaves row =
     creeping_sides f turned_backs creep leaves (blocks 2 (length row)) row
@@ -152,7 +152,7 @@ abbrev pub first_over_fold : Filling → (creep leaves : ℕ) → Row → Option
 first_over_fold f creep leaves row =
     first_fault (λ i. why_no_half f (creep_on creep leaves (i / 2)) (entry_of row i)) (length row)
 
--- it is that reason, or out of memory
+-- a creeping booklet is refused for its first reason, or for memory
 abbrev pub IsRefusedCreeping : Filling → (creep leaves : ℕ) → Row → ArrangementError → Type 0
 IsRefusedCreeping f creep leaves row e = (e ≡ why.NoMemory) ⊎ (first_over_fold f creep leaves row ≡ Some e)
 

@@ -44,7 +44,7 @@ slot_on f true c entry = back_slot_in f c entry
 abbrev pub is_turned : (turned_backs : Bool) → (s : ℕ) → Bool
 is_turned turned_backs s = turned_backs && (s % 2 == 1)
 
--- so many sheets with so many cells each, of which cell c of sheet s has this entry
+-- sheets with this number of cells each, of which cell c of sheet s has the entry for it
 abbrev pub sides : Filling → (turned_backs : Bool) → (sheets cells : ℕ) → (entry : (s c : ℕ) → Option ℕ) → List MadeSheet
 sides f turned_backs sheets cells entry = map (λ s. record {
   paper = f.setting.room.paper;
@@ -123,7 +123,7 @@ zine_sheets f row = map (λ s. record {
 abbrev pub BookletIsGrid : Type 0
 BookletIsGrid = (f : Filling) (row : Row) → booklet_sheets f false row ≡ grid_sheets f 2 row
 
--- so many cells of each sheet in turn are the row, and after its end blanks
+-- the cells of the sheets, in turn, have the row, and blanks after its end: a law
 abbrev pub GridRunsOn : Type 0
 GridRunsOn = (cells sheets : ℕ) (row : Row)
     → flat_map (λ s. map (grid_entry cells row s) (range_with_len 0 cells)) (range_with_len 0 sheets)

@@ -67,7 +67,8 @@ abbrev pub LieInHalves : Setting → (turned_backs : Bool) → (creep leaves : �
 LieInHalves t turned_backs creep leaves made = (s k : ℕ) (sheet : MadeSheet) (d : MadeSlot) → s < length made → k < length (slice_index_or made s sheet).slots
     → SlotLiesInHalf t (is_turned turned_backs s) k (creep_on creep leaves s) (slice_index_or (slice_index_or made s sheet).slots k d)
 
--- so it is of a booklet, if nothing had to be refused, as by `impose booklet --creep 2mm --gap 1cm`: a law
+-- the pages of a booklet lie in its halves, if nothing had to be refused, as by `impose booklet --creep 2mm --gap 1cm`:
+-- a law
 abbrev pub BookletLiesInHalves : Type 0
 BookletLiesInHalves = (f : Filling) (turned_backs : Bool) (creep leaves : ℕ) (row : Row) → AreHalves f.setting → AllFitOnLeaves f creep leaves row
     → LieInHalves f.setting turned_backs creep leaves (creeping_sheets f turned_backs creep leaves row)
@@ -80,7 +81,7 @@ crept_room room creep = record room { gap_up = room.gap_up - 2 * creep }
 abbrev pub StandCrept : Room → (creep leaves : ℕ) → List MadeSheet → Type 0
 StandCrept room creep leaves made = (s : ℕ) (d : MadeSheet) → s < length made → StandsIn (crept_room room (creep_on creep leaves s)) (slice_index_or made s d)
 
--- so it is of a booklet: a law
+-- the pages of a booklet are apart by the gap less twice the creep: a law
 abbrev pub BookletKeepsGap : Type 0
 BookletKeepsGap = (f : Filling) (turned_backs : Bool) (creep leaves : ℕ) (row : Row) → AreHalves f.setting → AllFitOnLeaves f creep leaves row
     → StandCrept f.setting.room creep leaves (creeping_sheets f turned_backs creep leaves row)

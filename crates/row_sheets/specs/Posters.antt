@@ -114,7 +114,7 @@ why_no_tiles p papers (Some page) = why_no_poster (poster_paper p papers page) p
 abbrev pub first_no_poster : Poster → List Paper → Row → Option PosterError
 first_no_poster p papers row = first_fault (λ i. why_no_tiles p papers (entry_of row i)) (length row)
 
--- it is that reason, or out of memory
+-- a poster of a row is refused for its first reason, or for memory
 abbrev pub IsNoPosterFor : Poster → List Paper → Row → PosterError → Type 0
 IsNoPosterFor p papers row e = IsNoPoster (first_no_poster p papers row) e
 
@@ -203,8 +203,8 @@ first_tile p i = i * (p.rows * p.columns)
 abbrev pub item_on : Poster → (paper : Paper) → (n : ℕ) → Item
 item_on p paper n = tile_item paper p (n % p.columns) (p.rows - (n / p.columns + 1))
 
--- these sheets show a point of a page: one of the entry's sheets has the page as that tile of its poster has it, by the page's own
--- paper, and shows the point between its margins
+-- these sheets show a point of a page: one of the entry's sheets has the page as that tile of its poster has it, by the
+-- page's own paper, and shows the point between its margins
 pub record IsOnTile (p : Poster) (made : List MadeSheet) (i page : ℕ) (paper : Paper) (at : Point) : Type 0 where
   pub n : ℕ
   pub is_one : n < p.rows * p.columns
@@ -229,7 +229,7 @@ abbrev pub exact_length : (side edge overlap tiles : ℕ) → ℕ
 exact_length side edge overlap tiles =
     (tiles - 1) * (1_000_000_000 * side - 1_270_000_000_000_000 * (2 * edge + overlap)) + (1_000_000_000 * side - 1_270_000_000_000_000 * (2 * edge))
 
--- or if nothing is rounded
+-- the tiles allow this scale, if nothing is rounded
 pub record AllowTiles (page : Paper) (p : Poster) (scale : ℕ) : Type 0 where
   pub wide : scale * nat_abs page.width ≤ exact_length (nat_abs p.sheet.width) p.edge p.overlap p.columns
   pub high : scale * nat_abs page.height ≤ exact_length (nat_abs p.sheet.height) p.edge p.overlap p.rows
@@ -246,7 +246,7 @@ pub record IsLarge (page : Paper) (p : Poster) : Type 0 where
   pub largest : (scale : ℕ) → FitsTiles page p scale → scale ≤ poster_scale page p
   pub large : (scale : ℕ) → IsNoTinyPage page → HasTiles p → AllowTiles page p scale → scale < poster_scale page p + 1_000 * (p.columns + p.rows)
 
--- so it is of each page that has sides, as by `impose poster 2x2 --overlap 1cm`: a law
+-- the page of a poster is as large as its tiles allow, as by `impose poster 2x2 --overlap 1cm`: a law
 abbrev pub PosterIsLarge : Type 0
 PosterIsLarge = (page : Paper) (p : Poster) → IsPaper page → IsLarge page p
 

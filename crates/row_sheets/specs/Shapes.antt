@@ -61,7 +61,7 @@ abbrev pub slot_by : CellKind → Filling → (c : ℕ) → Option ℕ → MadeS
 slot_by kind.Zine f c entry = zine_slot f c entry
 slot_by other f c entry = slot_in f c entry
 
--- so many sheets with so many cells each, of which cell c of sheet s has this entry
+-- sheets with this number of cells each, of which cell c of sheet s has the entry for it
 abbrev pub filled_by : CellKind → Filling → (sheets cells : ℕ) → (entry : (s c : ℕ) → Option ℕ) → List MadeSheet
 filled_by way f sheets cells entry = map (λ s. record {
   paper = f.setting.room.paper;
@@ -82,6 +82,6 @@ why_no_place f (Some page) = why_not_fitted f.setting (f.paper_of page)
 abbrev pub first_refused : Filling → Row → Option ArrangementError
 first_refused f row = first_fault (λ i. why_no_place f (entry_of row i)) (length row)
 
--- it is that reason, or out of memory
+-- a row is refused for its first reason, or for memory
 abbrev pub IsRefusedFor : Filling → Row → ArrangementError → Type 0
 IsRefusedFor f row e = (e ≡ why.NoMemory) ⊎ (first_refused f row ≡ Some e)

@@ -29,7 +29,7 @@ shown_on cells sheet = map (shown_at sheet) (range_with_len 0 cells)
 abbrev pub AreFilledInTurn : (cells : ℕ) → Row → List MadeSheet → Type 0
 AreFilledInTurn cells row made = flat_map (shown_on cells) made ≡ map (entry_of row) (range_with_len 0 (blocks cells (length row) * cells))
 
--- so it is of a grid, as of `impose nup 4`: a law
+-- a grid reads in the order of its row, as of `impose nup 4`: a law
 abbrev pub GridIsRead : Type 0
 GridIsRead = (f : Filling) (cells : ℕ) (row : Row) → AreFilledInTurn cells row (grid_sheets f cells row)
 
@@ -37,7 +37,7 @@ GridIsRead = (f : Filling) (cells : ℕ) (row : Row) → AreFilledInTurn cells r
 abbrev pub AreCards : (cells : ℕ) → Row → List MadeSheet → Type 0
 AreCards cells row made = map (shown_on cells) made ≡ map (λ s. map (λ c. entry_of row s) (range_with_len 0 cells)) (range_with_len 0 (length row))
 
--- so it is of cards: a law
+-- the cards of a row are in its order: a law
 abbrev pub CardsAreRead : Type 0
 CardsAreRead = (f : Filling) (cells : ℕ) (row : Row) → AreCards cells row (card_sheets f cells row)
 
@@ -50,7 +50,7 @@ abbrev pub ArePiled : (cells : ℕ) → Row → List MadeSheet → Type 0
 ArePiled cells row made =
     flat_map (pile made) (range_with_len 0 cells) ≡ map (entry_of row) (range_with_len 0 (cells * blocks cells (length row)))
 
--- so it is of a stack: a law
+-- a stack, cut and put together, reads in the order of its row: a law
 abbrev pub StackIsRead : Type 0
 StackIsRead = (f : Filling) (cells : ℕ) (row : Row) → ArePiled cells row (stack_sheets f cells row)
 
@@ -67,7 +67,7 @@ ArePiledLeaves t row made =
     flat_map (λ c. turned_pile c (behind_in t c) made) (range_with_len 0 (size t.grid))
     ≡ map (entry_of row) (range_with_len 0 (size t.grid * (2 * blocks (2 * size t.grid) (length row))))
 
--- so it is of a stack on both sides of leaves: a law
+-- a stack on both sides of leaves, cut and put together, reads in the order of its row: a law
 abbrev pub LeavesAreRead : Type 0
 LeavesAreRead = (f : Filling) (row : Row) → ArePiledLeaves f.setting row (duplex_sheets f row)
 
@@ -99,8 +99,8 @@ LieBehind true sheet slack front back =
 LieBehind false sheet slack front back =
     (back.left ≡ front.left) × AreMirrored (whole (nat_abs sheet.height)) slack front.bottom (back.bottom + back.height)
 
--- so it is of a cell and the one behind it on sheets with even margins, to 10^-5 of a point for each column, as one reads the
--- sheet: a law
+-- a cell and the one behind it lie behind each other on sheets with even margins, to 10^-5 of a point for each column,
+-- as one reads the sheet: a law
 abbrev pub CellsLieBehind : Type 0
 CellsLieBehind = (t : Setting) (c : ℕ) → IsEven t.room → 0 < wide t.room t.grid → 0 < high t.room t.grid → c < size t.grid
     → LieBehind (reads_across t) t.room.paper (read_columns t.order.turned t.grid) (place_of t c) (place_of t (behind_in t c))

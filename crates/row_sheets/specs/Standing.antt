@@ -76,7 +76,7 @@ pub record FitsIn (t : Setting) (page : Paper) : Type 0 where
   pub page_is : IsPaper page
   pub fits : why_not_fitted t page ≡ None
 
--- and in the halves of a leaf that creeps so far
+-- a page fits into the halves of a leaf that creeps by this
 pub record FitsOnLeaf (t : Setting) (page : Paper) (creep : ℕ) : Type 0 where
   pub sheet_is : IsPaper t.room.paper
   pub page_is : IsPaper page
@@ -96,7 +96,7 @@ abbrev pub IsOfCell : Setting → (c : ℕ) → MadeSlot → Type 0
 IsOfCell t c Blank = ⊤
 IsOfCell t c (Placed page item paper) = FitsIn t paper × (item ≡ fitted t paper c)
 
--- or in half k of a leaf that creeps so far
+-- a slot has a page in half k of a creeping leaf
 abbrev pub IsOfHalf : Setting → (by_half : Bool) → (k creep : ℕ) → MadeSlot → Type 0
 IsOfHalf t by_half k creep Blank = ⊤
 IsOfHalf t by_half k creep (Placed page item paper) = FitsOnLeaf t paper creep × (item ≡ creeping t by_half paper k creep)
@@ -105,7 +105,7 @@ IsOfHalf t by_half k creep (Placed page item paper) = FitsOnLeaf t paper creep �
 abbrev pub AllFit : Filling → Row → Type 0
 AllFit f row = (i : ℕ) → EntryFits f (entry_of row i)
 
--- and so on leaves that creep, in signatures of so many
+-- all pages of a row fit on creeping leaves, in signatures of `leaves` leaves
 abbrev pub AllFitOnLeaves : Filling → (creep leaves : ℕ) → Row → Type 0
 AllFitOnLeaves f creep leaves row =
     (s k : ℕ) → k < 2 → EntryCreeps f (creep_on creep leaves s) (grid_entry 2 row s k)

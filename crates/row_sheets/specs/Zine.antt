@@ -36,7 +36,7 @@ other_side p = if p.column == 1 || p.column == 2 then record { row = p.row; colu
 abbrev pub facing : Part → Part
 facing p = record { row = p.row; column = if p.column % 2 == 0 then p.column + 1 else p.column - 1 }
 
--- so many leaves, the first from this side of it on: its two sides, and then the leaf that faces it
+-- leaves, the first from this side of it on: its two sides, and then the leaf that faces it
 abbrev pub leaves_from : (leaves : ℕ) → Part → List Part
 leaves_from zero p = []
 leaves_from (suc n) p = p ∷ other_side p ∷ leaves_from n (facing (other_side p))
@@ -53,7 +53,7 @@ read_folded sheet = map (λ p. shown_at sheet (p.row * 4 + p.column)) in_hand
 abbrev pub AreReadFolded : Row → List MadeSheet → Type 0
 AreReadFolded row made = flat_map read_folded made ≡ map (entry_of row) (range_with_len 0 (blocks 8 (length row) * 8))
 
--- so it is of a zine: a law
+-- a folded zine reads in the order of its row: a law
 abbrev pub ZineIsRead : Type 0
 ZineIsRead = (f : Filling) (row : Row) → AreReadFolded row (zine_sheets f row)
 
@@ -87,7 +87,7 @@ kept_by other room = room
 abbrev pub zine_turn : Setting → (c : ℕ) → Turn
 zine_turn t c = if nat_lt c 4 then half_turned (turn_in t.grid) else turn_in t.grid
 
--- and how far it reaches past the cell at most: the first row is rounded as the second one is, and then turned by half
+-- how far a page reaches past its cell at most: the first row is rounded as the second one is, and then turned by half
 abbrev pub past_row : (c : ℕ) → ℕ
 past_row c = if nat_lt c 4 then 3 else 0
 
@@ -103,10 +103,10 @@ abbrev pub SlotLiesInZine : Setting → (c : ℕ) → MadeSlot → Type 0
 SlotLiesInZine t c Blank = ⊤
 SlotLiesInZine t c (Placed page item paper) = LiesInZine t c paper item
 
--- so lies each page of these sheets
+-- each page of these sheets lies in its cell of a zine
 abbrev pub LieInZines : Setting → List MadeSheet → Type 0
 LieInZines t made = All (λ sheet. (c : ℕ) (d : MadeSlot) → c < length sheet.slots → SlotLiesInZine t c (slice_index_or sheet.slots c d)) made
 
--- so it is of a zine, if nothing had to be refused, as by `impose zine`: a law
+-- the pages of a zine lie in their cells, if nothing had to be refused, as by `impose zine`: a law
 abbrev pub ZineLiesInCells : Type 0
 ZineLiesInCells = (f : Filling) (row : Row) → AreZineCells f.setting → AllFit f row → LieInZines f.setting (zine_sheets f row)

@@ -51,7 +51,7 @@ is_offset (Quarters n) = false
 is_offset (Scaled v) = false
 is_offset (Moved x y) = true
 
--- it is a scale that isn't above zero
+-- a modifier is a scale that isn't above zero
 abbrev pub is_flat : Modifier → Bool
 is_flat (Quarters n) = false
 is_flat (Scaled v) = int_le v (pos 0)

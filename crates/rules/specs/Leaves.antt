@@ -31,7 +31,7 @@ SheetsAreFaces = (i k : Item) (row : Row)
     → sheets_of_row (record { modulo = 2; groups = (i ∷ k ∷ []) ∷ [] }) row
     ≡ map (λ face. record { page = face.left; item = i } ∷ record { page = face.right; item = k } ∷ []) (faces row)
 
--- this many leaves from the innermost to the outermost, if leaf 0 is the outermost
+-- the leaves from the innermost to the outermost, which is leaf 0
 abbrev pub outwards : (leaves : ℕ) → List ℕ
 outwards zero = []
 outwards (suc j) = j ∷ outwards j

@@ -21,7 +21,7 @@ pub record Border : Type 0 where
   pub width : ℤ
   pub inset : ℤ
 
--- so far within the edges a border of this width, if one is given
+-- a border of this width, if one is given, by `inset` within the edges
 abbrev pub border_within : (inset : ℤ) → Option ℤ → Option Border
 border_within inset None = None
 border_within inset (Some width) = Some (record { width = width; inset = inset })

@@ -38,8 +38,8 @@ IsPlace text (FromEnd k) =
     ((digits : List ℕ) × (text ≡ underscore ∷ digits) × IsDigits digits k)
     ⊎ ((text ≡ codes "last") × (k ≡ 1))
 
--- it means this range: `blank` or a lone underscore; a place; or two places with a minus sign between them. The
--- second may be left out, and then is the last page
+-- a text means a range: `blank` or a lone underscore; a place; or two places with a minus sign between them. Without
+-- the second it ends at the last page
 abbrev pub IsRange : List ℕ → Range → Type 0
 IsRange text BlankPage = (text ≡ codes "blank") ⊎ (text ≡ underscore ∷ [])
 IsRange text (FromTo p q) =

@@ -56,7 +56,7 @@ abbrev pub IsMeasure : List ℕ → Measure → Type 0
 IsMeasure text m = (number unit : List ℕ) × (text ≡ number ++ unit) × IsNumber number m.number
     × ((unit ≡ unit_name m.unit) ⊎ ((unit ≡ []) × (m.unit ≡ Pt)))
 
--- this many quarters to the left, by the letter: left, upside down, right
+-- a letter means this number of quarters to the left: left, upside down, right
 abbrev pub IsTurn : List ℕ → ℕ → Type 0
 IsTurn text n =
     ((n ≡ 1) × ((text ≡ codes "L") ⊎ (text ≡ codes "l")))
@@ -216,7 +216,7 @@ offset_part x y = if is_zero_points x && is_zero_points y then []
 abbrev pub item_text : Item → List ℕ
 item_text i = minus_text i.from_end ++ decimal i.page ++ turn_text i.turn ++ scale_part i.scale ++ offset_part i.x i.y
 
--- these texts with this byte between them
+-- texts joined, with this byte between them
 abbrev pub joined_by : ℕ → List (List ℕ) → List ℕ
 joined_by c [] = []
 joined_by c (text ∷ []) = text

@@ -13,7 +13,7 @@ abbrev pub places_in : (p s k : ℕ) → List (Option ℕ) → List (ℕ × ℕ)
 places_in p s k [] = []
 places_in p s k (x ∷ xs) = (if has_page p x then (s, k) ∷ [] else []) ++ places_in p s (suc k) xs
 
--- the same of these sheets, the first of which is sheet s
+-- the places of page p on these sheets, the first of which is sheet s
 abbrev pub places_from : (p s : ℕ) → List (List (Option ℕ)) → List (ℕ × ℕ)
 places_from p s [] = []
 places_from p s (x ∷ xs) = places_in p s 0 x ++ places_from p (suc s) xs

@@ -22,7 +22,7 @@ abbrev pub plan_from : PlanSource → Plan
 plan_from (source.Spec groups modulo row blocks) = planned_in row.sides (spec_of modulo groups.now) row.pages
 plan_from (source.Made pages made) = made_plan pages made.now
 
--- it keeps to the limits of a plan, and its blocks are those of its row
+-- a source keeps to the limits of a plan, and its blocks are those of its row
 abbrev pub IsPlannable : PlanSource → Type 0
 IsPlannable (source.Spec groups modulo row blocks) =
     IsAccepted row.sides (spec_of modulo groups.now) row.pages × (blocks ≡ blocks_of modulo (row_len row.sides row.pages))

@@ -24,7 +24,7 @@ abbrev pub paper_by : Option Placing → Paper
 paper_by None = points 1 1
 paper_by (Some placing) = placing.paper
 
--- these sheets, the first of which begins at this slot
+-- the kept sheets of these placings, the first of which begins at slot `start`
 abbrev pub sheets_from : List Placing → List KeptSlot → (start : ℕ) → List KeptSheet → List MadeSheet
 sheets_from placings slots start [] = []
 sheets_from placings slots start (s ∷ ss) = record {

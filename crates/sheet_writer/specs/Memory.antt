@@ -14,7 +14,7 @@ pub record MemoryState : Type 0 where
 abbrev pub acceptable : MemoryState → ℕ → ℕ
 acceptable s n = min (min n s.per_call) (s.room - length s.bytes)
 
--- it takes none of n bytes
+-- a memory sink takes none of n bytes
 abbrev pub IsSpent : MemoryState → ℕ → Type 0
 IsSpent s n = (acceptable s n ≡ 0) ⊎ (s.calls ≡ 0)
 

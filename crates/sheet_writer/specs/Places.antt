@@ -23,7 +23,7 @@ HavePlacesOfTheirOwn early sheets = All (λ sheet. place_of early sheet < length
 abbrev pub in_place : Early → ℕ → Option (Option TextsView)
 in_place early sheet = slice_get early.groups.items (place_of early sheet)
 
--- this number is that of the sheet
+-- a place is that of the sheet with this number
 abbrev pub is_number : ℕ → Option ℕ → Bool
 is_number sheet None = false
 is_number sheet (Some number) = number == sheet
@@ -34,7 +34,7 @@ is_nth sheet nth None = false
 is_nth sheet nth (Some None) = false
 is_nth sheet nth (Some (Some finished)) = is_number sheet (slice_get (sheets_of finished) nth)
 
--- it is where its place says
+-- a sheet is where its place says
 abbrev pub is_there : ℕ → List (Option TextsView) → Option Place → Bool
 is_there sheet groups None = false
 is_there sheet groups (Some place) = is_nth sheet place.nth (slice_get groups place.group)

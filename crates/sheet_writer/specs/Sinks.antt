@@ -16,14 +16,14 @@ fresh_sink bytes = record { bytes = bytes; failures = 0 }
 abbrev pub IsCountable : SinkView → Type 0
 IsCountable sink = sink.failures < most_failures
 
--- it took these bytes
+-- a sink took these bytes
 abbrev pub Took : (old new : SinkView) → List ℕ → Type 0
 Took old new text = Appends old.bytes new.bytes text × (new.failures ≡ old.failures)
 
--- it took these bytes, and failed once
+-- a sink took these bytes, and failed once
 abbrev pub FailedBehind : (old new : SinkView) → List ℕ → Type 0
 FailedBehind old new text = Appends old.bytes new.bytes text × (new.failures ≡ old.failures + 1)
 
--- it took nothing, and didn't fail
+-- a sink took nothing, and didn't fail
 abbrev pub IsUntouched : (old new : SinkView) → Type 0
 IsUntouched old new = Keeps old.bytes new.bytes × (new.failures ≡ old.failures)

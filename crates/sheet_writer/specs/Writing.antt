@@ -37,8 +37,8 @@ Handed text old new p q = AfterHalt q.halted
     ((k : ℕ) × (k ≤ length text) × (q.written ≡ p.written + k) × FailedBehind old new (take k text))
     ((q.written ≡ p.written) × IsUntouched old new × (18_446_744_073_709_551_615 < p.written + length text))
 
--- this holds, or some beginning of the output was written and then no more; the sink failed only if the halt says
--- so
+-- the progress holds, or some beginning of the output was written and then no more; the sink failed only if the halt
+-- says so
 abbrev pub Halts : JobView → (old new : SinkView) → Progress → Type 0 → Type 0
 Halts job old new p Goes = AfterHalt p.halted Goes
     (WroteFirst job old new p.written × (new.failures ≡ old.failures + 1))
@@ -73,6 +73,6 @@ EndsAfter job old new p q = (start : SinkView) → Stands job start old p → En
 abbrev pub HaveTexts : (text : ℕ → List ℕ) → TextsView → Type 0
 HaveTexts text texts = All (λ (t : ℕ × List ℕ). t.1 ≡ text t.0) texts
 
--- so has each sheet that came before its turn
+-- each sheet that came before its turn has its text
 abbrev pub AreEarly : JobView → List (Option TextsView) → Type 0
 AreEarly job groups = (k : ℕ) (m : TextsView) → slice_get groups k ≡ Some (Some m) → HaveTexts (text_of job) m
